@@ -1,30 +1,8 @@
 -- A whole answer leads from its base to its version.
-use Rattle.std.specs.Prelude.{◌≡◌, ℕ, ◌≤◌, Bool, true, false, not, ◌&&◌, ◌||◌, nat_lt, List, [], ◌∷◌, ◌++◌, map, if◌then◌else◌, refl}
-use Rattle.std.proofs.Common.{sym, ap, ◌∙◌, subst, arith}
-use Rattle.std.specs.List.{AllByRecursion, IsDistinct}
-use Rattle.std.specs.Ordering.{eq_by_cmp}
-use Rattle.std.proofs.lemmas.Bool.Decides.{nat_tests}
-use Rattle.prefixes.specs.Payload.{Payload, vrp_cmp}
-use Rattle.prefixes.specs.Orders.{vrp_total}
-use Rattle.vrps.specs.VrpSet.{VrpSet, has, size, set_of, without}
-use Rattle.vrps.proofs.SetLaws.{same_set, has-union, has-without, has-set_of}
-use Rattle.rtr_pdu.specs.declared.unit.Unit.{Unit}
-use Rattle.rtr_pdu.specs.Stream.{is_notify}
-use Rattle.rtr_ends.proofs.TableLaws.{false_true}
-use Rattle.rtr_pdu.specs.declared.unit.Unit.TheVariants.{SerialNotify, Prefix}
-use Rattle.rtr_pdu.specs.declared.version.Version.{Version}
-use Rattle.rtr_pdu.specs.declared.version.Version.TheVariants.{V0, V1}
-use Rattle.rtr_ends.specs.Answer.{end_of_data}
-use Rattle.rtr_ends.specs.LinkRules.{Stays, Wrong, Over, stage}
-use Rattle.rtr_ends.specs.Timing.{Intervals}
-use Rattle.rtr_ends.specs.Transcript.{Begun, Question, is_among, led_to}
+use Rattle.rtr_world.proofs.Words.{◌≡◌, ℕ, ◌≤◌, Bool, true, false, not, ◌&&◌, ◌||◌, nat_lt, List, [], ◌∷◌, ◌++◌, map, if◌then◌else◌, refl, sym, ap, ◌∙◌, subst, arith, AllByRecursion, eq_by_cmp, nat_tests, Payload, vrp_cmp, vrp_total, VrpSet, has, size, set_of, without, same_set, has-union, has-without, has-set_of, Unit, is_notify, false_true, SerialNotify, Prefix, Version, V0, V1, end_of_data, Stays, Wrong, Over, stage, Intervals, Begun, Question, is_among, led_to, Commits, or-false, or_assoc, eq_by_cmp_equiv, or_swap, size_le}
+use Rattle.std.specs.List.{IsDistinct}
 use Rattle.rtr_world.specs.OneAnswer.{NotifiesOf, without_notifies}
 use Rattle.rtr_world.proofs.Invariant.{after_stage, Leads, nothing_yet}
-use Rattle.rtr_ends.specs.Commit.{Commits}
-use Rattle.std.proofs.Math.Bool.{or-false, or_assoc}
-use Rattle.std.proofs.lemmas.Cmp.{eq_by_cmp_equiv}
-use Rattle.prefixes.proofs.Basics.{or_swap}
-use Rattle.vrps.proofs.Sizes.{size_le}
 
 -- PDUs of which none is a notify
 abbrev pub Plain : List Unit → Type 0

@@ -1,11 +1,7 @@
 -- A machine that takes a piece, beside one that is alike until memory runs out there at a PDU: that one lacks memory just where the PDU
 -- takes memory, and leaves no less of the piece.
-use Rattle.std.specs.Prelude.{◌≡◌, ℕ, zero, suc, ◌≤◌, Bool, true, false, List, [], ◌∷◌, ◌++◌, length, Option, Some, None, slice_get, refl}
-use Rattle.std.proofs.Common.{sym, ap, ◌∙◌, append_assoc, arith}
-use Rattle.std.proofs.lemmas.List.{append-nil, length-append}
-use Rattle.rtr_ends.specs.Feeding.{FedPiece, feed}
-use Rattle.rtr_ends.proofs.FeedingLaws.{feed_takes, goes_on, stopped}
-use Rattle.rtr_ends.proofs.TableLaws.{false_true}
+use Rattle.rtr_world.proofs.Words.{◌≡◌, ℕ, zero, suc, ◌≤◌, Bool, true, false, List, [], ◌∷◌, ◌++◌, length, Option, Some, None, slice_get, refl, sym, ap, ◌∙◌, append_assoc, arith, append-nil, length-append, FedPiece, feed, feed_takes, stopped, false_true}
+use Rattle.rtr_ends.proofs.FeedingLaws.{goes_on}
 
 -- the PDU that is named is there, and takes memory
 abbrev pub has : Option Bool → Bool

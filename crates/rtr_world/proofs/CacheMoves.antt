@@ -1,29 +1,5 @@
 -- What the cache reads and sends keeps the invariant.
-use Rattle.std.specs.Prelude.{◌≡◌, ◌⊎◌, ℕ, ◌+◌, Bool, true, false, not, ◌&&◌, ◌||◌, nat_lt, List, [], ◌∷◌, ◌++◌, length, Option, Some, None, IsSome, if◌then◌else◌, refl}
-use Rattle.std.specs.List.{AllByRecursion, list_any}
-use Rattle.std.proofs.Common.{sym, ap, ◌∙◌, subst, subst₂, arith, inl, inr}
-use Rattle.std.proofs.lemmas.Bool.{and_parts, or_parts}
-use Rattle.std.proofs.lemmas.Bool.Decides.{nat_tests}
-use Rattle.std.proofs.lemmas.List.{append-nil, length-append}
-use Rattle.std.proofs.lemmas.List.Folds.{list_any-append}
-use Rattle.vrps.specs.Instance.{Instance, versions, versions_from}
-use Rattle.vrps.specs.VrpSet.{VrpSet}
-use Rattle.rtr_pdu.specs.declared.version.Version.{Version}
-use Rattle.rtr_pdu.specs.declared.version.Version.TheVariants.{V1}
-use Rattle.rtr_pdu.specs.Judging.{Judgement, Whole, judge}
-use Rattle.rtr_pdu.specs.Unit.{IsUnitOf}
-use Rattle.rtr_pdu.specs.Version.{first_version, header_version}
-use Rattle.rtr_pdu.specs.declared.unit.Unit.{Unit}
-use Rattle.rtr_ends.specs.Answer.{answer, report, sent_all, session_in}
-use Rattle.rtr_ends.specs.Cache.{Conn, Taking, and_moment, is_none, conn_stops, conn_moment_of, with_moment, counted, finds_memory, conn_byte, can_notify, conn_notified, speaks_in, version_at}
-use Rattle.rtr_ends.specs.Connection.{Connection, ConnMoment, Read, Wanting, Notify, conn_after, notice, is_published, spoken_in, takes_memory, Sent, in_version}
-use Rattle.rtr_ends.specs.Feeding.{feed}
-use Rattle.rtr_ends.specs.LinkRules.{Router}
-use Rattle.rtr_ends.specs.RouterLink.{Link, Closed, Asked, Ended, is_reading}
-use Rattle.rtr_ends.specs.Transcript.{Question, query, base_of, of_version}
-use Rattle.rtr_ends.proofs.TableLaws.{false_true}
-use Rattle.rtr_ends.proofs.Effects.{either, nothing_out}
-use Rattle.rtr_ends.proofs.FeedingLaws.{feed_keeps}
+use Rattle.rtr_world.proofs.Words.{◌≡◌, ◌⊎◌, ℕ, ◌+◌, Bool, true, false, not, ◌&&◌, ◌||◌, nat_lt, List, [], ◌∷◌, ◌++◌, length, Option, Some, None, IsSome, if◌then◌else◌, refl, AllByRecursion, list_any, sym, ap, ◌∙◌, subst, subst₂, arith, inl, inr, and_parts, or_parts, nat_tests, append-nil, length-append, list_any-append, Instance, versions, versions_from, VrpSet, Version, V1, Judgement, Whole, judge, IsUnitOf, first_version, header_version, Unit, answer, report, sent_all, session_in, Conn, Taking, and_moment, is_none, conn_stops, conn_moment_of, with_moment, counted, finds_memory, conn_byte, can_notify, conn_notified, speaks_in, version_at, Connection, ConnMoment, Read, Wanting, Notify, conn_after, notice, is_published, spoken_in, takes_memory, Sent, in_version, feed, Router, Link, Closed, Asked, Ended, is_reading, Question, query, base_of, of_version, false_true, either, nothing_out, feed_keeps, all_both, false_of_not, true_of_not}
 use Rattle.rtr_world.specs.OneAnswer.{IsOfNow, NotifiesOf, OwnNotifies, units_in, without_notifies}
 use Rattle.rtr_world.specs.World.{is_read, timing}
 use Rattle.rtr_world.proofs.RouterCases.{none_counted}
@@ -32,7 +8,6 @@ use Rattle.rtr_world.proofs.CacheSteps.{from_now, is_now, IsAnswered, answered_r
 use Rattle.rtr_world.proofs.Invariant.{OneReply, QuestionFits, Replies, no_memory, Shape, IsEarly, Open, Unheard, Flow, Live, GoodLink, GoodRouter}
 use Rattle.rtr_world.proofs.UnitsAtRouters.{live_link}
 use Rattle.rtr_world.proofs.SentLaws.{early_notice, early_own, own-append, units_more}
-use Rattle.prefixes.proofs.Basics.{all_both, false_of_not, true_of_not}
 use Rattle.rtr_world.proofs.SideSteps.{live_of}
 use Rattle.rtr_world.proofs.UnitStreams.{MaySpeak, Stream, byte_version, held_version, ByteCase, first_in, head_is, partly, tail_is, wholly, one_case, stream-append, all_bytes}
 use Rattle.rtr_world.proofs.Versions.{Present, held_at, Seen, reads_now, seen_after}

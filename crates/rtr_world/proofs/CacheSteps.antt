@@ -1,39 +1,14 @@
 -- What the cache answers is a whole answer to the question.
-use Rattle.std.specs.Prelude.{◌≡◌, ◌⊎◌, ℕ, suc, ◌+◌, ◌<◌, ◌≤◌, ◌^◌, Bool, true, false, not, ◌&&◌, ◌||◌, ◌==◌, List, [], ◌∷◌, ◌++◌, map, length, take, min, Option, Some, None, if◌then◌else◌, refl}
-use Rattle.std.proofs.Common.{sym, ap, ◌∙◌, subst, subst₂, arith, inl, inr}
-use Rattle.std.specs.List.{AllByRecursion, All, IsDistinct}
-use Rattle.std.proofs.lemmas.List.Elements.{All-head, All-tail}
-use Rattle.std.proofs.Math.Nat.{min-le_left}
-use Rattle.std.proofs.lemmas.Str.{IsUtf8-nil}
-use Rattle.std.proofs.lemmas.List.{length-take}
-use Rattle.std.proofs.lemmas.Map.Keys.{IsDistinct-from_sorted}
-use Rattle.prefixes.specs.Payload.{Payload, IsPayload, vrp_cmp}
-use Rattle.vrps.specs.Instance.{Instance, IsInstance, NumberedSet, versions, versions_from, with_serial}
-use Rattle.vrps.specs.Serial.{serial_at}
-use Rattle.vrps.specs.VrpSet.{VrpSet, IsVrpSet, empty, has, listing, set_of, without}
-use Rattle.vrps.proofs.Listed.{part_is_set}
-use Rattle.vrps.proofs.SetLaws.{all_of_members, has-empty, has-union, has-without, listing_ascends, same_set, set_of-listing}
-use Rattle.rtr_pdu.specs.Payloads.{AreBytes}
-use Rattle.rtr_pdu.specs.Unit.{IsUnitOf}
-use Rattle.rtr_pdu.specs.Stream.{is_notify}
-use Rattle.rtr_pdu.specs.declared.unit.Unit.{Unit}
-use Rattle.rtr_pdu.specs.declared.unit.Unit.TheVariants.{SerialQuery, ResetQuery, CacheResponse, Prefix}
-use Rattle.rtr_pdu.proofs.ReadLaws.{AreBytes-take}
-use Rattle.rtr_pdu.specs.declared.version.Version.{Version}
-use Rattle.rtr_pdu.specs.declared.version.Version.TheVariants.{V0, V1}
-use Rattle.rtr_ends.specs.Answer.{and_on, and_end, answer, announcements, end_of_data, withdrawals, report, response as response_of, sent, serial_answer, session_in, step_answer, whole_answer}
-use Rattle.rtr_ends.specs.Commit.{Commits}
-use Rattle.rtr_ends.specs.Connection.{IsLater}
-use Rattle.rtr_ends.proofs.CommitLaws.{change_commits}
+use Rattle.rtr_world.proofs.Words.{◌≡◌, ◌⊎◌, ℕ, suc, ◌+◌, ◌<◌, ◌≤◌, ◌^◌, Bool, true, false, not, ◌&&◌, ◌||◌, ◌==◌, List, [], ◌∷◌, ◌++◌, map, length, take, min, Option, Some, None, if◌then◌else◌, refl, sym, ap, ◌∙◌, subst, subst₂, arith, inl, inr, AllByRecursion, All, All-head, All-tail, min-le_left, IsUtf8-nil, length-take, IsDistinct-from_sorted, Payload, IsPayload, vrp_cmp, Instance, IsInstance, NumberedSet, versions, versions_from, with_serial, serial_at, VrpSet, IsVrpSet, empty, has, listing, set_of, without, part_is_set, all_of_members, has-empty, has-union, has-without, listing_ascends, same_set, set_of-listing, AreBytes, IsUnitOf, is_notify, Unit, SerialQuery, ResetQuery, CacheResponse, Prefix, AreBytes-take, Version, V0, V1, and_on, and_end, answer, announcements, end_of_data, withdrawals, report, sent, serial_answer, session_in, step_answer, whole_answer, Commits, IsLater, change_commits, Committed, Question, AskReset, AskSerial, query, base_of, eq_of, eq_true, all_both, not_both}
+use Rattle.std.specs.List.{IsDistinct}
+use Rattle.rtr_ends.specs.Answer.{response as response_of}
 use Rattle.rtr_world.specs.OneAnswer.{EndsWith, announced_in, withdrawn_in}
-use Rattle.rtr_ends.specs.Transcript.{Committed, Question, AskReset, AskSerial, query, base_of}
 use Rattle.rtr_world.specs.World.{timing}
 use Rattle.rtr_world.proofs.AnswerLaws.{Plain, plain_records, commits_lead}
 use Rattle.rtr_world.proofs.Invariant.{FromCache, WasCache, Leads, NoneWithdrawn, WithdrawsFirst, QuestionFits, IsOwn, Replies, nothing_yet, no_data, not_kept, other_session, response}
 use Rattle.rtr_world.proofs.UnitStreams.{all_bytes}
 use Rattle.rtr_world.proofs.WireBytes.{big_bytes, headed, header, number}
 use Rattle.rtr_world.proofs.Versions.{HeldAt, Stands, Present, kept_at, has_sets, of_present, find_session, Seen}
-use Rattle.prefixes.proofs.Basics.{eq_of, eq_true, all_both, not_both}
 
 -- PDUs that are no notify, and that can be sent
 pub record IsAnswered (pv : Version) (units : List Unit) : Type 0 where

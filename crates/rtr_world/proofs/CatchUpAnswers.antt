@@ -1,23 +1,5 @@
 -- A cache that is handed a whole question reads it, and its reply is due.
-use Rattle.std.specs.Prelude.{◌≡◌, ◌⊎◌, ℕ, ◌<◌, Bool, true, false, not, ◌&&◌, ◌||◌, ◌==◌, List, [], ◌∷◌, ◌++◌, length, take, Option, Some, None, if◌then◌else◌, refl}
-use Rattle.std.proofs.Common.{sym, ap, ◌∙◌, append_assoc, subst, arith, inl, inr}
-use Rattle.std.proofs.lemmas.Bool.{and_parts}
-use Rattle.std.proofs.lemmas.List.{length-append}
-use Rattle.vrps.specs.Instance.{Instance, NumberedSet, versions_from, with_serial}
-use Rattle.vrps.specs.Serial.{serial_at}
-use Rattle.vrps.specs.VrpSet.{VrpSet}
-use Rattle.rtr_pdu.specs.declared.version.Version.{Version}
-use Rattle.rtr_pdu.specs.Judging.{judge}
-use Rattle.rtr_pdu.specs.Unit.{IsUnitOf}
-use Rattle.rtr_pdu.specs.declared.unit.Unit.{Unit}
-use Rattle.rtr_pdu.specs.declared.unit.Unit.TheVariants.{SerialQuery, ErrorReport}
-use Rattle.rtr_pdu.proofs.NextLaws.{judge_part, judge_sent, some_sent}
-use Rattle.rtr_ends.specs.Answer.{Reply, answer, report, sent, sent_all, serial_answer, session_in, step_answer, whole_answer}
-use Rattle.rtr_ends.specs.Cache.{Conn, Taking, conn_byte, conn_stops, conn_takes, finds_memory, is_none, conn_judged, version_at, with_moment}
-use Rattle.rtr_ends.specs.Connection.{Read, Wanting, takes_memory}
-use Rattle.rtr_ends.specs.Transcript.{AskReset, AskSerial, Question, query}
-use Rattle.rtr_ends.proofs.FeedingLaws.{feed_keeps, feed_takes}
-use Rattle.rtr_ends.proofs.Effects.{either}
+use Rattle.rtr_world.proofs.Words.{◌≡◌, ◌⊎◌, ℕ, ◌<◌, Bool, true, false, not, ◌&&◌, ◌||◌, ◌==◌, List, [], ◌∷◌, ◌++◌, length, take, Option, Some, None, if◌then◌else◌, refl, sym, ap, ◌∙◌, append_assoc, subst, arith, inl, inr, and_parts, length-append, Instance, NumberedSet, versions_from, with_serial, serial_at, VrpSet, Version, judge, IsUnitOf, Unit, SerialQuery, ErrorReport, judge_part, judge_sent, some_sent, Reply, answer, report, sent, sent_all, serial_answer, session_in, step_answer, whole_answer, Conn, Taking, conn_byte, conn_stops, conn_takes, finds_memory, is_none, conn_judged, version_at, with_moment, Read, Wanting, takes_memory, AskReset, AskSerial, Question, query, feed_keeps, feed_takes, either}
 use Rattle.rtr_world.specs.World.{timing}
 use Rattle.rtr_world.proofs.UnitStreams.{MaySpeak, part_version}
 

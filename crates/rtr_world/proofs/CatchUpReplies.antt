@@ -1,26 +1,6 @@
 -- A router that is handed a whole reply reads it: its link is idle then, or has ended, or it asks anew after a Cache Reset.
-use Rattle.std.specs.Prelude.{◌≡◌, ◌⊎◌, ℕ, ◌<◌, Bool, true, false, not, ◌&&◌, List, [], ◌∷◌, ◌++◌, length, Option, Some, None, if◌then◌else◌, refl}
-use Rattle.std.proofs.Common.{sym, ap, ◌∙◌, subst, arith, inl, inr}
-use Rattle.std.proofs.lemmas.Bool.{and_parts}
-use Rattle.std.proofs.lemmas.List.{length-append}
-use Rattle.vrps.specs.Instance.{Instance}
-use Rattle.vrps.specs.VrpSet.{VrpSet, empty}
-use Rattle.rtr_pdu.specs.declared.version.Version.{Version}
-use Rattle.rtr_pdu.specs.Judging.{Judgement, judge}
-use Rattle.rtr_pdu.specs.declared.unit.Unit.{Unit}
-use Rattle.rtr_pdu.specs.declared.unit.Unit.TheVariants.{CacheResponse, CacheReset, ErrorReport}
-use Rattle.rtr_pdu.proofs.NextLaws.{some_sent}
-use Rattle.rtr_ends.specs.declared.link.End.{End}
+use Rattle.rtr_world.proofs.Words.{◌≡◌, ◌⊎◌, ℕ, ◌<◌, Bool, true, false, not, ◌&&◌, List, [], ◌∷◌, ◌++◌, length, Option, Some, None, if◌then◌else◌, refl, sym, ap, ◌∙◌, subst, arith, inl, inr, and_parts, length-append, Instance, VrpSet, empty, Version, Judgement, judge, Unit, CacheResponse, CacheReset, ErrorReport, some_sent, End, report, sent, counted, finds_memory, is_none, bytes_sent, in_version, Router, may_lack, on_unit, Receiving, clocked, expired, receives, router_byte, router_stops, with_bytes, Idle, Asked, Answering, Ended, is_reading, At, AskReset, AskSerial, Begun, Question, base_of, is_over, is_serial, later, of_version, query, feed_keeps, feed_takes, false_true, false_of_not, true_of_not}
 use Rattle.rtr_ends.specs.declared.link.End.TheVariants as ends
-use Rattle.rtr_ends.specs.Answer.{report, sent}
-use Rattle.rtr_ends.specs.Cache.{counted, finds_memory, is_none}
-use Rattle.rtr_ends.specs.Connection.{bytes_sent, in_version}
-use Rattle.rtr_ends.specs.LinkRules.{Router, may_lack, on_unit}
-use Rattle.rtr_ends.specs.Router.{Receiving, clocked, expired, receives, router_byte, router_stops, with_bytes}
-use Rattle.rtr_ends.specs.RouterLink.{Idle, Asked, Answering, Ended, is_reading}
-use Rattle.rtr_ends.specs.Transcript.{At, AskReset, AskSerial, Begun, Question, base_of, is_over, is_serial, later, of_version, query}
-use Rattle.rtr_ends.proofs.FeedingLaws.{feed_keeps, feed_takes}
-use Rattle.rtr_ends.proofs.TableLaws.{false_true}
 use Rattle.rtr_world.proofs.RouterCases.{none_counted}
 use Rattle.rtr_world.proofs.CatchUpAnswers.{other_report}
 use Rattle.rtr_world.proofs.Invariant.{after_stage, Leads, Mine, QuestionFits, Replies, no_data, not_kept, other_session, no_memory, response, nothing_yet}
@@ -28,7 +8,6 @@ use Rattle.rtr_world.proofs.UnitsAtRouters.{stage_keeps}
 use Rattle.rtr_world.proofs.UnitEffects.{by_answer, by_reply, fits_mine}
 use Rattle.rtr_world.proofs.UnitStreams.{Stream, case_by, first_in, head_is, one_case}
 use Rattle.rtr_world.proofs.Versions.{TableAt, Seen}
-use Rattle.prefixes.proofs.Basics.{false_of_not, true_of_not}
 
 -- Where no byte is to come, no PDU is.
 none_left : (pv : Version) (held : List ℕ) (units : List Unit) → Stream held [] (in_version pv units) → units ≡ []

@@ -1,22 +1,6 @@
 -- A round of all bytes: the question is read whole, and its reply is read whole.
-use Rattle.std.specs.Prelude.{◌≡◌, ◌⊎◌, ℕ, ◌≤◌, Bool, true, false, not, List, [], ◌∷◌, ◌++◌, length, take, Option, Some, None, is_some, ⊤, refl, suc, ◌*◌, ◌==◌, map, IsSome}
-use Rattle.std.proofs.Common.{sym, ap, ◌∙◌, subst, arith, inl, inr, subst₂}
-use Rattle.std.specs.List.{AllByRecursion}
-use Rattle.std.proofs.Math.ListN.{drop_of_length-le}
-use Rattle.std.proofs.Math.Nat.{le-min}
-use Rattle.std.proofs.lemmas.List.{take_all, length-append, length-map}
-use Rattle.vrps.specs.VrpSet.{VrpSet, IsVrpSet, listing, without}
-use Rattle.rtr_pdu.specs.declared.version.Version.{Version}
-use Rattle.rtr_pdu.specs.Unit.{IsUnitOf}
-use Rattle.rtr_pdu.specs.declared.unit.Unit.{Unit}
-use Rattle.rtr_pdu.proofs.NextLaws.{sent_most, some_sent}
-use Rattle.rtr_ends.proofs.Effects.{either}
-use Rattle.rtr_ends.specs.Answer.{Reply as Answered, answer, report, sent, sent_all, session_in, announcements, end_of_data, response, serial_answer, step_answer, whole_answer, withdrawals}
-use Rattle.rtr_ends.specs.Cache.{Conn, conn_pulled, conn_takes, new_conn}
-use Rattle.rtr_ends.specs.Connection.{in_version, IsLater}
-use Rattle.rtr_ends.specs.Router.{clocked, receives, router_pulled, close, connects_at}
-use Rattle.rtr_ends.specs.RouterLink.{Closed, Idle, Asked, is_reading, Link}
-use Rattle.rtr_ends.specs.Transcript.{AskReset, Committed, Question, base_of, is_serial, of_version, query, AskSerial, choose}
+use Rattle.rtr_world.proofs.Words.{◌≡◌, ◌⊎◌, ℕ, ◌≤◌, Bool, true, false, not, List, [], ◌∷◌, ◌++◌, length, take, Option, Some, None, is_some, ⊤, refl, suc, ◌*◌, ◌==◌, map, IsSome, sym, ap, ◌∙◌, subst, arith, inl, inr, subst₂, AllByRecursion, drop_of_length-le, le-min, take_all, length-append, length-map, VrpSet, IsVrpSet, listing, without, Version, IsUnitOf, Unit, sent_most, some_sent, either, answer, report, sent, sent_all, session_in, announcements, end_of_data, response, serial_answer, step_answer, whole_answer, withdrawals, Conn, conn_pulled, conn_takes, new_conn, in_version, IsLater, clocked, receives, router_pulled, close, connects_at, Closed, Idle, Asked, is_reading, Link, AskReset, Committed, Question, base_of, is_serial, of_version, query, AskSerial, choose, Instance, NumberedSet, versions_from, with_serial, serial_at, part_is_set, size_of_listing, Prefix, Router, false_true}
+use Rattle.rtr_ends.specs.Answer.{Reply as Answered}
 use Rattle.rtr_world.specs.CatchUp.{IsAll, IsQuiet, read_up, round, sent_down, sent_up, EachCatchesUp, IdleNext, IdleSoon, RestsNext, RestsSo, RestsSoon, RoundsEnd}
 use Rattle.rtr_world.specs.History.{conn_due}
 use Rattle.rtr_world.specs.World.{Side, World, instances, timing, cache_gets, cache_sends, gets_at, router_gets, sends_from, settle, router_sends, connects}
@@ -28,12 +12,6 @@ use Rattle.rtr_world.proofs.Invariant.{Mine, Replies, no_memory, QuestionFits, G
 use Rattle.rtr_world.proofs.UnitsAtRouters.{query_unit, first_fits}
 use Rattle.rtr_world.proofs.UnitStreams.{MaySpeak, Stream, all_bytes, all_sent, none_part, bytes_of_version}
 use Rattle.rtr_world.proofs.Versions.{Present, TableAt, held_at, Seen, seen_at}
-use Rattle.vrps.specs.Instance.{Instance, NumberedSet, versions_from, with_serial}
-use Rattle.vrps.specs.Serial.{serial_at}
-use Rattle.vrps.proofs.Listed.{part_is_set, size_of_listing}
-use Rattle.rtr_pdu.specs.declared.unit.Unit.TheVariants.{Prefix}
-use Rattle.rtr_ends.specs.LinkRules.{Router}
-use Rattle.rtr_ends.proofs.TableLaws.{false_true}
 use Rattle.rtr_world.proofs.SideSteps.{clocked_good, close_shut}
 use Rattle.rtr_world.proofs.WorldSteps.{always}
 

@@ -1,18 +1,6 @@
 -- What the clean-up after an event does to a side on which bytes go on, and to one whose link has ended.
-use Rattle.std.specs.Prelude.{◌≡◌, ◌⊎◌, ℕ, true, false, List, [], Some, None, refl}
-use Rattle.std.proofs.Common.{sym, ap, ◌∙◌, subst, inl, inr}
-use Rattle.vrps.specs.Instance.{Instance}
-use Rattle.vrps.specs.VrpSet.{empty}
-use Rattle.rtr_ends.specs.declared.link.End.{End}
-use Rattle.rtr_ends.specs.Cache.{Conn}
-use Rattle.rtr_ends.specs.LinkRules.{Router}
-use Rattle.rtr_ends.specs.Router.{clocked, close, closed_at}
-use Rattle.rtr_ends.specs.RouterLink.{Closed, Ended, is_closed, is_reading}
-use Rattle.rtr_ends.proofs.TableLaws.{false_true}
-use Rattle.rtr_ends.proofs.FetchStreamLaws.{open_link}
+use Rattle.rtr_world.proofs.Words.{◌≡◌, ◌⊎◌, ℕ, true, false, List, [], Some, None, refl, sym, ap, ◌∙◌, subst, inl, inr, Instance, empty, End, Conn, Router, clocked, close, closed_at, Closed, Ended, is_closed, is_reading, false_true, open_link, by_clock, by_close, cases_Bool}
 use Rattle.rtr_world.specs.World.{Side, close_ended, settle, settle_conn, settle_link, settle_rest, settle_wire, tell_closed}
-use Rattle.rtr_ends.proofs.Effects.{by_clock, by_close}
-use Rattle.std.proofs.lemmas.Bool.{cases_Bool}
 use Rattle.rtr_world.specs.CaughtUp.{IsOff}
 use Rattle.rtr_world.proofs.EventCalls.{still_by, told_closes, closed_by, closed_link, behind_link, Lessens, reading_on}
 use Rattle.rtr_world.proofs.Rests.{GoesOn, Rests, not_closed, stays, conn_router}

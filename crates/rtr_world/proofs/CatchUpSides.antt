@@ -1,31 +1,9 @@
 -- A router that connected holds the newest version where its link is idle: its own moves keep that.
-use Rattle.std.specs.Prelude.{◌≡◌, ℕ, ◌≤◌, Bool, true, false, not, ◌&&◌, nat_lt, List, [], ◌∷◌, ◌++◌, length, take, drop, Option, Some, refl, ◌+◌, ◌-◌, None, ⊤, map}
-use Rattle.std.specs.List.{AllByRecursion}
-use Rattle.std.proofs.Common.{sym, ap, ◌∙◌, subst, subst₂, arith, inl, inr, zero, suc}
-use Rattle.std.proofs.lemmas.Bool.{and_parts}
-use Rattle.std.proofs.lemmas.List.{nil_from_length, take-append-drop, length-append}
-use Rattle.std.proofs.lemmas.Bool.Decides.{nat_tests}
-use Rattle.vrps.specs.Instance.{Instance, versions, versions_from}
-use Rattle.vrps.specs.VrpSet.{VrpSet}
-use Rattle.vrps.specs.Serial.{serial_at}
-use Rattle.rtr_pdu.specs.Judging.{Judgement, Whole, judge}
-use Rattle.rtr_pdu.specs.declared.version.Version.{Version}
-use Rattle.rtr_pdu.specs.declared.unit.Unit.{Unit}
-use Rattle.rtr_ends.specs.Answer.{session_in, report, whole_answer}
-use Rattle.rtr_ends.specs.Cache.{Conn, is_none, finds_memory}
-use Rattle.rtr_ends.specs.Feeding.{feed}
-use Rattle.rtr_ends.specs.LinkRules.{Router, emptied, on_unit}
-use Rattle.rtr_ends.specs.Router.{Receiving, clocked, close, connects_at, receives, router_byte, router_pulled, router_stops, with_bytes}
-use Rattle.rtr_ends.specs.RouterLink.{Link, Closed, Idle, Ended, is_closed, is_reading}
-use Rattle.rtr_ends.specs.Transcript.{Committed, is_over, later, At, AskReset, base_of, led_to, of_version}
-use Rattle.rtr_ends.proofs.ConsumedUnits.{unit_held}
-use Rattle.rtr_ends.proofs.FeedingLaws.{feed_keeps}
-use Rattle.rtr_ends.proofs.TableLaws.{false_true}
+use Rattle.rtr_world.proofs.Words.{◌≡◌, ℕ, ◌≤◌, Bool, true, false, not, ◌&&◌, nat_lt, List, [], ◌∷◌, ◌++◌, length, take, drop, Option, Some, refl, ◌+◌, ◌-◌, None, ⊤, map, AllByRecursion, sym, ap, ◌∙◌, subst, subst₂, arith, inl, inr, zero, suc, and_parts, nil_from_length, take-append-drop, length-append, nat_tests, Instance, versions, versions_from, VrpSet, serial_at, Judgement, Whole, judge, Version, Unit, session_in, report, whole_answer, Conn, is_none, finds_memory, feed, Router, emptied, on_unit, Receiving, clocked, close, connects_at, receives, router_byte, router_pulled, router_stops, with_bytes, Link, Closed, Idle, Ended, is_closed, is_reading, Committed, is_over, later, At, AskReset, base_of, led_to, of_version, unit_held, feed_keeps, false_true, by_clock, by_close, by_whole, true_of_not}
 use Rattle.rtr_world.specs.CatchUp.{IsMove, HoldsNewest, AreMoves, IdleIsCurrent, IsFresh, IsMoveOf}
 use Rattle.rtr_world.specs.History.{Outcome, Done, Memory, after, Entry, LeadsFrom, side_at}
 use Rattle.rtr_world.specs.OneAnswer.{units_in, without_notifies}
 use Rattle.rtr_world.specs.World.{Side, World, instances, SideEvent, Connect, RouterSends, CacheGets, CacheSends, RouterGets, Cut, connects, router_sends, cache_sends, cache_gets, router_gets, cut, side_step, side_part, side_refused, settle, tell_closed, timing, Event, On, goes_through, is_refused, new_world, on_side, settled}
-use Rattle.rtr_ends.proofs.Effects.{by_clock, by_close, by_whole}
 use Rattle.rtr_world.proofs.EventCalls.{told_closes, gets_keep, sends_keep, settle_keeps, lesser, part_by}
 use Rattle.rtr_world.proofs.Invariant.{Good, GoodRouter, Live, Mine, OneReply}
 use Rattle.rtr_world.proofs.SideSteps.{byte_good, clocked_good, live_of, router_by}
@@ -36,7 +14,6 @@ use Rattle.rtr_world.proofs.CatchUpAnswers.{other_report}
 use Rattle.rtr_world.proofs.SideLaws.{all_new}
 use Rattle.rtr_world.proofs.KeptTables.{AllTell, SideTells, after_tells, new_side_tells}
 use Rattle.rtr_world.proofs.WorldSteps.{GoodWorld, after_good, new_good}
-use Rattle.prefixes.proofs.Basics.{true_of_not}
 
 -- A PDU that makes a link idle brings the newest version.
 -- A version is not over at the moment of its commit.

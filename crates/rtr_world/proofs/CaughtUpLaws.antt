@@ -1,15 +1,6 @@
 -- Catching up, connection by connection.
-use Rattle.std.specs.Prelude.{◌≡◌, ◌⊎◌, ℕ, ◌+◌, ◌≤◌, ◌<◌, true, false, List, [], ◌∷◌, ◌++◌, length, Option, Some, None, IsSome, is_some, option_and_then, option_map, Result, Ok, Err, is_err, refl, ⊤}
-use Rattle.std.proofs.Common.{sym, ap, ◌∙◌, subst, append_assoc, arith, inl, inr}
-use Rattle.std.proofs.lemmas.List.{append-nil}
-use Rattle.vrps.specs.Instance.{NumberedSet, versions, versions_from}
+use Rattle.rtr_world.proofs.Words.{◌≡◌, ◌⊎◌, ℕ, ◌+◌, ◌≤◌, ◌<◌, true, false, List, [], ◌∷◌, ◌++◌, length, Option, Some, None, IsSome, is_some, option_and_then, option_map, Result, Ok, Err, is_err, refl, ⊤, sym, ap, ◌∙◌, subst, append_assoc, arith, inl, inr, append-nil, NumberedSet, versions, versions_from, VrpSet, Version, session_in, name_of, told_link, Link, Closed, Idle, Asked, AskReset, Committed, of_version, all_both, not_both}
 use Rattle.vrps.specs.Stores.{newest}
-use Rattle.vrps.specs.VrpSet.{VrpSet}
-use Rattle.rtr_pdu.specs.declared.version.Version.{Version}
-use Rattle.rtr_ends.specs.Answer.{session_in}
-use Rattle.rtr_ends.specs.RouterLink.{name_of, told_link}
-use Rattle.rtr_ends.specs.RouterLink.{Link, Closed, Idle, Asked}
-use Rattle.rtr_ends.specs.Transcript.{AskReset, Committed, of_version}
 use Rattle.rtr_ends.specs.declared.link.Link.{Link as Told}
 use Rattle.rtr_ends.specs.declared.link.Link.TheVariants as links
 use Rattle.rtr_world.specs.CatchUp.{AreMoves, HoldsNewest, IdleAfter, IdleSoon, IsFresh, IsMoveOf, Rests, RestsNext, RestsSo, RestsSoon, round}
@@ -24,7 +15,6 @@ use Rattle.rtr_world.specs.declared.world.World as code
 use Rattle.rtr_world.proofs.SideLaws.{inside}
 use Rattle.rtr_world.proofs.CatchUpSides.{idle_is_current}
 use Rattle.rtr_world.proofs.CatchUpRounds.{catches_up, rounds_end}
-use Rattle.prefixes.proofs.Basics.{all_both, not_both}
 use Rattle.rtr_world.proofs.CatchUpSteps.{OnlySides, round_same, rounded_sides, rounds_are_steps, stepped_sides}
 use Rattle.rtr_world.proofs.Rounds.{Promises, Stepped, Went, cut_leaves, entry_of, failed, lacks_behind, parted, step_of, went}
 use Rattle.rtr_world.proofs.Showing.{shown_length}

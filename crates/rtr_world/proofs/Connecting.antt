@@ -1,20 +1,6 @@
 -- A connection is made.
-use Rattle.std.specs.Prelude.{◌≡◌, ℕ, ◌-◌, ◌<◌, ◌^◌, ◌==◌, true, List, [], ◌∷◌, length, find, Option, Some, None, is_some, Result, Ok, Err, if◌then◌else◌, refl, ⊤}
-use Rattle.std.specs.declared.alloc.AllocError.{AllocError}
-use Rattle.std.proofs.Common.{sym, ap, ◌∙◌, subst, arith, inr, inl}
-use Rattle.vrps.specs.Instance.{Instance, NumberedSet, versions_from}
-use Rattle.vrps.specs.Serial.{serial_at}
-use Rattle.vrps.specs.Steps.{HoldsSteps, Steps}
+use Rattle.rtr_world.proofs.Words.{◌≡◌, ℕ, ◌-◌, ◌<◌, ◌^◌, ◌==◌, true, List, [], ◌∷◌, length, find, Option, Some, None, is_some, Result, Ok, Err, if◌then◌else◌, refl, ⊤, AllocError, sym, ap, ◌∙◌, subst, arith, inr, inl, Instance, NumberedSet, versions_from, serial_at, HoldsSteps, Steps, VrpSet, Serial, V1, Conn, new_conn, Opens, ShowsCache, Router, ask, Connects, called, close, connects_at, IsShown, Cache, eq_self}
 use Rattle.vrps.specs.Stores.{newest}
-use Rattle.vrps.specs.VrpSet.{VrpSet}
-use Rattle.vrps.specs.declared.serial.Serial.{Serial}
-use Rattle.rtr_pdu.specs.declared.version.Version.TheVariants.{V1}
-use Rattle.rtr_ends.specs.Cache.{Conn, new_conn}
-use Rattle.rtr_ends.specs.CacheState.{Opens, ShowsCache}
-use Rattle.rtr_ends.specs.LinkRules.{Router, ask}
-use Rattle.rtr_ends.specs.Router.{Connects, called, close, connects_at}
-use Rattle.rtr_ends.specs.RouterShown.{IsShown}
-use Rattle.rtr_ends.specs.declared.cache.Cache.{Cache}
 use Rattle.rtr_ends.specs.declared.cache.Conn.{Conn as Number}
 use Rattle.rtr_world.specs.History.{is_used}
 use Rattle.rtr_world.specs.SideShown.{BeginsEvent, ConnIs, Has, IsSince, MadeAt, MadeWhere, Moves, ShowsSide, state_of}
@@ -22,7 +8,6 @@ use Rattle.rtr_world.specs.World.{World, Side, Connect, connects, cut, instances
 use Rattle.rtr_world.specs.declared.side.Side as values
 use Rattle.rtr_world.proofs.SideLaws.{inside}
 use Rattle.rtr_world.proofs.Moving.{and_then, clocked_same, has_or_not, none_conn, none_some, put, put_here, put_there}
-use Rattle.prefixes.proofs.Basics.{eq_self}
 
 -- the serial that was current
 pub current_none : (start : ℕ) (sets : List VrpSet) (serial : ℕ) → start ≡ serial → serial < 2 ^ 32 → None ≡ newest (versions_from start sets) → serial ≡ serial_at start (length sets - 1)

@@ -1,28 +1,8 @@
 -- Each link ends lawfully, each end is noted, where an event is refused too, and none is dropped.
-use Rattle.std.specs.Prelude.{◌≡◌, ℕ, true, false, List, [], ◌∷◌, ◌++◌, Option, Some, None, zero, suc, Bool, refl, take, ⊤, not, ◌&&◌, ◌==◌}
-use Rattle.std.specs.List.{AllByRecursion}
-use Rattle.std.proofs.Common.{sym, ap, ◌∙◌, subst, inl, inr, subst₂, append_assoc}
-use Rattle.vrps.specs.Instance.{Instance}
-use Rattle.rtr_pdu.specs.declared.unit.Unit.{Unit}
-use Rattle.rtr_pdu.specs.Judging.{Judgement, Begins, Whole, Faulty, judge}
-use Rattle.rtr_pdu.specs.Stream.{type_of}
-use Rattle.rtr_ends.specs.declared.link.End.{End}
-use Rattle.rtr_ends.specs.Router.{Noted, called, RouterCall, clocked, close, closed_at, Connects, Receives, Pulls, Closes, AsksNow, Ticks, Speaks, router_pulled, asked_by, asks_if, connects_at, ticks_at, asks, receives, of_received, Receiving, router_byte, router_stops, with_bytes}
-use Rattle.rtr_ends.specs.RouterLink.{Link, Ended, Asked, is_due, is_idle}
-use Rattle.rtr_ends.specs.Transcript.{outstanding, spoken, Item, Question, AskSerial, At, Reads, question_of}
-use Rattle.rtr_ends.specs.LinkRules.{Router, on_unit, may_lack}
-use Rattle.rtr_ends.specs.RouterLaws.{LinkTells}
-use Rattle.rtr_ends.specs.Cache.{counted, finds_memory}
-use Rattle.rtr_ends.specs.Feeding.{feed}
-use Rattle.rtr_ends.proofs.KeptUnits.{Tells}
-use Rattle.rtr_ends.proofs.FeedingLaws.{feed_keeps}
+use Rattle.rtr_world.proofs.Words.{◌≡◌, ℕ, true, false, List, [], ◌∷◌, ◌++◌, Option, Some, None, zero, suc, Bool, refl, take, ⊤, not, ◌&&◌, ◌==◌, AllByRecursion, sym, ap, ◌∙◌, subst, inl, inr, subst₂, append_assoc, Instance, Unit, Judgement, Begins, Whole, Faulty, judge, type_of, End, Noted, called, RouterCall, clocked, close, closed_at, Connects, Receives, Pulls, Closes, AsksNow, Ticks, Speaks, router_pulled, asked_by, asks_if, connects_at, ticks_at, asks, receives, of_received, Receiving, router_byte, router_stops, with_bytes, Link, Ended, Asked, is_due, is_idle, outstanding, spoken, Item, Question, AskSerial, At, Reads, question_of, Router, on_unit, may_lack, LinkTells, counted, finds_memory, feed, Tells, feed_keeps, and_parts, false_true, by_unit, either, option_map}
 use Rattle.rtr_world.specs.World.{Ending, Side, World, instances, SideEvent, is_ended, ending_at, newly_ended, noted, outstanding_before_last, router_restarts, cut, side_part, side_refused, side_step, with_end, Publish, Restart, On, cache_gone, settle, tell_closed, RouterGets, Event}
 use Rattle.rtr_world.specs.Claims.{EndsNoted, NotesEnds, EndsKept, NoneDropped, OneMore, IsLawfulEnd, OfAnother, LawfulEnds, NamesNone, NoneByMemory, NotByMemory}
 use Rattle.rtr_world.specs.History.{Done, Memory, Outcome, Entry, LeadsFrom, after, side_at}
-use Rattle.std.proofs.lemmas.Bool.{and_parts}
-use Rattle.rtr_ends.proofs.TableLaws.{false_true}
-use Rattle.rtr_ends.proofs.Effects.{by_unit, either}
-use Rattle.std.specs.Option.{option_map}
 use Rattle.rtr_world.proofs.SideLaws.{after_at, all_weaker, all_new, side_after}
 use Rattle.rtr_world.proofs.Rests.{Rests, history_rests}
 use Rattle.rtr_world.proofs.EventCalls.{IfComes, Rewired, told_by, each_after, call_of, lesser, part_by, after_call, step_by, closed_by, settle_keeps, KeptByCalls, refused_at, IsOwnCall, closed_link}

@@ -1,18 +1,7 @@
 -- What happens at a side is at most one call on its router, and changes of its wires: what each call and each wire keeps, each event keeps.
-use Rattle.std.specs.Prelude.{◌≡◌, ℕ, Bool, true, false, List, [], ◌∷◌, ◌++◌, map, take, Option, Some, None, refl, ⊤, if◌then◌else◌}
-use Rattle.std.specs.List.{AllByRecursion}
-use Rattle.std.proofs.Common.{◌∙◌, sym, ap, subst}
-use Rattle.vrps.specs.Instance.{Instance}
-use Rattle.rtr_ends.specs.Cache.{Conn, new_conn}
-use Rattle.rtr_ends.specs.LinkRules.{Router}
-use Rattle.rtr_ends.specs.Router.{RouterCall, Connects, Receives, Pulls, Closes, AsksNow, Ticks, Speaks, called, silent, clocked, close, router_pulled, closed_at}
-use Rattle.rtr_ends.specs.RouterLink.{Link, Closed, Ended, is_closed, is_reading}
-use Rattle.rtr_ends.specs.Transcript.{Refused}
-use Rattle.rtr_ends.proofs.Effects.{either}
-use Rattle.rtr_ends.proofs.TableLaws.{false_true}
+use Rattle.rtr_world.proofs.Words.{◌≡◌, ℕ, Bool, true, false, List, [], ◌∷◌, ◌++◌, map, take, Option, Some, None, refl, ⊤, if◌then◌else◌, AllByRecursion, ◌∙◌, sym, ap, subst, Instance, Conn, new_conn, Router, RouterCall, Connects, Receives, Pulls, Closes, AsksNow, Ticks, Speaks, called, silent, clocked, close, router_pulled, closed_at, Link, Closed, Ended, is_closed, is_reading, Refused, either, false_true, by_close}
 use Rattle.rtr_world.specs.World.{Side, World, instances, SideEvent, RouterRestart, Speak, Connect, RouterSends, CacheGets, CacheSends, RouterGets, Cut, NotifyRouter, Ask, Tick, is_ended, newly_ended, noted, with_end, connects, router_restarts, speaks, router_sends, sends_from, cache_sends, gets_at, cache_gets, notifies_at, router_gets, cut, on_side, side_step, side_part, side_refused, tell_closed, settle, settle_link, settle_rest, settle_wire, Event, Publish, Restart, On, cache_gone, close_ended, goes_through, is_refused, settle_conn, settled}
 use Rattle.rtr_world.specs.History.{Outcome, Done, Memory, MayEnd, after, refusal, Entry, IsEvent, LeadsFrom}
-use Rattle.rtr_ends.proofs.Effects.{by_close}
 use Rattle.rtr_world.proofs.SideLaws.{all_map, all_on_side, all_weaker}
 
 -- What each event keeps holds after every list of events; what the parts of the clean-up keep, the clean-up keeps.

@@ -1,33 +1,14 @@
 -- Events of the world, worked out: one router that asks and is answered, a second one, notifies, questions, ticks, restarts, refusals
 -- where memory ran out, and ends of links. Further steps are played by the scripts of tests/cases/world.py.
-use Rattle.std.specs.Prelude.{◌≡◌, ℕ, ◌≤◌, Bool, true, false, List, [], ◌∷◌, ◌++◌, length, take, drop, Some, None, refl, Option}
-use Rattle.std.proofs.Common.{ap, arith}
-use Rattle.vrps.specs.Instance.{Instance, versions}
-use Rattle.vrps.specs.VrpSet.{VrpSet, empty, set_of}
-use Rattle.vrps.proofs.SetLaws.{listing-set_of}
-use Rattle.rtr_pdu.specs.Judging.{judge}
-use Rattle.rtr_pdu.specs.Stream.{as_read}
-use Rattle.rtr_pdu.specs.declared.unit.Unit.TheVariants.{SerialNotify, SerialQuery, CacheResponse, EndOfData, Prefix}
-use Rattle.rtr_pdu.specs.declared.version.Version.{Version}
-use Rattle.rtr_pdu.specs.declared.version.Version.TheVariants.{V0, V1}
-use Rattle.rtr_ends.specs.Answer.{report, sent, sent_all}
-use Rattle.rtr_ends.specs.Cache.{Conn, new_conn, conn_takes, conn_byte, conn_pulled, conn_notified}
-use Rattle.rtr_ends.specs.LinkRules.{Router, new_router, on_unit}
-use Rattle.rtr_ends.specs.Router.{router_byte, receives, clocked, closed_at, ticks_at, asks, connects_at, router_pulled}
-use Rattle.rtr_ends.specs.RouterLink.{Idle, Asked, Answering}
-use Rattle.rtr_ends.specs.Timing.{default_intervals}
-use Rattle.rtr_ends.specs.Transcript.{At, Opened, Asks, Refused, Restarts, Shut, Item, AskReset, AskSerial, Committed, Reads}
-use Rattle.rtr_ends.proofs.WholeAnswerRows.{v, v_ascends, cache, with_all_of, reset_bytes, response_bytes, v_bytes, end_bytes}
+use Rattle.rtr_world.proofs.Words.{◌≡◌, ℕ, ◌≤◌, Bool, true, false, List, [], ◌∷◌, ◌++◌, length, take, drop, Some, None, refl, Option, ap, arith, Instance, versions, VrpSet, empty, set_of, listing-set_of, judge, as_read, SerialNotify, SerialQuery, CacheResponse, EndOfData, Prefix, Version, V0, V1, report, sent, sent_all, Conn, new_conn, conn_takes, conn_byte, conn_pulled, conn_notified, Router, new_router, on_unit, router_byte, receives, clocked, closed_at, ticks_at, connects_at, router_pulled, Idle, Asked, Answering, default_intervals, At, Opened, Asks, Refused, Restarts, Shut, Item, AskReset, AskSerial, Committed, Reads, v, v_ascends, cache, with_all_of, reset_bytes, response_bytes, v_bytes, end_bytes, led_none}
 use Rattle.rtr_world.specs.CatchUp.{HoldsNewest}
 use Rattle.rtr_world.specs.Claims.{OfAnother, told}
 use Rattle.rtr_world.specs.SideShown.{held_of}
 use Rattle.rtr_world.specs.VersionPlaces.{position_of, version_place_of, VersionPlace}
-use Rattle.rtr_world.specs.Events.{catch_fault_number, outcome_fault, world_fault_number}
+use Rattle.rtr_world.specs.Events.{outcome_fault}
 use Rattle.rtr_world.specs.History.{Done, SessionUsed, TooManyVersions, NoSuchRouter, Memory, Entry, after, refusal, may_refuse, moved, MayEnd, has_connection, is_near, room_for, room_since, readings_at}
-use Rattle.rtr_world.specs.World.{Side, World, Event, Publish, Restart, On, RouterRestart, Speak, Connect, RouterSends, CacheGets, CacheSends, RouterGets, Cut, NotifyRouter, Ask, Tick, new_side, connects, cache_gets, cache_sends, router_gets, router_restarts, speaks, cut, side_step, side_refused, settle, goes_through, settled, is_refused, new_world, router_sends}
-use Rattle.rtr_ends.proofs.StagingLaws.{led_none}
+use Rattle.rtr_world.specs.World.{Side, World, Event, Publish, Restart, On, RouterRestart, Speak, Connect, RouterSends, CacheGets, CacheSends, RouterGets, Cut, NotifyRouter, Ask, Tick, new_side, connects, cache_gets, cache_sends, router_gets, router_restarts, cut, side_step, side_refused, settle, goes_through, settled, is_refused, router_sends}
 use Rattle.rtr_ends.specs.declared.link.End.TheVariants as ends
-use Rattle.rtr_world.specs.declared.event.CatchFault.TheVariants as catch_faults
 use Rattle.rtr_world.specs.declared.event.WorldFault.TheVariants as faults
 
 abbrev just_v : VrpSet

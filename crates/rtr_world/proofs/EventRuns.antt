@@ -1,7 +1,5 @@
 -- Events in their order.
-use Rattle.std.specs.Prelude.{◌≡◌, ℕ, ◌+◌, ◌<◌, ◌≤◌, Bool, true, false, List, [], ◌∷◌, ◌++◌, map, take, length, Option, Some, None, Result, Ok, Err, is_err, cond, slice_index_or, refl, ⊤}
-use Rattle.std.proofs.Common.{sym, ap, ◌∙◌, subst, append_assoc, arith}
-use Rattle.std.proofs.lemmas.List.{append-nil, map-append, take_all, take_more}
+use Rattle.rtr_world.proofs.Words.{◌≡◌, ℕ, ◌+◌, ◌<◌, ◌≤◌, Bool, true, false, List, [], ◌∷◌, ◌++◌, map, take, length, Option, Some, None, Result, Ok, Err, is_err, cond, slice_index_or, refl, ⊤, sym, ap, ◌∙◌, subst, append_assoc, arith, append-nil, map-append, take_all, take_more}
 use mir.Val.{bool_byte}
 use Rattle.rtr_world.specs.Claims.{Always}
 use Rattle.rtr_world.specs.Events.{AnswersOutcome, counts, event_of, outcome_fault, refused}

@@ -1,31 +1,13 @@
 -- Every event keeps the invariant at each router.
-use Rattle.std.specs.Prelude.{◌≡◌, ◌⊎◌, ℕ, Bool, true, false, List, [], ◌∷◌, ◌++◌, take, drop, Option, Some, None, if◌then◌else◌, refl}
-use Rattle.std.specs.List.{list_any}
-use Rattle.std.proofs.Common.{sym, ap, ◌∙◌, subst, arith, append_assoc, inl}
-use Rattle.std.proofs.lemmas.List.{append-nil, take-append-drop, take_min}
-use Rattle.vrps.specs.Instance.{Instance}
-use Rattle.rtr_pdu.specs.declared.version.Version.{Version}
-use Rattle.rtr_pdu.specs.declared.unit.Unit.{Unit}
-use Rattle.rtr_ends.specs.Answer.{sent, session_in}
-use Rattle.rtr_ends.specs.Cache.{Conn, Taking, new_conn, conn_byte, conn_pulled, conn_stops, conn_takes, pulled_count}
-use Rattle.rtr_ends.specs.Connection.{Sent, in_version}
-use Rattle.rtr_ends.specs.Feeding.{FedPiece, feed}
-use Rattle.rtr_ends.specs.LinkRules.{Router, ask}
-use Rattle.rtr_ends.specs.Router.{Noted, close, clocked, connects_at, closed_at, ticks_at, asks, receives, router_pulled}
-use Rattle.rtr_ends.specs.RouterLink.{Closed, is_closed, is_reading, is_due, is_idle}
-use Rattle.rtr_ends.specs.Transcript.{choose, of_version, At, query}
-use Rattle.rtr_ends.proofs.KeptLaws.{clocked_tells}
-use Rattle.rtr_ends.proofs.ByteLists.{drop_none}
-use Rattle.rtr_ends.proofs.KeptLaws.{not_due}
+use Rattle.rtr_world.proofs.Words.{◌≡◌, ◌⊎◌, ℕ, Bool, true, false, List, [], ◌∷◌, ◌++◌, take, drop, Option, Some, None, if◌then◌else◌, refl, list_any, sym, ap, ◌∙◌, subst, arith, append_assoc, inl, append-nil, take-append-drop, take_min, Instance, Version, Unit, sent, session_in, Conn, Taking, new_conn, conn_byte, conn_pulled, conn_stops, conn_takes, pulled_count, Sent, in_version, FedPiece, feed, Router, ask, Noted, close, clocked, connects_at, closed_at, ticks_at, asks, receives, router_pulled, is_closed, is_reading, is_due, is_idle, choose, of_version, At, query, clocked_tells, drop_none, not_due, false_true}
 use Rattle.rtr_world.specs.OneAnswer.{IsOfNow, OwnNotifies}
 use Rattle.rtr_world.specs.History.{conn_due}
 use Rattle.rtr_world.specs.World.{Side, World, instances, is_read, timing, SideEvent, RouterRestart, Speak, Connect, RouterSends, CacheGets, CacheSends, RouterGets, Cut, NotifyRouter, Ask, Tick, noted, places_of, connects, router_restarts, speaks, router_sends, sends_from, cache_sends, gets_at, cache_gets, router_gets, cut, notifies_at, side_step, side_part, side_refused, tell_closed, settle}
 use Rattle.rtr_world.proofs.RouterCases.{asks_by}
-use Rattle.rtr_world.proofs.EventCalls.{closed_by, closed_link, part_by, lesser, settle_by}
+use Rattle.rtr_world.proofs.EventCalls.{closed_by, part_by, lesser, settle_by}
 use Rattle.rtr_world.proofs.CacheMoves as cache
 use Rattle.rtr_world.proofs.UnitCases.{goes_fed}
-use Rattle.rtr_world.proofs.Invariant.{OwnSession, IfOpen, Open, GoodLink, GoodRouter, Good, Flow, if_open}
-use Rattle.rtr_ends.proofs.TableLaws.{false_true}
+use Rattle.rtr_world.proofs.Invariant.{OwnSession, IfOpen, Open, GoodLink, GoodRouter, Good, Flow}
 use Rattle.rtr_world.proofs.Places.{Ordered, ordered_connects, ordered_none, ordered_read}
 use Rattle.rtr_world.proofs.UnitsAtRouters.{first_fits, query_unit}
 use Rattle.rtr_world.proofs.SideSteps.{live_map, clocked_good, Shut, close_shut, closed_shut, asks_good}

@@ -1,14 +1,5 @@
 -- What happens at one side.
-use Rattle.std.specs.Prelude.{◌≡◌, ℕ, List, ◌∷◌, Option, None, Result, Ok, Err, is_err, false, true, refl, ⊤}
-use Rattle.std.proofs.Common.{sym, subst}
-use Rattle.std.specs.declared.alloc.AllocError.{AllocError}
-use Rattle.vrps.specs.Steps.{Steps}
-use Rattle.rtr_pdu.specs.declared.version.Version.{Version}
-use Rattle.rtr_ends.specs.Cache.{Conn}
-use Rattle.rtr_ends.specs.Router.{Noted}
-use Rattle.rtr_ends.specs.RouterShown.{IsShown}
-use Rattle.rtr_ends.specs.Transcript.{Item, Refused}
-use Rattle.rtr_ends.specs.declared.cache.Cache.{Cache}
+use Rattle.rtr_world.proofs.Words.{◌≡◌, ℕ, List, ◌∷◌, Option, None, Result, Ok, Err, is_err, false, true, refl, ⊤, sym, subst, AllocError, Steps, Version, Conn, Noted, IsShown, Item, Refused, Cache}
 use Rattle.rtr_ends.specs.declared.router.Router as routers
 use Rattle.rtr_world.specs.Events.{side_event_of}
 use Rattle.rtr_world.specs.SideShown.{AloneAt, BeginsEvent, Goes, Happens, Moves, Passes, ShowsSide}

@@ -1,21 +1,5 @@
 -- What holds of a router, its connection and the wires between two bytes.
-use Rattle.std.specs.Prelude.{◌≡◌, ◌⊎◌, ℕ, ◌+◌, ◌≤◌, Bool, true, false, List, [], ◌∷◌, ◌++◌, length, Option, Some, None, ⊤}
-use Rattle.prefixes.specs.Payload.{Payload}
-use Rattle.vrps.specs.Instance.{Instance}
-use Rattle.vrps.specs.VrpSet.{VrpSet}
-use Rattle.rtr_pdu.specs.declared.unit.Unit.{Unit}
-use Rattle.rtr_pdu.specs.Version.{header_version}
-use Rattle.rtr_pdu.specs.declared.unit.Unit.TheVariants.{SerialNotify, CacheResponse, Prefix, EndOfData, EndOfData0, CacheReset}
-use Rattle.rtr_pdu.specs.declared.version.Version.{Version}
-use Rattle.rtr_pdu.specs.declared.version.Version.TheVariants.{V1}
-use Rattle.rtr_ends.specs.Answer.{answer, report, session_in}
-use Rattle.rtr_ends.specs.Cache.{Conn}
-use Rattle.rtr_ends.specs.Commit.{Commits}
-use Rattle.rtr_ends.specs.Connection.{IsLater, Sent, in_version, takes_memory}
-use Rattle.std.specs.List.{AllByRecursion}
-use Rattle.rtr_ends.specs.LinkRules.{Router, Staged, Stays, stage}
-use Rattle.rtr_ends.specs.RouterLink.{Link, Closed, Idle, Asked, Answering, Ended}
-use Rattle.rtr_ends.specs.Transcript.{Begun, Committed, Question, AskReset, AskSerial, query, base_of, led_to, of_version}
+use Rattle.rtr_world.proofs.Words.{◌≡◌, ◌⊎◌, ℕ, ◌+◌, ◌≤◌, Bool, true, false, List, [], ◌∷◌, ◌++◌, length, Option, Some, None, ⊤, Payload, Instance, VrpSet, Unit, header_version, SerialNotify, CacheResponse, Prefix, EndOfData, EndOfData0, CacheReset, Version, V1, answer, report, session_in, Conn, Commits, IsLater, Sent, in_version, takes_memory, AllByRecursion, Router, Staged, Stays, stage, Link, Closed, Idle, Asked, Answering, Ended, Begun, Committed, Question, AskReset, AskSerial, query, base_of, led_to, of_version}
 use Rattle.rtr_world.specs.History.{conn_due}
 use Rattle.rtr_world.specs.OneAnswer.{EndsWith, OwnNotifies, announced_in, units_in, withdrawn_in, without_notifies}
 use Rattle.rtr_world.specs.World.{Side, timing}

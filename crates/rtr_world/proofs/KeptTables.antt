@@ -1,9 +1,5 @@
 -- Each router of a world holds what its transcript keeps.
-use Rattle.std.specs.Prelude.{take, refl, ⊤}
-use Rattle.std.specs.List.{AllByRecursion}
-use Rattle.rtr_ends.specs.Router.{Receives}
-use Rattle.rtr_ends.proofs.KeptUnits.{Tells}
-use Rattle.rtr_ends.proofs.KeptLaws.{called_tells, new_tells, refused_closed, refused_closes}
+use Rattle.rtr_world.proofs.Words.{take, refl, ⊤, AllByRecursion, Receives, Tells, called_tells, new_tells, refused_closed, refused_closes}
 use Rattle.rtr_world.specs.World.{Side, World, instances, Event, router_restarts, new_side}
 use Rattle.rtr_world.specs.History.{Outcome, after}
 use Rattle.rtr_world.proofs.EventCalls.{each_after, if_comes, closed_link, KeptByCalls, refused_at, closed_by}

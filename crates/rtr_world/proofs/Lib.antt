@@ -25,16 +25,16 @@ pub mod OneAnswers
 pub mod Places
 pub mod PlacesNoted
 pub mod Publishing
-pub mod Restarting
 pub mod Readings
+pub mod Restarting
 pub mod Rests
 pub mod Room
 pub mod Rounds
 pub mod RouterCases
 pub mod Routers
 pub mod Runs
-pub mod Showing
 pub mod SentLaws
+pub mod Showing
 pub mod SideLaws
 pub mod SideSteps
 pub mod Stepping
@@ -45,4 +45,5 @@ pub mod UnitStreams
 pub mod UnitsAtRouters
 pub mod Versions
 pub mod WireBytes
+pub mod Words
 pub mod WorldSteps

@@ -1,27 +1,7 @@
 -- The bytes that an event moves.
-use Rattle.std.specs.Prelude.{◌≡◌, ℕ, ◌+◌, ◌-◌, ◌<◌, ◌≤◌, Bool, true, false, ◌||◌, List, [], ◌∷◌, ◌++◌, length, drop, take, min, Option, Some, None, IfSome, Result, Ok, Err, is_ok, slice_get, if◌then◌else◌, refl, ⊤}
-use Rattle.std.proofs.Common.{sym, ap, ◌∙◌, subst, arith, append_assoc, subst₂}
-use Rattle.std.proofs.Math.Nat.{min-zero, zero-min}
-use Rattle.std.proofs.Math.Seq.{take-add, take-append_seam}
-use Rattle.std.proofs.lemmas.List.{append-nil, drop-drop, drop_min, length-append, length-drop, length-take, take-append-drop, take_min}
-use Rattle.std.proofs.lemmas.List.Folds.{list_any-append}
-use Rattle.std.specs.List.{list_any}
-use Rattle.std.specs.declared.alloc.AllocError.{AllocError}
-use Rattle.vrps.specs.Steps.{HoldsSteps, Steps}
-use Rattle.rtr_ends.specs.Cache.{Conn, Taking, conn_byte, conn_pulled, conn_stops, conn_takes, counted, finds_memory}
-use Rattle.rtr_ends.specs.CacheState.{GivesBytes, ShowsCache, TakesPiece, conn_consumed, due_at, is_wanted_at}
-use Rattle.rtr_ends.specs.Feeding.{FedPiece, feed}
-use Rattle.rtr_ends.specs.Peer.{is_wanted_by_peer}
-use Rattle.rtr_ends.specs.Connection.{Pull, conn_after}
-use Rattle.rtr_ends.specs.LinkRules.{Router}
-use Rattle.rtr_ends.specs.Router.{Noted, Pulls, Receiving, called, clocked, receives, router_byte, router_stops, router_pulled, with_bytes}
-use Rattle.rtr_ends.specs.Sender.{PullsBytes}
-use Rattle.rtr_ends.specs.RouterShown.{IsShown, Received, ReceivesSo, fed, is_lacking, taking}
-use Rattle.rtr_ends.specs.Transcript.{Item, At}
-use Rattle.rtr_ends.specs.declared.cache.Cache.{Cache}
+use Rattle.rtr_world.proofs.Words.{◌≡◌, ℕ, ◌+◌, ◌-◌, ◌<◌, ◌≤◌, Bool, true, false, ◌||◌, List, [], ◌∷◌, ◌++◌, length, drop, take, min, Option, Some, None, IfSome, Result, Ok, Err, is_ok, slice_get, if◌then◌else◌, refl, ⊤, sym, ap, ◌∙◌, subst, arith, append_assoc, subst₂, min-zero, zero-min, take-add, take-append_seam, append-nil, drop-drop, drop_min, length-append, length-drop, length-take, take-append-drop, take_min, list_any-append, list_any, AllocError, HoldsSteps, Steps, Conn, Taking, conn_byte, conn_pulled, conn_stops, conn_takes, counted, finds_memory, GivesBytes, ShowsCache, TakesPiece, conn_consumed, due_at, is_wanted_at, FedPiece, feed, is_wanted_by_peer, Pull, conn_after, Router, Noted, Pulls, Receiving, called, clocked, receives, router_byte, router_stops, router_pulled, with_bytes, PullsBytes, IsShown, Received, ReceivesSo, fed, is_lacking, taking, Item, At, Cache, feed_takes}
 use Rattle.rtr_ends.specs.declared.cache.Conn.{Conn as Number}
 use Rattle.rtr_ends.specs.declared.router.Router as routers
-use Rattle.rtr_ends.proofs.FeedingLaws.{feed_takes}
 use Rattle.rtr_world.specs.History.{conn_readings, readings_at}
 use Rattle.rtr_world.specs.SideShown.{AloneAt, BeginsEvent, ConnIs, MadeAt, Moves, Passes, SendsSome, ShowsBoth, ShowsSide, state_of, MadeTo}
 use Rattle.rtr_world.specs.World.{World, Side, CacheGets, CacheSends, RouterGets, RouterSends, cache_gets, cache_sends, cut, gets_at, router_gets, router_sends, sends_from, side_step, timing, instances}

@@ -1,10 +1,5 @@
 -- An event moves no more bytes than it says, and no more where memory runs out at a PDU of it.
-use Rattle.std.specs.Prelude.{◌≡◌, ℕ, ◌-◌, ◌≤◌, Bool, true, false, nat_lt, List, ◌++◌, drop, length, take, Option, Some, None, if◌then◌else◌}
-use Rattle.std.proofs.Common.{arith}
-use Rattle.std.proofs.Math.Nat.{min-le_left}
-use Rattle.std.proofs.lemmas.List.{length-append, length-drop, length-take}
-use Rattle.rtr_ends.specs.Cache.{Conn, conn_takes}
-use Rattle.rtr_ends.specs.Router.{receives}
+use Rattle.rtr_world.proofs.Words.{◌≡◌, ℕ, ◌-◌, ◌≤◌, Bool, true, false, nat_lt, List, ◌++◌, drop, length, take, Option, Some, None, if◌then◌else◌, arith, min-le_left, length-append, length-drop, length-take, Conn, conn_takes, receives}
 use Rattle.rtr_world.specs.Claims.{MovesNoMore}
 use Rattle.rtr_world.specs.History.{Memory, NoSuchRouter, MayEnd, moved, moved_at, most_of, refusal, side_at}
 use Rattle.rtr_world.specs.World.{Side, World, SideEvent, RouterRestart, RouterSends, CacheGets, CacheSends, RouterGets, On, cache_gets, gets_at, router_gets, timing}

@@ -1,26 +1,11 @@
 -- What the calls on one side show.
-use Rattle.std.specs.Prelude.{◌≡◌, ◌⊎◌, ℕ, ◌==◌, Bool, true, false, not, List, [], ◌∷◌, take, Option, Some, None, is_some, IsSome, if◌then◌else◌, refl}
-use Rattle.std.proofs.Common.{sym, ap, ◌∙◌, subst, arith, inl, inr}
-use Rattle.std.specs.Option.{option_map}
-use Rattle.std.proofs.lemmas.Bool.{cases_Bool}
-use Rattle.std.proofs.lemmas.Bool.Decides.{nat_tests}
-use Rattle.vrps.specs.Instance.{Instance}
-use Rattle.vrps.specs.Steps.{HoldsSteps, Steps}
-use Rattle.rtr_ends.specs.Cache.{Conn, conn_notified, is_none}
-use Rattle.rtr_ends.specs.CacheState.{ShowsCache, has_bytes_at, is_open_at, notified}
-use Rattle.rtr_ends.specs.LinkRules.{Router}
-use Rattle.rtr_ends.specs.Router.{Closes, called, clocked, close, closed_at, judged_by_clock}
-use Rattle.rtr_ends.specs.RouterLink.{Link, Closed, Ended, is_closed}
-use Rattle.rtr_ends.specs.RouterShown.{IsShown}
-use Rattle.rtr_ends.specs.Transcript.{later}
-use Rattle.rtr_ends.specs.declared.cache.Cache.{Cache}
+use Rattle.rtr_world.proofs.Words.{◌≡◌, ◌⊎◌, ℕ, ◌==◌, Bool, true, false, not, List, [], ◌∷◌, take, Option, Some, None, is_some, IsSome, if◌then◌else◌, refl, sym, ap, ◌∙◌, subst, arith, inl, inr, option_map, cases_Bool, nat_tests, Instance, HoldsSteps, Steps, Conn, conn_notified, is_none, ShowsCache, has_bytes_at, is_open_at, notified, Router, Closes, called, clocked, close, closed_at, judged_by_clock, Link, Closed, Ended, is_closed, IsShown, later, Cache, eq_self, eq_of, true_of_not, false_of_not}
 use Rattle.rtr_ends.specs.declared.cache.Conn.{Conn as Number}
 use Rattle.rtr_ends.specs.declared.router.Router as routers
 use Rattle.rtr_world.specs.SideShown.{AloneAt, ConnIs, Has, IsNewSide, Moves, ShowsBoth, ShowsSide, state_of}
 use Rattle.rtr_world.specs.World.{World, Side, close_ended, cut, instances, is_ended, noted, notifies_at, router_restarts, settle_conn, settle_link, settle_rest, settle_wire, tell_closed, timing}
 use Rattle.rtr_world.specs.declared.side.Side as values
 use Rattle.rtr_world.proofs.Versions.{some_is}
-use Rattle.prefixes.proofs.Basics.{eq_self, eq_of, true_of_not, false_of_not}
 
 not_equal : (a b : ℕ) → ¬ (a ≡ b) → (a == b) ≡ false
 not_equal a b h = grind (arith, nat_tests)

@@ -1,19 +1,5 @@
 -- What is on its way to a router is at most one answer, after every list of events.
-use Rattle.std.specs.Prelude.{◌≡◌, ◌⊎◌, ℕ, Bool, true, false, List, [], ◌∷◌, ◌++◌, Option, Some, None, IsSome, refl, take, ⊤}
-use Rattle.std.proofs.Common.{sym, ap, ◌∙◌, subst, inl, inr, append_assoc}
-use Rattle.vrps.specs.Instance.{Instance}
-use Rattle.vrps.specs.VrpSet.{VrpSet}
-use Rattle.rtr_pdu.specs.declared.unit.Unit.{Unit}
-use Rattle.rtr_pdu.specs.declared.version.Version.{Version}
-use Rattle.rtr_pdu.specs.declared.unit.Unit.TheVariants.{SerialNotify, Prefix}
-use Rattle.rtr_ends.specs.Answer.{answer}
-use Rattle.rtr_ends.specs.Cache.{Conn}
-use Rattle.rtr_ends.specs.RouterLaws.{LinkTells}
-use Rattle.rtr_ends.specs.RouterLink.{Link, Closed, Idle, Asked, Answering, Ended, is_closed, is_reading, is_due, is_idle}
-use Rattle.rtr_ends.specs.Transcript.{AskReset, AskSerial, Begun, Committed, Question, base_of, of_version, query, under_way, Item, At, Reads, Shut}
-use Rattle.rtr_ends.specs.LinkRules.{Router, on_unit}
-use Rattle.rtr_ends.specs.Router.{asked_by, clocked, close, asks_if, connects_at, closed_at, ticks_at, asks, router_pulled, Connects, Closes, called, Ticks, Receives, AsksNow, RouterCall}
-use Rattle.rtr_ends.proofs.TableLaws.{false_true}
+use Rattle.rtr_world.proofs.Words.{◌≡◌, ◌⊎◌, ℕ, Bool, true, false, List, [], ◌∷◌, ◌++◌, Option, Some, None, IsSome, refl, take, ⊤, sym, ap, ◌∙◌, subst, inl, inr, append_assoc, Instance, VrpSet, Unit, Version, SerialNotify, Prefix, answer, Conn, LinkTells, Link, Closed, Idle, Asked, Answering, Ended, is_closed, is_reading, is_due, is_idle, AskReset, AskSerial, Begun, Committed, Question, base_of, of_version, query, under_way, Item, At, Reads, Shut, Router, on_unit, asked_by, clocked, close, asks_if, connects_at, closed_at, ticks_at, asks, router_pulled, Connects, Closes, called, Ticks, Receives, AsksNow, RouterCall, false_true}
 use Rattle.rtr_world.specs.Claims.{OneAnswerAlways}
 use Rattle.rtr_world.specs.OneAnswer.{Between, ComesOn, Fits, IfResponse, IsAnswer, IsReply, IsWholeAnswer, LeadsToPublished, OneAnswer, WasSo, answered, units_in, without_notifies}
 use Rattle.rtr_world.specs.World.{Side, World, instances, is_ended, timing, noted, router_restarts, tell_closed}

@@ -1,16 +1,7 @@
 -- Where what is committed stands, and that none is committed that was published before what was committed earlier.
-use Rattle.std.specs.Prelude.{◌≡◌, ℕ, ◌+◌, ◌-◌, ◌<◌, ◌≤◌, Bool, true, ◌==◌, List, [], ◌∷◌, ◌++◌, length, Option, Some, None, if◌then◌else◌, refl, ⊤}
-use Rattle.std.proofs.Common.{sym, ap, ◌∙◌, subst, subst₂, arith, inl, inr}
-use Rattle.std.specs.Option.{option_map}
-use Rattle.std.proofs.lemmas.Bool.{cases_Bool}
-use Rattle.std.proofs.lemmas.List.{length-append}
-use Rattle.vrps.specs.Instance.{Instance, versions}
-use Rattle.vrps.specs.VrpSet.{VrpSet}
-use Rattle.rtr_pdu.specs.declared.version.Version.{Version}
-use Rattle.rtr_ends.specs.Answer.{session_in}
+use Rattle.rtr_world.proofs.Words.{◌≡◌, ℕ, ◌+◌, ◌-◌, ◌<◌, ◌≤◌, Bool, true, ◌==◌, List, [], ◌∷◌, ◌++◌, length, Option, Some, None, if◌then◌else◌, refl, ⊤, sym, ap, ◌∙◌, subst, subst₂, arith, inl, inr, option_map, cases_Bool, length-append, Instance, versions, VrpSet, Version, session_in, eq_self, eq_of}
 use Rattle.rtr_world.specs.VersionPlaces.{VersionPlace, position_of, place_named, IsNotAfter, NeverBack}
 use Rattle.rtr_world.proofs.Versions.{Stands, position_at, find_session, same_session_in, some_is, Seen, seen_after, seen_at}
-use Rattle.prefixes.proofs.Basics.{eq_self, eq_of}
 
 -- how many instances came before that of a session
 abbrev pub rank_of : Version → ℕ → List Instance → Option ℕ

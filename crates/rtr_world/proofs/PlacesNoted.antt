@@ -1,18 +1,5 @@
 -- Each commit has its place, and the last place is that of the version that is held.
-use Rattle.std.specs.Prelude.{◌≡◌, ◌⊎◌, ℕ, suc, Bool, true, false, ◌&&◌, ◌||◌, ◌==◌, List, [], ◌∷◌, ◌++◌, length, map, take, Option, Some, None, if◌then◌else◌, refl, ⊤}
-use Rattle.std.proofs.Common.{sym, ap, ◌∙◌, subst, append_assoc, inl, inr}
-use Rattle.std.specs.List.{AllByRecursion}
-use Rattle.rtr_ends.proofs.Effects.{either}
-use Rattle.std.proofs.lemmas.Bool.{and_parts, cases_Bool}
-use Rattle.vrps.specs.Instance.{Instance}
-use Rattle.vrps.specs.Store.{is_current}
-use Rattle.vrps.specs.VrpSet.{VrpSet}
-use Rattle.rtr_pdu.specs.declared.unit.Unit.TheVariants.{SerialNotify, CacheResponse, EndOfData, EndOfData0, ErrorReport}
-use Rattle.rtr_pdu.specs.declared.version.Version.{Version}
-use Rattle.rtr_ends.specs.Answer.{session_in}
-use Rattle.rtr_ends.specs.Timing.{default_intervals}
-use Rattle.rtr_ends.specs.Router.{Noted, Closes, called, Receives}
-use Rattle.rtr_ends.specs.Transcript.{Begun, Committed, Item, At, Reads, Refused, Restarts, Kept, acts_once, at_end_of_data, base_of, bounded, differs, does_commit, emptied_if, has_agreed, is_commit, is_over, is_serial, is_wrong, kept, later, moment, of_version, outstanding, responded, session_of, spoken, under_way, waiting}
+use Rattle.rtr_world.proofs.Words.{◌≡◌, ◌⊎◌, ℕ, suc, Bool, true, false, ◌&&◌, ◌||◌, ◌==◌, List, [], ◌∷◌, ◌++◌, length, map, take, Option, Some, None, if◌then◌else◌, refl, ⊤, sym, ap, ◌∙◌, subst, append_assoc, inl, inr, AllByRecursion, either, and_parts, cases_Bool, Instance, is_current, VrpSet, SerialNotify, CacheResponse, EndOfData, EndOfData0, ErrorReport, Version, session_in, default_intervals, Noted, Closes, called, Receives, Begun, Committed, Item, At, Reads, Refused, Restarts, Kept, acts_once, at_end_of_data, base_of, bounded, differs, does_commit, emptied_if, has_agreed, is_commit, is_over, is_serial, is_wrong, kept, later, moment, of_version, outstanding, responded, session_of, spoken, under_way, waiting}
 use Rattle.rtr_world.specs.Claims.{HasPlaces, IsLastPlace, PlacesNoted}
 use Rattle.rtr_world.specs.History.{Outcome, Done, Memory, MayEnd, after, all_have_room, refusal, room_for, room_since}
 use Rattle.rtr_world.specs.VersionPlaces.{VersionPlace, version_place_of}

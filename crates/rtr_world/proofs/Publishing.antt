@@ -1,22 +1,7 @@
 -- A set is published.
-use Rattle.std.specs.Prelude.{◌≡◌, ℕ, ◌+◌, ◌-◌, ◌%◌, ◌^◌, ◌<◌, ◌==◌, ◌||◌, Bool, true, false, List, [], ◌∷◌, length, find, Option, Some, None, is_some, Result, Ok, Err, if◌then◌else◌, refl}
-use Rattle.std.specs.declared.alloc.AllocError.{AllocError}
-use Rattle.std.proofs.lemmas.Bool.{and_parts, cases_Bool}
-use Rattle.std.proofs.lemmas.Option.{IfSome_then}
-use Rattle.std.proofs.Common.{sym, ap, ◌∙◌, subst, subst₂, arith, inl, inr}
-use Rattle.vrps.specs.Instance.{Instance, NumberedSet, versions_from}
-use Rattle.vrps.specs.Serial.{serial_at}
-use Rattle.vrps.specs.Store.{is_current, is_same, published}
-use Rattle.vrps.specs.Steps.{HoldsSteps}
-use Rattle.vrps.specs.Stores.{Publishes, newest}
-use Rattle.vrps.specs.VrpSet.{VrpSet, IsVrpSet}
-use Rattle.vrps.specs.declared.serial.Serial.{Serial}
-use Rattle.vrps.specs.declared.store.Published.{Published}
-use Rattle.vrps.specs.declared.store.Published.TheVariants.{New, Unchanged}
-use Rattle.rtr_pdu.specs.declared.version.Version.{Version}
-use Rattle.rtr_pdu.specs.declared.version.Version.TheVariants.{V0, V1}
-use Rattle.rtr_ends.specs.Cache.{Conn}
-use Rattle.rtr_ends.specs.CacheState.{ShowsCache}
+use Rattle.rtr_world.proofs.Words.{◌≡◌, ℕ, ◌+◌, ◌-◌, ◌%◌, ◌^◌, ◌<◌, ◌==◌, ◌||◌, Bool, true, false, List, [], ◌∷◌, length, find, Option, Some, None, is_some, Result, Ok, Err, if◌then◌else◌, refl, AllocError, and_parts, cases_Bool, IfSome_then, sym, ap, ◌∙◌, subst, subst₂, arith, inl, inr, Instance, NumberedSet, versions_from, serial_at, is_current, published, HoldsSteps, Publishes, VrpSet, IsVrpSet, Serial, Published, New, Unchanged, Version, V0, V1, Conn, ShowsCache}
+use Rattle.vrps.specs.Store.{is_same}
+use Rattle.vrps.specs.Stores.{newest}
 use Rattle.rtr_world.specs.History.{Outcome, Done, Memory, TooManyVersions, MayEnd, Reached, after, all_have_room, is_used, refusal, room_for, room_since, side_at}
 use Rattle.rtr_world.specs.Reached.{ShowsAt, ShowsWorld, StepsOnce}
 use Rattle.rtr_world.specs.SideShown.{MadeAt, state_of}

@@ -1,25 +1,6 @@
 -- Memory runs out at just those PDUs of an event that take memory, of all that it reads, and then no more bytes are taken.
-use Rattle.std.specs.Prelude.{◌≡◌, ◌≤◌, ℕ, zero, suc, length, Bool, true, false, not, ◌&&◌, ◌||◌, ◌==◌, List, [], ◌∷◌, ◌++◌, Option, Some, None, slice_get, if◌then◌else◌, refl}
-use Rattle.std.proofs.Common.{sym, ap, ◌∙◌, subst, subst₂}
-use Rattle.std.proofs.lemmas.List.Concat.{flat_map-append}
+use Rattle.rtr_world.proofs.Words.{◌≡◌, ◌≤◌, ℕ, zero, suc, length, Bool, true, false, not, ◌&&◌, ◌||◌, ◌==◌, List, [], ◌∷◌, ◌++◌, Option, Some, None, slice_get, if◌then◌else◌, refl, sym, ap, ◌∙◌, subst, subst₂, flat_map-append, append-nil, list_any-append, flat_map, list_any, Instance, Unit, SerialNotify, CacheResponse, Prefix, EndOfData, EndOfData0, CacheReset, ErrorReport, Version, Judgement, Begins, Whole, Faulty, judge, Conn, Taking, conn_byte, conn_judged, conn_stops, conn_takes, counted, finds_memory, version_at, with_moment, ConnMoment, Fault, Read, Wanting, is_wanting, takes_memory, Router, Staged, Stays, ask, commit, emptied, ended_by, fails, is_news, is_strange, may_lack, on_unit, stage, staged, told_off, Receiving, asked_by, breaks, clocked, lacks, reads, receives, router_byte, router_judged, router_stops, with_read, Link, Closed, Idle, Asked, Answering, Ended, is_lacking, taking, Item, At, AskReset, AskSerial, Question, Reads, base_of, bounded, is_serial, is_wrong, of_version, retry_of, sum_of, default_intervals, false_true}
 use Rattle.rtr_world.proofs.Beside.{After, Beside, Takes, beside, has, told}
-use Rattle.std.proofs.lemmas.List.{append-nil}
-use Rattle.std.proofs.lemmas.List.Folds.{list_any-append}
-use Rattle.std.specs.List.{flat_map, list_any}
-use Rattle.vrps.specs.Instance.{Instance}
-use Rattle.rtr_pdu.specs.declared.unit.Unit.{Unit}
-use Rattle.rtr_pdu.specs.declared.unit.Unit.TheVariants.{SerialNotify, CacheResponse, Prefix, EndOfData, EndOfData0, CacheReset, ErrorReport}
-use Rattle.rtr_pdu.specs.declared.version.Version.{Version}
-use Rattle.rtr_pdu.specs.Judging.{Judgement, Begins, Whole, Faulty, judge}
-use Rattle.rtr_ends.specs.Cache.{Conn, Taking, conn_byte, conn_judged, conn_stops, conn_takes, counted, finds_memory, version_at, with_moment}
-use Rattle.rtr_ends.specs.Connection.{ConnMoment, Fault, Read, Wanting, is_wanting, takes_memory}
-use Rattle.rtr_ends.specs.LinkRules.{Router, Staged, Stays, ask, commit, emptied, ended_by, fails, is_news, is_strange, may_lack, on_unit, stage, staged, told_off}
-use Rattle.rtr_ends.specs.Router.{Receiving, asked_by, breaks, clocked, lacks, reads, receives, router_byte, router_judged, router_stops, with_read}
-use Rattle.rtr_ends.specs.RouterLink.{Link, Closed, Idle, Asked, Answering, Ended}
-use Rattle.rtr_ends.specs.RouterShown.{is_lacking, taking}
-use Rattle.rtr_ends.specs.Transcript.{Item, At, AskReset, AskSerial, Question, Reads, base_of, bounded, is_serial, is_wrong, of_version, retry_of, sum_of}
-use Rattle.rtr_ends.specs.Timing.{default_intervals}
-use Rattle.rtr_ends.proofs.TableLaws.{false_true}
 use Rattle.rtr_world.specs.History.{conn_reading, router_readings, units_read}
 use Rattle.rtr_world.specs.World.{timing}
 

@@ -1,16 +1,6 @@
 -- The cache restarts.
-use Rattle.std.specs.Prelude.{◌≡◌, ℕ, ◌<◌, ◌^◌, ◌==◌, ◌||◌, Bool, true, false, List, [], ◌∷◌, ◌++◌, map, Option, Some, None, is_some, Result, Ok, Err, is_err, is_ok, slice_get, if◌then◌else◌, refl}
-use Rattle.std.specs.Option.{option_map}
-use Rattle.std.specs.List.{list_any}
-use Rattle.std.proofs.Common.{sym, ap, ◌∙◌, subst, arith}
-use Rattle.vrps.specs.Instance.{Instance}
-use Rattle.vrps.specs.Steps.{HoldsSteps, Steps as Log}
-use Rattle.rtr_pdu.specs.declared.version.Version.TheVariants.{V0, V1}
-use Rattle.rtr_ends.specs.Cache.{Conn}
-use Rattle.rtr_ends.specs.CacheState.{ShowsCache}
-use Rattle.rtr_ends.specs.RouterShown.{IsShown}
-use Rattle.rtr_ends.specs.declared.cache.Cache.{Cache}
-use Rattle.rtr_ends.specs.declared.sessions.Sessions.{Sessions}
+use Rattle.rtr_world.proofs.Words.{◌≡◌, ℕ, ◌<◌, ◌^◌, ◌==◌, ◌||◌, Bool, true, false, List, [], ◌∷◌, ◌++◌, map, Option, Some, None, is_some, Result, Ok, Err, is_err, is_ok, slice_get, if◌then◌else◌, refl, option_map, list_any, sym, ap, ◌∙◌, subst, arith, Instance, HoldsSteps, V0, V1, Conn, ShowsCache, IsShown, Cache, Sessions, or_parts, eq_of, false_if_never, IfSome_then, either}
+use Rattle.vrps.specs.Steps.{Steps as Log}
 use Rattle.rtr_world.specs.History.{Outcome, Done, Memory, SessionUsed, MayEnd, is_used, refusal, side_at}
 use Rattle.rtr_world.specs.Reached.{HasAt, Lost, LostAt, LoseAll, SettledAll, ShowsAt, ShowsParts, ShowsWorld, StepsOnce}
 use Rattle.rtr_world.specs.SideShown.{ConnIs, Has, MadeAt, MadeTo, MadeWhere, ShowsSide, state_of}
@@ -20,11 +10,7 @@ use Rattle.rtr_world.specs.declared.side.Side as values
 use Rattle.rtr_world.specs.declared.world.World as code
 use Rattle.rtr_world.proofs.SideLaws.{map_there}
 use Rattle.rtr_world.proofs.Showing.{used_more}
-use Rattle.std.proofs.lemmas.Bool.{or_parts}
 use Rattle.rtr_world.proofs.WorldSteps.{begun}
-use Rattle.prefixes.proofs.Basics.{eq_of, false_if_never}
-use Rattle.std.proofs.lemmas.Option.{IfSome_then}
-use Rattle.rtr_ends.proofs.Effects.{either}
 
 -- What a restart may end in goes by whether a session is used.
 may_restart : (w : World) (session session0 start : ℕ) (b : Bool) → (is_used V1 (instances w) session || is_used V0 (instances w) session0) ≡ b → (outcome : Outcome)

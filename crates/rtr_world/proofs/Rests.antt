@@ -1,13 +1,5 @@
 -- Between events no link has ended, nothing is on the way to a closed one, and the clean-up has nothing to do.
-use Rattle.std.specs.Prelude.{◌≡◌, ◌⊎◌, ℕ, Bool, true, false, List, [], ◌∷◌, Option, Some, None, if◌then◌else◌, ⊤, refl, zero, suc, map}
-use Rattle.std.specs.List.{AllByRecursion}
-use Rattle.std.specs.Option.{option_map}
-use Rattle.std.proofs.Common.{sym, ap, ◌∙◌, subst, inl, inr}
-use Rattle.vrps.specs.Instance.{Instance}
-use Rattle.rtr_ends.specs.Cache.{Conn}
-use Rattle.rtr_ends.specs.Router.{closed_at}
-use Rattle.rtr_ends.specs.RouterLink.{Link, Closed, Ended, is_closed}
-use Rattle.rtr_ends.proofs.TableLaws.{false_true}
+use Rattle.rtr_world.proofs.Words.{◌≡◌, ◌⊎◌, ℕ, Bool, true, false, List, [], ◌∷◌, Option, Some, None, if◌then◌else◌, ⊤, refl, zero, suc, map, AllByRecursion, option_map, sym, ap, ◌∙◌, subst, inl, inr, Instance, Conn, closed_at, Link, Closed, Ended, is_closed, false_true}
 use Rattle.rtr_world.specs.Claims.{Settles, OthersStay}
 use Rattle.rtr_world.specs.History.{Entry, IsEvent, Leads, Made, MayEnd, Memory, Outcome, Done, after, refusal, side_at}
 use Rattle.rtr_world.specs.World.{Event, On, Side, World, goes_through, close_ended, instances, is_ended, is_refused, noted, on_side, settle, settle_conn, settle_link, settle_rest, settle_wire, settled, side_refused, tell_closed, side_step}

@@ -1,14 +1,6 @@
 -- Room for one version more.
-use Rattle.std.specs.Prelude.{◌≡◌, ℕ, ◌+◌, ◌-◌, ◌≤◌, ◌<◌, ◌^◌, ◌==◌, ◌&&◌, ◌||◌, Bool, true, false, nat_lt, List, [], ◌∷◌, length, Option, Some, None, IfSome, is_none, refl}
-use Rattle.std.specs.Option.{option_map}
-use Rattle.std.proofs.Common.{sym, ap, ◌∙◌, subst, arith, inl, inr, zero, suc}
-use Rattle.std.proofs.lemmas.Bool.{and_parts, cases_Bool, cases_eq}
-use Rattle.std.proofs.lemmas.List.{length-append}
-use Rattle.vrps.specs.Instance.{Instance, versions}
-use Rattle.vrps.specs.Serial.{serial_at}
-use Rattle.vrps.specs.declared.serial.Serial.{Serial}
-use Rattle.rtr_ends.specs.Answer.{session_in}
-use Rattle.rtr_ends.specs.Transcript.{Committed}
+use Rattle.rtr_world.proofs.Words.{◌≡◌, ℕ, ◌+◌, ◌-◌, ◌≤◌, ◌<◌, ◌^◌, ◌==◌, ◌&&◌, ◌||◌, Bool, true, false, nat_lt, List, [], ◌∷◌, length, Option, Some, None, IfSome, refl, option_map, sym, ap, ◌∙◌, subst, arith, inl, inr, zero, suc, and_parts, cases_Bool, cases_eq, length-append, Instance, versions, serial_at, Serial, session_in, Committed, eq_of, false_if_never, not_both}
+use Rattle.std.specs.Prelude.{is_none}
 use Rattle.rtr_world.specs.History.{Reached, all_have_room, is_near, room_for, room_since, side_at}
 use Rattle.rtr_world.specs.VersionPlaces.{position_of}
 use Rattle.rtr_world.specs.SideShown.{MadeAt, held_of}
@@ -17,7 +9,6 @@ use Rattle.rtr_world.proofs.SideLaws.{inside}
 use Rattle.rtr_world.proofs.Versions.{Present, TableAt, of_present, position_at}
 use Rattle.rtr_world.proofs.WorldSteps.{GoodWorld, Known, history_known, good_world}
 use Rattle.rtr_world.proofs.Routers.{low_of, each_at}
-use Rattle.prefixes.proofs.Basics.{eq_of, false_if_never, not_both}
 
 pub reached_good : (w : World) → Reached w → GoodWorld w
 reached_good w r = good_world r.made r.history w r.leads

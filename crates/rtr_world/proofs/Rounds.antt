@@ -1,8 +1,5 @@
 -- Events of one router, and a round of them.
-use Rattle.std.specs.Prelude.{◌≡◌, ℕ, ◌<◌, Bool, true, false, List, [], ◌∷◌, ◌++◌, Option, Some, None, Result, Ok, Err, refl, ⊤}
-use Rattle.std.proofs.Common.{sym, ap, ◌∙◌, subst, append_assoc, arith}
-use Rattle.std.specs.List.{AllByRecursion}
-use Rattle.std.proofs.lemmas.List.{append-nil}
+use Rattle.rtr_world.proofs.Words.{◌≡◌, ℕ, ◌<◌, Bool, true, false, List, [], ◌∷◌, ◌++◌, Option, Some, None, Result, Ok, Err, refl, ⊤, sym, ap, ◌∙◌, subst, append_assoc, arith, AllByRecursion, append-nil, all_both}
 use Rattle.rtr_world.specs.CatchUp.{AreMoves, IsMove, IsMoveOf, stepped}
 use Rattle.rtr_world.specs.CaughtUp.{AllWent, AreDone, IsCutOff, IsDone, KeepOpen, KeepsOpen, Lacks, Rounded, all_bytes}
 use Rattle.rtr_world.specs.Events.{AnswersOutcome, outcome_fault}
@@ -10,7 +7,6 @@ use Rattle.rtr_world.specs.History.{Outcome, Done, Memory, Entry, Made, Leads, M
 use Rattle.rtr_world.specs.Reached.{LeadsTo, ShowsWorld, StepsOnce}
 use Rattle.rtr_world.specs.World.{World, Side, SideEvent, RouterSends, CacheGets, CacheSends, RouterGets, Cut, On, cut, instances, is_refused, settle, settled, side_refused, side_step}
 use Rattle.rtr_world.specs.declared.event.WorldFault.{WorldFault}
-use Rattle.prefixes.proofs.Basics.{all_both}
 use Rattle.rtr_world.proofs.CatchUpSettling.{settle_off}
 use Rattle.rtr_world.proofs.CatchUpSteps.{gives_none, sends_none, stepped_at}
 use Rattle.rtr_world.proofs.SideLaws.{found_on}

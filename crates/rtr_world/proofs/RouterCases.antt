@@ -1,13 +1,6 @@
 -- What holds of each case of the clock, of a close and of a question holds of the router behind it.
-use Rattle.rtr_ends.specs.Cache.{counted}
-use Rattle.rtr_ends.proofs.Effects.{by_clock, by_close}
-use Rattle.rtr_pdu.specs.Judging.{Judgement, Begins}
-use Rattle.std.specs.Prelude.{◌≡◌, ℕ, Bool, true, false, [], ◌∷◌, Some, None, refl, if◌then◌else◌}
+use Rattle.rtr_world.proofs.Words.{counted, by_clock, by_close, Judgement, Begins, ◌≡◌, ℕ, Bool, true, false, [], ◌∷◌, Some, None, refl, if◌then◌else◌, Router, ask, emptied, Noted, asks_if, clocked, close, expired, silent, Link, Closed, Asked, Answering, Ended, is_closed, AskSerial, Asks, choose, is_serial, later, of_version, retry_of, sum_of}
 use Rattle.rtr_ends.specs.declared.link.End.TheVariants as ends
-use Rattle.rtr_ends.specs.LinkRules.{Router, ask, emptied}
-use Rattle.rtr_ends.specs.Router.{Noted, asks_if, clocked, close, expired, silent}
-use Rattle.rtr_ends.specs.RouterLink.{Link, Closed, Asked, Answering, Ended, is_closed}
-use Rattle.rtr_ends.specs.Transcript.{AskSerial, Asks, choose, is_serial, later, of_version, retry_of, sum_of}
 
 -- What has expired is emptied, and the link goes on or ends.
 pub expired_by : (P : Router → Type 0) (l : Link) (r : Router) → P (emptied r) → P (record (emptied r) { link = Ended ends.Expired; out = [] }) → P (expired l r)

@@ -1,8 +1,5 @@
 -- There are always as many routers.
-use Rattle.std.specs.Prelude.{◌≡◌, ℕ, ◌<◌, List, [], ◌∷◌, length, Option, Some, None, refl}
-use Rattle.std.proofs.Common.{ap, ◌∙◌, subst, arith, zero, suc}
-use Rattle.std.proofs.lemmas.List.{length-map}
-use Rattle.std.specs.List.{AllByRecursion}
+use Rattle.rtr_world.proofs.Words.{◌≡◌, ℕ, ◌<◌, List, [], ◌∷◌, length, Option, Some, None, refl, ap, ◌∙◌, subst, arith, zero, suc, length-map, AllByRecursion}
 use Rattle.rtr_world.specs.History.{Outcome, Done, Memory, Entry, Made, Leads, after, side_at}
 use Rattle.rtr_world.specs.World.{World, Side, Event, Publish, Restart, On, goes_through, is_refused, new_sides, on_side, settled}
 use Rattle.rtr_world.proofs.EventCalls.{leads_keep}

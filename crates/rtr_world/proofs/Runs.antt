@@ -1,22 +1,6 @@
 -- Each router of a world is one to which calls lead.
-use Rattle.std.specs.Prelude.{◌≡◌, ℕ, Bool, true, false, not, ◌&&◌, List, [], ◌∷◌, ◌++◌, take, Option, refl, ⊤, drop, Some, None, IfSome, map}
-use Rattle.std.specs.List.{AllByRecursion}
-use Rattle.std.proofs.Common.{◌∙◌, sym, ap, subst, inl, inr}
-use Rattle.vrps.specs.Instance.{Instance, IsInstance}
-use Rattle.vrps.specs.Store.{published}
-use Rattle.rtr_pdu.specs.Judging.{Judgement, Begins, Whole, Faulty, judge}
-use Rattle.rtr_ends.specs.Cache.{finds_memory, is_none, Conn, Gives, Notifies, Publishes, Taking, Takes, conn_byte, conn_notified, conn_pulled, conn_stops, conn_takes, ConnCall, IsConnCall, serving}
-use Rattle.rtr_ends.specs.Consumed.{IsRouterCall}
-use Rattle.rtr_ends.specs.LinkRules.{Router, on_unit, may_lack}
-use Rattle.rtr_ends.specs.Router.{Receiving, RouterCall, Connects, Receives, Closes, AsksNow, Ticks, called, asked_by, with_bytes, router_stops, router_byte, clocked, asks, asks_if, connects_at, closed_at, ticks_at, receives}
-use Rattle.rtr_ends.specs.RouterLink.{Link, Asked, is_due, is_idle, is_reading, Closed, Ended}
-use Rattle.rtr_ends.specs.Transcript.{Item, At, Reads, Refused, Restarts}
-use Rattle.rtr_ends.specs.Connection.{in_version}
-use Rattle.std.proofs.lemmas.Bool.{cases_Bool}
-use Rattle.std.proofs.lemmas.Option.{IfSome_then}
-use Rattle.prefixes.proofs.Basics.{all_both}
-use Rattle.rtr_ends.proofs.ByteLists.{none_bytes}
-use Rattle.rtr_ends.proofs.FeedingLaws.{feed_keeps, stopped, feed_takes}
+use Rattle.rtr_world.proofs.Words.{◌≡◌, ℕ, Bool, true, false, not, ◌&&◌, List, [], ◌∷◌, ◌++◌, take, Option, refl, ⊤, drop, Some, None, IfSome, map, AllByRecursion, ◌∙◌, sym, ap, subst, inl, inr, Instance, IsInstance, published, Judgement, Begins, Whole, Faulty, judge, finds_memory, is_none, Conn, Gives, Notifies, Taking, Takes, conn_byte, conn_notified, conn_pulled, conn_stops, conn_takes, ConnCall, IsConnCall, serving, IsRouterCall, Router, on_unit, may_lack, Receiving, RouterCall, Connects, Receives, Closes, AsksNow, Ticks, called, asked_by, with_bytes, router_stops, router_byte, clocked, asks, asks_if, connects_at, closed_at, ticks_at, receives, Link, Asked, is_due, is_idle, is_reading, Closed, Ended, Item, At, Reads, Refused, Restarts, in_version, cases_Bool, IfSome_then, all_both, none_bytes, feed_keeps, stopped, feed_takes}
+use Rattle.rtr_ends.specs.Cache.{Publishes}
 use Rattle.rtr_world.specs.Claims.{IsRun, RoutersRun, since_restart, ConnsRun, IsConnRun}
 use Rattle.rtr_world.specs.History.{conn_due, Outcome, Done, Memory, IsEvent, after}
 use Rattle.rtr_world.specs.World.{Side, World, instances, noted, router_restarts, timing, SideEvent, RouterRestart, Connect, RouterSends, CacheGets, CacheSends, Cut, NotifyRouter, Event, Publish, Restart, On, cache_gets, cache_gone, cache_sends, connects, cut, gets_at, goes_through, is_refused, notifies_at, on_side, router_gets, router_sends, sends_from, settle, settled, side_refused, side_step, speaks}

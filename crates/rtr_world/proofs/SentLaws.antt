@@ -1,18 +1,5 @@
 -- What comes to a router: PDUs in the version of the connection, and notifies of version 1 before the cache has read a header.
-use Rattle.std.specs.Prelude.{◌≡◌, Bool, true, false, List, [], ◌∷◌, ◌++◌, length, refl, ℕ}
-use Rattle.std.specs.List.{AllByRecursion}
-use Rattle.std.proofs.Common.{sym, ap, subst, inl, inr}
-use Rattle.prefixes.proofs.Basics.{all_both}
-use Rattle.vrps.specs.Instance.{Instance, versions_from}
-use Rattle.vrps.specs.Serial.{serial_at}
-use Rattle.vrps.specs.VrpSet.{VrpSet}
-use Rattle.rtr_pdu.specs.Stream.{is_notify}
-use Rattle.rtr_pdu.specs.declared.unit.Unit.{Unit}
-use Rattle.rtr_pdu.specs.declared.unit.Unit.TheVariants.{SerialNotify}
-use Rattle.rtr_pdu.specs.declared.version.Version.{Version}
-use Rattle.rtr_pdu.specs.declared.version.Version.TheVariants.{V1}
-use Rattle.rtr_ends.specs.Answer.{session_in}
-use Rattle.rtr_ends.specs.Connection.{IsLater, Sent, in_version, notice}
+use Rattle.rtr_world.proofs.Words.{◌≡◌, Bool, true, false, List, [], ◌∷◌, ◌++◌, length, refl, ℕ, AllByRecursion, sym, ap, subst, inl, inr, all_both, Instance, versions_from, serial_at, VrpSet, is_notify, Unit, SerialNotify, Version, V1, session_in, IsLater, Sent, in_version, notice}
 use Rattle.rtr_world.specs.OneAnswer.{AreIn, NotifiesOf, OwnNotifies, units_in, without_notifies}
 use Rattle.rtr_world.proofs.AnswerLaws.{notifies-append}
 use Rattle.rtr_world.proofs.Invariant.{IsEarly}

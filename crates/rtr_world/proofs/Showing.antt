@@ -1,21 +1,6 @@
 -- A world of the program and its model.
-use Rattle.std.specs.Prelude.{◌≡◌, ℕ, ◌+◌, ◌<◌, ◌≤◌, ◌==◌, ◌||◌, Bool, true, false, List, [], ◌∷◌, ◌++◌, map, length, find, Option, Some, None, is_some, IsSome, Result, slice_get, slice_set, if◌then◌else◌, refl, ⊤}
-use Rattle.std.specs.List.{AllByRecursion, list_any}
-use Rattle.std.proofs.Common.{sym, ap, ◌∙◌, subst, subst₂, arith, inl, inr, zero, suc}
-use Rattle.std.proofs.Math.Bool.{or-true}
-use Rattle.std.proofs.lemmas.Bool.{cases_eq, cases_lt}
-use Rattle.std.proofs.lemmas.List.{length-set}
-use Rattle.std.proofs.lemmas.Option.{slice_get_past}
-use Rattle.std.proofs.lemmas.List.Folds.{list_any-append}
-use Rattle.vrps.specs.Instance.{Instance}
-use Rattle.vrps.specs.Steps.{Steps}
-use Rattle.rtr_pdu.specs.declared.version.Version.{Version}
-use Rattle.rtr_pdu.specs.declared.version.Version.TheVariants.{V0, V1}
-use Rattle.rtr_ends.specs.Answer.{session_in}
-use Rattle.rtr_ends.specs.Cache.{Conn}
-use Rattle.rtr_ends.specs.declared.cache.Cache.{Cache}
+use Rattle.rtr_world.proofs.Words.{◌≡◌, ℕ, ◌+◌, ◌<◌, ◌≤◌, ◌==◌, ◌||◌, Bool, true, false, List, [], ◌∷◌, ◌++◌, map, length, find, Option, Some, None, is_some, IsSome, Result, slice_get, slice_set, if◌then◌else◌, refl, ⊤, AllByRecursion, list_any, sym, ap, ◌∙◌, subst, subst₂, arith, inl, inr, zero, suc, or-true, cases_eq, cases_lt, length-set, slice_get_past, list_any-append, Instance, Steps, Version, V0, V1, session_in, Conn, Cache, Sessions, set_same, set_other}
 use Rattle.rtr_ends.specs.declared.cache.Conn.{Conn as Number}
-use Rattle.rtr_ends.specs.declared.sessions.Sessions.{Sessions}
 use Rattle.rtr_world.specs.History.{Entry, Leads, LeadsFrom, Made, Reached, WorldStep, after, is_used, side_at}
 use Rattle.rtr_world.specs.Reached.{AreOwn, HasAt, LeadsTo, Lost, LostAt, SettledAll, ShowsAt, ShowsParts, ShowsWorld, StepsOnce as StepsSo, StepsTo}
 use Rattle.rtr_world.specs.SideShown.{ConnIs, Goes, Has, HasSessions, IsNewSide, Moves, ShowsSide}
@@ -26,7 +11,6 @@ use Rattle.rtr_world.specs.declared.world.World as code
 use Rattle.rtr_world.proofs.SideLaws.{inside, elsewhere, on_there}
 use Rattle.rtr_world.proofs.Moving.{none_some}
 use Rattle.rtr_world.proofs.Rests.{Rests, stays}
-use Rattle.prefixes.proofs.Basics.{set_same, set_other}
 
 -- One event more
 leads_from : (old : World) (history : List Entry) (w : World) (entry : Entry) (n : World) → LeadsFrom old history w → WorldStep w entry.event entry.outcome n → LeadsFrom old (history ++ entry ∷ []) n

@@ -1,13 +1,7 @@
 -- What holds of each router of each world to which a history leads.
-use Rattle.std.specs.Option.{option_map}
-use Rattle.std.specs.Prelude.{ℕ, ◌==◌, List, [], ◌∷◌, map, ◌≡◌, Option, Some, None, if◌then◌else◌, refl}
-use Rattle.std.specs.List.{AllByRecursion}
-use Rattle.std.proofs.Common.{zero, suc, ap, ◌∙◌, sym, subst, inl, inr}
-use Rattle.std.proofs.lemmas.Bool.{cases_Bool}
-use Rattle.std.proofs.lemmas.Iterator.Adapters.{option_map_id}
+use Rattle.rtr_world.proofs.Words.{option_map, ℕ, ◌==◌, List, [], ◌∷◌, map, ◌≡◌, Option, Some, None, if◌then◌else◌, refl, AllByRecursion, zero, suc, ap, ◌∙◌, sym, subst, inl, inr, cases_Bool, option_map_id, eq_of, not_eq_of}
 use Rattle.rtr_world.specs.History.{Outcome, Done, Memory, after, side_at}
 use Rattle.rtr_world.specs.World.{Side, World, Event, Publish, Restart, On, cache_gone, goes_through, instances, is_refused, new_side, new_sides, on_side, settle, settled, side_refused, side_step}
-use Rattle.prefixes.proofs.Basics.{eq_of, not_eq_of}
 
 -- what follows from a fact of each side
 pub all_weaker : (P Q : Side → Type 0) (sides : List Side) → ((s : Side) → P s → Q s) → AllByRecursion P sides → AllByRecursion Q sides

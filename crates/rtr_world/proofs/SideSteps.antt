@@ -1,27 +1,9 @@
 -- What happens at one router, its connection and its wires keeps the invariant.
-use Rattle.std.specs.Prelude.{◌≡◌, ℕ, Bool, true, false, not, List, [], ◌∷◌, ◌++◌, Option, Some, None, refl}
-use Rattle.std.proofs.Common.{sym, ap, ◌∙◌, subst}
-use Rattle.vrps.specs.Instance.{Instance}
-use Rattle.vrps.specs.VrpSet.{VrpSet, empty}
-use Rattle.rtr_pdu.specs.Version.{header_version}
-use Rattle.rtr_pdu.specs.declared.version.Version.{Version}
-use Rattle.rtr_pdu.specs.Judging.{judge}
-use Rattle.rtr_pdu.specs.declared.unit.Unit.{Unit}
-use Rattle.rtr_ends.specs.Connection.{Sent, in_version}
-use Rattle.rtr_ends.specs.Cache.{Conn, finds_memory}
-use Rattle.rtr_ends.specs.LinkRules.{Router, emptied, on_unit}
-use Rattle.rtr_ends.specs.Router.{Noted, Receiving, lacks, reads, silent, with_bytes, router_stops, router_byte, clocked, close, asks_if}
-use Rattle.rtr_ends.specs.RouterLink.{Link, Closed, Idle, Asked, Answering, Ended, is_reading, is_closed, is_idle}
-use Rattle.rtr_ends.specs.Transcript.{choose, Committed, Question, AskReset, AskSerial, is_serial, later, of_version}
-use Rattle.rtr_ends.proofs.KeptLaws.{same_base}
-use Rattle.rtr_ends.proofs.TableLaws.{false_true}
+use Rattle.rtr_world.proofs.Words.{◌≡◌, ℕ, Bool, true, false, not, List, [], ◌∷◌, ◌++◌, Option, Some, None, refl, sym, ap, ◌∙◌, subst, Instance, VrpSet, empty, header_version, Version, judge, Unit, Sent, in_version, Conn, finds_memory, Router, emptied, on_unit, Noted, Receiving, lacks, reads, silent, with_bytes, router_stops, router_byte, clocked, close, asks_if, Link, Closed, Idle, Asked, Answering, Ended, is_reading, is_closed, is_idle, choose, Committed, Question, AskReset, AskSerial, is_serial, later, of_version, same_base, false_true, is_notify, by_clock, by_close, goes_on, goes_so, false_of_not}
 use Rattle.rtr_world.specs.History.{conn_due}
 use Rattle.rtr_world.specs.OneAnswer.{OwnNotifies, units_in, without_notifies}
-use Rattle.rtr_pdu.specs.Stream.{is_notify}
 use Rattle.rtr_world.proofs.Invariant.{OfAnswer, Shape, QuestionFits, Open, Unheard, Flow, Live, GoodLink, GoodRouter, if_open}
 use Rattle.rtr_world.proofs.UnitsAtRouters.{Reads, asking_good, first_fits, live_link, unit_good}
-use Rattle.rtr_ends.proofs.Effects.{by_clock, by_close, goes_on, goes_so}
-use Rattle.prefixes.proofs.Basics.{false_of_not}
 use Rattle.rtr_world.proofs.UnitEffects.{Belongs, not_strange}
 use Rattle.rtr_world.proofs.SentLaws.{own_rest}
 use Rattle.rtr_world.proofs.UnitStreams.{Stream, byte_case, case_by}

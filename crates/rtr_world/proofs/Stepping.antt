@@ -1,14 +1,5 @@
 -- One event at a router.
-use Rattle.std.specs.Prelude.{◌≡◌, ℕ, ◌<◌, ◌≤◌, ◌==◌, true, false, not, ◌||◌, nat_lt, List, [], length, Option, Some, None, is_some, IfSome, Result, Ok, Err, slice_get, slice_set, if◌then◌else◌, refl, ⊤}
-use Rattle.std.proofs.Common.{sym, ap, ◌∙◌, subst, arith}
-use Rattle.std.proofs.lemmas.Option.{IfSome_then}
-use Rattle.std.proofs.Math.Bool.{or-true}
-use Rattle.std.proofs.lemmas.Bool.Decides.{nat_tests}
-use Rattle.std.specs.List.{list_any}
-use Rattle.std.specs.declared.alloc.AllocError.{AllocError}
-use Rattle.vrps.specs.Instance.{Instance}
-use Rattle.rtr_ends.specs.Cache.{Conn}
-use Rattle.rtr_ends.specs.RouterLink.{Link, Closed, is_closed}
+use Rattle.rtr_world.proofs.Words.{◌≡◌, ℕ, ◌<◌, ◌≤◌, ◌==◌, true, false, not, ◌||◌, nat_lt, List, [], length, Option, Some, None, is_some, IfSome, Result, Ok, Err, slice_get, slice_set, if◌then◌else◌, refl, ⊤, sym, ap, ◌∙◌, subst, arith, IfSome_then, or-true, nat_tests, list_any, AllocError, Instance, Conn, Link, Closed, is_closed, lt_true}
 use Rattle.rtr_world.specs.History.{Done, Memory, NoSuchRouter, MayEnd, IsWanted, Reached, after, may_refuse_at, most_moved, most_of, moved_at, readings_at, refusal, side_at}
 use Rattle.rtr_world.specs.Reached.{ShowsParts, ShowsRest, ShowsWorld, StepsOnce}
 use Rattle.rtr_world.specs.SideShown.{Happens, MayFail, Moves, ShowsBoth}
@@ -21,7 +12,6 @@ use Rattle.rtr_world.proofs.Rests.{history_rests}
 use Rattle.rtr_world.proofs.Room.{reached_known}
 use Rattle.rtr_world.proofs.Versions.{Seen}
 use Rattle.rtr_world.proofs.Showing.{FoundSide, found_side, moved, settled_on, shown_length}
-use Rattle.prefixes.proofs.Basics.{lt_true}
 
 -- what the calls on sides leave alone
 same_rest : (w : World) (sides : List Side) (v n : code.World) → ShowsRest w v → n ≡ record v { cache = n.cache; sides = n.sides } → ShowsRest (record w { sides = sides }) n

@@ -1,21 +1,10 @@
 -- A router of a world speaks what it was told.
-use Rattle.std.specs.Prelude.{◌≡◌, ℕ, Bool, true, false, ◌==◌, List, [], ◌∷◌, take, Option, Some, None, if◌then◌else◌, ⊤, refl}
-use Rattle.std.specs.Option.{option_map}
-use Rattle.std.proofs.Common.{sym, ap, ◌∙◌, subst}
-use Rattle.vrps.specs.Instance.{Instance}
-use Rattle.rtr_pdu.specs.declared.version.Version.{Version}
-use Rattle.rtr_pdu.specs.declared.version.Version.TheVariants.{V1}
-use Rattle.rtr_ends.specs.LinkRules.{Router}
-use Rattle.rtr_ends.specs.Router.{Receiving, asks, asks_if, clocked, close, closed_at, connects_at, receives, router_byte, router_pulled, router_stops, ticks_at}
-use Rattle.rtr_ends.specs.RouterLink.{is_due, is_idle}
-use Rattle.rtr_ends.specs.Transcript.{At}
-use Rattle.rtr_ends.proofs.FeedingLaws.{feed_keeps}
+use Rattle.rtr_world.proofs.Words.{◌≡◌, ℕ, Bool, true, false, ◌==◌, List, [], ◌∷◌, take, Option, Some, None, if◌then◌else◌, ⊤, refl, option_map, sym, ap, ◌∙◌, subst, Instance, Version, V1, Router, Receiving, asks, asks_if, clocked, close, closed_at, connects_at, receives, router_byte, router_pulled, router_stops, ticks_at, is_due, is_idle, At, feed_keeps, clocked_keeps, either}
 use Rattle.rtr_world.specs.Claims.{EachSpeaks, told_since, told_by}
 use Rattle.rtr_world.specs.History.{Outcome, Done, Memory, Entry, LeadsFrom, after, side_at}
 use Rattle.rtr_world.specs.World.{Side, World, instances, SideEvent, RouterRestart, Speak, Connect, RouterGets, Ask, Tick, Event, Publish, Restart, On, cache_gone, cut, new_sides, router_restarts, settle, side_refused, side_step}
 use Rattle.rtr_world.proofs.RouterCases.{asks_by, close_by}
 use Rattle.rtr_world.proofs.CatchUpSides.{byte_speaks}
-use Rattle.rtr_ends.proofs.Effects.{clocked_keeps, either}
 use Rattle.rtr_world.proofs.SideLaws.{after_at, all_new, inside, side_after}
 use Rattle.rtr_world.proofs.Routers.{each_at}
 use Rattle.rtr_world.proofs.WorldSteps.{first}

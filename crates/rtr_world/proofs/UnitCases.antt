@@ -1,24 +1,6 @@
 -- What a PDU that comes to the router does to its link.
-use Rattle.std.specs.Prelude.{◌≡◌, ℕ, ◌+◌, ◌≤◌, Bool, true, false, List, [], ◌∷◌, ◌++◌, length, Some, if◌then◌else◌, refl, not, Option, None}
-use Rattle.std.proofs.Common.{sym, ap, ◌∙◌, subst, arith, append_assoc}
-use Rattle.prefixes.specs.Payload.{Payload}
-use Rattle.vrps.specs.Instance.{Instance}
-use Rattle.vrps.specs.VrpSet.{VrpSet}
-use Rattle.rtr_pdu.specs.declared.unit.Unit.{Unit}
-use Rattle.rtr_pdu.specs.declared.unit.Unit.TheVariants.{SerialNotify, CacheResponse, Prefix, EndOfData, EndOfData0}
-use Rattle.rtr_pdu.specs.Judging.{judge}
-use Rattle.rtr_pdu.specs.declared.version.Version.{Version}
-use Rattle.rtr_ends.specs.Answer.{session_in}
-use Rattle.rtr_ends.specs.LinkRules.{Router, on_unit}
-use Rattle.rtr_ends.specs.RouterLink.{Link, Closed, Idle, Asked, Answering, Ended}
-use Rattle.rtr_ends.specs.Transcript.{Begun, Committed, Question, AskSerial, base_of, led_to, Item, Reads, kept, is_commit}
-use Rattle.rtr_ends.specs.Cache.{Conn, finds_memory}
-use Rattle.rtr_ends.specs.Router.{Noted, reads, with_bytes, Receiving, asked_by, router_stops, router_byte}
-use Rattle.rtr_ends.specs.Feeding.{feed}
+use Rattle.rtr_world.proofs.Words.{◌≡◌, ℕ, ◌+◌, ◌≤◌, Bool, true, false, List, [], ◌∷◌, ◌++◌, length, Some, if◌then◌else◌, refl, not, Option, None, sym, ap, ◌∙◌, subst, arith, append_assoc, Payload, Instance, VrpSet, Unit, SerialNotify, CacheResponse, Prefix, EndOfData, EndOfData0, judge, Version, session_in, Router, on_unit, Link, Closed, Idle, Asked, Answering, Ended, Begun, Committed, Question, AskSerial, base_of, led_to, Item, Reads, kept, is_commit, Conn, finds_memory, Noted, reads, with_bytes, Receiving, asked_by, router_stops, router_byte, feed, feed_keeps, Tells, live_unit, byte_tells, goes_so, eq_self}
 use Rattle.rtr_ends.specs.declared.link.End.TheVariants as ends
-use Rattle.rtr_ends.proofs.FeedingLaws.{feed_keeps}
-use Rattle.rtr_ends.proofs.KeptUnits.{Tells, live_unit}
-use Rattle.rtr_ends.proofs.KeptLaws.{byte_tells}
 use Rattle.rtr_world.specs.OneAnswer.{units_in, without_notifies}
 use Rattle.rtr_world.specs.World.{is_ended, places_of}
 use Rattle.rtr_world.specs.VersionPlaces.{VersionPlace, version_place_of}
@@ -26,11 +8,9 @@ use Rattle.rtr_world.proofs.Invariant.{read_of, Shape, nothing_yet, Flow, GoodLi
 use Rattle.rtr_world.proofs.UnitsAtRouters.{stage_reads}
 use Rattle.rtr_world.proofs.UnitEffects.{Belongs, by_shape}
 use Rattle.rtr_world.proofs.SideSteps.{byte_good, router_by}
-use Rattle.rtr_ends.proofs.Effects.{goes_so}
 use Rattle.rtr_world.proofs.EventCalls.{reading_on}
 use Rattle.rtr_world.proofs.Versions.{Stands, find_session, Seen, same_instance, some_is, IsReadAt, IsSeen}
 use Rattle.rtr_world.proofs.Places.{Found, Ordered, ordered_more, place_at, stands_found, young_enough}
-use Rattle.prefixes.proofs.Basics.{eq_self}
 
 abbrev pub is_end : Unit → Bool
 is_end (EndOfData session serial refresh retry expire) = true

@@ -1,21 +1,6 @@
 -- What a PDU does to a router, where it belongs there: a notify, the reply to a question, or more of an answer. A law of each effect is
 -- one of the PDU.
-use Rattle.std.specs.Prelude.{◌≡◌, ℕ, ◌+◌, ◌≤◌, ◌<◌, Bool, true, false, not, ◌&&◌, ◌==◌, List, [], ◌∷◌, ◌++◌, length, Option, Some, None, if◌then◌else◌, refl}
-use Rattle.std.proofs.Common.{sym, ap, ◌∙◌, inl, inr, subst, subst₂}
-use Rattle.prefixes.specs.Payload.{Payload}
-use Rattle.prefixes.proofs.Basics.{eq_true}
-use Rattle.vrps.specs.Instance.{Instance}
-use Rattle.vrps.specs.VrpSet.{VrpSet}
-use Rattle.rtr_pdu.specs.declared.unit.Unit.{Unit}
-use Rattle.rtr_pdu.specs.declared.unit.Unit.TheVariants.{SerialNotify, CacheResponse, Prefix, EndOfData, EndOfData0, CacheReset}
-use Rattle.rtr_ends.specs.Answer.{report, session_in}
-use Rattle.rtr_ends.specs.Connection.{Sent}
-use Rattle.rtr_ends.specs.LinkRules.{Router, Staged, Stays, asking, ask, commit, emptied, ended_by, fails, is_news, is_strange, on_unit, stage, staged}
-use Rattle.rtr_ends.specs.RouterLink.{Link, Idle, Asked, Answering, is_reading}
-use Rattle.rtr_ends.specs.Timing.{Intervals, default_intervals}
-use Rattle.rtr_ends.specs.Transcript.{Begun, Committed, Question, AskReset, AskSerial, base_of, bounded, differs, is_wrong, led_to, of_version, retry_of, session_of, sum_of}
-use Rattle.rtr_ends.proofs.Effects.{either}
-use Rattle.rtr_ends.proofs.TableLaws.{false_true}
+use Rattle.rtr_world.proofs.Words.{◌≡◌, ℕ, ◌+◌, ◌≤◌, ◌<◌, Bool, true, false, not, ◌&&◌, ◌==◌, List, [], ◌∷◌, ◌++◌, length, Option, Some, None, if◌then◌else◌, refl, sym, ap, ◌∙◌, inl, inr, subst, subst₂, Payload, eq_true, Instance, VrpSet, Unit, SerialNotify, CacheResponse, Prefix, EndOfData, EndOfData0, CacheReset, report, session_in, Sent, Router, Staged, Stays, asking, ask, commit, emptied, ended_by, fails, is_news, is_strange, on_unit, stage, staged, Link, Idle, Asked, Answering, is_reading, Intervals, default_intervals, Begun, Committed, Question, AskReset, AskSerial, base_of, bounded, differs, is_wrong, led_to, of_version, retry_of, session_of, sum_of, either, false_true}
 use Rattle.rtr_world.specs.OneAnswer.{NotifiesOf, OwnNotifies, units_in, without_notifies}
 use Rattle.rtr_world.proofs.Invariant.{after_stage, IsOwn, Leads, Mine, OfAnswer, OneReply, OwnSession, QuestionFits, Replies, no_data, not_kept, other_session, no_memory, response, Shape, nothing_yet}
 use Rattle.rtr_world.proofs.SentLaws.{HeadCase, a_notify, another, head_case}

@@ -1,37 +1,6 @@
 -- A stream of bytes that spells PDUs, read byte by byte.
-use Rattle.std.specs.Prelude.{◌≡◌, ◌⊎◌, ℕ, ◌<◌, nat_lt, Bool, true, false, not, List, [], ◌∷◌, ◌++◌, length, Option, Some, None, if◌then◌else◌, ⊤, refl, ◌&&◌}
-use Rattle.std.specs.List.{AllByRecursion}
-use Rattle.std.proofs.Common.{sym, ap, ◌∙◌, subst, subst₂, arith, append_assoc, inl, inr, zero, suc}
-use Rattle.std.proofs.lemmas.Bool.Decides.{nat_tests}
-use Rattle.std.proofs.lemmas.List.{append-nil, append_cancel_left, length-append}
-use Rattle.std.proofs.lemmas.List.Concat.{flat_map-append}
-use Rattle.std.proofs.lemmas.Bool.{cases_lt}
-use Rattle.prefixes.specs.declared.prefix.IpPrefix.TheVariants.{V4, V6}
-use Rattle.prefixes.specs.declared.prefix.IpPrefix.{IpPrefix}
-use Rattle.rtr_pdu.specs.Version.{first_version, header_version, version_in, version_number}
-use Rattle.rtr_pdu.specs.declared.version.Version.{Version}
-use Rattle.rtr_pdu.specs.declared.version.Version.TheVariants.{V0, V1}
-use Rattle.rtr_pdu.specs.declared.unit.Unit.TheVariants.{SerialNotify, Prefix}
-use Rattle.rtr_pdu.specs.Judging.{Begins, Whole, judge}
-use Rattle.rtr_pdu.specs.Payloads.{AreBytes}
-use Rattle.rtr_pdu.specs.Unit.{IsUnit, IsUnitOf, prefix_bytes, zeros}
-use Rattle.rtr_pdu.specs.declared.unit.Unit.{Unit}
-use Rattle.rtr_pdu.specs.Stream.{as_read, IsPartial}
-use Rattle.rtr_pdu.proofs.VersionLaws.{version_in-append}
-use Rattle.rtr_pdu.proofs.NextLaws.{judge_sent, judge_part, some_sent}
-use Rattle.rtr_pdu.proofs.DeviceLaws.{strict}
-use Rattle.rtr_pdu.proofs.JudgingLaws.{begins_exactly, reads_judged}
-use Rattle.rtr_pdu.proofs.ModeLaws.{as_read-append}
-use Rattle.rtr_pdu.proofs.ReaderLaws.{partial_short}
-use Rattle.rtr_pdu.proofs.StreamLaws.{written_is_read}
-use Rattle.rtr_ends.proofs.Effects.{either}
-use Rattle.rtr_ends.specs.Router.{Noted, silent, reads, lacks, with_bytes}
-use Rattle.rtr_ends.specs.LinkRules.{Router, may_lack}
-use Rattle.rtr_ends.specs.Answer.{sent, sent_all, session_in}
-use Rattle.rtr_ends.specs.Connection.{Sent, bytes_sent, in_version}
+use Rattle.rtr_world.proofs.Words.{◌≡◌, ◌⊎◌, ℕ, ◌<◌, nat_lt, Bool, true, false, not, List, [], ◌∷◌, ◌++◌, length, Option, Some, None, if◌then◌else◌, ⊤, refl, ◌&&◌, AllByRecursion, sym, ap, ◌∙◌, subst, subst₂, arith, append_assoc, inl, inr, zero, suc, nat_tests, append-nil, append_cancel_left, length-append, flat_map-append, cases_lt, V4, V6, IpPrefix, first_version, header_version, version_in, version_number, Version, V0, V1, SerialNotify, Prefix, Begins, Whole, judge, AreBytes, IsUnit, IsUnitOf, prefix_bytes, zeros, Unit, as_read, IsPartial, version_in-append, judge_sent, judge_part, some_sent, strict, begins_exactly, reads_judged, as_read-append, partial_short, written_is_read, either, Noted, silent, reads, lacks, with_bytes, Router, may_lack, sent, sent_all, session_in, Sent, bytes_sent, in_version, Instance, all_both}
 use Rattle.rtr_world.specs.OneAnswer.{IsPart, OwnNotifies}
-use Rattle.vrps.specs.Instance.{Instance}
-use Rattle.prefixes.proofs.Basics.{all_both}
 
 -- A notify of another version, which a router reads where it has not agreed on a version, as one of the expected version.
 pub judge_notify : (version other : Version) (session serial : ℕ) → IsUnit (SerialNotify session serial) → judge version true (sent other (SerialNotify session serial)) ≡ Whole (SerialNotify session serial)

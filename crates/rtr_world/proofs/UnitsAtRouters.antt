@@ -1,25 +1,6 @@
 -- A PDU that comes to the router keeps the invariant.
-use Rattle.std.specs.Prelude.{◌≡◌, ℕ, ◌<◌, Bool, true, false, not, ◌&&◌, ◌||◌, nat_lt, List, [], ◌∷◌, ◌++◌, Option, Some, None, if◌then◌else◌, refl}
-use Rattle.std.proofs.Common.{sym, ap, ◌∙◌, append_assoc, subst, subst₂, arith, inl, inr}
-use Rattle.std.proofs.lemmas.List.{append-nil}
-use Rattle.prefixes.specs.Payload.{Payload}
-use Rattle.vrps.specs.Instance.{Instance}
-use Rattle.vrps.specs.VrpSet.{VrpSet, has, size}
-use Rattle.rtr_pdu.specs.Unit.{IsUnitOf}
-use Rattle.rtr_pdu.specs.declared.unit.Unit.{Unit}
-use Rattle.rtr_pdu.specs.declared.unit.Unit.TheVariants.{CacheResponse, Prefix}
-use Rattle.rtr_pdu.specs.declared.version.Version.{Version}
-use Rattle.rtr_ends.specs.Connection.{Sent, bytes_sent, in_version}
-use Rattle.rtr_ends.specs.Answer.{sent, sent_all, session_in}
-use Rattle.rtr_ends.specs.Cache.{Conn}
-use Rattle.rtr_ends.specs.Commit.{Commits}
-use Rattle.rtr_ends.specs.LinkRules.{Router, Stays, Wrong, Over, asking, stage, commit, on_unit}
-use Rattle.rtr_ends.proofs.Effects.{either}
-use Rattle.rtr_pdu.specs.Stream.{is_notify}
+use Rattle.rtr_world.proofs.Words.{◌≡◌, ℕ, ◌<◌, Bool, true, false, not, ◌&&◌, ◌||◌, nat_lt, List, [], ◌∷◌, ◌++◌, Option, Some, None, if◌then◌else◌, refl, sym, ap, ◌∙◌, append_assoc, subst, subst₂, arith, inl, inr, append-nil, Payload, Instance, VrpSet, has, size, IsUnitOf, Unit, CacheResponse, Prefix, Version, Sent, bytes_sent, in_version, sent, sent_all, session_in, Conn, Commits, Router, Stays, Wrong, Over, asking, stage, commit, on_unit, either, is_notify, Link, Closed, Idle, Answering, Ended, is_reading, choose, Begun, Committed, Question, AskReset, AskSerial, query, is_among, led_to, base_of, is_same, of_version, sum_of, retry_of, false_true}
 use Rattle.rtr_world.proofs.UnitEffects.{Belongs, by_shape, fits_mine}
-use Rattle.rtr_ends.specs.RouterLink.{Link, Closed, Idle, Answering, Ended, is_reading}
-use Rattle.rtr_ends.specs.Transcript.{choose, Begun, Committed, Question, AskReset, AskSerial, query, is_among, led_to, base_of, is_same, of_version, sum_of, retry_of}
-use Rattle.rtr_ends.proofs.TableLaws.{false_true}
 use Rattle.rtr_world.specs.History.{conn_due}
 use Rattle.rtr_world.specs.OneAnswer.{EndsWith, OwnNotifies, announced_in, units_in, withdrawn_in, without_notifies}
 use Rattle.rtr_world.proofs.Invariant.{after_stage, FromCache, InOrder, Leads, NoneWithdrawn, WithdrawsFirst, read_of, records_of, Mine, OwnSession, QuestionFits, OfAnswer, nothing_yet, Shape, IfOpen, Open, Live, Flow, GoodLink, GoodRouter, if_open}

@@ -1,21 +1,7 @@
 -- Versions at their places.
-use Rattle.std.specs.Prelude.{◌≡◌, ◌⊎◌, ℕ, ◌+◌, ◌<◌, ◌^◌, Bool, true, false, ◌==◌, nat_lt, List, [], ◌∷◌, ◌++◌, length, take, find, Option, Some, None, option_and_then, if◌then◌else◌, refl, ⊤, ◌≤◌}
-use Rattle.std.proofs.Common.{sym, ap, ◌∙◌, subst, arith, inl, inr}
-use Rattle.std.specs.Option.{option_map}
-use Rattle.std.proofs.lemmas.Bool.{cases_Bool}
-use Rattle.std.proofs.lemmas.Bool.Decides.{nat_tests}
-use Rattle.std.proofs.lemmas.List.{length-append}
-use Rattle.vrps.specs.Instance.{Instance, IsInstance, NumberedSet, versions, versions_from, with_serial, named}
-use Rattle.vrps.specs.Serial.{serial_at}
-use Rattle.vrps.specs.VrpSet.{VrpSet, empty}
-use Rattle.vrps.proofs.SetVersions.{names_itself, kept_is_itself}
-use Rattle.rtr_pdu.specs.declared.version.Version.{Version}
-use Rattle.rtr_pdu.specs.declared.version.Version.TheVariants.{V0, V1}
-use Rattle.rtr_ends.specs.Answer.{session_in}
-use Rattle.rtr_ends.specs.Transcript.{Committed, is_same, of_version}
+use Rattle.rtr_world.proofs.Words.{◌≡◌, ◌⊎◌, ℕ, ◌+◌, ◌<◌, ◌^◌, Bool, true, false, ◌==◌, nat_lt, List, [], ◌∷◌, ◌++◌, length, take, find, Option, Some, None, option_and_then, if◌then◌else◌, refl, ⊤, ◌≤◌, sym, ap, ◌∙◌, subst, arith, inl, inr, option_map, cases_Bool, nat_tests, length-append, Instance, IsInstance, NumberedSet, versions, versions_from, with_serial, named, serial_at, VrpSet, empty, names_itself, kept_is_itself, Version, V0, V1, session_in, Committed, is_same, of_version, eq_self, eq_of, false_if_never}
 use Rattle.rtr_world.specs.VersionPlaces.{position_of}
 use Rattle.rtr_world.specs.Claims.{IsNamed}
-use Rattle.prefixes.proofs.Basics.{eq_self, eq_of, false_if_never}
 
 pub lt_of : (a b : ℕ) → nat_lt a b ≡ true → a < b
 lt_of a b h = grind (arith, nat_tests)

@@ -1,29 +1,9 @@
 -- What is on a wire are bytes.
-use Rattle.std.specs.Prelude.{◌≡◌, ℕ, zero, suc, ◌+◌, ◌*◌, ◌/◌, ◌%◌, ◌<◌, ◌^◌, nat_lt, Bool, true, false, List, [], ◌∷◌, ◌++◌, drop, take, length, if◌then◌else◌}
-use Rattle.std.proofs.Common.{sym, subst, arith, inl, inr}
-use Rattle.std.proofs.Math.Utf8.{encode, encodes, scalar, scalars, scalar_cases}
-use Rattle.std.proofs.lemmas.Bool.{and_parts}
-use Rattle.std.specs.Int.{byte_at}
-use Rattle.std.specs.List.{AllByRecursion}
-use Rattle.std.specs.Str.{IsUtf8}
-use Rattle.prefixes.specs.Payload.{IsPayload}
-use Rattle.prefixes.specs.declared.prefix.IpPrefix.{IpPrefix}
-use Rattle.prefixes.specs.declared.prefix.IpPrefix.TheVariants.{V4, V6}
-use Rattle.rtr_pdu.specs.Kind.{fixed_len}
-use Rattle.rtr_pdu.specs.Payloads.{AreBytes}
-use Rattle.rtr_pdu.specs.Unit.{IsUnit}
-use Rattle.rtr_pdu.specs.Version.{version_number}
+use Rattle.rtr_world.proofs.Words.{◌≡◌, ℕ, zero, suc, ◌+◌, ◌*◌, ◌/◌, ◌%◌, ◌<◌, ◌^◌, nat_lt, Bool, true, false, List, [], ◌∷◌, ◌++◌, drop, take, length, if◌then◌else◌, sym, subst, arith, inl, inr, encodes, scalar, scalars, scalar_cases, and_parts, byte_at, AllByRecursion, IsUtf8, IsPayload, IpPrefix, V4, V6, fixed_len, AreBytes, IsUnit, version_number, Unit, SerialNotify, SerialQuery, ResetQuery, CacheResponse, Prefix, EndOfData, EndOfData0, CacheReset, RouterKey, ErrorReport, Version, is_byte, sent, Sent, bytes_sent, either, take-append-drop}
+use Rattle.std.proofs.Math.Utf8.{encode}
 use Rattle.rtr_pdu.specs.declared.kind.Kind.TheVariants as kinds
-use Rattle.rtr_pdu.specs.declared.unit.Unit.{Unit}
-use Rattle.rtr_pdu.specs.declared.unit.Unit.TheVariants.{SerialNotify, SerialQuery, ResetQuery, CacheResponse, Prefix, EndOfData, EndOfData0, CacheReset, RouterKey, ErrorReport}
-use Rattle.rtr_pdu.specs.declared.version.Version.{Version}
-use Rattle.rtr_pdu.proofs.VersionLaws.{is_byte}
-use Rattle.rtr_ends.specs.Answer.{sent}
-use Rattle.rtr_ends.specs.Connection.{Sent, bytes_sent}
 use Rattle.rtr_world.proofs.UnitStreams.{IsSent, Stream}
 use Rattle.rtr_world.proofs.Versions.{lt_of}
-use Rattle.rtr_ends.proofs.Effects.{either}
-use Rattle.std.proofs.lemmas.List.{take-append-drop}
 
 abbrev pub Low : List ℕ → Type 0
 Low bytes = AllByRecursion (λ b. b < 256) bytes

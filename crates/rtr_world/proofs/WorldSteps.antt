@@ -1,34 +1,6 @@
 -- Every event keeps the invariant of the world, and so the headline holds.
-use Rattle.std.specs.Prelude.{◌≡◌, ℕ, suc, ◌+◌, ◌-◌, ◌<◌, ◌≤◌, ◌^◌, Bool, true, false, ◌&&◌, ◌||◌, ◌==◌, nat_lt, List, [], ◌∷◌, ◌++◌, length, Option, Some, None, is_some, if◌then◌else◌, refl, ⊤, map, take, drop}
-use Rattle.std.specs.List.{AllByRecursion}
-use Rattle.std.proofs.Common.{sym, ap, ◌∙◌, subst, arith, inl, inr, append_assoc}
-use Rattle.std.proofs.lemmas.Bool.{and_parts, or_parts}
-use Rattle.std.proofs.lemmas.List.{length-append, take-append-drop}
-use Rattle.prefixes.specs.declared.route.Route.{Route}
-use Rattle.vrps.specs.Instance.{Instance, IsInstance, versions}
-use Rattle.vrps.specs.Origin.{HasState, state}
-use Rattle.vrps.specs.Store.{is_current, published}
-use Rattle.vrps.specs.VrpSet.{VrpSet}
-use Rattle.vrps.proofs.StateLaws.{state_is}
-use Rattle.vrps.proofs.SetVersions.{published_is_instance}
-use Rattle.rtr_pdu.specs.declared.unit.Unit.{Unit}
-use Rattle.rtr_pdu.specs.declared.version.Version.{Version}
-use Rattle.rtr_pdu.specs.declared.version.Version.TheVariants.{V0, V1}
-use Rattle.rtr_pdu.specs.declared.unit.Unit.TheVariants.{EndOfData, EndOfData0}
-use Rattle.rtr_ends.specs.Answer.{session_in}
-use Rattle.rtr_ends.specs.Cache.{Conn, finds_memory}
-use Rattle.rtr_ends.specs.Connection.{IsLater}
-use Rattle.rtr_ends.specs.LinkRules.{Router, on_unit}
-use Rattle.rtr_ends.specs.RouterLaws.{IsKept}
-use Rattle.rtr_ends.specs.RouterLink.{Link, Idle, Asked, Answering, Ended}
-use Rattle.rtr_ends.specs.Transcript.{Begun, Committed, Question, base_of, kept, Item, At, Reads, Lacks, Kept, acts_once, at_end_of_data, bounded, does_commit, led_to, moment, nothing, spoken, under_way}
-use Rattle.rtr_ends.specs.Router.{Receiving, asked_by, router_stops, router_byte, clocked, receives}
-use Rattle.rtr_ends.specs.Timing.{default_intervals}
+use Rattle.rtr_world.proofs.Words.{◌≡◌, ℕ, suc, ◌+◌, ◌-◌, ◌<◌, ◌≤◌, ◌^◌, Bool, true, false, ◌&&◌, ◌||◌, ◌==◌, nat_lt, List, [], ◌∷◌, ◌++◌, length, Option, Some, None, is_some, if◌then◌else◌, refl, ⊤, map, take, drop, AllByRecursion, sym, ap, ◌∙◌, subst, arith, inl, inr, append_assoc, and_parts, or_parts, length-append, take-append-drop, Route, Instance, IsInstance, versions, HasState, state, is_current, published, VrpSet, state_is, published_is_instance, Unit, Version, V0, V1, EndOfData, EndOfData0, session_in, Conn, finds_memory, IsLater, Router, on_unit, IsKept, Link, Idle, Asked, Answering, Ended, Begun, Committed, Question, base_of, kept, Item, At, Reads, Lacks, Kept, acts_once, at_end_of_data, bounded, does_commit, led_to, moment, nothing, spoken, under_way, Receiving, asked_by, router_stops, router_byte, clocked, receives, default_intervals, is_kept, byte_tells, clocked_tells, feed_keeps, Tells, acts_exactly, eq_self, eq_of, eq_true, lt_true}
 use Rattle.rtr_ends.specs.declared.link.End.TheVariants as ends
-use Rattle.rtr_ends.proofs.KeptLaws.{is_kept, byte_tells, clocked_tells}
-use Rattle.rtr_ends.proofs.FeedingLaws.{feed_keeps}
-use Rattle.rtr_ends.proofs.KeptUnits.{Tells}
-use Rattle.rtr_ends.proofs.TableLaws.{acts_exactly}
 use Rattle.rtr_world.specs.Claims.{ActExactlyOnce, Always, EachOnce, HoldsNamed, IsRouteJudged, IsNamed, Headline, NoWayBack, RouteStates, AnswersNow, Tables, ActsOnce, OneWorld, EachLeads, RefusesRightly}
 use Rattle.rtr_world.specs.History.{Outcome, Done, SessionUsed, TooManyVersions, Memory, is_near, room_for, room_since, all_have_room, is_used, refusal, MayEnd, after, IsEvent, Entry, Made, IsMade, conn_due, Leads, LeadsFrom}
 use Rattle.rtr_world.specs.OneAnswer.{units_in, without_notifies}
@@ -44,7 +16,6 @@ use Rattle.rtr_world.proofs.UnitStreams.{Stream}
 use Rattle.rtr_world.proofs.KeptTables.{AllTell, SideTells, after_tells, new_side_tells}
 use Rattle.rtr_world.proofs.Versions.{Stands, TableAt, Present, table_named, position_at, of_present, stands_published, stands_restarted, find_session, lt_of, same_session_in, some_is, Seen, IsSeen}
 use Rattle.rtr_world.proofs.UnitCases.{Brings, unit_brings}
-use Rattle.prefixes.proofs.Basics.{eq_self, eq_of, eq_true, lt_true}
 
 -- What a transcript commits, acts, and acts once.
 at_end_once : (answer : Option Begun) (version : Committed) (k : Kept) → ActsOnce (does_commit answer version.session k.table) answer k.table (at_end_of_data answer version k).table

@@ -1,6 +1,4 @@
-use Rattle.std.specs.Prelude.{◌<◌, length}
-use Rattle.std.proofs.Common.{arith, refl}
-use Rattle.std.proofs.lemmas.Option.{slice_get_read}
+use Rattle.rtr_world.proofs.Words.{◌<◌, length, arith, refl, slice_get_read}
 use Rattle.rtr_world.proofs.Showing.{lost_all, lost_more}
 use Rattle.rtr_world.proofs.world.lose_caches.Goals as goal
 

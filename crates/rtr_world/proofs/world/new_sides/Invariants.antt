@@ -1,5 +1,4 @@
-use Rattle.std.proofs.Common.{◌≡◌, length}
-use Rattle.std.specs.List.{AllByRecursion}
+use Rattle.rtr_world.proofs.Words.{◌≡◌, length, AllByRecursion}
 use Rattle.rtr_world.specs.SideShown.{IsNewSide}
 use Rattle.rtr_world.proofs.world.new_sides.Given as goal
 

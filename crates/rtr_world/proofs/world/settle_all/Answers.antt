@@ -1,7 +1,4 @@
-use Rattle.std.specs.Prelude.{◌<◌, length}
-use Rattle.std.proofs.Common.{◌∙◌, arith, refl}
-use Rattle.std.proofs.lemmas.List.{length-set}
-use Rattle.std.proofs.lemmas.Option.{slice_get_read}
+use Rattle.rtr_world.proofs.Words.{◌<◌, length, ◌∙◌, arith, refl, length-set, slice_get_read}
 use Rattle.rtr_world.proofs.Showing.{settled_all, settled_more, shown_length}
 use Rattle.rtr_world.proofs.world.settle_all.Goals as goal
 

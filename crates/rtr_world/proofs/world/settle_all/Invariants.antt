@@ -1,5 +1,4 @@
-use Rattle.std.specs.Prelude.{◌≡◌, ℕ, Option, length}
-use Rattle.rtr_ends.specs.Cache.{Conn}
+use Rattle.rtr_world.proofs.Words.{◌≡◌, ℕ, Option, length, Conn}
 use Rattle.rtr_world.specs.Reached.{ShowsParts}
 use Rattle.rtr_world.specs.World.{World}
 use Rattle.rtr_world.proofs.Showing.{SettledFirst}

@@ -1,6 +1,4 @@
-use Rattle.std.specs.Prelude.{◌≡◌, ◌⊎◌, false}
-use Rattle.std.proofs.Common.{◌∙◌, inl, inr, refl, subst, sym}
-use Rattle.rtr_ends.specs.Cache.{is_none}
+use Rattle.rtr_world.proofs.Words.{◌≡◌, ◌⊎◌, false, ◌∙◌, inl, inr, refl, subst, sym, is_none}
 use Rattle.rtr_world.specs.SideShown.{Moves}
 use Rattle.rtr_world.proofs.Moving.{alone, conn_ended, conn_goes_on, ended_at, none_due, on_conn, open_at, some_due}
 use Rattle.rtr_world.proofs.side.Side.close_ended.Goals as goal

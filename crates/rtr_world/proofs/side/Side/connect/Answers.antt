@@ -1,5 +1,4 @@
-use Rattle.std.proofs.Common.{refl}
-use Rattle.std.proofs.lemmas.Result.{err_from_is_err_and}
+use Rattle.rtr_world.proofs.Words.{refl, err_from_is_err_and}
 use Rattle.rtr_world.proofs.Connecting.{connect_fails, connected, served}
 use Rattle.rtr_world.proofs.side.Side.connect.Goals as goal
 

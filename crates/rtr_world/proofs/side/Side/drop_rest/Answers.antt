@@ -1,5 +1,4 @@
-use Rattle.std.proofs.Common.{◌∙◌, [], ap, sym, subst}
-use Rattle.rtr_ends.specs.Cache.{is_none}
+use Rattle.rtr_world.proofs.Words.{◌∙◌, [], ap, sym, subst, is_none}
 use Rattle.rtr_world.specs.SideShown.{Moves}
 use Rattle.rtr_world.proofs.Moving.{rest_closed}
 use Rattle.rtr_world.proofs.side.Side.drop_rest.Goals as goal

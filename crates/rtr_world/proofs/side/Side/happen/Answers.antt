@@ -1,5 +1,4 @@
-use Rattle.std.specs.Prelude.{◌≡◌, Bool, false, true}
-use Rattle.std.proofs.Common.{◌∙◌, subst, sym}
+use Rattle.rtr_world.proofs.Words.{◌≡◌, Bool, false, true, ◌∙◌, subst, sym}
 use Rattle.rtr_world.specs.Events.{side_event_of}
 use Rattle.rtr_world.specs.SideShown.{Goes}
 use Rattle.rtr_world.specs.World as model

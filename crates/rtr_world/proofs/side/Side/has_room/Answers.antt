@@ -1,5 +1,4 @@
-use Rattle.std.specs.Prelude.{◌&&◌}
-use Rattle.std.proofs.Common.{◌∙◌, ap, sym}
+use Rattle.rtr_world.proofs.Words.{◌&&◌, ◌∙◌, ap, sym}
 use Rattle.rtr_world.specs.History.{room_since}
 use Rattle.rtr_world.proofs.Room.{reached_good, reached_known, room_held, room_made}
 use Rattle.rtr_world.proofs.side.Side.has_room.Goals as goal

@@ -1,5 +1,4 @@
-use Rattle.std.specs.Prelude.{length}
-use Rattle.std.proofs.Common.{ap, arith, refl}
+use Rattle.rtr_world.proofs.Words.{length, ap, arith, refl}
 use Rattle.rtr_world.proofs.MovedBytes.{none_sent, pulled, room_for, some_sent}
 use Rattle.rtr_world.proofs.side.Side.router_sends.Goals as goal
 

@@ -1,7 +1,4 @@
-use Rattle.std.specs.Prelude.{◌-◌, ◌≤◌, Ok}
-use Rattle.std.proofs.Common.{◌∙◌, ap, arith, refl}
-use Rattle.std.proofs.lemmas.Result.{err_from_is_err_and}
-use Rattle.rtr_ends.specs.Cache.{conn_pulled}
+use Rattle.rtr_world.proofs.Words.{◌-◌, ◌≤◌, Ok, ◌∙◌, ap, arith, refl, err_from_is_err_and, conn_pulled}
 use Rattle.rtr_world.specs.World.{timing}
 use Rattle.rtr_world.proofs.MovedBytes.{nothing_sent, send_fails, sent_due, sent_more, sent_whole, so_far}
 use Rattle.rtr_world.proofs.side.Side.send.Goals as goal

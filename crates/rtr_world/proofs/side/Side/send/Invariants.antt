@@ -1,5 +1,4 @@
-use Rattle.std.specs.Prelude.{◌≡◌, ◌≤◌, ◌-◌, ℕ, Option, Some}
-use Rattle.rtr_ends.specs.Cache.{Conn}
+use Rattle.rtr_world.proofs.Words.{◌≡◌, ◌≤◌, ◌-◌, ℕ, Option, Some, Conn}
 use Rattle.rtr_world.specs.SideShown.{ShowsBoth}
 use Rattle.rtr_world.specs.World.{Side, World}
 use Rattle.rtr_world.proofs.MovedBytes.{SentSo}

@@ -1,6 +1,4 @@
-use Rattle.std.specs.Prelude.{is_ok}
-use Rattle.std.proofs.Common.{ap, refl}
-use Rattle.std.proofs.lemmas.Result.{err_from_is_err_and}
+use Rattle.rtr_world.proofs.Words.{is_ok, ap, refl, err_from_is_err_and}
 use Rattle.rtr_world.proofs.MovedBytes.{room_for, sent_none, sent_some}
 use Rattle.rtr_world.proofs.side.Side.send_some.Goals as goal
 

@@ -1,5 +1,4 @@
-use Rattle.std.proofs.Common.{◌∙◌, ap, sym}
-use Rattle.rtr_ends.specs.Cache.{is_none}
+use Rattle.rtr_world.proofs.Words.{◌∙◌, ap, sym, is_none}
 use Rattle.rtr_world.proofs.Moving.{is_no_conn, no_conn, tells_cut}
 use Rattle.rtr_world.proofs.side.Side.tell_cut.Goals as goal
 

@@ -1,5 +1,4 @@
-use Rattle.std.proofs.Common.{ap, length}
-use Rattle.rtr_ends.proofs.OutboxLaws.{all_pulled}
+use Rattle.rtr_world.proofs.Words.{ap, length, all_pulled}
 use Rattle.rtr_world.proofs.wire.Wire.is_empty.Goals as goal
 
 pub returns : goal.returns

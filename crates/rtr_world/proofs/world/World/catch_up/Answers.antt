@@ -1,5 +1,4 @@
-use Rattle.std.specs.Prelude.{◌≡◌, Err, Result, ⊤}
-use Rattle.std.proofs.Common.{◌∙◌, arith, refl, sym}
+use Rattle.rtr_world.proofs.Words.{◌≡◌, Err, Result, ⊤, ◌∙◌, arith, refl, sym}
 use Rattle.rtr_world.specs.declared.event.CatchFault.{CatchFault}
 use Rattle.rtr_world.specs.declared.event.CatchFault.TheVariants.{Memory, NoSuchRouter}
 use Rattle.rtr_world.proofs.CaughtUpLaws.{ends_so, fails_so, no_error, no_router}

@@ -1,6 +1,4 @@
-use Rattle.std.specs.Prelude.{length, slice_get}
-use Rattle.std.proofs.Common.{◌∙◌, ap, arith, refl, sym}
-use Rattle.std.proofs.lemmas.Option.{slice_get_read}
+use Rattle.rtr_world.proofs.Words.{length, slice_get, ◌∙◌, ap, arith, refl, sym, slice_get_read}
 use Rattle.rtr_world.proofs.Room.{all_first, is_far, one_more}
 use Rattle.rtr_world.proofs.Showing.{found_side, shown_length}
 use Rattle.rtr_world.proofs.world.World.has_room.Goals as goal

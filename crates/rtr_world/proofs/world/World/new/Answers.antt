@@ -1,10 +1,4 @@
-use Rattle.std.proofs.Common.{◌∙◌, ◌++◌, ◌∷◌, ap, false, refl, subst, true, []}
-use Rattle.std.specs.List.{list_any}
-use Rattle.std.specs.Prelude.{◌≡◌, ℕ, Option, None, slice_get}
-use Rattle.vrps.specs.Steps.{HoldsSteps}
-use Rattle.rtr_ends.specs.Cache.{Conn}
-use Rattle.rtr_ends.specs.CacheState.{ShowsCache, without_conns}
-use Rattle.rtr_ends.specs.Timing.{Intervals}
+use Rattle.rtr_world.proofs.Words.{◌∙◌, ◌++◌, ◌∷◌, ap, false, refl, subst, true, [], list_any, ◌≡◌, ℕ, Option, None, slice_get, HoldsSteps, Conn, ShowsCache, without_conns, Intervals}
 use Rattle.rtr_world.specs.History.{side_at}
 use Rattle.rtr_world.specs.Reached.{ShowsAt}
 use Rattle.rtr_world.specs.World.{World, new_sides, new_world}

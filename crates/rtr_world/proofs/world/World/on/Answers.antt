@@ -1,7 +1,4 @@
-use Rattle.std.specs.Prelude.{◌<◌, length}
-use Rattle.std.proofs.Common.{arith, refl}
-use Rattle.std.proofs.lemmas.Option.{slice_get_read}
-use Rattle.std.proofs.lemmas.Result.{err_from_is_err_and}
+use Rattle.rtr_world.proofs.Words.{◌<◌, length, arith, refl, slice_get_read, err_from_is_err_and}
 use Rattle.rtr_world.specs.Events.{side_event_of}
 use Rattle.rtr_world.proofs.Stepping.{done, no_such, refused}
 use Rattle.rtr_world.proofs.world.World.on.Goals as goal

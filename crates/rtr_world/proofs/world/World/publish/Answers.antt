@@ -1,8 +1,4 @@
-use Rattle.std.proofs.Common.{◌∙◌, refl, subst, sym}
-use Rattle.std.proofs.lemmas.Result.{err_from_is_err_and}
-use Rattle.vrps.specs.Steps.{HoldsSteps}
-use Rattle.vrps.specs.Stores.{Publishes}
-use Rattle.rtr_ends.specs.CacheState.{ShowsCache}
+use Rattle.rtr_world.proofs.Words.{◌∙◌, refl, subst, sym, err_from_is_err_and, HoldsSteps, Publishes, ShowsCache}
 use Rattle.rtr_world.specs.SideShown.{state_of}
 use Rattle.rtr_world.proofs.Publishing.{publish_fails, publishes_new, publishes_nothing, refuses_more}
 use Rattle.rtr_world.proofs.world.World.publish.Goals as goal

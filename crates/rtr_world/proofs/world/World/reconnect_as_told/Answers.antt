@@ -1,5 +1,4 @@
-use Rattle.std.proofs.Common.{◌∙◌, ◌≡◌, ap, false, not, sym, true}
-use Rattle.std.proofs.lemmas.Result.{err_from_is_err_and}
+use Rattle.rtr_world.proofs.Words.{◌∙◌, ◌≡◌, ap, false, not, sym, true, err_from_is_err_and}
 use Rattle.rtr_world.proofs.CaughtUpLaws.{and_again, failed_once, is_named, just_once}
 use Rattle.rtr_world.proofs.world.World.reconnect_as_told.Goals as goal
 use Rattle.rtr_world.proofs.world.World.reconnect_as_told.Goals.{else-held-via-then-held+else-is_none, else-held-via-else-held}

@@ -1,9 +1,4 @@
-use Rattle.std.specs.Prelude.{◌++◌, ◌∷◌, [], None, false, true}
-use Rattle.std.proofs.Common.{◌∙◌, ap, refl, subst, sym}
-use Rattle.std.proofs.lemmas.Result.{err_from_is_err_and}
-use Rattle.vrps.specs.Steps.{HoldsSteps}
-use Rattle.rtr_ends.specs.CacheState.{ShowsCache, without_conns}
-use Rattle.rtr_ends.specs.Timing.{Intervals}
+use Rattle.rtr_world.proofs.Words.{◌++◌, ◌∷◌, [], None, false, true, ◌∙◌, ap, refl, subst, sym, err_from_is_err_and, HoldsSteps, ShowsCache, without_conns, Intervals}
 use Rattle.rtr_world.specs.Reached.{LoseAll}
 use Rattle.rtr_world.specs.declared.world.World as code
 use Rattle.rtr_world.proofs.Restarting.{gone_parts, pushed, restart_fails, restarted, restarts, session_used}

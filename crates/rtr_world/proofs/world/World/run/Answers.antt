@@ -1,6 +1,4 @@
-use Rattle.std.specs.Prelude.{◌≡◌, ◌≤◌, Bool, cond, is_err}
-use Rattle.std.proofs.Common.{sym, ap, ◌∙◌, subst, arith}
-use Rattle.std.specs.Prelude.{List}
+use Rattle.rtr_world.proofs.Words.{◌≡◌, ◌≤◌, Bool, cond, is_err, sym, ap, ◌∙◌, subst, arith, List}
 use Rattle.rtr_world.specs.History.{Entry, Made}
 use Rattle.rtr_world.specs.Reached.{LeadsTo}
 use Rattle.rtr_world.proofs.EndsNoted.{lawful_ends}
