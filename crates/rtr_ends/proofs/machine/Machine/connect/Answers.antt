@@ -1,7 +1,7 @@
-use Rattle.rtr_ends.specs.Router.{connects_at}
-use Rattle.rtr_ends.proofs.MachineCells.{opens_so}
+use Rattle.std.proofs.Common.{sym, subst}
+use Rattle.rtr_ends.specs.Seen.{ShowsRouter}
+use Rattle.rtr_ends.proofs.MachineCells.{connects, opens_so}
 use Rattle.rtr_ends.proofs.machine.Machine.connect.Goals as goal
 
 pub returns : goal.returns
-unfolding connects_at
-returns c r s = c.ask.ensures _ (opens_so c.close.new.self _ (c.close.ensures _ (c.tell.ensures r s)))
+returns c r s = subst (λ x. ShowsRouter x c.ask.new.self) (sym (connects c.args.now r)) (c.ask.ensures _ (opens_so c.close.new.self _ (c.close.ensures _ (c.tell.ensures r s))))

@@ -1,54 +1,52 @@
-use Rattle.std.proofs.Common.{refl, sym, ◌∙◌}
-use Rattle.rtr_ends.specs.LinkRules.{on_unit}
-use Rattle.rtr_ends.specs.Seen.{seen_question}
+use Rattle.std.proofs.Common.{sym, ap, ◌∙◌}
+use Rattle.rtr_ends.specs.RouterLink.{Answering}
+use Rattle.rtr_ends.specs.Seen.{begun_with, seen, seen_question}
 use Rattle.rtr_ends.specs.declared.machine.State.TheVariants as states
-use Rattle.rtr_ends.proofs.MachineCells.{does_so, fails_so, no_code, reports_so, stays_so, told_now}
+use Rattle.rtr_ends.proofs.MachineCells.{answering_ends, answering_ends_0, answering_key, answering_same, answering_strange, answering_told, does_so, fails_so, foreign, foreign_so, stays_so, told_now}
 use Rattle.rtr_ends.proofs.machine.Machine.on_answering.Goals as goal
 
 pub returns-then-is_strange : goal.returns-then-is_strange
-unfolding on_unit
 returns-then-is_strange c =
-    fails_so c.args.unit.now (states.Answering c.args.question c.args.session) _ _ c.requires.state (λ w a held. rw (c.in-SerialNotify.is, sym c.is_strange.ensures ∙ c.if-is_strange.true)) c.fails.ensures
+    fails_so c.args.unit.now (states.Answering c.args.question c.args.session) _ _ c.requires.state
+    (λ w a held. answering_strange _ _ c.args.unit.now c.in-SerialNotify.is (seen c.args.self.now w a held) (begun_with c.args.question c.args.session w a) (sym c.is_strange.ensures ∙ c.if-is_strange.true)) c.fails.ensures
 
 pub returns-else-is_strange : goal.returns-else-is_strange
-unfolding on_unit
 returns-else-is_strange c =
-    stays_so c.args.unit.now (states.Answering c.args.question c.args.session) _ c.requires.state (λ w a held. rw (c.in-SerialNotify.is, sym c.is_strange.ensures ∙ c.if-is_strange.false))
+    stays_so c.args.unit.now (states.Answering c.args.question c.args.session) _ c.requires.state
+    (λ w a held. answering_same _ _ c.args.unit.now c.in-SerialNotify.is (seen c.args.self.now w a held) (begun_with c.args.question c.args.session w a) (sym c.is_strange.ensures ∙ c.if-is_strange.false))
 
 pub returns-in-RouterKey : goal.returns-in-RouterKey
-unfolding on_unit
-returns-in-RouterKey c = stays_so c.args.unit.now (states.Answering c.args.question c.args.session) _ c.requires.state (λ w a held. rw c.in-RouterKey.is)
+returns-in-RouterKey c =
+    stays_so c.args.unit.now (states.Answering c.args.question c.args.session) _ c.requires.state
+    (λ w a held. answering_key c.in-RouterKey.field-0 c.args.unit.now c.in-RouterKey.is (begun_with c.args.question c.args.session w a) (seen c.args.self.now w a held))
 
 pub returns-then-named-session : goal.returns-then-named-session
-unfolding on_unit
 returns-then-named-session c =
     fails_so c.args.unit.now (states.Answering c.args.question c.args.session) _ _ c.requires.state
-    (λ w a held. rw (c.in-EndOfData.is, no_code c.in-EndOfData.named c.in-EndOfData.named c.args.session refl c.if-named-session.true)) c.fails-then-named-session.ensures
+    (λ w a held. answering_ends c.args.question c.args.session _ _ _ _ _ c.args.unit.now c.in-EndOfData.is c.if-named-session.true w a (seen c.args.self.now w a held)) c.fails-then-named-session.ensures
 
 pub returns-then-named-session-2 : goal.returns-then-named-session-2
-unfolding on_unit
 returns-then-named-session-2 c =
     fails_so c.args.unit.now (states.Answering c.args.question c.args.session) _ _ c.requires.state
-    (λ w a held. rw (c.in-EndOfData0.is, no_code c.in-EndOfData0.named c.in-EndOfData0.named c.args.session refl c.if-named-session-2.true)) c.fails-then-named-session-2.ensures
+    (λ w a held. answering_ends_0 c.args.question c.args.session _ _ c.args.unit.now c.in-EndOfData0.is c.if-named-session-2.true w a (seen c.args.self.now w a held)) c.fails-then-named-session-2.ensures
 
 pub returns-in-ErrorReport : goal.returns-in-ErrorReport
-unfolding on_unit
 returns-in-ErrorReport c =
-    does_so c.args.unit.now (states.Answering c.args.question c.args.session) _ _ _ c.requires.state (λ w a held. rw c.in-ErrorReport.is)
-    (told_now (seen_question c.args.question) _ _ c.args.self.now _ c.code.ensures c.told_off.ensures)
+    does_so c.args.unit.now (states.Answering c.args.question c.args.session) _ _ _ c.requires.state
+    (λ w a held. answering_told c.in-ErrorReport.report c.args.unit.now c.in-ErrorReport.is (begun_with c.args.question c.args.session w a) (seen c.args.self.now w a held)) (told_now (seen_question c.args.question) _ _ c.args.self.now _ c.code.ensures c.told_off.ensures)
 
 pub returns-in-CacheResponse : goal.returns-in-CacheResponse
-unfolding on_unit
-returns-in-CacheResponse c = rw c.rejects.ensures.ok (reports_so c.args.unit.now (states.Answering c.args.question c.args.session) _ _ c.requires.state (λ w a held. rw c.in-CacheResponse.is) c.rejects.ensures.reports)
+returns-in-CacheResponse c = rw c.rejects.ensures.ok (foreign_so c.args.unit.now (states.Answering c.args.question c.args.session) _ _ c.requires.state
+    (λ w a. ap (foreign (Answering (begun_with c.args.question c.args.session w a))) c.in-CacheResponse.is) c.rejects.ensures.reports)
 
 pub returns-in-CacheReset : goal.returns-in-CacheReset
-unfolding on_unit
-returns-in-CacheReset c = rw c.rejects-in-CacheReset.ensures.ok (reports_so c.args.unit.now (states.Answering c.args.question c.args.session) _ _ c.requires.state (λ w a held. rw c.in-CacheReset.is) c.rejects-in-CacheReset.ensures.reports)
+returns-in-CacheReset c = rw c.rejects-in-CacheReset.ensures.ok (foreign_so c.args.unit.now (states.Answering c.args.question c.args.session) _ _ c.requires.state
+    (λ w a. ap (foreign (Answering (begun_with c.args.question c.args.session w a))) c.in-CacheReset.is) c.rejects-in-CacheReset.ensures.reports)
 
 pub returns-in-SerialQuery : goal.returns-in-SerialQuery
-unfolding on_unit
-returns-in-SerialQuery c = rw c.rejects-in-SerialQuery.ensures.ok (reports_so c.args.unit.now (states.Answering c.args.question c.args.session) _ _ c.requires.state (λ w a held. rw c.in-SerialQuery.is) c.rejects-in-SerialQuery.ensures.reports)
+returns-in-SerialQuery c = rw c.rejects-in-SerialQuery.ensures.ok (foreign_so c.args.unit.now (states.Answering c.args.question c.args.session) _ _ c.requires.state
+    (λ w a. ap (foreign (Answering (begun_with c.args.question c.args.session w a))) c.in-SerialQuery.is) c.rejects-in-SerialQuery.ensures.reports)
 
 pub returns-in-ResetQuery : goal.returns-in-ResetQuery
-unfolding on_unit
-returns-in-ResetQuery c = rw c.rejects-in-ResetQuery.ensures.ok (reports_so c.args.unit.now (states.Answering c.args.question c.args.session) _ _ c.requires.state (λ w a held. rw c.in-ResetQuery.is) c.rejects-in-ResetQuery.ensures.reports)
+returns-in-ResetQuery c = rw c.rejects-in-ResetQuery.ensures.ok (foreign_so c.args.unit.now (states.Answering c.args.question c.args.session) _ _ c.requires.state
+    (λ w a. ap (foreign (Answering (begun_with c.args.question c.args.session w a))) c.in-ResetQuery.is) c.rejects-in-ResetQuery.ensures.reports)
