@@ -5,9 +5,8 @@ set -u
 top=$(cd "$(dirname "${BASH_SOURCE[0]}")/.." && pwd) || exit 1
 folder=$(mktemp -d) || exit 1
 trap 'rm -rf "$folder"' EXIT
-"$top/run" roa /dev/null >/dev/null 2>&1
-[ $? -eq 1 ] || exit 1
-"$top/rpkirtrd" --version >/dev/null || exit 1
+rpkirtr=$(bash "$top/tools/start.sh" --path rpkirtr) || exit 1
+rpkirtrd=$(bash "$top/tools/start.sh" --path rpkirtrd) || exit 1
 shim=()
 if command -v cc >/dev/null 2>&1; then
     cc -O2 -Wall -Wextra -Werror -shared -fPIC -o "$folder/refusing.so" "$top/tests/refusing.c" -ldl || exit 1
@@ -15,4 +14,4 @@ if command -v cc >/dev/null 2>&1; then
 elif [ -n "${CI:-}" ]; then
     exit 1
 fi
-timeout 300 python3 "$top/tests/daemon.py" "$top/crates/rpkirtrd/out/rpkirtrd" --rpkirtr "$top/crates/rpkirtr/out/rpkirtr" "${shim[@]}"
+timeout 300 python3 "$top/tests/daemon.py" "$rpkirtrd" --rpkirtr "$rpkirtr" "${shim[@]}"

@@ -1,14 +1,15 @@
 #!/usr/bin/env bash
-# What validators write, and local exceptions, at random: tests/exports.py and tests/exceptions.py work out what must come of them.
+# What validators write, and local exceptions, at random: tests/exports.py and tests/exceptions.py work out in Python what must come of them.
+# They drive the tests of two crates, which the gate builds; without these, this is skipped.
 set -u
 top=$(cd "$(dirname "${BASH_SOURCE[0]}")/.." && pwd) || exit 1
+. "$top/tests/built.bash"
 failed=0
 
-# Runs a driver on the tests of a crate. (the gate has built them; elsewhere they are built now)
+# Runs a driver on the tests of a crate.
 drive() { # drive DRIVER CRATE
-    local tests="$top/crates/$2/out/$2_tests"
-    [ -x "$tests" ] || (cd "$top/crates/$2" && rt test) || failed=1
-    python3 "$top/tests/$1" "$tests" --seconds 8 || failed=1
+    built "$2" "$2_tests" rt test || exit
+    python3 "$top/tests/$1" "$top/crates/$2/out/$2_tests" --seconds 8 || failed=1
 }
 
 drive exports.py export_examples

@@ -1,18 +1,19 @@
 #!/usr/bin/env bash
-# The examples of a cache and of a router over frames: what they come to over two FIFOs, and what they refuse.
+# The examples of a cache and of a router over frames: what they come to over two FIFOs, and what they refuse. The gate builds them; without
+# them this is skipped.
 set -u
 top=$(cd "$(dirname "${BASH_SOURCE[0]}")/.." && pwd) || exit 1
 folder=$(mktemp -d) || exit 1
 trap 'rm -rf "$folder"' EXIT
 cd "$top/crates" || exit 1
+. "$top/tests/built.bash"
 if ! mkfifo "$folder/asked" "$folder/answered"; then
     echo 'frames: no FIFO can be made in the folder for temporary files' >&2
     [ -z "${CI:-}" ] && exit 77
     exit 1
 fi
-# (the gate has built the programs; elsewhere they are built now)
 for name in cache_over_frames router_over_frames; do
-    [ -x $name/out/$name ] || (cd $name && rt run <stdin >/dev/null) || exit 1
+    built $name $name bash -c 'rt run <stdin' || exit
 done
 cache=cache_over_frames/out/cache_over_frames
 router=router_over_frames/out/router_over_frames

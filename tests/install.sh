@@ -7,9 +7,9 @@ top=$(cd "$(dirname "${BASH_SOURCE[0]}")/.." && pwd) || exit 1
 folder=$(mktemp -d) || exit 1
 trap 'rm -rf "$folder"' EXIT
 cd "$folder" || exit 1
-"$top/run" roa /dev/null >/dev/null 2>&1
-[ $? -eq 1 ] || exit 1
-"$top/rpkirtrd" --version >/dev/null || exit 1
+for name in rpkirtr rpkirtrd; do
+    bash "$top/tools/start.sh" --path $name >/dev/null || exit 1
+done
 # (the newest version of the changelog is the program's)
 version=$(sed -n 's/^## \[\([0-9][0-9.]*\)\].*$/\1/p' "$top/CHANGELOG.md" | head -n 1)
 
@@ -102,10 +102,10 @@ refusals() {
     install_it 2 --prefix relative --destdir other
     install_it 2 --destdir
     install_it 2 --destdir other again
-    # Where nothing is built, it says what builds it, and makes nothing.
-    mkdir -p bare/tools && cp "$top/tools/install.sh" bare/tools || exit 1
+    # Where nothing is built or delivered, it says what builds it, and makes nothing.
+    mkdir -p bare/tools && cp "$top/tools/install.sh" "$top/tools/programs.bash" bare/tools || exit 1
     bash bare/tools/install.sh --destdir other 2>errors
-    [ $? -eq 1 ] && grep -q 'rpkirtr is not built: ./run builds it' errors && grep -q 'rpkirtrd is not built: ./rpkirtrd --version builds it' errors ||
+    [ $? -eq 1 ] && grep -q 'rpkirtr is not built: ./build rpkirtr builds it' errors && grep -q 'rpkirtrd is not built: ./build rpkirtrd builds it' errors ||
         fail 'what is not built is not reported'
     [ ! -e other ] || fail 'a refusal made something'
 }

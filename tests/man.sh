@@ -9,7 +9,6 @@ trap 'rm -rf "$folder"' EXIT
 cd "$folder" || exit 1
 failed=0
 source=$top/crates/daemon_words/src/options.rt
-program=$top/crates/rpkirtrd/out/rpkirtrd
 
 # Both files have the same lines, which are told where they differ.
 same() { # same WHAT WANTED FOUND
@@ -57,12 +56,10 @@ ranges <texts >wanted
 ranges <page >found
 same "ranges and defaults of rpkirtrd.8 and of $source" wanted found
 
-# The program that is built says the same, unless the source is newer.
-if [ -x "$program" ] && [ ! "$source" -nt "$program" ]; then
-    "$program" --help | grep -E '^  (-[a-zA-Z], )?--' | sed 's/^  //' >wanted
-    items "$top/docs/man/rpkirtrd.8" >found
-    same 'options of rpkirtrd.8 and of rpkirtrd --help' wanted found
-fi
+program=$(bash "$top/tools/start.sh" --path rpkirtrd) || exit 1
+"$program" --help | grep -E '^  (-[a-zA-Z], )?--' | sed 's/^  //' >wanted
+items "$top/docs/man/rpkirtrd.8" >found
+same 'options of rpkirtrd.8 and of rpkirtrd --help' wanted found
 
 sed -n 's/^ *Event::.* => "\([a-z-]*\)",$/\1/p' "$top/crates/daemon_parts/src/entries.rt" | sort >wanted
 sed -n '/^\.Ss Log/,/^\.S[hs] [^L]/s/^\.It Cm //p' "$top/docs/man/rpkirtrd.8" | sed 's/ , /\n/' | sort >found

@@ -1,9 +1,9 @@
 #!/usr/bin/env python3
 """Requests for memory refused in turn: the runs of crates/memory_examples, and the commands of the program.
 
-usage: tests/memory.py PROGRAM TESTS SHIM
+usage: tests/memory.py PROGRAM SHIM [TESTS]
 
-TESTS is the program of those runs, and SHIM what tests/refusing.c was compiled to. Each run is made with the first request refused, then
+SHIM is what tests/refusing.c was compiled to, and TESTS the program of those runs; without it the commands alone are run. Each run is made with the first request refused, then
 with the second, and so on, until one meets no refusal: that one gives the answer of ample memory, and each other gives it too or tells
 the want of memory, the state that stands then, and after another try the answer. What takes no memory gives its answer with every
 request refused. It exits with 1 where an answer is another, and says which."""
@@ -238,13 +238,14 @@ def files():
             it.write(content)
 
 
-def main(program, tests, shim):
+def main(program, shim, tests=None):
     watch = Watch(os.path.abspath(shim))
-    program, tests = os.path.abspath(program), os.path.abspath(tests)
+    program, tests = os.path.abspath(program), tests and os.path.abspath(tests)
     with tempfile.TemporaryDirectory() as folder:
         os.chdir(folder)
         files()
-        print(f"{examples(watch, tests)} requests of the examples, {commands(watch, program)} of the commands, each refused")
+        of_examples = f"{examples(watch, tests)} requests of the examples, " if tests else ""
+        print(f"{of_examples}{commands(watch, program)} requests of the commands, each refused")
         os.chdir("/")
     return 1 if failed else 0
 

@@ -6,8 +6,7 @@ top=$(cd "$(dirname "${BASH_SOURCE[0]}")/.." && pwd) || exit 1
 folder=$(mktemp -d) || exit 1
 trap 'rm -rf "$folder"' EXIT
 cd "$folder" || exit 1
-"$top/run" roa /dev/null >/dev/null 2>&1
-[ $? -eq 1 ] || exit 1
+rpkirtr=$(bash "$top/tools/start.sh" --path rpkirtr) || exit 1
 
 mkdir -p point/objects point/contents things/folder
 printf '\060\027\002\003\000\373\360\060\020\060\016\004\002\000\001\060\010\060\006\003\004\000\300\000\002' >payload.der
@@ -23,7 +22,7 @@ cp payload.der point/objects/a.roa
 cp payload.der point/contents/a.roa
 
 offer() { # offer STATUS LINE: what the offer of the directory gives, within ten seconds
-    timeout 10 "$top/run" payloads --now 20250101000000Z point >told 2>errors
+    timeout 10 "$rpkirtr" payloads --now 20250101000000Z point >told 2>errors
     [ $? -eq "$1" ] && grep -qx "$2" errors && return
     echo "objects: wanted status $1 and '$2', and found:" >&2
     cat told errors >&2

@@ -11,8 +11,7 @@ if [ -z "$python" ]; then
     [ -z "${CI:-}" ] && exit 77
     exit 1
 fi
-"$top/run" roa /dev/null >/dev/null 2>&1
-[ $? -eq 1 ] || exit 1
+rpkirtr=$(bash "$top/tools/start.sh" --path rpkirtr) || exit 1
 for script in roas manifests; do
-    "$python" "$top/tests/$script.py" "$top/crates/rpkirtr/out/rpkirtr" || exit 1
+    "$python" "$top/tests/$script.py" "$rpkirtr" || exit 1
 done

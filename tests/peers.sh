@@ -14,7 +14,6 @@ if ! command -v bird rtrclient rtrdump gobgpd bgpd stayrtr fort rpki-client >/de
     echo 'no peer is installed (tests/peers.sh --install)'
     exit 77
 fi
-"$top/run" roa /dev/null >/dev/null 2>&1
-[ $? -eq 1 ] || exit 1
-"$top/rpkirtrd" --version >/dev/null || exit 1
-exec timeout 600 python3 "$top/tests/peers.py" "$top/crates/rpkirtr/out/rpkirtr" "$top/crates/rpkirtrd/out/rpkirtrd"
+rpkirtr=$(bash "$top/tools/start.sh" --path rpkirtr) || exit 1
+rpkirtrd=$(bash "$top/tools/start.sh" --path rpkirtrd) || exit 1
+exec timeout 600 python3 "$top/tests/peers.py" "$rpkirtr" "$rpkirtrd"

@@ -1,7 +1,12 @@
 #!/usr/bin/env bash
-# Which wrong bodies are to be tried, after which change: those of which the crate, what its libraries say, or the edit itself is another.
+# Which wrong bodies are to be tried, after which change: those of which the crate, what its libraries say, or the edit itself is another. What
+# a crate is, the Rattle kit says: without it this is skipped.
 set -u
 top=$(cd "$(dirname "${BASH_SOURCE[0]}")/.." && pwd) || exit 1
+if [ -n "${QUICK:-}" ] || ! command -v rt >/dev/null 2>&1; then
+    echo 'this needs the Rattle kit'
+    exit 77
+fi
 room=$(mktemp -d) || exit 1
 trap 'rm -rf "$room"' EXIT
 failed=0

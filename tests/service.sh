@@ -19,9 +19,9 @@ if [ "$(id -u)" -ne 0 ] || ! command -v debootstrap >/dev/null || ! command -v s
     echo 'service: this wants root, debootstrap and systemd-nspawn (--install)' >&2
     exit 77
 fi
-"$top/run" roa /dev/null >/dev/null 2>&1
-[ $? -eq 1 ] || exit 1
-"$top/rpkirtrd" --version >/dev/null || exit 1
+for name in rpkirtr rpkirtrd; do
+    bash "$top/tools/start.sh" --path $name >/dev/null || exit 1
+done
 folder=$(mktemp -d) || exit 1
 trap 'rm -rf --one-file-system "$folder"' EXIT
 mkdir "$folder/out" || exit 1
@@ -44,7 +44,7 @@ else
 fi
 cd "$folder" || exit 1
 # (a person takes a moment before each command)
-{ echo 'set -eu'; block '### Installing' sh 1 | sed 's/^sudo //; s|^\./run$|./run 2>/dev/null \|\| [ $? -eq 2 ]|; s/^birdc/sleep 2\n&/'; } >out/install.sh
+{ echo 'set -eu'; block '### Installing' sh 1 | sed 's/^sudo //; s/^birdc/sleep 2\n&/'; } >out/install.sh
 { echo 'set -eu'; block '### Installing' sh 2 | sed 's/^sudo //'; } >out/remove.sh
 { echo 'router id 192.0.2.2;'; block '### BIRD 2' '' 1 | sed 's/192\.0\.2\.1/127.0.0.1/'; } >root/etc/bird/bird.conf
 [ "$(grep -c tools/install.sh out/install.sh)" -eq 1 ] && [ "$(grep -c -- --remove out/remove.sh)" -eq 1 ] && grep -q protocol root/etc/bird/bird.conf || exit 1

@@ -13,6 +13,5 @@ else
     echo 'sockets: there is no C compiler cc, so no call for a connection fails' >&2
     [ -z "${CI:-}" ] || exit 1
 fi
-"$top/run" roa /dev/null >/dev/null 2>&1
-[ $? -eq 1 ] || exit 1
-python3 "$top/tests/sockets.py" "$top/crates/rpkirtr/out/rpkirtr" "${shim[@]}"
+rpkirtr=$(bash "$top/tools/start.sh" --path rpkirtr) || exit 1
+python3 "$top/tests/sockets.py" "$rpkirtr" "${shim[@]}"

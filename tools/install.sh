@@ -8,6 +8,7 @@ set -u
 umask 022
 export LC_ALL=C
 top=$(cd "$(dirname "${BASH_SOURCE[0]}")/.." && pwd) || exit 3
+. "$top/tools/programs.bash" || exit 3
 prefix=/usr/local
 destdir=
 removes=no
@@ -108,8 +109,8 @@ put_options() {
 put_all() {
     local name
     make_folder "$pages"
-    put 755 "$top/crates/rpkirtr/out/rpkirtr" "$prefix/bin/rpkirtr"
-    put 755 "$top/crates/rpkirtrd/out/rpkirtrd" "$prefix/bin/rpkirtrd"
+    put 755 "$rpkirtr" "$prefix/bin/rpkirtr"
+    put 755 "$rpkirtrd" "$prefix/bin/rpkirtrd"
     put 644 "$top/docs/man/rpkirtr.1" "$prefix/share/man/man1/rpkirtr.1"
     put 644 "$top/docs/man/rpkirtrd.8" "$prefix/share/man/man8/rpkirtrd.8"
     put_unit "$top/tools/rpkirtrd.service" "$unit"
@@ -123,17 +124,18 @@ put_all() {
     done < <(cd "$top" && find samples docs/figures -type f ! -name README.md | sort)
 }
 
-is_built() { # is_built NAME COMMAND
-    [ -x "$top/crates/$1/out/$1" ] && return
-    echo "install: $1 is not built: $2 builds it, in $top" >&2
+# The program that ./run starts: the one that was built here, or the delivered one.
+ready_program() { # ready_program NAME, into `program`
+    find_program "$1" && return
+    [ $? -eq 3 ] || echo "install: $1 is not built: ./build $1 builds it, in $top" >&2
     return 1
 }
 
 install_all() {
-    local built=yes
-    is_built rpkirtr ./run || built=no
-    is_built rpkirtrd './rpkirtrd --version' || built=no
-    [ $built = yes ] || exit 1
+    local program rpkirtr='' rpkirtrd=''
+    ready_program rpkirtr && rpkirtr=$program
+    ready_program rpkirtrd && rpkirtrd=$program
+    [ -n "$rpkirtr" ] && [ -n "$rpkirtrd" ] || exit 1
     [ -z "$destdir" ] || make_folder ''
     put_all
     write_record || fail "$destdir$record could not be written"
