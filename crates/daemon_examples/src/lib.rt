@@ -1,12 +1,19 @@
-//! Examples of the daemon's command line, of the names of its versions, of their pace, of its clock and of the lines of its log, which are the
-//! tests of the public items of `daemon_words` and `daemon_parts`. They stand apart, as a crate with tests is proved twice.
+//! Examples of a daemon, which are the tests of the public items of `daemon_words`, `daemon_parts` and `rtr_daemon`: its command line, the
+//! names of its versions, their pace, its clock, the lines of its log, and what it does, with sockets, files, time and log in memory. They
+//! stand apart, as a crate with tests is proved twice.
 #![tactic(auto)]
 
+#[cfg(test)]
+mod following;
 #[cfg(test)]
 mod lines;
 #[cfg(test)]
 mod moments;
 #[cfg(test)]
 mod names;
+#[cfg(test)]
+mod stage;
+#[cfg(test)]
+mod wires;
 #[cfg(test)]
 mod words;
