@@ -3,9 +3,9 @@
 
 usage: tests/exceptions.py TESTS [--seed N] [--seconds S]
 
-TESTS is the program of crates/slurm_examples, whose test `cases::outcomes` tells what comes of each SLURM file in a file of cases and of
-the payload list beside it. Prefixes are drawn from a small tree, so that filters cover records, one another, and nothing. It exits with 1
-where an outcome is another, and tells the texts; the seed makes them again."""
+TESTS is the program of crates/export_examples, whose test `slurm_cases::outcomes` tells what comes of each SLURM file in a file of cases
+and of the payload list beside it. Prefixes are drawn from a small tree, so that filters cover records, one another, and nothing. It exits
+with 1 where an outcome is another, and tells the texts; the seed makes them again."""
 import argparse
 import json
 import os
@@ -184,7 +184,7 @@ def outcomes(program, folder, cases):
     """What the program tells of these cases."""
     with open(f"{folder}/exceptions.cases", "w", encoding="ascii") as it:
         it.writelines(f"{text.hex()} {list_of(records).encode().hex()}\n" for text, records in cases)
-    done = subprocess.run([program, "cases::outcomes"], cwd=folder, stdin=subprocess.DEVNULL, capture_output=True, text=True, timeout=300)
+    done = subprocess.run([program, "slurm_cases::outcomes"], cwd=folder, stdin=subprocess.DEVNULL, capture_output=True, text=True, timeout=300)
     return done.stdout.split("\n"), done.returncode
 
 

@@ -3,8 +3,8 @@
 
 usage: tests/exports.py TESTS [--seed N] [--seconds S]
 
-TESTS is the program of crates/export_examples, whose test `cases::outcomes` tells what comes of each text in a file. The texts have the
-shapes that validators write, with members in any order, doubled, missing, deeper, and of other kinds; numbers on both sides of each
+TESTS is the program of crates/export_examples, whose test `export_cases::outcomes` tells what comes of each text in a file. The texts have
+the shapes that validators write, with members in any order, doubled, missing, deeper, and of other kinds; numbers on both sides of each
 limit; spoiled prefixes, times and bytes. What must come of a text is worked out here, with Python's json, from the rules of
 docs/FORMATS.md. It exits with 1 where an outcome is another, and tells the text; the seed makes it again."""
 import argparse
@@ -290,7 +290,7 @@ def outcomes(program, folder, cases):
     """What the program tells of these cases."""
     with open(f"{folder}/exports.cases", "w", encoding="ascii") as it:
         it.writelines(f"{now} {text.hex()}\n" for now, text in cases)
-    done = subprocess.run([program, "cases::outcomes"], cwd=folder, stdin=subprocess.DEVNULL, capture_output=True, text=True, timeout=300)
+    done = subprocess.run([program, "export_cases::outcomes"], cwd=folder, stdin=subprocess.DEVNULL, capture_output=True, text=True, timeout=300)
     return done.stdout.split("\n"), done.returncode
 
 

@@ -13,5 +13,5 @@ drive() { # drive DRIVER CRATE
 }
 
 drive exports.py export_examples
-drive exceptions.py slurm_examples
+drive exceptions.py export_examples
 exit "$failed"

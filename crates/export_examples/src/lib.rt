@@ -1,11 +1,18 @@
-//! Examples of exports, which are the tests of the library `exports`: files as validators write them, and bytes that are none.
+//! Examples of exports and of local exceptions (RFC 8416), which are the tests of the libraries `exports` and `slurm`: files as validators
+//! write them, the RFC's own file, a fault of each kind, and what comes of sets. They stand apart, as a crate with tests is proved twice.
 #![tactic(auto)]
 
 #[cfg(test)]
-mod cases;
+mod export_cases;
 #[cfg(test)]
-mod faults;
+mod export_faults;
 #[cfg(test)]
-mod files;
+mod export_files;
 #[cfg(test)]
-mod parts;
+mod list_parts;
+#[cfg(test)]
+mod slurm_cases;
+#[cfg(test)]
+mod slurm_files;
+#[cfg(test)]
+mod slurm_outcomes;

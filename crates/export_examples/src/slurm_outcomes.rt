@@ -1,4 +1,4 @@
-use crate::files::{FULL, file};
+use crate::slurm_files::{FULL, file};
 use example_values::sets::{Row, payload, set_of};
 use prefixes::Asn;
 use slurm::{PrefixFilter, apply, read_slurm};
