@@ -100,5 +100,6 @@ expect 1 'refused 7 at 0' answer --session 4660 --serial 5 --vrps vrps.json 0102
 expect 1 'refused hex' answer --session 4660 --serial 5 --vrps vrps.json 010
 
 # The picture of a table's life is of what is printed.
+rpkirtr=$(bash "$top/tools/start.sh" --path rpkirtr) || exit 1
 python3 "$top/tools/figures.py" "$rpkirtr" life.svg || exit 1
 cmp -s life.svg "$top/docs/figures/life.svg" || { echo 'docs/figures/life.svg differs: tools/figures.py draws it anew' >&2; exit 1; }
