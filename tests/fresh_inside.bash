@@ -37,11 +37,11 @@ serves_bird() {
         [ "$(birdc show route table r6 count | tail -n 1)" = '1 of 1 routes for 1 networks in table r6' ]
 }
 began=$(date +%s%3N)
-./rpkirtrd --vrps samples/rpki-client.json --once >log 2>&1 &
+./rpkirtrd --vrps samples/rpki-client.json --once >/tmp/log 2>&1 &
 sleep 0.5
 mkdir -p /run/bird && bird || fail 'BIRD does not start'
 until serves_bird 2>/dev/null; do
-    [ "$(since "$began")" -le 5000 ] || fail "BIRD has no records: $(cat log)"
+    [ "$(since "$began")" -le 5000 ] || fail "BIRD has no records: $(cat /tmp/log)"
     sleep 0.05
 done
 within './rpkirtrd, to the records in BIRD' "$(since "$began")" 5000
