@@ -10,13 +10,13 @@ sys.path.insert(0, f"{os.path.dirname(os.path.abspath(__file__))}/../tools")
 from kit import RT
 
 # The most that a check takes, in bytes.
-NEED = 4_500_000_000
+NEED = 5_000_000_000
 
 
 def main():
     processors, free = RT.processors(), RT.free()
     number = max(1, min(processors, free // NEED))
-    waits = f"; {processors - number} more would wait for memory, which they take {NEED / 1e9:.1f} GB each of" if number < processors else ""
+    waits = f"; {processors - number} more would wait for memory, which they take {NEED / 1e9:.0f} GB each of" if number < processors else ""
     print(f"test: {number} checks at a time, on {processors} processors, with {free / 1e9:.0f} GB free{waits}", file=sys.stderr)
     print(number)
 
