@@ -1,204 +1,256 @@
 //! Calls that take no memory: they give their answers with every request refused.
 
-use crate::end_runs::{ANSWER, RESET_QUERY, SERIAL_QUERY, cache_from, tell_router};
+use crate::end_runs::{
+    ANSWER, RESET_QUERY, SERIAL_QUERY, answered, cache_from, tell_due, tell_router,
+};
 use crate::payload_runs::{ONE_PREFIX, tell_decoded};
 use crate::telling::{V, begin, set_of, tell, tell_bytes};
 use arrayvec::ArrayVec;
 use der_lite::Cursor;
 use payloads::{Roa, RoaEntry};
 use prefixes::{Asn, IpPrefix, Route};
-use rtr_ends::Router;
+use rtr_ends::{Cache, Conn, Router};
 use rtr_pdu::{Counted, Next, Unit, UnitReader, Version, encode, read_unit, write_unit};
-use std::alloc::Global;
+use std::alloc::{AllocError, Global};
 use std::test::Fail;
-use vrps::{OriginIndex, OriginState, Serial};
+use vrps::{OriginIndex, OriginState, Serial, VersionLog, VrpSet};
 
-#[test]
-fn free_faults(rt: HostRuntime) -> Result<(), Fail> {
-    begin(rt.alloc())?;
-    let with_version = b"\
+/// A ROA with a version, with a maximum that is the prefix's length, with a prefix twice, and with host bits.
+const FAULTY: &[&[u8]] = &[
+    b"\
     \x30\x1c\xa0\x03\x02\x01\x00\
     \x02\x03\x00\xfb\xf0\
     \x30\x10\x30\x0e\x04\x02\x00\x01\
-    \x30\x08\x30\x06\x03\x04\x00\xc0\x00\x02";
-    tell_decoded(&rt, with_version)?;
-    let superfluous = b"\
+    \x30\x08\x30\x06\x03\x04\x00\xc0\x00\x02",
+    b"\
     \x30\x22\x02\x03\x00\xfb\xf0\
     \x30\x1b\x30\x19\x04\x02\x00\x01\
     \x30\x13\x30\x06\x03\x04\x00\xc0\x00\x02\
     \x30\x09\x03\x04\x00\xc0\x00\x02\
-    \x02\x01\x18";
-    tell_decoded(&rt, superfluous)?;
-    let twice = b"\
+    \x02\x01\x18",
+    b"\
     \x30\x1f\x02\x03\x00\xfb\xf0\
     \x30\x18\x30\x16\x04\x02\x00\x01\
     \x30\x10\x30\x06\x03\x04\x00\xc0\x00\x02\
-    \x30\x06\x03\x04\x00\xc0\x00\x02";
-    tell_decoded(&rt, twice)?;
-    let host_bits = b"\
+    \x30\x06\x03\x04\x00\xc0\x00\x02",
+    b"\
     \x30\x17\x02\x03\x00\xfb\xf0\
     \x30\x10\x30\x0e\x04\x02\x00\x01\
-    \x30\x08\x30\x06\x03\x04\x01\xc0\x00\x03";
-    tell_decoded(&rt, host_bits)?;
-    for count in 0..ONE_PREFIX.len() {
-        if let Some(short) = ONE_PREFIX.get(..count) {
-            tell_decoded(&rt, short)?;
-        }
-    }
-    let longer = b"\
+    \x30\x08\x30\x06\x03\x04\x01\xc0\x00\x03",
+];
+
+/// A ROA with a byte behind it, and what is none.
+const OTHERS: &[&[u8]] = &[
+    b"\
     \x30\x17\x02\x03\x00\xfb\xf0\
     \x30\x10\x30\x0e\x04\x02\x00\x01\
     \x30\x08\x30\x06\x03\x04\x00\xc0\x00\x02\
-    \x00";
-    tell_decoded(&rt, longer)?;
-    for other in [
-        b"\x30\x80".as_slice(),
-        b"\x30\x04\x02\x02\x00\x01",
-        b"\x30\x03\x02\x01\x80",
-        b"\x30\x05\x02\x03\x00\xfb\xf0",
-    ] {
-        tell_decoded(&rt, other)?;
+    \x00",
+    b"\x30\x80",
+    b"\x30\x04\x02\x02\x00\x01",
+    b"\x30\x03\x02\x01\x80",
+    b"\x30\x05\x02\x03\x00\xfb\xf0",
+];
+
+/// Decodes each of these.
+fn tell_each(rt: &HostRuntime, payloads: &[&[u8]]) {
+    for payload in payloads {
+        tell_decoded(rt, payload);
     }
-    Ok(())
 }
 
-fn entries_of(alloc: Global, rows: &[(&str, Option<u8>)]) -> Result<Vec<RoaEntry>, Fail> {
-    let mut entries = Vec::new(alloc);
-    for &(text, max_len) in rows {
-        let prefix = IpPrefix::parse(text)?;
-        entries.push(RoaEntry { prefix, max_len })?;
+/// Decodes each beginning of a payload.
+fn tell_beginnings(rt: &HostRuntime, payload: &[u8]) {
+    for count in 0..payload.len() {
+        tell_decoded(rt, &payload[..count]);
     }
-    Ok(entries)
 }
 
-fn tell_whether(rt: &HostRuntime, holds: bool) -> Result<(), Fail> {
-    tell(rt, if holds { "yes" } else { "no" })
+#[test]
+fn free_faults(rt: HostRuntime) {
+    begin(rt.alloc());
+    tell_each(&rt, FAULTY);
+    tell_beginnings(&rt, ONE_PREFIX);
+    tell_each(&rt, OTHERS);
+}
+
+fn tell_whether(rt: &HostRuntime, holds: bool) {
+    tell(rt, if holds { "yes" } else { "no" });
+}
+
+/// Reads an integer behind the head of a sequence, and no bits, as it ends there.
+fn tell_nested(rt: &HostRuntime, whole: &mut Cursor) {
+    tell_whether(rt, whole.peek_tag() == Some(0x30));
+    if let Ok(mut inner) = whole.sequence() {
+        tell_whether(
+            rt,
+            inner
+                .integer()
+                .is_ok_and(|it| it == b"\x00\xfb\xf0".as_slice()),
+        );
+        tell_whether(rt, inner.offset() == 7);
+        tell_whether(rt, inner.bits().is_err());
+        tell_whether(rt, inner.at_end());
+    }
+}
+
+/// Reads octets, an object identifier, text, a time and bits.
+fn tell_others(rt: &HostRuntime, others: &mut Cursor) {
+    tell_whether(rt, others.octets().is_ok_and(|it| it.len() == 1));
+    tell_whether(rt, others.oid().is_ok_and(|it| it.len() == 2));
+    tell_whether(rt, others.ia5().is_ok_and(|it| it == "a.roa"));
+    tell_whether(rt, others.time().is_ok());
+    tell_whether(rt, others.bits().is_ok_and(|it| it.bytes.len() == 1));
 }
 
 #[test]
 fn free_readings(rt: HostRuntime) -> Result<(), Fail> {
-    begin(rt.alloc())?;
+    begin(rt.alloc());
     let mut whole = Cursor::new(ONE_PREFIX);
-    tell_whether(&rt, whole.peek_tag() == Some(0x30))?;
-    let Ok(mut inner) = whole.sequence() else {
-        return Err(Fail::from("sequence"));
-    };
-    tell_whether(
+    tell_nested(&rt, &mut whole);
+    tell_whether(&rt, whole.finish().is_ok());
+    tell_others(
         &rt,
-        inner
-            .integer()
-            .is_ok_and(|it| it == b"\x00\xfb\xf0".as_slice()),
-    )?;
-    tell_whether(&rt, inner.offset() == 7)?;
-    tell_whether(&rt, inner.bits().is_err())?;
-    tell_whether(&rt, inner.at_end())?;
-    tell_whether(&rt, whole.finish().is_ok())?;
-    // Octets, an object identifier, text, a time and bits.
-    let mut others = Cursor::new(
-        b"\x04\x01\xaa\x06\x02\x2a\x03\x16\x05a.roa\x18\x0f20250101120000Z\x03\x02\x00\xc0",
+        &mut Cursor::new(
+            b"\x04\x01\xaa\x06\x02\x2a\x03\x16\x05a.roa\x18\x0f20250101120000Z\x03\x02\x00\xc0",
+        ),
     );
-    tell_whether(&rt, others.octets().is_ok_and(|it| it.len() == 1))?;
-    tell_whether(&rt, others.oid().is_ok_and(|it| it.len() == 2))?;
-    tell_whether(&rt, others.ia5().is_ok_and(|it| it == "a.roa"))?;
-    tell_whether(&rt, others.time().is_ok())?;
-    tell_whether(&rt, others.bits().is_ok_and(|it| it.bytes.len() == 1))?;
-    let (short, long) = (
-        IpPrefix::parse("192.0.2.0/24")?,
-        IpPrefix::parse("192.0.2.0/25")?,
-    );
-    tell_whether(&rt, short.covers(&long))?;
-    tell_whether(&rt, Serial(4_294_967_295).is_before(Serial(0)))
+    let short = IpPrefix::parse("192.0.2.0/24")?;
+    tell_whether(&rt, short.covers(&IpPrefix::parse("192.0.2.0/25")?));
+    tell_whether(&rt, Serial(4_294_967_295).is_before(Serial(0)));
+    Ok(())
+}
+
+/// The list of one entry.
+fn entry(alloc: Global, text: &str, max_len: Option<u8>) -> Result<Vec<RoaEntry>, Fail> {
+    let prefix = IpPrefix::parse(text)?;
+    let mut entries = Vec::new(alloc);
+    entries.push(RoaEntry { prefix, max_len })?;
+    Ok(entries)
+}
+
+/// Prints whether a ROA of one entry is made.
+fn tell_made(rt: &HostRuntime, entries: Vec<RoaEntry>) {
+    let is_made = Roa::new(Asn(64496), entries).is_ok_and(|roa| roa.entries().len() == 1);
+    tell_whether(rt, is_made);
 }
 
 #[test]
 fn free_roas(rt: HostRuntime) -> Result<(), Fail> {
-    let one = entries_of(rt.alloc(), &[("192.0.2.0/24", None)])?;
-    let other = entries_of(rt.alloc(), &[("2001:db8::/32", Some(48))])?;
-    begin(rt.alloc())?;
-    for entries in [one, other] {
-        match Roa::new(Asn(64496), entries) {
-            Ok(roa) => tell_whether(&rt, roa.entries().len() == 1)?,
-            Err(_) => tell_whether(&rt, false)?,
-        }
-    }
+    let one = entry(rt.alloc(), "192.0.2.0/24", None)?;
+    let other = entry(rt.alloc(), "2001:db8::/32", Some(48))?;
+    begin(rt.alloc());
+    tell_made(&rt, one);
+    tell_made(&rt, other);
     Ok(())
+}
+
+/// Prints what a router sends.
+fn tell_sent(rt: &HostRuntime, router: &mut Router) {
+    let mut room = [0u8; 64];
+    let count = router.pull(&mut room);
+    if let Some(front) = room.get(..count) {
+        tell_bytes(rt, front);
+    }
+}
+
+/// A router judges a route, asks, forgets what is too old, and asks on a new connection.
+fn tell_asked(rt: &HostRuntime, router: &mut Router, route: &Route) {
+    tell_whether(rt, router.route_state(route) == OriginState::Valid);
+    tell_whether(rt, router.ask().is_ok());
+    tell_sent(rt, router);
+    router.tick(7201);
+    tell_router(rt, router);
+    router.closed(7201);
+    router.connect(7201);
+    tell_sent(rt, router);
 }
 
 #[test]
 fn free_states(rt: HostRuntime) -> Result<(), Fail> {
-    let set = set_of(rt.alloc(), &[V])?;
-    let index = OriginIndex::over(rt.alloc(), &set)?;
-    let mut router = Router::new(rt.alloc());
-    router.connect(0);
-    let mut room = [0u8; 64];
-    router.pull(&mut room);
-    router.receive(ANSWER, 0);
     let route = Route {
         prefix: IpPrefix::parse("192.0.2.0/24")?,
         origin: Some(64496),
     };
-    begin(rt.alloc())?;
-    tell_whether(&rt, index.state(&route) == OriginState::Valid)?;
-    tell_whether(&rt, router.route_state(&route) == OriginState::Valid)?;
-    tell_whether(&rt, router.ask().is_ok())?;
-    let count = router.pull(&mut room);
-    tell_bytes(&rt, &room[..count])?;
-    router.tick(7201);
-    tell_router(&rt, &router)?;
-    router.closed(7201);
-    router.connect(7201);
-    let count = router.pull(&mut room);
-    tell_bytes(&rt, &room[..count])
+    let set = set_of(rt.alloc(), &[V])?;
+    let index = OriginIndex::over(rt.alloc(), &set)?;
+    let mut router = Router::new(rt.alloc());
+    answered(&mut router, ANSWER);
+    begin(rt.alloc());
+    tell_whether(&rt, index.state(&route) == OriginState::Valid);
+    tell_asked(&rt, &mut router, &route);
+    Ok(())
+}
+
+/// Answers all, notifies, answers another connection that nothing changed, and closes the first.
+fn tell_served(rt: &HostRuntime, cache: &mut Cache<VersionLog>, conn: Conn, other: Conn) {
+    tell_whether(rt, cache.receive(conn, RESET_QUERY) == 8);
+    tell_due(rt, cache, conn, 64);
+    tell_whether(rt, cache.notify(conn));
+    tell_due(rt, cache, conn, 64);
+    cache.receive(other, SERIAL_QUERY);
+    tell_due(rt, cache, other, 64);
+    tell_whether(rt, cache.is_open(other));
+    cache.close(conn);
+    tell_whether(rt, cache.is_open(conn));
+}
+
+/// Answers that there is no data.
+fn tell_empty(rt: &HostRuntime, cache: &mut Cache<VersionLog>, conn: Conn) {
+    cache.receive(conn, RESET_QUERY);
+    tell_due(rt, cache, conn, 64);
+    tell_whether(rt, cache.is_open(conn));
+}
+
+/// Publishes a set, and opens two connections.
+fn prepare(cache: &mut Cache<VersionLog>, set: VrpSet) -> Result<(Conn, Conn), AllocError> {
+    cache.publish(set)?;
+    Ok((cache.open()?, cache.open()?))
 }
 
 #[test]
 fn free_answers(rt: HostRuntime) -> Result<(), Fail> {
+    let set = set_of(rt.alloc(), &[V])?;
     let mut cache = cache_from(rt.alloc(), 5)?;
-    cache.publish(set_of(rt.alloc(), &[V])?)?;
-    let (conn, other) = (cache.open()?, cache.open()?);
+    let (conn, other) = prepare(&mut cache, set)?;
     let mut empty = cache_from(rt.alloc(), 5)?;
     let early = empty.open()?;
-    begin(rt.alloc())?;
-    let mut room = [0u8; 64];
-    tell_whether(&rt, cache.receive(conn, RESET_QUERY) == 8)?;
-    let count = cache.pull(conn, &mut room);
-    tell_bytes(&rt, &room[..count])?;
-    tell_whether(&rt, cache.notify(conn))?;
-    let count = cache.pull(conn, &mut room);
-    tell_bytes(&rt, &room[..count])?;
-    cache.receive(other, SERIAL_QUERY);
-    let count = cache.pull(other, &mut room);
-    tell_bytes(&rt, &room[..count])?;
-    tell_whether(&rt, cache.is_open(other))?;
-    cache.close(conn);
-    tell_whether(&rt, cache.is_open(conn))?;
-    empty.receive(early, RESET_QUERY);
-    let count = empty.pull(early, &mut room);
-    tell_bytes(&rt, &room[..count])?;
-    tell_whether(&rt, empty.is_open(early))
+    begin(rt.alloc());
+    tell_served(&rt, &mut cache, conn, other);
+    tell_empty(&rt, &mut empty, early);
+    Ok(())
+}
+
+/// Prints whether the first PDU of the answer is read, piece by piece and from a stream, and that the others are left.
+fn tell_read(rt: &HostRuntime) {
+    let mut reader = UnitReader::for_router(Version::V1);
+    let mut piece = ANSWER;
+    let is_response = matches!(
+        reader.next(&mut piece),
+        Next::Unit(Unit::CacheResponse { session: 4660 })
+    );
+    tell_whether(rt, is_response);
+    tell_whether(rt, piece.len() == 44);
+    let mut input = Counted::new(ANSWER);
+    tell_whether(rt, read_unit(&mut input).is_ok_and(|it| it.is_some()));
+}
+
+/// Prints whether a PDU is written to a stream, and what stands there then.
+fn tell_written(rt: &HostRuntime) {
+    let unit = Unit::CacheResponse { session: 4660 };
+    let mut room = [0u8; 8];
+    let mut output = Counted::new(&mut room[..]);
+    tell_whether(rt, write_unit(&unit, &mut output).is_ok());
+    tell_bytes(rt, &room);
 }
 
 #[test]
-fn free_units(rt: HostRuntime) -> Result<(), Fail> {
-    begin(rt.alloc())?;
+fn free_units(rt: HostRuntime) {
+    begin(rt.alloc());
     let mut buffer = ArrayVec::new();
     let unit = Unit::CacheResponse { session: 4660 };
     encode(&unit, &mut buffer);
-    tell_bytes(&rt, buffer.as_slice())?;
-    let mut reader = UnitReader::for_router(Version::V1);
-    let mut piece = ANSWER;
-    tell_whether(
-        &rt,
-        matches!(
-            reader.next(&mut piece),
-            Next::Unit(Unit::CacheResponse { session: 4660 })
-        ),
-    )?;
-    tell_whether(&rt, piece.len() == 44)?;
-    let mut input = Counted::new(ANSWER);
-    tell_whether(&rt, read_unit(&mut input).is_ok_and(|it| it.is_some()))?;
-    let mut room = [0u8; 8];
-    let mut output = Counted::new(&mut room[..]);
-    tell_whether(&rt, write_unit(&unit, &mut output).is_ok())?;
-    tell_bytes(&rt, &room)
+    tell_bytes(&rt, buffer.as_slice());
+    tell_read(&rt);
+    tell_written(&rt);
 }

@@ -1,12 +1,11 @@
-use crate::telling::{begin, tell, tell_payloads};
+use crate::telling::{begin, no_memory, tell, tell_payloads, tell_record};
 use der_lite::Moment;
 use payloads::{
     ListedFile, Manifest, ManifestFault, PayloadFault, Roa, decode_manifest, decode_roa,
     encode_manifest, encode_roa,
 };
 use points::{FileIn, Offered, PointFault, Repository};
-use std::alloc::Global;
-use std::io::Write;
+use std::alloc::{AllocError, Global};
 use std::test::Fail;
 
 /// AS64496 and 192.0.2.0/24.
@@ -40,59 +39,62 @@ pub(crate) const FIRST: &[u8] = b"\
     \x30\x2c\x30\x2a\x16\x05\x61\x2e\x72\x6f\x61\
     \x03\x21\x00\xda\x32\xbf\xbe\x0d\x8e\xea\x0f\x5d\x3b\x56\x02\x3c\x55\xd1\xc2\x3a\xa9\x1d\xf5\x02\x33\xf8\x9c\x32\x50\x86\xb2\xb2\x06\xd5\xa2";
 
-/// Decodes a ROA and prints its entries, or the fault.
-pub(crate) fn tell_decoded(rt: &HostRuntime, payload: &[u8]) -> Result<(), Fail> {
-    let mut out = rt.stdout();
-    for _try in 0..2 {
-        match decode_roa(rt.alloc(), payload) {
-            Ok(roa) => return tell_roa(rt, &roa),
-            Err(PayloadFault::Memory) => tell(rt, "memory")?,
-            Err(PayloadFault::At(fault)) => {
-                writeln!(out, "{} at {}", fault.kind.number(), fault.offset)?;
-                return Ok(());
-            }
-        }
-    }
-    Ok(())
-}
-
-fn tell_roa(rt: &HostRuntime, roa: &Roa) -> Result<(), Fail> {
-    let mut out = rt.stdout();
+/// Prints the entries of a ROA.
+fn tell_roa(rt: &HostRuntime, roa: &Roa) {
     for it in roa.entries() {
-        writeln!(out, "{} {} {}", it.prefix, it.greatest_length(), roa.asn())?;
+        tell_record(rt, &it.prefix, it.greatest_length(), roa.asn());
     }
-    Ok(())
 }
 
-#[test]
-fn decode_one_prefix(rt: HostRuntime) -> Result<(), Fail> {
-    begin(rt.alloc())?;
-    tell_decoded(&rt, ONE_PREFIX)
-}
-
-#[test]
-fn decode_ipv6(rt: HostRuntime) -> Result<(), Fail> {
-    begin(rt.alloc())?;
-    tell_decoded(&rt, IPV6)
-}
-
-/// Writes the ROA that a payload holds, and prints whether that gives the payload.
-fn tell_written(rt: &HostRuntime, payload: &[u8]) -> Result<(), Fail> {
-    let Ok(roa) = decode_roa(rt.alloc(), payload) else {
-        return Err(Fail::from("payload"));
-    };
-    begin(rt.alloc())?;
-    for _try in 0..2 {
-        match encode_roa(rt.alloc(), &roa) {
-            Ok(bytes) => return tell_same(rt, bytes.as_slice() == payload),
-            Err(_) => tell(rt, "memory")?,
+/// Decodes a ROA and prints its entries, the fault, or that memory ran out.
+fn is_decoded(rt: &HostRuntime, payload: &[u8]) -> bool {
+    match decode_roa(rt.alloc(), payload) {
+        Ok(roa) => tell_roa(rt, &roa),
+        Err(PayloadFault::Memory) => return no_memory(rt),
+        Err(PayloadFault::At(fault)) => {
+            let _printed = println!(rt; "{} at {}", fault.kind.number(), fault.offset);
         }
     }
-    Ok(())
+    true
 }
 
-fn tell_same(rt: &HostRuntime, is_same: bool) -> Result<(), Fail> {
-    tell(rt, if is_same { "same" } else { "other" })
+/// Decodes a ROA, and once more where memory ran out.
+pub(crate) fn tell_decoded(rt: &HostRuntime, payload: &[u8]) {
+    let _done = is_decoded(rt, payload) || is_decoded(rt, payload);
+}
+
+#[test]
+fn decode_one_prefix(rt: HostRuntime) {
+    begin(rt.alloc());
+    tell_decoded(&rt, ONE_PREFIX);
+}
+
+#[test]
+fn decode_ipv6(rt: HostRuntime) {
+    begin(rt.alloc());
+    tell_decoded(&rt, IPV6);
+}
+
+/// Prints whether what is written is the payload, or that memory ran out.
+fn is_same(rt: &HostRuntime, written: Result<Vec<u8>, AllocError>, payload: &[u8]) -> bool {
+    match written {
+        Ok(bytes) => {
+            let is_same = bytes.as_slice() == payload;
+            tell(rt, if is_same { "same" } else { "other" });
+            true
+        }
+        Err(_) => no_memory(rt),
+    }
+}
+
+/// Writes the ROA that a payload holds, and once more where memory ran out.
+fn tell_written(rt: &HostRuntime, payload: &[u8]) -> Result<(), Fail> {
+    let alloc = rt.alloc();
+    let roa = decode_roa(alloc, payload)?;
+    begin(alloc);
+    let _done = is_same(rt, encode_roa(alloc, &roa), payload)
+        || is_same(rt, encode_roa(alloc, &roa), payload);
+    Ok(())
 }
 
 #[test]
@@ -106,69 +108,83 @@ fn encode_ipv6(rt: HostRuntime) -> Result<(), Fail> {
 }
 
 /// Prints what a manifest says.
-fn tell_manifest(rt: &HostRuntime, manifest: &Manifest) -> Result<(), Fail> {
-    let mut out = rt.stdout();
-    writeln!(out, "{} {}", manifest.this_update(), manifest.next_update())?;
+fn tell_manifest(rt: &HostRuntime, manifest: &Manifest) {
+    let (this_update, next_update) = (manifest.this_update(), manifest.next_update());
+    let _printed = println!(rt; "{this_update} {next_update}");
     for it in manifest.files() {
-        tell(rt, it.name())?;
+        tell(rt, it.name());
     }
-    Ok(())
+}
+
+/// Decodes the manifest and prints what it says, or that memory ran out.
+fn is_manifest(rt: &HostRuntime) -> bool {
+    match decode_manifest(rt.alloc(), OF_A_LIST) {
+        Ok(manifest) => tell_manifest(rt, &manifest),
+        Err(PayloadFault::Memory) => return no_memory(rt),
+        Err(PayloadFault::At(_)) => tell(rt, "refused"),
+    }
+    true
 }
 
 #[test]
-fn decode_a_manifest(rt: HostRuntime) -> Result<(), Fail> {
-    begin(rt.alloc())?;
-    for _try in 0..2 {
-        match decode_manifest(rt.alloc(), OF_A_LIST) {
-            Ok(manifest) => return tell_manifest(&rt, &manifest),
-            Err(PayloadFault::Memory) => tell(&rt, "memory")?,
-            Err(PayloadFault::At(_)) => return tell(&rt, "refused"),
-        }
-    }
-    Ok(())
+fn decode_a_manifest(rt: HostRuntime) {
+    begin(rt.alloc());
+    let _done = is_manifest(&rt) || is_manifest(&rt);
 }
 
-/// The number and the files of a manifest, to be handed in again.
-fn parts(alloc: Global, manifest: &Manifest) -> Result<(Vec<u8>, Vec<ListedFile>), Fail> {
+/// Lists a file of this name and this hash.
+fn list(
+    files: &mut Vec<ListedFile>,
+    alloc: Global,
+    name: &str,
+    hash: &[u8; 32],
+) -> Result<(), AllocError> {
+    let name = String::from_str(alloc, name)?;
+    Ok(files.push(ListedFile::new(name, *hash))?)
+}
+
+/// The files of a manifest, to be handed in again.
+fn files_of(alloc: Global, manifest: &Manifest) -> Result<Vec<ListedFile>, AllocError> {
     let mut files = Vec::new(alloc);
     for it in manifest.files() {
-        let name = String::from_str(alloc, it.name())?;
-        files.push(ListedFile::new(name, *it.hash()))?;
+        list(&mut files, alloc, it.name(), it.hash())?;
     }
-    Ok((Vec::from_slice(alloc, manifest.number())?, files))
+    Ok(files)
+}
+
+/// Makes a manifest of its parts and of the moments of another, and prints what it says, or that memory ran out.
+fn is_made(rt: &HostRuntime, given: &Manifest, number: Vec<u8>, files: Vec<ListedFile>) -> bool {
+    let (this_update, next_update) = (*given.this_update(), *given.next_update());
+    match Manifest::new(rt.alloc(), number, this_update, next_update, files) {
+        Ok(manifest) => tell_manifest(rt, &manifest),
+        Err(ManifestFault::Memory) => return no_memory(rt),
+        Err(ManifestFault::Value(_)) => tell(rt, "refused"),
+    }
+    true
 }
 
 #[test]
 fn make_a_manifest(rt: HostRuntime) -> Result<(), Fail> {
     let alloc = rt.alloc();
-    let Ok(given) = decode_manifest(alloc, OF_A_LIST) else {
-        return Err(Fail::from("payload"));
-    };
-    let tries = [parts(alloc, &given)?, parts(alloc, &given)?];
-    begin(alloc)?;
-    for (number, files) in tries {
-        let (this_update, next_update) = (*given.this_update(), *given.next_update());
-        match Manifest::new(alloc, number, this_update, next_update, files) {
-            Ok(manifest) => return tell_manifest(&rt, &manifest),
-            Err(ManifestFault::Memory) => tell(&rt, "memory")?,
-            Err(ManifestFault::Value(_)) => return tell(&rt, "refused"),
-        }
+    let given = decode_manifest(alloc, OF_A_LIST)?;
+    let number = given.number().to_vec(alloc)?;
+    let number_again = given.number().to_vec(alloc)?;
+    let files = files_of(alloc, &given)?;
+    let files_again = files_of(alloc, &given)?;
+    begin(alloc);
+    if !is_made(&rt, &given, number, files) {
+        is_made(&rt, &given, number_again, files_again);
     }
     Ok(())
 }
 
 #[test]
 fn encode_a_manifest(rt: HostRuntime) -> Result<(), Fail> {
-    let Ok(manifest) = decode_manifest(rt.alloc(), OF_A_LIST) else {
-        return Err(Fail::from("payload"));
-    };
-    begin(rt.alloc())?;
-    for _try in 0..2 {
-        match encode_manifest(rt.alloc(), &manifest) {
-            Ok(bytes) => return tell_same(&rt, bytes.as_slice() == OF_A_LIST),
-            Err(_) => tell(&rt, "memory")?,
-        }
-    }
+    let alloc = rt.alloc();
+    let manifest = decode_manifest(alloc, OF_A_LIST)?;
+    begin(alloc);
+    let _done = is_same(&rt, encode_manifest(alloc, &manifest), OF_A_LIST)
+        || is_same(&rt, encode_manifest(alloc, &manifest), OF_A_LIST);
     Ok(())
 }
 
@@ -191,37 +207,47 @@ fn told(answer: Result<Offered, PointFault>) -> &'static str {
     }
 }
 
-/// Prints what is in use at a moment, for which memory may run out once.
-fn tell_in_use(rt: &HostRuntime, repository: &Repository, now: Moment) -> Result<(), Fail> {
-    for _try in 0..2 {
-        match repository.payloads(now) {
-            Ok(payloads) => {
-                tell(rt, "in use:")?;
-                return tell_payloads(rt, payloads.as_slice());
-            }
-            Err(_) => tell(rt, "memory")?,
+/// Prints what is in use at a moment, or that memory ran out.
+fn is_listed(rt: &HostRuntime, repository: &Repository, now: Moment) -> bool {
+    match repository.payloads(now) {
+        Ok(payloads) => {
+            tell(rt, "in use:");
+            tell_payloads(rt, payloads.as_slice());
+            true
         }
+        Err(_) => no_memory(rt),
     }
-    Ok(())
 }
 
-/// Offers, once more where memory ran out, and prints each time what is in use.
+/// Prints what is in use at a moment, for which memory may run out once.
+fn tell_in_use(rt: &HostRuntime, repository: &Repository, now: Moment) {
+    let _done = is_listed(rt, repository, now) || is_listed(rt, repository, now);
+}
+
+/// Offers, prints the answer and what is in use then, and tells whether there was memory for the offer.
+fn is_judged(
+    rt: &HostRuntime,
+    repository: &mut Repository,
+    manifest: &[u8],
+    files: &[FileIn],
+    now: Moment,
+) -> bool {
+    let answer = told(repository.offer("point", manifest, files, now));
+    tell(rt, answer);
+    tell_in_use(rt, repository, now);
+    answer != "memory"
+}
+
+/// Offers, and once more where memory ran out.
 fn tell_offered(
     rt: &HostRuntime,
     repository: &mut Repository,
     manifest: &[u8],
     files: &[FileIn],
     now: Moment,
-) -> Result<(), Fail> {
-    for _try in 0..2 {
-        let answer = told(repository.offer("point", manifest, files, now));
-        tell(rt, answer)?;
-        tell_in_use(rt, repository, now)?;
-        if answer != "memory" {
-            return Ok(());
-        }
-    }
-    Ok(())
+) {
+    let _done = is_judged(rt, repository, manifest, files, now)
+        || is_judged(rt, repository, manifest, files, now);
 }
 
 pub(crate) fn moment(text: &str) -> Result<Moment, Fail> {
@@ -233,55 +259,56 @@ pub(crate) fn moment(text: &str) -> Result<Moment, Fail> {
 
 #[test]
 fn offer_the_first(rt: HostRuntime) -> Result<(), Fail> {
+    let start = moment("20250101000000Z")?;
     let mut repository = Repository::new(rt.alloc());
     let files = [file("a.roa", ONE_PREFIX, ONE_PREFIX)];
-    begin(rt.alloc())?;
-    tell_offered(
-        &rt,
-        &mut repository,
-        FIRST,
-        &files,
-        moment("20250101000000Z")?,
-    )
+    begin(rt.alloc());
+    tell_offered(&rt, &mut repository, FIRST, &files, start);
+    Ok(())
+}
+
+/// Lists `a.roa` and `b.roa`, both with the hash of the object of the first manifest's file.
+fn list_both(
+    files: &mut Vec<ListedFile>,
+    alloc: Global,
+    first: &Manifest,
+) -> Result<(), AllocError> {
+    for it in first.files() {
+        list(files, alloc, "a.roa", it.hash())?;
+        list(files, alloc, "b.roa", it.hash())?;
+    }
+    Ok(())
 }
 
 /// The manifest of number 2 that lists `a.roa` and `b.roa`, whose object is not the one that is hashed.
 fn second(alloc: Global) -> Result<Vec<u8>, Fail> {
-    let Ok(first) = decode_manifest(alloc, FIRST) else {
-        return Err(Fail::from("payload"));
-    };
-    let mut files = Vec::new(alloc);
-    for it in first.files() {
-        for name in ["a.roa", "b.roa"] {
-            files.push(ListedFile::new(String::from_str(alloc, name)?, *it.hash()))?;
-        }
-    }
-    let number = Vec::from_slice(alloc, &[2u8])?;
     let (this_update, next_update) = (moment("20250101120000Z")?, moment("20250103000000Z")?);
-    match Manifest::new(alloc, number, this_update, next_update, files) {
-        Ok(manifest) => Ok(encode_manifest(alloc, &manifest)?),
-        Err(_) => Err(Fail::from("manifest")),
-    }
+    let first = decode_manifest(alloc, FIRST)?;
+    let mut files = Vec::new(alloc);
+    list_both(&mut files, alloc, &first)?;
+    let number = [2].to_vec(alloc)?;
+    let manifest = Manifest::new(alloc, number, this_update, next_update, files)?;
+    Ok(encode_manifest(alloc, &manifest)?)
 }
 
 #[test]
 fn offer_another_object(rt: HostRuntime) -> Result<(), Fail> {
-    let mut repository = Repository::new(rt.alloc());
-    let first = [file("a.roa", ONE_PREFIX, ONE_PREFIX)];
-    let _new = repository.offer("point", FIRST, &first, moment("20250101000000Z")?);
+    let (start, noon) = (moment("20250101000000Z")?, moment("20250101120000Z")?);
+    let (end, late) = (moment("20250102000000Z")?, moment("20250102000001Z")?);
     let manifest = second(rt.alloc())?;
-    let files = [
-        file("a.roa", ONE_PREFIX, ONE_PREFIX),
-        file("b.roa", IPV6, ONE_PREFIX),
-    ];
-    begin(rt.alloc())?;
+    let mut repository = Repository::new(rt.alloc());
+    let first = file("a.roa", ONE_PREFIX, ONE_PREFIX);
+    let other = file("b.roa", IPV6, ONE_PREFIX);
+    let _new = repository.offer("point", FIRST, &[first], start);
+    begin(rt.alloc());
     tell_offered(
         &rt,
         &mut repository,
         manifest.as_slice(),
-        &files,
-        moment("20250101120000Z")?,
-    )?;
-    tell_in_use(&rt, &repository, moment("20250102000000Z")?)?;
-    tell_in_use(&rt, &repository, moment("20250102000001Z")?)
+        &[first, other],
+        noon,
+    );
+    tell_in_use(&rt, &repository, end);
+    tell_in_use(&rt, &repository, late);
+    Ok(())
 }

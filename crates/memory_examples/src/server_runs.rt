@@ -1,7 +1,6 @@
-use crate::end_runs::{RESET_QUERY, SERIAL_QUERY, cache_from, twice};
-use crate::telling::{V, W, begin, set_of, tell, tell_bytes};
-use prefixes::{Asn, IpPrefix, Vrp};
-use rtr_server::{AdmitFault, Client, Duplex, Server, Turn};
+use crate::end_runs::{RESET_QUERY, SERIAL_QUERY, cache_from};
+use crate::telling::{V, W, begin, no_memory, push, tell, tell_bytes, twice};
+use rtr_server::{Client, Duplex, Gone, Server, Turn};
 use std::alloc::Global;
 use std::io;
 use std::io::{ErrorKind, Read, Write};
@@ -57,27 +56,25 @@ fn line(bytes: &'static [u8]) -> Duplex<Feed, Sink> {
     }
 }
 
+/// Publishes a set, or prints that memory ran out.
+fn is_published(rt: &HostRuntime, server: &mut Memory, set: VrpSet) -> bool {
+    server.publish(set).is_ok() || no_memory(rt)
+}
+
 /// Publishes a set, and once more where memory ran out.
-fn published(rt: &HostRuntime, server: &mut Memory, sets: [VrpSet; 2]) -> Result<(), Fail> {
-    for set in sets {
-        match server.publish(set) {
-            Ok(_) => return Ok(()),
-            Err(_) => tell(rt, "memory")?,
-        }
+fn publish(rt: &HostRuntime, server: &mut Memory, set: VrpSet, again: VrpSet) {
+    if !is_published(rt, server, set) {
+        is_published(rt, server, again);
     }
-    Err(Fail::from("publish"))
 }
 
 /// Admits a client, at the second try where memory ran out.
 fn admitted(rt: &HostRuntime, server: &mut Memory, query: &'static [u8]) -> Result<Client, Fail> {
-    for _try in 0..2 {
-        match server.admit(line(query)) {
-            Ok(client) => return Ok(client),
-            Err(AdmitFault::Memory) => tell(rt, "memory")?,
-            Err(AdmitFault::TooManyClients) => return Err(Fail::from("too many")),
-        }
+    if let Ok(client) = server.admit(line(query)) {
+        return Ok(client);
     }
-    Err(Fail::from("admit"))
+    tell(rt, "memory");
+    Ok(server.admit(line(query))?)
 }
 
 /// What went to a client, if it is there.
@@ -88,15 +85,29 @@ fn written(server: &Memory, client: Client) -> &[u8] {
     }
 }
 
-/// One read and one write of a client; prints what went to it, and what its next turn came to.
-fn tell_served(rt: &HostRuntime, server: &mut Memory, client: Client) -> Result<(), Fail> {
-    let _busy = server.serve(client, 2);
-    tell_bytes(rt, written(server, client))?;
-    let mut out = rt.stdout();
-    match server.serve(client, 9) {
-        None => writeln!(out, "none")?,
-        Some(turn) => writeln!(out, "{turn:?}")?,
+/// What a turn came to.
+fn word(turn: Option<Turn>) -> &'static str {
+    match turn {
+        None => "none",
+        Some(Turn::WaitsToRead) => "WaitsToRead",
+        Some(Turn::Gone(Gone::CacheEnded)) => "Gone(CacheEnded)",
+        Some(_) => "another turn",
     }
+}
+
+/// One read and one write of a client; prints what went to it, and what its next turn came to.
+fn tell_served(rt: &HostRuntime, server: &mut Memory, client: Client) {
+    let _busy = server.serve(client, 2);
+    tell_bytes(rt, written(server, client));
+    tell(rt, word(server.serve(client, 9)));
+}
+
+/// Two clients come with this query, and then each of them is served.
+fn tell_both(rt: &HostRuntime, server: &mut Memory, query: &'static [u8]) -> Result<(), Fail> {
+    let client = admitted(rt, server, query)?;
+    let other = admitted(rt, server, query)?;
+    tell_served(rt, server, client);
+    tell_served(rt, server, other);
     Ok(())
 }
 
@@ -104,26 +115,33 @@ fn tell_served(rt: &HostRuntime, server: &mut Memory, client: Client) -> Result<
 #[test]
 fn serve_serial_queries(rt: HostRuntime) -> Result<(), Fail> {
     let alloc = rt.alloc();
+    let (first, first_again) = twice(alloc, &[V])?;
+    let (second, second_again) = twice(alloc, &[V, W])?;
     let cache = cache_from(alloc, 5)?;
-    let (first, second) = (twice(alloc, &[V])?, twice(alloc, &[V, W])?);
-    begin(alloc)?;
+    begin(alloc);
     let mut server = Server::new(alloc, cache, 2);
-    published(&rt, &mut server, first)?;
-    published(&rt, &mut server, second)?;
-    let client = admitted(&rt, &mut server, SERIAL_QUERY)?;
-    let other = admitted(&rt, &mut server, SERIAL_QUERY)?;
-    tell_served(&rt, &mut server, client)?;
-    tell_served(&rt, &mut server, other)
+    publish(&rt, &mut server, first, first_again);
+    publish(&rt, &mut server, second, second_again);
+    tell_both(&rt, &mut server, SERIAL_QUERY)
 }
 
 /// Sixty records, whose answer fills the small room.
 fn sixty(alloc: Global) -> Result<VrpSet, Fail> {
-    let prefix = IpPrefix::parse("192.0.2.0/24")?;
     let mut list = Vec::new(alloc);
     for asn in 1..61 {
-        list.push(Vrp::new(prefix, 24, Asn(asn))?)?;
+        push(&mut list, &("192.0.2.0/24", 24, asn))?;
     }
     Ok(VrpSet::from_list(list)?)
+}
+
+/// Serves a client, and prints how much went to it.
+fn tell_length(rt: &HostRuntime, server: &mut Memory, client: Client) {
+    let turn = server.serve(client, 99);
+    let len = written(server, client).len();
+    let _printed = match turn {
+        Some(Turn::WaitsToRead) => println!(rt; "{len}"),
+        _ => println!(rt; "{len}, and no wait"),
+    };
 }
 
 /// An answer goes out whole, whether there is memory for a large room or not.
@@ -133,14 +151,8 @@ fn serve_a_long_answer(rt: HostRuntime) -> Result<(), Fail> {
     let mut cache = cache_from(alloc, 5)?;
     cache.publish(sixty(alloc)?)?;
     let mut server = Server::new(alloc, cache, 1);
-    let client = admitted(&rt, &mut server, RESET_QUERY)?;
-    begin(alloc)?;
-    let turn = server.serve(client, 99);
-    let mut out = rt.stdout();
-    let len = written(&server, client).len();
-    match turn {
-        Some(Turn::WaitsToRead) => writeln!(out, "{len}")?,
-        _ => writeln!(out, "{len}, and no wait")?,
-    }
+    let client = server.admit(line(RESET_QUERY))?;
+    begin(alloc);
+    tell_length(&rt, &mut server, client);
     Ok(())
 }

@@ -1,37 +1,42 @@
-use crate::telling::{V, W, begin, set_of, tell, tell_payloads};
-use std::alloc::Global;
-use std::io::Write;
+use crate::telling::{
+    Row, V, W, begin, each_twice, is_told, no_memory, set_of, tell, tell_payloads,
+};
+use prefixes::Vrp;
 use std::rc::Rc;
 use std::test::Fail;
-use vrps::{
-    Change, Gathered, Published, Serial, SetFault, Since, VersionLog, VersionStore, VrpSet,
-};
+use vrps::{Change, Gathered, Published, Serial, Since, VersionLog, VersionStore, VrpSet};
+
+/// Copies a set and prints the copy, or that memory ran out.
+fn is_copied(rt: &HostRuntime, set: &VrpSet) -> bool {
+    match set.duplicate() {
+        Ok(copy) => tell_payloads(rt, copy.as_slice()),
+        Err(_) => return no_memory(rt),
+    }
+    true
+}
 
 #[test]
 fn duplicate_a_set(rt: HostRuntime) -> Result<(), Fail> {
     let set = set_of(rt.alloc(), &[V])?;
-    begin(rt.alloc())?;
-    for _try in 0..2 {
-        match set.duplicate() {
-            Ok(copy) => return tell_payloads(&rt, copy.as_slice()),
-            Err(_) => tell(&rt, "memory")?,
-        }
-    }
+    begin(rt.alloc());
+    let _done = is_copied(&rt, &set) || is_copied(&rt, &set);
     Ok(())
 }
 
-/// Applies the change between two sets to the first, and prints what comes of it.
-fn tell_applied(rt: &HostRuntime, from: &VrpSet, to: &VrpSet) -> Result<(), Fail> {
-    let change = Change::between(rt.alloc(), from, to)?;
-    begin(rt.alloc())?;
-    for _try in 0..2 {
-        match change.apply(rt.alloc(), from) {
-            Ok(set) => return tell_payloads(rt, set.as_slice()),
-            Err(SetFault::Memory) => tell(rt, "memory")?,
-            Err(SetFault::TooMany) => return tell(rt, "too many"),
-        }
+/// Inserts a record, or prints that memory ran out.
+fn is_inserted(rt: &HostRuntime, gathered: &mut Gathered, vrp: &Vrp) -> bool {
+    if gathered.insert(*vrp).is_err() {
+        return no_memory(rt);
     }
-    Ok(())
+    tell(rt, "new");
+    true
+}
+
+/// Inserts records, each of them once more where memory ran out.
+fn insert(rt: &HostRuntime, gathered: &mut Gathered, records: &[Vrp]) {
+    for vrp in records {
+        let _done = is_inserted(rt, gathered, vrp) || is_inserted(rt, gathered, vrp);
+    }
 }
 
 #[test]
@@ -39,124 +44,116 @@ fn gather_out_of_order(rt: HostRuntime) -> Result<(), Fail> {
     let later = set_of(rt.alloc(), &[W])?;
     let earlier = set_of(rt.alloc(), &[V])?;
     let mut gathered = Gathered::new(rt.alloc());
-    begin(rt.alloc())?;
-    for vrp in later.iter().chain(earlier.iter()) {
-        for _try in 0..2 {
-            if gathered.insert(*vrp).is_ok() {
-                tell(&rt, "new")?;
-                break;
-            }
-            tell(&rt, "memory")?;
-        }
-    }
-    match gathered.into_set(rt.alloc()) {
-        Ok(set) => tell_payloads(&rt, set.as_slice()),
-        Err(_) => tell(&rt, "memory"),
-    }
+    begin(rt.alloc());
+    insert(&rt, &mut gathered, later.as_slice());
+    insert(&rt, &mut gathered, earlier.as_slice());
+    is_told(&rt, gathered.into_set(rt.alloc()));
+    Ok(())
+}
+
+/// Applies the change between two sets to the first, once more where memory ran out, and prints what comes of it.
+fn tell_applied(rt: &HostRuntime, from: &[Row], to: &[Row]) -> Result<(), Fail> {
+    let alloc = rt.alloc();
+    let from = set_of(alloc, from)?;
+    let to = set_of(alloc, to)?;
+    let change = Change::between(alloc, &from, &to)?;
+    begin(alloc);
+    let _done = is_told(rt, change.apply(alloc, &from)) || is_told(rt, change.apply(alloc, &from));
+    Ok(())
 }
 
 #[test]
 fn apply_to_one(rt: HostRuntime) -> Result<(), Fail> {
-    tell_applied(&rt, &set_of(rt.alloc(), &[V])?, &set_of(rt.alloc(), &[W])?)
+    tell_applied(&rt, &[V], &[W])
 }
 
 #[test]
 fn apply_to_none(rt: HostRuntime) -> Result<(), Fail> {
-    tell_applied(
-        &rt,
-        &set_of(rt.alloc(), &[])?,
-        &set_of(rt.alloc(), &[V, W])?,
-    )
+    tell_applied(&rt, &[], &[V, W])
 }
 
 #[test]
 fn apply_the_second_announcement(rt: HostRuntime) -> Result<(), Fail> {
-    tell_applied(&rt, &set_of(rt.alloc(), &[])?, &set_of(rt.alloc(), &[W])?)
+    tell_applied(&rt, &[], &[W])
 }
 
 #[test]
 fn apply_what_came_and_went(rt: HostRuntime) -> Result<(), Fail> {
-    tell_applied(&rt, &set_of(rt.alloc(), &[V])?, &set_of(rt.alloc(), &[V])?)
+    tell_applied(&rt, &[V], &[V])
 }
 
 #[test]
 fn apply_what_comes_again(rt: HostRuntime) -> Result<(), Fail> {
-    tell_applied(&rt, &set_of(rt.alloc(), &[])?, &set_of(rt.alloc(), &[V])?)
+    tell_applied(&rt, &[], &[V])
 }
 
-/// Publishes a set, and once more where memory ran out, and prints what is current.
-fn tell_published(rt: &HostRuntime, log: &mut VersionLog, sets: [VrpSet; 2]) -> Result<(), Fail> {
-    let mut out = rt.stdout();
-    for set in sets {
-        let Ok(shared) = Rc::new(rt.alloc(), set) else {
-            tell(rt, "memory")?;
-            continue;
-        };
-        match log.publish(shared) {
-            Ok(Published::New(serial)) => {
-                writeln!(out, "{}", serial.0)?;
-                return Ok(());
-            }
-            Ok(Published::Unchanged) => return tell(rt, "unchanged"),
-            Err(_) => tell(rt, "memory")?,
+/// Publishes a set and prints its serial, or that memory ran out.
+fn is_published(rt: &HostRuntime, log: &mut VersionLog, set: VrpSet) -> bool {
+    let Ok(shared) = Rc::new(rt.alloc(), set) else {
+        return no_memory(rt);
+    };
+    match log.publish(shared) {
+        Ok(Published::New(serial)) => {
+            let _printed = println!(rt; "{}", serial.0);
+        }
+        Ok(Published::Unchanged) => tell(rt, "unchanged"),
+        Err(_) => return no_memory(rt),
+    }
+    true
+}
+
+/// Publishes sets, each of them once more where memory ran out.
+fn publish(rt: &HostRuntime, log: &mut VersionLog, sets: Vec<(VrpSet, VrpSet)>) {
+    for (set, again) in sets {
+        if !is_published(rt, log, set) {
+            is_published(rt, log, again);
         }
     }
-    Ok(())
 }
 
-/// Prints what changed since a serial.
-fn tell_since(rt: &HostRuntime, log: &VersionLog, serial: u32) -> Result<(), Fail> {
-    for _try in 0..2 {
-        match log.since(Serial(serial)) {
-            Ok(Since::Change(change)) => {
-                tell(rt, "withdrawn:")?;
-                tell_payloads(rt, change.withdraw.as_slice())?;
-                tell(rt, "announced:")?;
-                return tell_payloads(rt, change.announce.as_slice());
-            }
-            Ok(Since::Unknown) => return tell(rt, "unknown"),
-            Ok(Since::NoData) => return tell(rt, "no data"),
-            Err(_) => tell(rt, "memory")?,
-        }
+/// Prints a change.
+fn tell_change(rt: &HostRuntime, change: &Change) {
+    tell(rt, "withdrawn:");
+    tell_payloads(rt, change.withdraw.as_slice());
+    tell(rt, "announced:");
+    tell_payloads(rt, change.announce.as_slice());
+}
+
+/// Prints what changed since a serial, or that memory ran out.
+fn is_since(rt: &HostRuntime, log: &VersionLog, serial: u32) -> bool {
+    match log.since(Serial(serial)) {
+        Ok(Since::Change(change)) => tell_change(rt, &change),
+        Ok(Since::Unknown) => tell(rt, "unknown"),
+        Ok(Since::NoData) => tell(rt, "no data"),
+        Err(_) => return no_memory(rt),
     }
-    Ok(())
+    true
 }
 
-fn twice(alloc: Global, rows: &[(&str, u8, u32)]) -> Result<[VrpSet; 2], Fail> {
-    Ok([set_of(alloc, rows)?, set_of(alloc, rows)?])
+/// Prints what changed since serials, for each of which memory may run out once.
+fn tell_since(rt: &HostRuntime, log: &VersionLog, serials: &[u32]) {
+    for &serial in serials {
+        let _done = is_since(rt, log, serial) || is_since(rt, log, serial);
+    }
+}
+
+/// Publishes the sets of these rows from serial 10 on, and prints what changed since these serials.
+fn tell_log(rt: &HostRuntime, lists: &[&[Row]], serials: &[u32]) -> Result<(), Fail> {
+    let alloc = rt.alloc();
+    let sets = each_twice(alloc, lists)?;
+    let mut log = VersionLog::new(alloc, 4660, 10, 8)?;
+    begin(alloc);
+    publish(rt, &mut log, sets);
+    tell_since(rt, &log, serials);
+    Ok(())
 }
 
 #[test]
 fn publish_and_withdraw(rt: HostRuntime) -> Result<(), Fail> {
-    let alloc = rt.alloc();
-    let mut log = VersionLog::new(alloc, 4660, 10, 8)?;
-    let rows = [
-        twice(alloc, &[])?,
-        twice(alloc, &[V])?,
-        twice(alloc, &[V, W])?,
-        twice(alloc, &[W])?,
-    ];
-    begin(alloc)?;
-    for sets in rows {
-        tell_published(&rt, &mut log, sets)?;
-    }
-    for serial in [10, 11, 13, 14] {
-        tell_since(&rt, &log, serial)?;
-    }
-    Ok(())
+    tell_log(&rt, &[&[], &[V], &[V, W], &[W]], &[10, 11, 13, 14])
 }
 
 #[test]
 fn publish_what_comes_again(rt: HostRuntime) -> Result<(), Fail> {
-    let alloc = rt.alloc();
-    let mut log = VersionLog::new(alloc, 4660, 10, 8)?;
-    let rows = [twice(alloc, &[V])?, twice(alloc, &[])?, twice(alloc, &[V])?];
-    begin(alloc)?;
-    for sets in rows {
-        tell_published(&rt, &mut log, sets)?;
-    }
-    for serial in [10, 11, 13] {
-        tell_since(&rt, &log, serial)?;
-    }
-    Ok(())
+    tell_log(&rt, &[&[V], &[], &[V]], &[10, 11, 13])
 }

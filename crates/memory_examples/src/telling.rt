@@ -1,52 +1,87 @@
 //! What the runs share.
 
 use prefixes::{Asn, IpPrefix, Vrp};
-use std::alloc::Global;
-use std::io::Write;
+use std::alloc::{AllocError, Global};
 use std::test::Fail;
-use vrps::VrpSet;
+use vrps::{SetFault, VrpSet};
 
 /// A request for so many bytes tells whoever watches that the preparations are over. It is not refused.
 const BEGIN: usize = 1_234_567;
 
-pub(crate) const V: (&str, u8, u32) = ("192.0.2.0/24", 24, 64496);
+/// A payload: its prefix, its maximum length and its AS number.
+pub(crate) type Row = (&'static str, u8, u32);
 
-pub(crate) const W: (&str, u8, u32) = ("198.51.100.0/24", 24, 64497);
+pub(crate) const V: Row = ("192.0.2.0/24", 24, 64496);
+
+pub(crate) const W: Row = ("198.51.100.0/24", 24, 64497);
 
 /// Requests may be refused from here on.
-pub(crate) fn begin(alloc: Global) -> Result<(), Fail> {
-    let _mark: Vec<u8> = Vec::with_capacity(alloc, BEGIN)?;
-    Ok(())
+pub(crate) fn begin(alloc: Global) {
+    let _mark: Result<Vec<u8>, AllocError> = Vec::with_capacity(alloc, BEGIN);
 }
 
-/// Prints a line.
-pub(crate) fn tell(rt: &HostRuntime, line: &str) -> Result<(), Fail> {
-    let mut out = rt.stdout();
-    out.write_all(line.as_bytes())?;
-    out.write_all(b"\n")?;
-    Ok(())
+/// Prints a line. One that cannot be printed is missed where the lines are compared.
+pub(crate) fn tell(rt: &HostRuntime, line: &str) {
+    let _printed = rt.println(line);
+}
+
+/// Prints that memory ran out, and tells that nothing came of the try.
+pub(crate) fn no_memory(rt: &HostRuntime) -> bool {
+    tell(rt, "memory");
+    false
 }
 
 /// Prints bytes as their numbers.
-pub(crate) fn tell_bytes(rt: &HostRuntime, bytes: &[u8]) -> Result<(), Fail> {
-    let mut out = rt.stdout();
-    writeln!(out, "{bytes:?}")?;
-    Ok(())
+pub(crate) fn tell_bytes(rt: &HostRuntime, bytes: &[u8]) {
+    let _printed = println!(rt; "{bytes:?}");
 }
 
-pub(crate) fn set_of(alloc: Global, rows: &[(&str, u8, u32)]) -> Result<VrpSet, Fail> {
+/// Prints a prefix, the greatest length of a route of it, and its AS.
+pub(crate) fn tell_record(rt: &HostRuntime, prefix: &IpPrefix, max_len: u8, asn: Asn) {
+    let _printed = println!(rt; "{prefix} {max_len} {asn}");
+}
+
+/// Prints payloads, a line each.
+pub(crate) fn tell_payloads(rt: &HostRuntime, payloads: &[Vrp]) {
+    for it in payloads {
+        tell_record(rt, &it.prefix(), it.max_len(), it.asn());
+    }
+}
+
+/// Prints the members of a set, or that there was no memory for it.
+pub(crate) fn is_told(rt: &HostRuntime, set: Result<VrpSet, SetFault>) -> bool {
+    match set {
+        Ok(set) => tell_payloads(rt, set.as_slice()),
+        Err(SetFault::Memory) => return no_memory(rt),
+        Err(SetFault::TooMany) => tell(rt, "too many"),
+    }
+    true
+}
+
+/// Adds the payload of a row.
+pub(crate) fn push(list: &mut Vec<Vrp>, &(text, max_len, asn): &Row) -> Result<(), Fail> {
+    let vrp = Vrp::new(IpPrefix::parse(text)?, max_len, Asn(asn))?;
+    Ok(list.push(vrp)?)
+}
+
+pub(crate) fn set_of(alloc: Global, rows: &[Row]) -> Result<VrpSet, Fail> {
     let mut list = Vec::new(alloc);
-    for &(text, max_len, asn) in rows {
-        list.push(Vrp::new(IpPrefix::parse(text)?, max_len, Asn(asn))?)?;
+    for row in rows {
+        push(&mut list, row)?;
     }
     Ok(VrpSet::from_list(list)?)
 }
 
-/// Prints payloads, a line each.
-pub(crate) fn tell_payloads(rt: &HostRuntime, payloads: &[Vrp]) -> Result<(), Fail> {
-    let mut out = rt.stdout();
-    for it in payloads {
-        writeln!(out, "{} {} {}", it.prefix(), it.max_len(), it.asn())?;
+/// The set of these rows, once for each of two tries.
+pub(crate) fn twice(alloc: Global, rows: &[Row]) -> Result<(VrpSet, VrpSet), Fail> {
+    Ok((set_of(alloc, rows)?, set_of(alloc, rows)?))
+}
+
+/// The sets of these lists of rows, each of them twice.
+pub(crate) fn each_twice(alloc: Global, lists: &[&[Row]]) -> Result<Vec<(VrpSet, VrpSet)>, Fail> {
+    let mut sets = Vec::new(alloc);
+    for rows in lists {
+        sets.push(twice(alloc, rows)?)?;
     }
-    Ok(())
+    Ok(sets)
 }
