@@ -1,6 +1,8 @@
 //! Elements by hand, and their faults.
 
 use der_lite::{Bits, Cursor, DerFault, DerWriter, is_integer, unsigned};
+use std::alloc::{AllocError, Global};
+use std::process::Abort;
 use std::test::Fail;
 
 /// How long the content is of the element of this tag that stands at the cursor. A SEQUENCE is
@@ -20,144 +22,190 @@ fn read_one(cursor: &mut Cursor, tag: u8) -> Result<usize, DerFault> {
     }
 }
 
+/// The number and the offset of a fault.
+fn place(fault: Option<DerFault>) -> Option<(u8, usize)> {
+    match fault {
+        None => None,
+        Some(fault) => Some((fault.number(), fault.offset)),
+    }
+}
+
 /// The number and the offset of the fault of an element of this tag.
 fn fault(tag: u8, bytes: &[u8]) -> Option<(u8, usize)> {
+    place(read_one(&mut Cursor::new(bytes), tag).err())
+}
+
+/// Elements: the tag, the bytes, and how long the content is.
+const SHORTEST: &[(u8, &[u8], usize)] = &[
+    (2u8, b"\x02\x01\x00", 1usize),
+    (2, b"\x02\x01\x7f", 1),
+    (2, b"\x02\x02\x00\x80", 2),
+    (2, b"\x02\x02\xff\x7f", 2),
+    (3, b"\x03\x01\x00", 0),
+    (3, b"\x03\x02\x03\xf8", 1),
+    (4, b"\x04\x00", 0),
+    (6, b"\x06\x00", 0),
+    (22, b"\x16\x00", 0),
+    (22, b"\x16\x02a\x7f", 2),
+    (48, b"\x30\x00", 0),
+];
+
+/// Whether the bytes are one element of this tag whose content is so long.
+fn is_read(tag: u8, bytes: &[u8], len: usize) -> bool {
     let mut cursor = Cursor::new(bytes);
-    match read_one(&mut cursor, tag) {
-        Ok(_) => None,
-        Err(fault) => Some((fault.number(), fault.offset)),
+    cursor.peek_tag() == Some(tag)
+        && read_one(&mut cursor, tag).ok() == Some(len)
+        && cursor.at_end()
+        && cursor.offset() == bytes.len()
+        && cursor.peek_tag() == None
+        && cursor.finish().is_ok()
+}
+
+fn expect_read<R: Abort>(rt: &R, rows: &[(u8, &[u8], usize)]) {
+    for (tag, bytes, len) in rows {
+        assert!(rt; is_read(*tag, bytes, *len), "at {bytes:?}");
     }
 }
 
 #[test]
 fn reads_the_shortest(rt: HostRuntime) {
-    for (tag, bytes, len) in [
-        (2u8, b"\x02\x01\x00".as_slice(), 1usize),
-        (2, b"\x02\x01\x7f".as_slice(), 1),
-        (2, b"\x02\x02\x00\x80".as_slice(), 2),
-        (2, b"\x02\x02\xff\x7f".as_slice(), 2),
-        (3, b"\x03\x01\x00".as_slice(), 0),
-        (3, b"\x03\x02\x03\xf8".as_slice(), 1),
-        (4, b"\x04\x00".as_slice(), 0),
-        (6, b"\x06\x00".as_slice(), 0),
-        (22, b"\x16\x00".as_slice(), 0),
-        (22, b"\x16\x02a\x7f".as_slice(), 2),
-        (48, b"\x30\x00".as_slice(), 0),
-    ] {
-        let mut cursor = Cursor::new(bytes);
-        assert!(rt; cursor.peek_tag() == Some(tag));
-        assert!(rt;
-            read_one(&mut cursor, tag).ok() == Some(len),
-            "at {bytes:?}"
-        );
-        assert!(rt; cursor.at_end());
-        assert!(rt; cursor.offset() == bytes.len());
-        assert!(rt; cursor.peek_tag() == None);
-        assert!(rt; cursor.finish().is_ok());
+    expect_read(&rt, SHORTEST);
+}
+
+/// Bytes that are no element of this tag, and the number of the fault at the front.
+const FAULTS: &[(u8, &[u8], u8)] = &[
+    (2u8, b"", 1u8),
+    (48, b"\x30\x84\xff\xff\xff\xff", 1),
+    (48, b"\x30\x81", 1),
+    (4, b"\x05\x01", 1),
+    (4, b"\x05\x00", 2),
+    (48, b"\x31\x81\x7f", 2),
+    (48, b"\x30\x85\x00\x00\x00\x00\x01", 3),
+    (48, b"\x30\x80", 3),
+    (48, b"\x30\x85", 3),
+    (48, b"\x30\xff", 3),
+    (4, b"\x04\x81\x7f", 3),
+    (4, b"\x04\x82\x00\x80", 3),
+    (2, b"\x02\x00", 4),
+    (2, b"\x02\x02\x00\x7f", 4),
+    (2, b"\x02\x02\xff\x80", 4),
+    (3, b"\x03\x00", 4),
+    (3, b"\x03\x01\x03", 4),
+    (3, b"\x03\x02\x03\xfc", 4),
+    (3, b"\x03\x02\x08\x00", 4),
+    (22, b"\x16\x01\x80", 4),
+];
+
+fn expect_faults<R: Abort>(rt: &R, rows: &[(u8, &[u8], u8)]) {
+    for (tag, bytes, number) in rows {
+        assert!(rt; fault(*tag, bytes) == Some((*number, 0)), "at {bytes:?}");
     }
 }
 
 #[test]
 fn tells_the_first_fault(rt: HostRuntime) {
-    for (tag, bytes, number) in [
-        (2u8, b"".as_slice(), 1u8),
-        (48, b"\x30\x84\xff\xff\xff\xff".as_slice(), 1),
-        (48, b"\x30\x81".as_slice(), 1),
-        (4, b"\x05\x01".as_slice(), 1),
-        (4, b"\x05\x00".as_slice(), 2),
-        (48, b"\x31\x81\x7f".as_slice(), 2),
-        (48, b"\x30\x85\x00\x00\x00\x00\x01".as_slice(), 3),
-        (48, b"\x30\x80".as_slice(), 3),
-        (48, b"\x30\x85".as_slice(), 3),
-        (48, b"\x30\xff".as_slice(), 3),
-        (4, b"\x04\x81\x7f".as_slice(), 3),
-        (4, b"\x04\x82\x00\x80".as_slice(), 3),
-        (2, b"\x02\x00".as_slice(), 4),
-        (2, b"\x02\x02\x00\x7f".as_slice(), 4),
-        (2, b"\x02\x02\xff\x80".as_slice(), 4),
-        (3, b"\x03\x00".as_slice(), 4),
-        (3, b"\x03\x01\x03".as_slice(), 4),
-        (3, b"\x03\x02\x03\xfc".as_slice(), 4),
-        (3, b"\x03\x02\x08\x00".as_slice(), 4),
-        (22, b"\x16\x01\x80".as_slice(), 4),
-    ] {
-        assert!(rt; fault(tag, bytes) == Some((number, 0)), "at {bytes:?}");
-    }
-    assert!(rt; fault(48, b"\x30\x02\x04\x00".as_slice()) == Some((5, 2)));
+    expect_faults(&rt, FAULTS);
+    assert!(rt; fault(48, b"\x30\x02\x04\x00") == Some((5, 2)));
+}
+
+/// Whether the faults of these members tell their places in the payload.
+fn has_offsets(inner: &mut Cursor) -> bool {
+    inner.offset() == 4
+        && place(inner.octets().err()) == Some((2, 4))
+        && inner.offset() == 4
+        && inner.integer().ok() == Some(b"\x05".as_slice())
+        && place(inner.ia5().err()) == Some((4, 7))
+        && inner.peek_tag() == Some(22)
 }
 
 #[test]
-fn tells_offsets_in_the_payload(rt: HostRuntime) -> Result<(), Fail> {
+fn tells_offsets_in_the_payload(rt: HostRuntime) {
     let mut outer = Cursor::new(b"\x04\x00\x30\x06\x02\x01\x05\x16\x01\x80".as_slice());
-    assert!(rt; outer.octets().is_ok() == true);
-    let Ok(mut inner) = outer.sequence() else {
-        assert!(rt; false);
-        return Ok(());
-    };
-    assert!(rt; inner.offset() == 4);
-    assert!(rt; inner.octets().err().map(|f| (f.number(), f.offset)) == Some((2, 4)));
-    assert!(rt; inner.offset() == 4);
-    assert!(rt; inner.integer().ok() == Some(b"\x05".as_slice()));
-    assert!(rt; inner.ia5().err().map(|f| (f.number(), f.offset)) == Some((4, 7)));
-    assert!(rt; inner.peek_tag() == Some(22));
-    assert!(rt; inner.finish().err().map(|f| (f.number(), f.offset)) == Some((5, 7)));
+    assert!(rt; outer.octets().is_ok());
+    match outer.sequence() {
+        Ok(mut inner) => {
+            assert!(rt; has_offsets(&mut inner));
+            assert!(rt; place(inner.finish().err()) == Some((5, 7)));
+        }
+        Err(_) => assert!(rt; false),
+    }
     assert!(rt; outer.at_end());
-    Ok(())
+}
+
+/// Each beginning of an element of this tag is cut.
+fn expect_cut<R: Abort>(rt: &R, tag: u8, whole: &[u8]) {
+    for cut in 0..whole.len() {
+        assert!(rt; fault(tag, &whole[..cut]) == Some((1, 0)), "{cut} bytes");
+    }
 }
 
 #[test]
 fn refuses_every_beginning(rt: HostRuntime) {
-    let whole = b"\x30\x07\x04\x05\x01\x02\x03\x04\x05".as_slice();
-    for cut in 0..9usize {
-        assert!(rt; fault(48, &whole[..cut]) == Some((1, 0)), "{cut} bytes");
-    }
-    let long = b"\x04\x82\x01\x00".as_slice();
-    for cut in 0..5usize {
-        assert!(rt; fault(4, &long[..cut]) == Some((1, 0)), "{cut} bytes");
+    expect_cut(&rt, 48, b"\x30\x07\x04\x05\x01\x02\x03\x04\x05");
+    expect_cut(&rt, 4, b"\x04\x82\x01\x00\x07");
+}
+
+/// How many octets there are, and the head of their element.
+const LENGTHS: &[(u32, &[u8])] = &[
+    (0u32, b"\x04\x00"),
+    (127, b"\x04\x7f"),
+    (128, b"\x04\x81\x80"),
+    (255, b"\x04\x81\xff"),
+    (256, b"\x04\x82\x01\x00"),
+    (65535, b"\x04\x82\xff\xff"),
+    (65536, b"\x04\x83\x01\x00\x00"),
+    (16777216, b"\x04\x84\x01\x00\x00\x00"),
+];
+
+/// The element of so many octets.
+fn octets_of(alloc: Global, len: u32) -> Result<Vec<u8>, AllocError> {
+    let content = vec![in alloc; 7u8; len as usize]?;
+    let mut writer = DerWriter::new(alloc);
+    writer.octets(content.as_slice())?;
+    Ok(writer.into_bytes())
+}
+
+/// Whether this is the element of so many octets behind this head.
+fn is_headed(written: &[u8], len: u32, head: &[u8]) -> bool {
+    let mut cursor = Cursor::new(written);
+    written.starts_with(head)
+        && read_one(&mut cursor, 4).ok() == Some(len as usize)
+        && cursor.finish().is_ok()
+}
+
+fn expect_heads<R: Abort>(rt: &R, alloc: Global, rows: &[(u32, &[u8])]) {
+    for (len, head) in rows {
+        let is_written = octets_of(alloc, *len).is_ok_and(|it| is_headed(
+            it.as_slice(),
+            *len,
+            head,
+        ));
+        assert!(rt; is_written, "{len}");
     }
 }
 
 #[test]
-fn writes_lengths_in_the_fewest_bytes(rt: HostRuntime) -> Result<(), Fail> {
-    let alloc = rt.alloc();
-    for (len, head) in [
-        (0usize, b"\x04\x00".as_slice()),
-        (127, b"\x04\x7f".as_slice()),
-        (128, b"\x04\x81\x80".as_slice()),
-        (255, b"\x04\x81\xff".as_slice()),
-        (256, b"\x04\x82\x01\x00".as_slice()),
-        (65535, b"\x04\x82\xff\xff".as_slice()),
-        (65536, b"\x04\x83\x01\x00\x00".as_slice()),
-        (16777216, b"\x04\x84\x01\x00\x00\x00".as_slice()),
-    ] {
-        let content = vec![in alloc; 7u8; len]?;
-        let mut writer = DerWriter::new(alloc);
-        assert!(rt; content.len() < 4294967296);
-        writer.octets(content.as_slice())?;
-        let written = writer.as_slice();
-        assert!(rt; written.starts_with(head), "{len}");
-        let mut cursor = Cursor::new(written);
-        assert!(rt; read_one(&mut cursor, 4).ok() == Some(len));
-        assert!(rt; cursor.finish().is_ok());
-    }
-    Ok(())
+fn writes_lengths_in_the_fewest_bytes(rt: HostRuntime) {
+    expect_heads(&rt, rt.alloc(), LENGTHS);
+}
+
+fn write_members(writer: &mut DerWriter) -> Result<(), AllocError> {
+    writer.integer(b"\x00\x80")?;
+    writer.bits(Bits {
+        unused: 3,
+        bytes: b"\xf8",
+    })?;
+    writer.octets(b"\x01")?;
+    writer.oid(b"\x2a\x03")?;
+    writer.ia5("a.roa")
 }
 
 #[test]
 fn writes_each_element(rt: HostRuntime) -> Result<(), Fail> {
-    let alloc = rt.alloc();
-    let mut members = DerWriter::new(alloc);
-    members.integer(b"\x00\x80".as_slice())?;
-    members.bits(Bits {
-        unused: 3,
-        bytes: b"\xf8".as_slice(),
-    })?;
-    members.octets(b"\x01".as_slice())?;
-    members.oid(b"\x2a\x03".as_slice())?;
-    members.ia5("a.roa")?;
-    let mut writer = DerWriter::new(alloc);
-    let members = members.into_bytes();
-    assert!(rt; members.len() < 100);
+    let mut members = DerWriter::new(rt.alloc());
+    write_members(&mut members)?;
+    assert!(rt; members.as_slice().len() < 100);
+    let mut writer = DerWriter::new(rt.alloc());
     writer.sequence(members.as_slice())?;
     assert!(rt;
         writer.as_slice()
@@ -172,25 +220,63 @@ fn writes_each_element(rt: HostRuntime) -> Result<(), Fail> {
     Ok(())
 }
 
-#[test]
-fn writes_numbers_in_the_fewest_bytes(rt: HostRuntime) -> Result<(), Fail> {
-    let alloc = rt.alloc();
-    for (number, element) in [
-        (0u32, b"\x02\x01\x00".as_slice()),
-        (127, b"\x02\x01\x7f".as_slice()),
-        (128, b"\x02\x02\x00\x80".as_slice()),
-        (256, b"\x02\x02\x01\x00".as_slice()),
-        (64496, b"\x02\x03\x00\xfb\xf0".as_slice()),
-        (8388608, b"\x02\x04\x00\x80\x00\x00".as_slice()),
-        (4294967295, b"\x02\x05\x00\xff\xff\xff\xff".as_slice()),
-    ] {
-        let mut writer = DerWriter::new(alloc);
-        writer.unsigned(number)?;
-        assert!(rt; writer.as_slice() == element);
-        let mut cursor = Cursor::new(element);
-        assert!(rt; unsigned(cursor.integer()?) == Some(number));
+/// Numbers, and their elements.
+const NUMBERS: &[(u32, &[u8])] = &[
+    (0u32, b"\x02\x01\x00"),
+    (127, b"\x02\x01\x7f"),
+    (128, b"\x02\x02\x00\x80"),
+    (256, b"\x02\x02\x01\x00"),
+    (64496, b"\x02\x03\x00\xfb\xf0"),
+    (8388608, b"\x02\x04\x00\x80\x00\x00"),
+    (4294967295, b"\x02\x05\x00\xff\xff\xff\xff"),
+];
+
+/// Whether a number is written as this element.
+fn is_written(alloc: Global, number: u32, element: &[u8]) -> bool {
+    let mut writer = DerWriter::new(alloc);
+    writer.unsigned(number).is_ok() && writer.as_slice() == element
+}
+
+/// Whether this element is read as a number.
+fn is_number(element: &[u8], number: u32) -> bool {
+    match Cursor::new(element).integer() {
+        Ok(content) => unsigned(content) == Some(number),
+        Err(_) => false,
     }
-    Ok(())
+}
+
+fn expect_numbers<R: Abort>(rt: &R, alloc: Global, rows: &[(u32, &[u8])]) {
+    for (number, element) in rows {
+        assert!(rt; is_written(alloc, *number, element), "{number}");
+        assert!(rt; is_number(element, *number), "{number}");
+    }
+}
+
+#[test]
+fn writes_numbers_in_the_fewest_bytes(rt: HostRuntime) {
+    expect_numbers(&rt, rt.alloc(), NUMBERS);
+}
+
+/// How many bytes of address a family with one address has.
+fn walk_family(family: &mut Cursor) -> Result<usize, DerFault> {
+    family.octets()?;
+    let mut addresses = family.sequence()?;
+    let mut entry = addresses.sequence()?;
+    let address = entry.bits()?;
+    entry.finish()?;
+    addresses.finish()?;
+    Ok(address.bytes.len())
+}
+
+/// The same of an AS number and of blocks of one family.
+fn walk_attestation(attestation: &mut Cursor) -> Result<usize, DerFault> {
+    attestation.integer()?;
+    let mut blocks = attestation.sequence()?;
+    let mut family = blocks.sequence()?;
+    let count = walk_family(&mut family)?;
+    family.finish()?;
+    blocks.finish()?;
+    Ok(count)
 }
 
 /// How many bytes of address the elements hold that are nested as in a ROA with one prefix: an AS
@@ -198,20 +284,10 @@ fn writes_numbers_in_the_fewest_bytes(rt: HostRuntime) -> Result<(), Fail> {
 fn walk(payload: &[u8]) -> Result<usize, DerFault> {
     let mut whole = Cursor::new(payload);
     let mut attestation = whole.sequence()?;
-    attestation.integer()?;
-    let mut blocks = attestation.sequence()?;
-    let mut family = blocks.sequence()?;
-    family.octets()?;
-    let mut addresses = family.sequence()?;
-    let mut entry = addresses.sequence()?;
-    let address = entry.bits()?;
-    entry.finish()?;
-    addresses.finish()?;
-    family.finish()?;
-    blocks.finish()?;
+    let count = walk_attestation(&mut attestation)?;
     attestation.finish()?;
     whole.finish()?;
-    Ok(address.bytes.len())
+    Ok(count)
 }
 
 const ATTESTATION: &[u8; 25] = b"\
@@ -219,79 +295,100 @@ const ATTESTATION: &[u8; 25] = b"\
     \x30\x10\x30\x0e\x04\x02\x00\x01\
     \x30\x08\x30\x06\x03\x04\x00\xc0\x00\x02";
 
-/// The number and the offset of the fault of nested elements.
-fn walk_fault(payload: &[u8]) -> Option<(u8, usize)> {
-    match walk(payload) {
-        Ok(_) => None,
-        Err(fault) => Some((fault.number(), fault.offset)),
-    }
-}
-
-#[test]
-fn walks_nested_elements(rt: HostRuntime) {
-    assert!(rt; walk(ATTESTATION).ok() == Some(3));
-    let of_no_bits = b"\
+/// The same with an address of no bits.
+const OF_NO_BITS: &[u8] = b"\
     \x30\x14\x02\x03\x00\xfb\xf0\
     \x30\x0d\x30\x0b\x04\x02\x00\x01\
-    \x30\x05\x30\x03\x03\x01\x00"
-        .as_slice();
-    assert!(rt; walk(of_no_bits).ok() == Some(0));
-    for (payload, number, offset) in [
-        (b"".as_slice(), 1u8, 0usize),
-        (b"\x30".as_slice(), 1, 0),
-        (b"\x30\x80".as_slice(), 3, 0),
-        (b"\x30\x04\x02\x02\x00\x01".as_slice(), 4, 2),
-        (b"\x30\x05\x02\x03\x00\xfb\xf0".as_slice(), 1, 7),
-        (b"\x30\x84\xff\xff\xff\xff".as_slice(), 1, 0),
-        (b"\x30\x85\x00\x00\x00\x00\x01".as_slice(), 3, 0),
-        (b"\x1f\x00".as_slice(), 2, 0),
-        (b"\xa0\x00".as_slice(), 2, 0),
-        (b"\x30\x01\xa0".as_slice(), 1, 2),
-    ] {
+    \x30\x05\x30\x03\x03\x01\x00";
+
+/// The attestation with a byte behind it.
+const WITH_MORE: &[u8] = b"\
+    \x30\x17\x02\x03\x00\xfb\xf0\
+    \x30\x10\x30\x0e\x04\x02\x00\x01\
+    \x30\x08\x30\x06\x03\x04\x00\xc0\x00\x02\
+    \x00";
+
+/// The attestation with its length in a byte too many.
+const WITH_LONG_LENGTH: &[u8] = b"\
+    \x30\x81\x17\x02\x03\x00\xfb\xf0\
+    \x30\x10\x30\x0e\x04\x02\x00\x01\
+    \x30\x08\x30\x06\x03\x04\x00\xc0\x00\x02";
+
+/// The number and the offset of the fault of nested elements.
+fn walk_fault(payload: &[u8]) -> Option<(u8, usize)> {
+    place(walk(payload).err())
+}
+
+/// Bytes that are not nested so, and the number and the offset of the fault.
+const NOT_NESTED: &[(&[u8], u8, usize)] = &[
+    (b"", 1u8, 0usize),
+    (b"\x30", 1, 0),
+    (b"\x30\x80", 3, 0),
+    (b"\x30\x04\x02\x02\x00\x01", 4, 2),
+    (b"\x30\x05\x02\x03\x00\xfb\xf0", 1, 7),
+    (b"\x30\x84\xff\xff\xff\xff", 1, 0),
+    (b"\x30\x85\x00\x00\x00\x00\x01", 3, 0),
+    (b"\x1f\x00", 2, 0),
+    (b"\xa0\x00", 2, 0),
+    (b"\x30\x01\xa0", 1, 2),
+];
+
+fn expect_walk_faults<R: Abort>(rt: &R, rows: &[(&[u8], u8, usize)]) {
+    for (payload, number, offset) in rows {
         assert!(rt;
-            walk_fault(payload) == Some((number, offset)),
+            walk_fault(payload) == Some((*number, *offset)),
             "at {payload:?}"
         );
     }
 }
 
 #[test]
-fn walks_no_beginning_and_nothing_more(rt: HostRuntime) -> Result<(), Fail> {
-    let alloc = rt.alloc();
-    let whole = ATTESTATION.as_slice();
-    for cut in 0..25usize {
+fn walks_nested_elements(rt: HostRuntime) {
+    assert!(rt; walk(ATTESTATION).ok() == Some(3));
+    assert!(rt; walk(OF_NO_BITS).ok() == Some(0));
+    expect_walk_faults(&rt, NOT_NESTED);
+}
+
+/// No beginning of nested elements is taken for all of them.
+fn expect_no_beginning<R: Abort>(rt: &R, whole: &[u8]) {
+    for cut in 0..whole.len() {
         assert!(rt; walk_fault(&whole[..cut]) == Some((1, 0)), "{cut} bytes");
     }
-    let mut more = Vec::new(alloc);
-    more.extend_from_slice(whole)?;
-    more.push(0u8)?;
-    assert!(rt; walk_fault(more.as_slice()) == Some((5, 25)));
-    let mut long = Vec::new(alloc);
-    long.extend_from_slice(b"\x30\x81".as_slice())?;
-    long.extend_from_slice(&whole[1..])?;
-    assert!(rt; walk_fault(long.as_slice()) == Some((3, 0)));
-    Ok(())
+}
+
+#[test]
+fn walks_no_beginning_and_nothing_more(rt: HostRuntime) {
+    expect_no_beginning(&rt, ATTESTATION);
+    assert!(rt; walk_fault(WITH_MORE) == Some((5, 25)));
+    assert!(rt; walk_fault(WITH_LONG_LENGTH) == Some((3, 0)));
+}
+
+/// The attestation with this byte at this place.
+fn changed(index: usize, byte: u8) -> [u8; 25] {
+    let mut payload = *ATTESTATION;
+    if index < 25 {
+        payload[index] = byte;
+    }
+    payload
+}
+
+/// Whether nested elements are taken, or have a fault that is reported inside them.
+fn is_inside(payload: &[u8]) -> bool {
+    match walk(payload) {
+        Ok(_) => true,
+        Err(fault) => fault.number() < 6 && fault.offset <= payload.len(),
+    }
 }
 
 #[test]
 fn tells_faults_inside_the_payload(rt: HostRuntime) {
     for index in 0..25usize {
         for byte in 0..=255u8 {
-            let mut payload = *ATTESTATION;
-            payload[index] = byte;
-            let inside = match walk(&payload) {
-                Ok(_) => true,
-                Err(fault) => fault.number() < 6 && fault.offset <= 25,
-            };
-            assert!(rt; inside, "{byte} at {index}");
+            assert!(rt; is_inside(&changed(index, byte)), "{byte} at {index}");
         }
     }
-    let mut longer = *ATTESTATION;
-    longer[16] = 9;
-    assert!(rt; walk_fault(&longer) == Some((1, 15)));
-    let mut past = *ATTESTATION;
-    past[18] = 5;
-    assert!(rt; walk_fault(&past) == Some((1, 19)));
+    assert!(rt; walk_fault(&changed(16, 9)) == Some((1, 15)));
+    assert!(rt; walk_fault(&changed(18, 5)) == Some((1, 19)));
 }
 
 #[test]

@@ -15,4 +15,6 @@ mod prefix_texts;
 #[cfg(test)]
 mod roas;
 #[cfg(test)]
+mod sequences;
+#[cfg(test)]
 mod written_roas;

@@ -1,124 +1,159 @@
 //! Moments by hand: their texts, their order, and their elements.
 
 use der_lite::{Cursor, DerWriter, Moment};
-use std::cmp::Ordering;
+use std::alloc::Global;
+use std::process::Abort;
 use std::test::Fail;
 
-#[test]
-fn writes_what_it_reads(rt: HostRuntime) -> Result<(), Fail> {
-    for text in [
-        "19700101000000Z",
-        "19720229000000Z",
-        "20000229235959Z",
-        "20250131010203Z",
-        "20250430000000Z",
-        "21000228235959Z",
-        "24000229120000Z",
-        "99991231235959Z",
-    ] {
-        let Some(moment) = Moment::parse(text) else {
-            assert!(rt; false, "{text}");
-            return Ok(());
-        };
-        assert!(rt; moment.to_string(rt.alloc())?.as_str() == text);
-        assert!(rt; moment.text().as_slice() == text.as_bytes());
+const TEXTS: &[&str] = &[
+    "19700101000000Z",
+    "19720229000000Z",
+    "20000229235959Z",
+    "20250131010203Z",
+    "20250430000000Z",
+    "21000228235959Z",
+    "24000229120000Z",
+    "99991231235959Z",
+];
+
+/// Whether this text is that of a moment, which is written so.
+fn is_written(alloc: Global, text: &str) -> bool {
+    let Some(moment) = Moment::parse(text) else {
+        return false;
+    };
+    moment.text().as_slice() == text.as_bytes()
+        && moment
+            .to_string(alloc)
+            .is_ok_and(|shown| shown.as_str() == text)
+}
+
+fn expect_written<R: Abort>(rt: &R, alloc: Global, texts: &[&str]) {
+    for text in texts {
+        assert!(rt; is_written(alloc, text), "{text}");
     }
-    Ok(())
 }
 
 #[test]
-fn counts_seconds_since_1970(rt: HostRuntime) -> Result<(), Fail> {
-    let counted = [
-        ("19700101000000Z", 0),
-        ("20000301000000Z", 951_868_800),
-        ("20240229235959Z", 1_709_251_199),
-        ("20380119031407Z", 2_147_483_647),
-        ("99991231235959Z", 253_402_300_799),
-    ];
-    for (text, seconds) in counted {
-        assert!(rt; Moment::from_text(text.as_bytes()).map(|m| m.seconds()) == Some(seconds));
+fn writes_what_it_reads(rt: HostRuntime) {
+    expect_written(&rt, rt.alloc(), TEXTS);
+}
+
+/// Moments, and their seconds since 1970.
+const COUNTED: &[(&str, u64)] = &[
+    ("19700101000000Z", 0),
+    ("20000301000000Z", 951_868_800),
+    ("20240229235959Z", 1_709_251_199),
+    ("20380119031407Z", 2_147_483_647),
+    ("99991231235959Z", 253_402_300_799),
+];
+
+fn expect_seconds<R: Abort>(rt: &R, rows: &[(&str, u64)]) {
+    for (text, seconds) in rows {
+        let counted = Moment::from_text(text.as_bytes()).map(|m| m.seconds());
+        assert!(rt; counted == Some(*seconds), "{text}");
     }
+}
+
+#[test]
+fn counts_seconds_since_1970(rt: HostRuntime) {
+    expect_seconds(&rt, COUNTED);
     assert!(rt; Moment::from_text(b"2024-02-29T23:59:59Z").is_none());
-    Ok(())
 }
 
-#[test]
-fn refuses_what_is_no_moment(rt: HostRuntime) {
-    for text in [
-        "",
-        "Z",
-        "19691231235959Z",
-        "00000101000000Z",
-        "20250001000000Z",
-        "20251301000000Z",
-        "20250100000000Z",
-        "20250132000000Z",
-        "20250431000000Z",
-        "20250631000000Z",
-        "20250931000000Z",
-        "20251131000000Z",
-        "20250229000000Z",
-        "21000229000000Z",
-        "20000230000000Z",
-        "20250101240000Z",
-        "20250101006000Z",
-        "20161231235960Z",
-        "2025010100000Z",
-        "20250101000000",
-        "202501010000000",
-        "20250101000000z",
-        "20250101000000ZZ",
-        "120250101000000Z",
-        "20250101000000.5Z",
-        "20250101000000+0000",
-        "202501010000Z",
-        "2025 101000000Z",
-        "+0250101000000Z",
-        "2025-01-01000Z",
-        "202501:1000000Z",
-        "2025/101000000Z",
-        "2025010100000\u{661}Z",
-    ] {
+const NO_MOMENTS: &[&str] = &[
+    "",
+    "Z",
+    "19691231235959Z",
+    "00000101000000Z",
+    "20250001000000Z",
+    "20251301000000Z",
+    "20250100000000Z",
+    "20250132000000Z",
+    "20250431000000Z",
+    "20250631000000Z",
+    "20250931000000Z",
+    "20251131000000Z",
+    "20250229000000Z",
+    "21000229000000Z",
+    "20000230000000Z",
+    "20250101240000Z",
+    "20250101006000Z",
+    "20161231235960Z",
+    "2025010100000Z",
+    "20250101000000",
+    "202501010000000",
+    "20250101000000z",
+    "20250101000000ZZ",
+    "120250101000000Z",
+    "20250101000000.5Z",
+    "20250101000000+0000",
+    "202501010000Z",
+    "2025 101000000Z",
+    "+0250101000000Z",
+    "2025-01-01000Z",
+    "202501:1000000Z",
+    "2025/101000000Z",
+    "2025010100000\u{661}Z",
+];
+
+fn expect_no_moments<R: Abort>(rt: &R, texts: &[&str]) {
+    for text in texts {
         assert!(rt; Moment::parse(text).is_none(), "{text}");
     }
 }
 
 #[test]
-fn compares_the_earlier_number_first(rt: HostRuntime) {
-    let ascending = [
-        "19700101000000Z",
-        "20241231235959Z",
-        "20250101000000Z",
-        "20250101000001Z",
-        "20250101000059Z",
-        "20250101000100Z",
-        "20250101005959Z",
-        "20250101010000Z",
-        "20250102000000Z",
-        "20250131235959Z",
-        "20250201000000Z",
-        "99991231235959Z",
-    ];
-    for (i, earlier) in ascending.iter().enumerate() {
-        for (k, later) in ascending.iter().enumerate() {
-            let (Some(m), Some(n)) = (Moment::parse(earlier), Moment::parse(later)) else {
-                assert!(rt; false);
-                return;
-            };
-            assert!(rt; m.cmp(&n) == i.cmp(&k), "{earlier} {later}");
-            assert!(rt; m.partial_cmp(&n) == Some(i.cmp(&k)));
-            assert!(rt; (m == n) == (i == k));
-            assert!(rt; (m < n) == (i < k));
+fn refuses_what_is_no_moment(rt: HostRuntime) {
+    expect_no_moments(&rt, NO_MOMENTS);
+}
+
+const ASCENDING: &[&str] = &[
+    "19700101000000Z",
+    "20241231235959Z",
+    "20250101000000Z",
+    "20250101000001Z",
+    "20250101000059Z",
+    "20250101000100Z",
+    "20250101005959Z",
+    "20250101010000Z",
+    "20250102000000Z",
+    "20250131235959Z",
+    "20250201000000Z",
+    "99991231235959Z",
+];
+
+/// Whether two moments compare as their places in the list do.
+fn compare(texts: &[&str], i: usize, k: usize) -> bool {
+    let (Some(earlier), Some(later)) = (texts.get(i), texts.get(k)) else {
+        return false;
+    };
+    let (Some(m), Some(n)) = (Moment::parse(earlier), Moment::parse(later)) else {
+        return false;
+    };
+    m.cmp(&n) == i.cmp(&k)
+        && m.partial_cmp(&n) == Some(i.cmp(&k))
+        && (m == n) == (i == k)
+        && (m < n) == (i < k)
+}
+
+fn expect_ascending<R: Abort>(rt: &R, texts: &[&str]) {
+    for i in 0..texts.len() {
+        for k in 0..texts.len() {
+            assert!(rt; compare(texts, i, k), "{i} {k}");
         }
     }
+}
+
+#[test]
+fn compares_the_earlier_number_first(rt: HostRuntime) {
+    expect_ascending(&rt, ASCENDING);
 }
 
 #[test]
 fn stands_in_elements_both_ways(rt: HostRuntime) -> Result<(), Fail> {
     let bytes = b"\x18\x0f20250101120000Z".as_slice();
     let Some(noon) = Moment::parse("20250101120000Z") else {
-        assert!(rt; false);
-        return Ok(());
+        return Err(Fail::from("moment"));
     };
     let mut writer = DerWriter::new(rt.alloc());
     writer.time(&noon)?;
@@ -129,31 +164,38 @@ fn stands_in_elements_both_ways(rt: HostRuntime) -> Result<(), Fail> {
     Ok(())
 }
 
+/// Elements of no time, and the numbers of their faults.
+const FAULTS: &[(&[u8], u8)] = &[
+    (b"\x18", 1u8),
+    (b"\x18\x0f20250101120000", 1),
+    (b"\x17\x0d250101120000Z", 2),
+    (b"\x18\x81\x0f20250101120000Z", 3),
+    (b"\x18\x00", 4),
+    (b"\x18\x0e2025010112000Z", 4),
+    (b"\x18\x1020250101120000ZZ", 4),
+    (b"\x18\x0f202501011200000", 4),
+    (b"\x18\x0f20250229120000Z", 4),
+    (b"\x18\x0f20251301120000Z", 4),
+    (b"\x18\x0f20250101120060Z", 4),
+    (b"\x18\x0f2025010112000\xb2Z", 4),
+];
+
+/// Whether the first fault is this one, at the front, and the cursor stays there.
+fn is_fault(bytes: &[u8], number: u8) -> bool {
+    let mut cursor = Cursor::new(bytes);
+    match cursor.time() {
+        Ok(_) => false,
+        Err(fault) => fault.number() == number && fault.offset == 0 && cursor.offset() == 0,
+    }
+}
+
+fn expect_faults<R: Abort>(rt: &R, rows: &[(&[u8], u8)]) {
+    for (bytes, number) in rows {
+        assert!(rt; is_fault(bytes, *number), "at {bytes:?}");
+    }
+}
+
 #[test]
 fn tells_the_first_fault_of_a_time(rt: HostRuntime) {
-    for (bytes, number) in [
-        (b"\x18".as_slice(), 1u8),
-        (b"\x18\x0f20250101120000".as_slice(), 1),
-        (b"\x17\x0d250101120000Z".as_slice(), 2),
-        (b"\x18\x81\x0f20250101120000Z".as_slice(), 3),
-        (b"\x18\x00".as_slice(), 4),
-        (b"\x18\x0e2025010112000Z".as_slice(), 4),
-        (b"\x18\x1020250101120000ZZ".as_slice(), 4),
-        (b"\x18\x0f202501011200000".as_slice(), 4),
-        (b"\x18\x0f20250229120000Z".as_slice(), 4),
-        (b"\x18\x0f20251301120000Z".as_slice(), 4),
-        (b"\x18\x0f20250101120060Z".as_slice(), 4),
-        (b"\x18\x0f2025010112000\xb2Z".as_slice(), 4),
-    ] {
-        let mut cursor = Cursor::new(bytes);
-        assert!(rt;
-            cursor
-                .time()
-                .err()
-                .map(|fault| (fault.number(), fault.offset))
-                == Some((number, 0)),
-            "at {bytes:?}"
-        );
-        assert!(rt; cursor.offset() == 0);
-    }
+    expect_faults(&rt, FAULTS);
 }

@@ -1,29 +1,29 @@
 //! Offers by hand.
 
+use crate::roas::is_alone;
 use der_lite::Moment;
 use payloads::{ListedFile, Manifest, encode_manifest};
 use points::{FileIn, Offered, Point, PointFault, Repository};
-use prefixes::{Asn, IpPrefix, Vrp};
+use prefixes::Vrp;
 use sha2::{Digest, Sha256};
-use std::alloc::Global;
+use std::alloc::{AllocError, Global};
 use std::process::Abort;
-use std::test::Fail;
 
 /// The payload of a ROA: AS64496 and 192.0.2.0/24.
-const ROA: &[u8; 25] = b"\
+const ROA: &[u8] = b"\
     \x30\x17\x02\x03\x00\xfb\xf0\
     \x30\x10\x30\x0e\x04\x02\x00\x01\
     \x30\x08\x30\x06\x03\x04\x00\xc0\x00\x02";
 
 /// The same with a version, which is refused at offset 2.
-const WITH_VERSION: &[u8; 30] = b"\
+const WITH_VERSION: &[u8] = b"\
     \x30\x1c\xa0\x03\x02\x01\x00\
     \x02\x03\x00\xfb\xf0\
     \x30\x10\x30\x0e\x04\x02\x00\x01\
     \x30\x08\x30\x06\x03\x04\x00\xc0\x00\x02";
 
 /// The same with the maximum 24, which is refused at offset 25.
-const SUPERFLUOUS: &[u8; 28] = b"\
+const SUPERFLUOUS: &[u8] = b"\
     \x30\x1a\x02\x03\x00\xfb\xf0\
     \x30\x13\x30\x11\x04\x02\x00\x01\
     \x30\x0b\x30\x09\x03\x04\x00\xc0\x00\x02\
@@ -31,7 +31,7 @@ const SUPERFLUOUS: &[u8; 28] = b"\
 
 /// The payload of a manifest: number 1, 20250101000000Z to 20250102000000Z, the file `a.roa` with the
 /// SHA-256 of that ROA.
-const FIRST: &[u8; 96] = b"\
+const FIRST: &[u8] = b"\
     \x30\x5e\x02\x01\x01\
     \x18\x0f20250101000000Z\
     \x18\x0f20250102000000Z\
@@ -39,16 +39,103 @@ const FIRST: &[u8; 96] = b"\
     \x30\x2c\x30\x2a\x16\x05a.roa\
     \x03\x21\x00\xda\x32\xbf\xbe\x0d\x8e\xea\x0f\x5d\x3b\x56\x02\x3c\x55\xd1\xc2\x3a\xa9\x1d\xf5\x02\x33\xf8\x9c\x32\x50\x86\xb2\xb2\x06\xd5\xa2";
 
-/// The moment after that manifest at which the next is offered.
+/// The moments of that manifest, one between them at which the next is offered, and the seconds before and after.
+const EARLY: &str = "20241231235959Z";
+
+const START: &str = "20250101000000Z";
+
 const NOON: &str = "20250101120000Z";
 
-/// A file whose object is its content.
-fn file<'a>(name: &'a str, content: &'a [u8]) -> FileIn<'a> {
-    FileIn {
-        name,
-        object: content,
-        content,
+const END: &str = "20250102000000Z";
+
+const LATE: &str = "20250102000001Z";
+
+/// The nextUpdate of the next manifest.
+const NEXT_END: &str = "20250103000000Z";
+
+/// Files whose objects are their contents.
+const ROA_FILE: FileIn<'static> = FileIn {
+    name: "a.roa",
+    object: ROA,
+    content: ROA,
+};
+
+const WITH_VERSION_FILE: FileIn<'static> = FileIn {
+    name: "a.roa",
+    object: WITH_VERSION,
+    content: WITH_VERSION,
+};
+
+const SECOND_WITH_VERSION: FileIn<'static> = FileIn {
+    name: "b.roa",
+    object: WITH_VERSION,
+    content: WITH_VERSION,
+};
+
+const SUPERFLUOUS_FILE: FileIn<'static> = FileIn {
+    name: "a.roa",
+    object: SUPERFLUOUS,
+    content: SUPERFLUOUS,
+};
+
+const EMPTY_ROA: FileIn<'static> = FileIn {
+    name: "b.roa",
+    object: b"",
+    content: b"",
+};
+
+const ABB_ROA: FileIn<'static> = FileIn {
+    name: "b.roa",
+    object: b"abb",
+    content: b"abb",
+};
+
+const CRL: FileIn<'static> = FileIn {
+    name: "a.crl",
+    object: b"abc",
+    content: b"abc",
+};
+
+const OTHER: FileIn<'static> = FileIn {
+    name: "x",
+    object: b"",
+    content: b"",
+};
+
+/// A file whose object holds the ROA.
+const SIGNED: FileIn<'static> = FileIn {
+    name: "a.roa",
+    object: b"signed",
+    content: ROA,
+};
+
+/// The name and the object of a file that a manifest lists.
+type Listed = (&'static str, &'static [u8]);
+
+const LISTED: &[Listed] = &[("a.roa", ROA)];
+
+const FILES: &[FileIn<'static>] = &[ROA_FILE];
+
+/// What an offer is answered: of a fault its number and its index.
+type Answer = Result<Offered, (u8, Option<usize>)>;
+
+/// Lists a file, with the SHA-256 of its object.
+fn list(
+    files: &mut Vec<ListedFile>,
+    alloc: Global,
+    (name, object): &Listed,
+) -> Result<(), AllocError> {
+    let name = String::from_str(alloc, name)?;
+    Ok(files.push(ListedFile::new(name, Sha256::digest(object)))?)
+}
+
+/// The files that a manifest lists, with the SHA-256 of these objects.
+fn listed(alloc: Global, objects: &[Listed]) -> Result<Vec<ListedFile>, AllocError> {
+    let mut files = Vec::new(alloc);
+    for object in objects {
+        list(&mut files, alloc, object)?;
     }
+    Ok(files)
 }
 
 /// The payload of a manifest of this number and these times, which lists files with the SHA-256 of
@@ -58,292 +145,268 @@ fn manifest(
     number: u8,
     this_update: &str,
     next_update: &str,
-    objects: &[(&str, &[u8])],
+    objects: &[Listed],
 ) -> Option<Vec<u8>> {
-    let mut files = Vec::new(alloc);
-    for (name, object) in objects {
-        let name = String::from_str(alloc, *name).ok()?;
-        let listed = ListedFile::new(name, Sha256::digest(*object));
-        files.push(listed).ok()?;
-    }
-    let number = Vec::from_slice(alloc, &[number]).ok()?;
     let this_update = Moment::parse(this_update)?;
     let next_update = Moment::parse(next_update)?;
+    let number = Vec::from_slice(alloc, &[number]).ok()?;
+    let files = listed(alloc, objects).ok()?;
     let manifest = Manifest::new(alloc, number, this_update, next_update, files).ok()?;
     encode_manifest(alloc, &manifest).ok()
+}
+
+/// The number and the index of a fault.
+fn answer(offered: Result<Offered, PointFault>) -> Answer {
+    match offered {
+        Ok(offered) => Ok(offered),
+        Err(fault) => Err((fault.number(), fault.index())),
+    }
+}
+
+/// Whether this was answered, and it is that.
+fn is(answer: Option<Answer>, want: &Answer) -> bool {
+    answer == Some(*want)
+}
+
+/// What a point answers.
+fn offer(point: &mut Point, manifest: &[u8], files: &[FileIn], now: &str) -> Option<Answer> {
+    let now = Moment::parse(now)?;
+    Some(answer(point.offer(manifest, files, now)))
 }
 
 /// A point that accepted the first manifest.
 fn accepted(alloc: Global) -> Option<Point> {
     let mut point = Point::new(alloc);
-    let now = Moment::parse("20250101000000Z")?;
-    match point.offer(FIRST, &[file("a.roa", ROA)], now) {
-        Ok(Offered::New) => Some(point),
+    match offer(&mut point, FIRST, FILES, START) {
+        Some(Ok(Offered::New)) => Some(point),
         _ => None,
     }
 }
 
-/// What an offer is answered at noon by a point that accepted the first manifest: of a fault its number and its index.
-fn at_noon(
-    alloc: Global,
-    number: u8,
-    this_update: &str,
-    objects: &[(&str, &[u8])],
-    files: &[FileIn],
-) -> Option<Result<Offered, (u8, Option<usize>)>> {
-    let next = manifest(alloc, number, this_update, "20250103000000Z", objects)?;
+/// First offers to a point, by their moments, and what they are answered.
+const FIRST_OFFERS: &[(&str, Answer)] = &[
+    (START, Ok(Offered::New)),
+    (END, Ok(Offered::New)),
+    (LATE, Err((3, None))),
+    (EARLY, Err((2, None))),
+];
+
+fn expect_first<R: Abort>(rt: &R, alloc: Global, rows: &[(&str, Answer)]) {
+    for (now, want) in rows {
+        let answer = offer(&mut Point::new(alloc), FIRST, FILES, now);
+        assert!(rt; is(answer, want), "{now}");
+    }
+}
+
+#[test]
+fn judges_a_first_offer(rt: HostRuntime) {
+    let made = manifest(rt.alloc(), 1, START, END, LISTED);
+    assert!(rt; made.is_some_and(|bytes| bytes.as_slice() == FIRST));
+    expect_first(&rt, rt.alloc(), FIRST_OFFERS);
+}
+
+/// Offers of the first manifest without files, and of what is none, to a point that holds it.
+const HELD_OFFERS: &[(&[u8], &str, Answer)] = &[
+    (FIRST, NOON, Ok(Offered::Same)),
+    (FIRST, LATE, Err((3, None))),
+    (b"\x30", NOON, Err((1, None))),
+    (FIRST, NOON, Ok(Offered::Same)),
+];
+
+fn expect_held<R: Abort>(rt: &R, point: &mut Point, rows: &[(&[u8], &str, Answer)]) {
+    for (manifest, now, want) in rows {
+        assert!(rt; is(offer(point, manifest, &[], now), want), "{now}");
+    }
+}
+
+#[test]
+fn knows_what_it_holds(rt: HostRuntime) {
+    match accepted(rt.alloc()) {
+        Some(mut point) => expect_held(&rt, &mut point, HELD_OFFERS),
+        None => assert!(rt; false),
+    }
+}
+
+/// An offer at noon to a point that accepted the first manifest: the number and thisUpdate of its manifest, the files which that lists,
+/// those that are handed in, and what is answered.
+type Later = (
+    u8,
+    &'static str,
+    &'static [Listed],
+    &'static [FileIn<'static>],
+    Answer,
+);
+
+/// What this offer is answered.
+fn at_noon(alloc: Global, (number, this_update, listed, files, _want): &Later) -> Option<Answer> {
+    let next = manifest(alloc, *number, this_update, NEXT_END, listed)?;
     let mut point = accepted(alloc)?;
-    match point.offer(next.as_slice(), files, Moment::parse(NOON)?) {
-        Ok(offered) => Some(Ok(offered)),
-        Err(fault) => Some(Err((fault.number(), fault.index()))),
+    offer(&mut point, next.as_slice(), files, NOON)
+}
+
+fn expect_later<R: Abort>(rt: &R, alloc: Global, rows: &[Later]) {
+    for (row, later) in rows.iter().enumerate() {
+        assert!(rt; is(at_noon(alloc, later), &later.4), "row {row}");
     }
 }
 
-#[test]
-fn judges_a_first_offer(rt: HostRuntime) -> Result<(), Fail> {
-    let alloc = rt.alloc();
-    let made = manifest(
-        alloc,
-        1,
-        "20250101000000Z",
-        "20250102000000Z",
-        &[("a.roa", ROA)],
-    );
-    assert!(rt; made.is_some_and(|bytes| bytes.as_slice() == FIRST.as_slice()));
-    for (text, answer) in [
-        ("20250101000000Z", Ok(Offered::New)),
-        ("20250102000000Z", Ok(Offered::New)),
-        ("20250102000001Z", Err(PointFault::Stale)),
-        ("20241231235959Z", Err(PointFault::NotYet)),
-    ] {
-        let mut point = Point::new(alloc);
-        if let Some(now) = Moment::parse(text) {
-            assert!(rt;
-                point.offer(FIRST, &[file("a.roa", ROA)], now) == answer,
-                "{text}"
-            );
-        }
-    }
-    Ok(())
-}
-
-#[test]
-fn knows_what_it_holds(rt: HostRuntime) -> Result<(), Fail> {
-    let alloc = rt.alloc();
-    if let (Some(mut point), Some(noon), Some(late)) = (
-        accepted(alloc),
-        Moment::parse(NOON),
-        Moment::parse("20250102000001Z"),
-    ) {
-        assert!(rt; point.offer(FIRST, &[], noon) == Ok(Offered::Same));
-        assert!(rt; point.offer(FIRST, &[], late) == Err(PointFault::Stale));
-        let Err(fault) = point.offer(b"\x30", &[], noon) else {
-            assert!(rt; false);
-            return Ok(());
-        };
-        assert!(rt; fault.number() == 1);
-        assert!(rt; point.offer(FIRST, &[], noon) == Ok(Offered::Same));
-    } else {
-        assert!(rt; false);
-    }
-    Ok(())
-}
-
-#[test]
-fn judges_later_offers(rt: HostRuntime) -> Result<(), Fail> {
-    let alloc = rt.alloc();
-    let roa = file("a.roa", ROA);
-    let listed: &[(&str, &[u8])] = &[("a.roa", ROA)];
-    assert!(rt; at_noon(alloc, 1, NOON, listed, &[roa]) == Some(Err((4, None))));
-    assert!(rt; at_noon(alloc, 1, "20250101000000Z", listed, &[roa]) == Some(Err((4, None))));
-    assert!(rt; at_noon(alloc, 2, "20250101000000Z", listed, &[roa]) == Some(Err((5, None))));
-    assert!(rt; at_noon(alloc, 2, NOON, listed, &[roa, roa]) == Some(Err((6, Some(1)))));
-    assert!(rt; at_noon(alloc, 2, NOON, listed, &[]) == Some(Err((7, Some(0)))));
-    assert!(rt;
-        at_noon(alloc, 2, NOON, listed, &[file("a.roa", WITH_VERSION)]) == Some(Err((8, Some(0))))
-    );
-    assert!(rt;
-        at_noon(
-            alloc,
-            2,
-            NOON,
-            &[("a.roa", WITH_VERSION)],
-            &[file("a.roa", WITH_VERSION)]
-        ) == Some(Err((9, Some(0))))
-    );
-    assert!(rt;
-        at_noon(alloc, 2, NOON, listed, &[roa, file("b.roa", b"")]) == Some(Ok(Offered::New))
-    );
-    assert!(rt;
-        at_noon(
-            alloc,
-            2,
-            NOON,
-            &[("a.crl", b"abc")],
-            &[file("a.crl", b"abc")]
-        ) == Some(Ok(Offered::New))
-    );
-    Ok(())
-}
-
-#[test]
-fn tells_the_first_fault_of_a_roa(rt: HostRuntime) -> Result<(), Fail> {
-    let alloc = rt.alloc();
-    let next = manifest(
-        alloc,
+const LATER_OFFERS: &[Later] = &[
+    (1, NOON, LISTED, FILES, Err((4, None))),
+    (1, START, LISTED, FILES, Err((4, None))),
+    (2, START, LISTED, FILES, Err((5, None))),
+    (2, NOON, LISTED, &[ROA_FILE, ROA_FILE], Err((6, Some(1)))),
+    (2, NOON, LISTED, &[], Err((7, Some(0)))),
+    (2, NOON, LISTED, &[WITH_VERSION_FILE], Err((8, Some(0)))),
+    (
         2,
         NOON,
-        "20250103000000Z",
         &[("a.roa", WITH_VERSION)],
-    );
-    if let (Some(bytes), Some(mut point), Some(noon)) = (
-        next,
-        accepted(alloc),
-        Moment::parse(NOON),
-    ) {
-        let Err(PointFault::Roa(index, fault)) = point.offer(
-            bytes.as_slice(),
-            &[file("a.roa", WITH_VERSION)],
-            noon,
-        ) else {
-            assert!(rt; false);
-            return Ok(());
-        };
-        assert!(rt; index == 0);
-        assert!(rt; fault.kind.number() == 6);
-        assert!(rt; fault.offset == 2);
-    } else {
-        assert!(rt; false);
+        &[WITH_VERSION_FILE],
+        Err((9, Some(0))),
+    ),
+    (2, NOON, LISTED, &[ROA_FILE, EMPTY_ROA], Ok(Offered::New)),
+    (2, NOON, &[("a.crl", b"abc")], &[CRL], Ok(Offered::New)),
+];
+
+#[test]
+fn judges_later_offers(rt: HostRuntime) {
+    expect_later(&rt, rt.alloc(), LATER_OFFERS);
+}
+
+/// The index of the file that is no ROA, and the number and the offset of its fault.
+fn roa_fault(offered: Result<Offered, PointFault>) -> Option<(usize, u8, usize)> {
+    match offered {
+        Err(PointFault::Roa(index, fault)) => Some((index, fault.kind.number(), fault.offset)),
+        _ => None,
     }
-    Ok(())
+}
+
+/// The fault of a ROA with a version, at noon at a point that accepted the first manifest.
+fn fault_of_version(alloc: Global) -> Option<(usize, u8, usize)> {
+    let noon = Moment::parse(NOON)?;
+    let next = manifest(alloc, 2, NOON, NEXT_END, &[("a.roa", WITH_VERSION)])?;
+    let mut point = accepted(alloc)?;
+    roa_fault(point.offer(next.as_slice(), &[WITH_VERSION_FILE], noon))
 }
 
 #[test]
-fn refuses_a_superfluous_maximum(rt: HostRuntime) -> Result<(), Fail> {
-    let alloc = rt.alloc();
-    let mut repository = Repository::new(alloc);
-    let next = manifest(alloc, 2, NOON, "20250103000000Z", &[("a.roa", SUPERFLUOUS)]);
-    if let (Some(bytes), Some(start), Some(noon)) = (
-        next,
-        Moment::parse("20250101000000Z"),
-        Moment::parse(NOON),
-    ) {
-        assert!(rt;
-            repository.offer("one", FIRST, &[file("a.roa", ROA)], start) == Ok(Offered::New)
-        );
-        let Err(PointFault::Roa(index, fault)) = repository.offer(
-            "one",
-            bytes.as_slice(),
-            &[file("a.roa", SUPERFLUOUS)],
-            noon,
-        ) else {
-            assert!(rt; false);
-            return Ok(());
-        };
-        assert!(rt; index == 0);
-        assert!(rt; fault.kind.number() == 20);
-        assert!(rt; fault.offset == 25);
-        let vrps = repository.payloads(noon)?;
-        assert!(rt; vrps.len() == 1);
-        let prefix = IpPrefix::parse("192.0.2.0/24")?;
-        assert!(rt; vrps.first().copied() == Vrp::new(prefix, 24, Asn(64496)).ok());
-    } else {
-        assert!(rt; false);
-    }
-    Ok(())
+fn tells_the_first_fault_of_a_roa(rt: HostRuntime) {
+    assert!(rt; fault_of_version(rt.alloc()) == Some((0, 6, 2)));
+}
+
+/// What a repository answers for a point.
+fn offer_to(
+    repository: &mut Repository,
+    name: &str,
+    manifest: &[u8],
+    files: &[FileIn],
+    now: &str,
+) -> Option<Answer> {
+    let now = Moment::parse(now)?;
+    Some(answer(repository.offer(name, manifest, files, now)))
+}
+
+/// The payloads that are in use at a moment.
+fn in_use(repository: &Repository, now: &str) -> Option<Vec<Vrp>> {
+    repository.payloads(Moment::parse(now)?).ok()
+}
+
+/// Whether the payload of the ROA, and no other, is in use at a moment.
+fn uses_the_roa(repository: &Repository, now: &str) -> bool {
+    in_use(repository, now).is_some_and(|vrps| is_alone(vrps.as_slice(), "192.0.2.0/24", 24))
+}
+
+/// The fault of a maximum that is the prefix's length, at noon at a point that accepted the first manifest.
+fn fault_of_superfluous(alloc: Global, repository: &mut Repository) -> Option<(usize, u8, usize)> {
+    let noon = Moment::parse(NOON)?;
+    let next = manifest(alloc, 2, NOON, NEXT_END, &[("a.roa", SUPERFLUOUS)])?;
+    roa_fault(repository.offer("one", next.as_slice(), &[SUPERFLUOUS_FILE], noon))
 }
 
 #[test]
-fn keeps_what_is_in_use(rt: HostRuntime) -> Result<(), Fail> {
-    let alloc = rt.alloc();
-    let mut repository = Repository::new(alloc);
-    let files = [file("a.roa", ROA), file("b.roa", b"abb")];
-    let next = manifest(
-        alloc,
+fn refuses_a_superfluous_maximum(rt: HostRuntime) {
+    let mut repository = Repository::new(rt.alloc());
+    let first = offer_to(&mut repository, "one", FIRST, FILES, START);
+    assert!(rt; is(first, &Ok(Offered::New)));
+    let fault = fault_of_superfluous(rt.alloc(), &mut repository);
+    assert!(rt; fault == Some((0, 20, 25)));
+    assert!(rt; uses_the_roa(&repository, NOON));
+}
+
+/// An offer to a point of this name, by its manifest, its files and its moment, and what is answered.
+type Step<'a> = (&'a str, &'a [u8], &'a [FileIn<'a>], &'a str, Answer);
+
+fn expect_answers<R: Abort>(rt: &R, repository: &mut Repository, steps: &[Step]) {
+    for (name, manifest, files, now, want) in steps {
+        let answer = offer_to(repository, name, manifest, files, now);
+        assert!(rt; is(answer, want), "{name} {now}");
+    }
+}
+
+#[test]
+fn keeps_what_is_in_use(rt: HostRuntime) {
+    let mut repository = Repository::new(rt.alloc());
+    let objects: &[Listed] = &[("a.roa", ROA), ("b.roa", b"abc")];
+    match manifest(rt.alloc(), 2, NOON, NEXT_END, objects) {
+        Some(next) => {
+            let files = &[ROA_FILE, ABB_ROA];
+            let steps: &[Step] = &[
+                ("one", FIRST, files, START, Ok(Offered::New)),
+                ("one", next.as_slice(), files, NOON, Err((8, Some(1)))),
+                ("two", FIRST, files, NOON, Ok(Offered::New)),
+            ];
+            expect_answers(&rt, &mut repository, steps);
+        }
+        None => assert!(rt; false),
+    }
+    assert!(rt; uses_the_roa(&repository, END));
+    assert!(rt; in_use(&repository, LATE).is_some_and(|vrps| vrps.is_empty()));
+}
+
+const BOTH: &[Listed] = &[("a.roa", ROA), ("b.roa", ROA)];
+
+const LEAST: &[Later] = &[
+    // The hash of the first listed file is judged before the second, which is missing, and so is its content.
+    (2, NOON, BOTH, &[WITH_VERSION_FILE], Err((8, Some(0)))),
+    (
         2,
         NOON,
-        "20250103000000Z",
-        &[("a.roa", ROA), ("b.roa", b"abc")],
-    );
-    if let (Some(bytes), Some(start), Some(noon), Some(end), Some(late)) = (
-        next,
-        Moment::parse("20250101000000Z"),
-        Moment::parse(NOON),
-        Moment::parse("20250102000000Z"),
-        Moment::parse("20250102000001Z"),
-    ) {
-        assert!(rt; repository.offer("one", FIRST, &files, start) == Ok(Offered::New));
-        assert!(rt;
-            repository.offer("one", bytes.as_slice(), &files, noon)
-                == Err(PointFault::HashDiffers(1))
-        );
-        assert!(rt; repository.offer("two", FIRST, &files, noon) == Ok(Offered::New));
-        let vrps = repository.payloads(end)?;
-        assert!(rt; vrps.len() == 1);
-        let prefix = IpPrefix::parse("192.0.2.0/24")?;
-        assert!(rt; vrps.first().copied() == Vrp::new(prefix, 24, Asn(64496)).ok());
-        assert!(rt; repository.payloads(late)?.is_empty());
-    } else {
-        assert!(rt; false);
-    }
-    Ok(())
-}
+        &[("a.roa", WITH_VERSION), ("b.roa", ROA)],
+        &[WITH_VERSION_FILE, SECOND_WITH_VERSION],
+        Err((9, Some(0))),
+    ),
+    // Two files of one name come before all that is listed, also where neither is listed, and where they are equal.
+    (2, NOON, BOTH, &[ROA_FILE, ROA_FILE], Err((6, Some(1)))),
+    (
+        2,
+        NOON,
+        LISTED,
+        &[ROA_FILE, OTHER, OTHER, ROA_FILE],
+        Err((6, Some(2))),
+    ),
+    // The object is hashed, and the content is read.
+    (
+        2,
+        NOON,
+        &[("a.roa", b"signed")],
+        &[SIGNED],
+        Ok(Offered::New),
+    ),
+];
 
 #[test]
 fn judges_the_least_file_and_its_first_fault(rt: HostRuntime) {
-    let alloc = rt.alloc();
-    let roa = file("a.roa", ROA);
-    let listed: &[(&str, &[u8])] = &[("a.roa", ROA)];
-    let both: &[(&str, &[u8])] = &[("a.roa", ROA), ("b.roa", ROA)];
-    // The hash of the first listed file is judged before the second, which is missing, and so is its content.
-    assert!(rt;
-        at_noon(alloc, 2, NOON, both, &[file("a.roa", WITH_VERSION)]) == Some(Err((8, Some(0))))
-    );
-    assert!(rt;
-        at_noon(
-            alloc,
-            2,
-            NOON,
-            &[("a.roa", WITH_VERSION), ("b.roa", ROA)],
-            &[file("a.roa", WITH_VERSION), file("b.roa", WITH_VERSION)]
-        ) == Some(Err((9, Some(0))))
-    );
-    // Two files of one name come before all that is listed, also where neither is listed, and where they are equal.
-    assert!(rt; at_noon(alloc, 2, NOON, both, &[roa, roa]) == Some(Err((6, Some(1)))));
-    let other = file("x", b"");
-    assert!(rt;
-        at_noon(alloc, 2, NOON, listed, &[roa, other, other, roa]) == Some(Err((6, Some(2))))
-    );
-    // The object is hashed, and the content is read.
-    let signed = FileIn {
-        name: "a.roa",
-        object: b"signed",
-        content: ROA,
-    };
-    assert!(rt;
-        at_noon(alloc, 2, NOON, &[("a.roa", b"signed")], &[signed]) == Some(Ok(Offered::New))
-    );
+    expect_later(&rt, rt.alloc(), LEAST);
 }
 
 #[test]
-fn uses_a_point_until_its_next_update(rt: HostRuntime) -> Result<(), Fail> {
-    let alloc = rt.alloc();
-    let mut repository = Repository::new(alloc);
-    if let (Some(early), Some(noon), Some(end), Some(late)) = (
-        Moment::parse("20241231235959Z"),
-        Moment::parse(NOON),
-        Moment::parse("20250102000000Z"),
-        Moment::parse("20250102000001Z"),
-    ) {
-        assert!(rt;
-            repository.offer("one", FIRST, &[file("a.roa", ROA)], noon) == Ok(Offered::New)
-        );
-        // nextUpdate alone is looked at, and an offer that is refused, here as too late, takes nothing away.
-        assert!(rt; repository.payloads(early)?.len() == 1);
-        assert!(rt; repository.offer("one", FIRST, &[], late) == Err(PointFault::Stale));
-        assert!(rt; repository.payloads(end)?.len() == 1);
-    } else {
-        assert!(rt; false);
-    }
-    Ok(())
+fn uses_a_point_until_its_next_update(rt: HostRuntime) {
+    let mut repository = Repository::new(rt.alloc());
+    let first = offer_to(&mut repository, "one", FIRST, FILES, NOON);
+    assert!(rt; is(first, &Ok(Offered::New)));
+    // nextUpdate alone is looked at, and an offer that is refused, here as too late, takes nothing away.
+    assert!(rt; uses_the_roa(&repository, EARLY));
+    let late = offer_to(&mut repository, "one", FIRST, &[], LATE);
+    assert!(rt; is(late, &Err((3, None))));
+    assert!(rt; uses_the_roa(&repository, END));
 }

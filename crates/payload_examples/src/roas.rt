@@ -1,11 +1,14 @@
 //! ROAs by hand.
 
-use der_lite::{Bits, DerFaultKind, DerWriter};
-use example_values::hex::bytes;
+use crate::sequences::nest;
+use der_lite::{DerFaultKind, DerWriter};
+use example_values::hex::{Bytes, bytes};
 use example_values::payloads::{NO_BITS, ONE_PREFIX, SUPERFLUOUS, WITH_MAXIMUM};
-use payloads::{GrammarFaultKind as Kind, PayloadFault, Roa, RoaEntry, decode_roa, encode_roa};
+use payloads::{
+    GrammarFaultKind as Kind, PayloadFault, Roa, RoaEntry, ValueFault, decode_roa, encode_roa,
+};
 use prefixes::{Asn, IpPrefix, Prefix, PrefixFault, V4, Vrp};
-use std::alloc::Global;
+use std::alloc::{AllocError, Global};
 use std::process::Abort;
 use std::test::Fail;
 
@@ -18,11 +21,11 @@ fn fault(alloc: Global, payload: &[u8]) -> Option<(u8, usize)> {
     }
 }
 
-/// The first fault of these bytes and its offset, if they are refused for one.
-fn first_fault(alloc: Global, text: &str) -> Option<(Kind, usize)> {
-    match decode_roa(alloc, bytes(text).as_slice()) {
-        Err(PayloadFault::At(fault)) => Some((fault.kind, fault.offset)),
-        Ok(_) | Err(PayloadFault::Memory) => None,
+/// Whether these bytes are refused, for this first fault at this offset.
+fn is_fault(alloc: Global, payload: &[u8], kind: &Kind, offset: usize) -> bool {
+    match decode_roa(alloc, payload) {
+        Err(PayloadFault::At(fault)) => fault.kind == *kind && fault.offset == offset,
+        Ok(_) | Err(PayloadFault::Memory) => false,
     }
 }
 
@@ -31,130 +34,161 @@ fn vrp(text: &str, max_len: u8) -> Result<Vrp, PrefixFault> {
     Vrp::new(IpPrefix::parse(text)?, max_len, Asn(64496))
 }
 
-#[test]
-fn decodes_roas(rt: HostRuntime) -> Result<(), Fail> {
-    let alloc = rt.alloc();
-    for (payload, text, max_len) in [
-        (ONE_PREFIX, "192.0.2.0/24", 24u8),
-        (NO_BITS, "0.0.0.0/0", 0),
-        (WITH_MAXIMUM, "2001:db8::/32", 48),
-    ] {
-        let Ok(roa) = decode_roa(alloc, bytes(payload).as_slice()) else {
-            assert!(rt; false, "{text}");
-            return Ok(());
-        };
-        assert!(rt; roa.asn() == Asn(64496));
-        let vrps = roa.vrps(alloc)?;
-        assert!(rt; vrps.len() == 1);
-        assert!(rt; vrps.first().copied() == vrp(text, max_len).ok(), "{text}");
+/// Payloads, and the prefix and the greatest length that each holds.
+const DECODED: &[(&str, &str, u8)] = &[
+    (ONE_PREFIX, "192.0.2.0/24", 24u8),
+    (NO_BITS, "0.0.0.0/0", 0),
+    (WITH_MAXIMUM, "2001:db8::/32", 48),
+];
+
+/// Whether the payload of this prefix, this maximum and AS64496 is there, and no other.
+pub(crate) fn is_alone(vrps: &[Vrp], text: &str, max_len: u8) -> bool {
+    match (vrps.first(), vrp(text, max_len)) {
+        (Some(found), Ok(vrp)) => vrps.len() == 1 && *found == vrp,
+        _ => false,
     }
-    Ok(())
+}
+
+/// Whether a ROA of AS64496 authorizes this prefix up to this length, and nothing else.
+fn authorizes(alloc: Global, roa: &Roa, text: &str, max_len: u8) -> bool {
+    match roa.vrps(alloc) {
+        Ok(vrps) => roa.asn() == Asn(64496) && is_alone(vrps.as_slice(), text, max_len),
+        Err(_) => false,
+    }
+}
+
+fn expect_decoded<R: Abort>(rt: &R, alloc: Global, rows: &[(&str, &str, u8)]) {
+    for (payload, text, max_len) in rows {
+        let roa = decode_roa(alloc, bytes(payload).as_slice());
+        assert!(rt;
+            roa.is_ok_and(|it| authorizes(alloc, &it, text, *max_len)),
+            "{text}"
+        );
+    }
+}
+
+#[test]
+fn decodes_roas(rt: HostRuntime) {
+    expect_decoded(&rt, rt.alloc(), DECODED);
+}
+
+/// Bytes that are no ROA, and the first fault and its offset.
+const FAULTS: &[(&str, Kind, usize)] = &[
+    (
+        "301c a003 020100 020300fbf0 3010 300e 04020001 3008 3006 030400c00002",
+        Kind::VersionPresent,
+        2usize,
+    ),
+    (
+        "301f 020300fbf0 3018 3016 04020001 3010 3006 030400c00002 3006 030400c00002",
+        Kind::Order,
+        25,
+    ),
+    (SUPERFLUOUS, Kind::MaxLengthSuperfluous, 25),
+    (
+        "3028 020300fbf0 3021 301f 04020002 3019 3017 03110020010db8000000000000000000000001 02020080",
+        Kind::MaxLengthSuperfluous,
+        38,
+    ),
+    (
+        "3027 020300fbf0 3020 301e 04020002 3018 3016 03110020010db8000000000000000000000001 020180",
+        Kind::MaxLength,
+        38,
+    ),
+    (
+        "3022 020300fbf0 301b 3019 04020001 3013 3006 030400c00002 3009 030400c00002 020118",
+        Kind::MaxLengthSuperfluous,
+        33,
+    ),
+    (
+        "3017 020300fbf0 3010 300e 04020001 3008 3006 030401c00003",
+        Kind::Element(DerFaultKind::BadContent),
+        19,
+    ),
+    (
+        "301a 020300fbf0 3013 3011 04020001 300b 3009 030400c00002 020121",
+        Kind::MaxLength,
+        25,
+    ),
+    (
+        "301a 020300fbf0 3013 3011 04020001 300b 3009 030400c00002 020117",
+        Kind::MaxLength,
+        25,
+    ),
+    (
+        "3027 020300fbf0 3020 300e 04020001 3008 3006 030400c00002 300e 04020001 3008 3006 030400c00002",
+        Kind::Family,
+        27,
+    ),
+    (
+        "302b 020300fbf0 3024 3012 04020002 300c 300a 03050020010db8 020130 300e 04020001 3008 3006 030400c00002",
+        Kind::Order,
+        31,
+    ),
+    (
+        "303f 020300fbf0 3038 300e 04020001 3008 3006 030400c00002 3012 04020002 300c 300a 03050020010db8 020130 3012 04020002 300c 300a 03050020010db8 020130",
+        Kind::Element(DerFaultKind::Trailing),
+        45,
+    ),
+    ("3007 020300fbf0 3000", Kind::Empty, 7),
+    ("3007 02050100000000", Kind::AsnRange, 2),
+    ("3080", Kind::Element(DerFaultKind::BadLength), 0),
+    ("3004 02020001", Kind::Element(DerFaultKind::BadContent), 2),
+    ("3003 020180", Kind::AsnRange, 2),
+    ("3005 020300fbf0", Kind::Element(DerFaultKind::Truncated), 7),
+    ("3084ffffffff", Kind::Element(DerFaultKind::Truncated), 0),
+    ("30850000000001", Kind::Element(DerFaultKind::BadLength), 0),
+    (
+        "308117 020300fbf0 3010 300e 04020001 3008 3006 030400c00002",
+        Kind::Element(DerFaultKind::BadLength),
+        0,
+    ),
+    ("1f00", Kind::Element(DerFaultKind::WrongTag), 0),
+    ("a000", Kind::Element(DerFaultKind::WrongTag), 0),
+    ("3002 a000", Kind::VersionPresent, 2),
+    ("3001 a0", Kind::Element(DerFaultKind::Truncated), 2),
+    (
+        "3017 020300fbf0 3010 300e 04020001 3009 3006 030400c00002",
+        Kind::Element(DerFaultKind::Truncated),
+        15,
+    ),
+    (
+        "3017 020300fbf0 3010 300e 04020001 3008 3005 030400c00002",
+        Kind::Element(DerFaultKind::Truncated),
+        19,
+    ),
+    (
+        "3017 020300fbf0 3010 300e 04020001 3008 3006 030400c00002 00",
+        Kind::Element(DerFaultKind::Trailing),
+        25,
+    ),
+];
+
+fn expect_faults<R: Abort>(rt: &R, alloc: Global, rows: &[(&str, Kind, usize)]) {
+    for (text, kind, offset) in rows {
+        let payload = bytes(text);
+        assert!(rt;
+            is_fault(alloc, payload.as_slice(), kind, *offset),
+            "{text}"
+        );
+    }
+}
+
+/// Each beginning of a payload is cut.
+fn expect_cut<R: Abort>(rt: &R, alloc: Global, whole: &[u8]) {
+    for cut in 0..whole.len() {
+        assert!(rt;
+            fault(alloc, &whole[..cut]) == Some((1, 0)),
+            "{cut} bytes of {whole:?}"
+        );
+    }
 }
 
 #[test]
 fn tells_the_first_fault(rt: HostRuntime) {
-    let alloc = rt.alloc();
-    for (text, kind, offset) in [
-        (
-            "301c a003 020100 020300fbf0 3010 300e 04020001 3008 3006 030400c00002",
-            Kind::VersionPresent,
-            2usize,
-        ),
-        (
-            "301f 020300fbf0 3018 3016 04020001 3010 3006 030400c00002 3006 030400c00002",
-            Kind::Order,
-            25,
-        ),
-        (SUPERFLUOUS, Kind::MaxLengthSuperfluous, 25),
-        (
-            "3028 020300fbf0 3021 301f 04020002 3019 3017 03110020010db8000000000000000000000001 02020080",
-            Kind::MaxLengthSuperfluous,
-            38,
-        ),
-        (
-            "3027 020300fbf0 3020 301e 04020002 3018 3016 03110020010db8000000000000000000000001 020180",
-            Kind::MaxLength,
-            38,
-        ),
-        (
-            "3022 020300fbf0 301b 3019 04020001 3013 3006 030400c00002 3009 030400c00002 020118",
-            Kind::MaxLengthSuperfluous,
-            33,
-        ),
-        (
-            "3017 020300fbf0 3010 300e 04020001 3008 3006 030401c00003",
-            Kind::Element(DerFaultKind::BadContent),
-            19,
-        ),
-        (
-            "301a 020300fbf0 3013 3011 04020001 300b 3009 030400c00002 020121",
-            Kind::MaxLength,
-            25,
-        ),
-        (
-            "301a 020300fbf0 3013 3011 04020001 300b 3009 030400c00002 020117",
-            Kind::MaxLength,
-            25,
-        ),
-        (
-            "3027 020300fbf0 3020 300e 04020001 3008 3006 030400c00002 300e 04020001 3008 3006 030400c00002",
-            Kind::Family,
-            27,
-        ),
-        (
-            "302b 020300fbf0 3024 3012 04020002 300c 300a 03050020010db8 020130 300e 04020001 3008 3006 030400c00002",
-            Kind::Order,
-            31,
-        ),
-        (
-            "303f 020300fbf0 3038 300e 04020001 3008 3006 030400c00002 3012 04020002 300c 300a 03050020010db8 020130 3012 04020002 300c 300a 03050020010db8 020130",
-            Kind::Element(DerFaultKind::Trailing),
-            45,
-        ),
-        ("3007 020300fbf0 3000", Kind::Empty, 7),
-        ("3007 02050100000000", Kind::AsnRange, 2),
-        ("3080", Kind::Element(DerFaultKind::BadLength), 0),
-        ("3004 02020001", Kind::Element(DerFaultKind::BadContent), 2),
-        ("3003 020180", Kind::AsnRange, 2),
-        ("3005 020300fbf0", Kind::Element(DerFaultKind::Truncated), 7),
-        ("3084ffffffff", Kind::Element(DerFaultKind::Truncated), 0),
-        ("30850000000001", Kind::Element(DerFaultKind::BadLength), 0),
-        (
-            "308117 020300fbf0 3010 300e 04020001 3008 3006 030400c00002",
-            Kind::Element(DerFaultKind::BadLength),
-            0,
-        ),
-        ("1f00", Kind::Element(DerFaultKind::WrongTag), 0),
-        ("a000", Kind::Element(DerFaultKind::WrongTag), 0),
-        ("3002 a000", Kind::VersionPresent, 2),
-        ("3001 a0", Kind::Element(DerFaultKind::Truncated), 2),
-        (
-            "3017 020300fbf0 3010 300e 04020001 3009 3006 030400c00002",
-            Kind::Element(DerFaultKind::Truncated),
-            15,
-        ),
-        (
-            "3017 020300fbf0 3010 300e 04020001 3008 3005 030400c00002",
-            Kind::Element(DerFaultKind::Truncated),
-            19,
-        ),
-        (
-            "3017 020300fbf0 3010 300e 04020001 3008 3006 030400c00002 00",
-            Kind::Element(DerFaultKind::Trailing),
-            25,
-        ),
-    ] {
-        assert!(rt; first_fault(alloc, text) == Some((kind, offset)), "{text}");
-    }
+    expect_faults(&rt, rt.alloc(), FAULTS);
     for text in whole() {
-        let payload = bytes(text);
-        for cut in 0..payload.len() {
-            let (front, _) = payload.as_slice().split_at(cut);
-            assert!(rt;
-                fault(alloc, front) == Some((1, 0)),
-                "{cut} bytes of {text}"
-            );
-        }
+        expect_cut(&rt, rt.alloc(), bytes(text).as_slice());
     }
 }
 
@@ -163,33 +197,54 @@ fn whole() -> [&'static str; 3] {
     [ONE_PREFIX, NO_BITS, WITH_MAXIMUM]
 }
 
+/// Whether a ROA is written as these bytes.
+pub(crate) fn is_written(alloc: Global, roa: &Roa, payload: &[u8]) -> bool {
+    match encode_roa(alloc, roa) {
+        Ok(written) => written.as_slice() == payload,
+        Err(_) => false,
+    }
+}
+
 /// Whether a payload is taken and is what its ROA is written as, or has a fault that is reported inside it.
-fn is_judged(alloc: Global, payload: &[u8]) -> Result<bool, Fail> {
+fn is_judged(alloc: Global, payload: &[u8]) -> bool {
     match decode_roa(alloc, payload) {
-        Ok(roa) => Ok(encode_roa(alloc, &roa)?.as_slice() == payload),
+        Ok(roa) => is_written(alloc, &roa, payload),
         Err(PayloadFault::At(fault)) => {
-            Ok(fault.kind.number() <= 20 && fault.offset <= payload.len())
+            fault.kind.number() <= 20 && fault.offset <= payload.len()
         }
-        Err(PayloadFault::Memory) => Ok(false),
+        Err(PayloadFault::Memory) => false,
+    }
+}
+
+/// The bytes of a payload with this byte at this place.
+pub(crate) fn changed(text: &str, at: usize, byte: u8) -> Bytes {
+    let mut payload = bytes(text);
+    if let Some(place) = payload.as_mut_slice().get_mut(at) {
+        *place = byte;
+    }
+    payload
+}
+
+fn expect_judged<R: Abort>(rt: &R, alloc: Global, text: &str) {
+    for at in 0..bytes(text).len() {
+        for byte in 0..=255u8 {
+            let payload = changed(text, at, byte);
+            assert!(rt; is_judged(alloc, payload.as_slice()), "{byte} at {at}");
+        }
     }
 }
 
 #[test]
-fn judges_payloads_with_one_other_byte(rt: HostRuntime) -> Result<(), Fail> {
-    let alloc = rt.alloc();
+fn judges_payloads_with_one_other_byte(rt: HostRuntime) {
     for text in whole() {
-        let payload = bytes(text);
-        for at in 0..payload.len() {
-            for byte in 0..=255u8 {
-                let mut changed = Vec::from_slice(alloc, payload.as_slice())?;
-                if let Some(place) = changed.get_mut(at) {
-                    *place = byte;
-                }
-                assert!(rt; is_judged(alloc, changed.as_slice())?, "{byte} at {at}");
-            }
-        }
+        expect_judged(&rt, rt.alloc(), text);
     }
-    Ok(())
+}
+
+/// Adds the entry of this prefix and this maximum.
+fn push(entries: &mut Vec<RoaEntry>, &(text, max_len): &(&str, Option<u8>)) -> Result<(), Fail> {
+    let prefix = IpPrefix::parse(text)?;
+    Ok(entries.push(RoaEntry { prefix, max_len })?)
 }
 
 /// The entries of these prefixes and maxima.
@@ -198,154 +253,232 @@ pub(crate) fn entries_of(
     rows: &[(&str, Option<u8>)],
 ) -> Result<Vec<RoaEntry>, Fail> {
     let mut entries = Vec::new(alloc);
-    for &(text, max_len) in rows {
-        let prefix = IpPrefix::parse(text)?;
-        entries.push(RoaEntry { prefix, max_len })?;
+    for row in rows {
+        push(&mut entries, row)?;
     }
     Ok(entries)
 }
 
-#[test]
-fn makes_roas_of_values(rt: HostRuntime) -> Result<(), Fail> {
-    let alloc = rt.alloc();
-    for (rows, refusal) in [
-        (
-            [
-                ("192.0.2.0/24", None),
-                ("192.0.2.0/25", Some(32)),
-                ("2001:db8::/32", Some(48u8)),
-            ]
-            .as_slice(),
-            None,
-        ),
-        ([].as_slice(), Some((9u8, 0usize))),
-        (
-            [("2001:db8::/32", None), ("192.0.2.0/24", Some(40))].as_slice(),
-            Some((12, 1)),
-        ),
-        (
-            [("192.0.2.0/24", None), ("192.0.2.0/24", Some(33))].as_slice(),
-            Some((11, 1)),
-        ),
-        ([("192.0.2.0/24", Some(23))].as_slice(), Some((11, 0))),
-        (
-            [("192.0.2.0/24", None), ("192.0.2.0/24", None)].as_slice(),
-            Some((12, 1)),
-        ),
-        (
-            [("192.0.2.0/24", None), ("192.0.2.0/24", Some(24))].as_slice(),
-            Some((20, 1)),
-        ),
-        (
-            [("2001:db8::/32", None), ("192.0.2.0/24", Some(24))].as_slice(),
-            Some((12, 1)),
-        ),
-        (
-            [("192.0.3.0/24", None), ("192.0.2.0/24", None)].as_slice(),
-            Some((12, 1)),
-        ),
-    ] {
-        let made = Roa::new(Asn(64496), entries_of(alloc, rows)?);
-        let fault = match made {
-            Ok(roa) => {
-                assert!(rt; roa.entries().len() == rows.len());
-                None
-            }
-            Err(fault) => Some((fault.kind.number(), fault.index)),
-        };
-        assert!(rt; fault == refusal);
+/// Prefixes and maxima, and the number of the fault and its index.
+type Values = (&'static [(&'static str, Option<u8>)], Option<(u8, usize)>);
+
+const VALUES: &[Values] = &[
+    (
+        &[
+            ("192.0.2.0/24", None),
+            ("192.0.2.0/25", Some(32)),
+            ("2001:db8::/32", Some(48u8)),
+        ],
+        None,
+    ),
+    (&[], Some((9u8, 0usize))),
+    (
+        &[("2001:db8::/32", None), ("192.0.2.0/24", Some(40))],
+        Some((12, 1)),
+    ),
+    (
+        &[("192.0.2.0/24", None), ("192.0.2.0/24", Some(33))],
+        Some((11, 1)),
+    ),
+    (&[("192.0.2.0/24", Some(23))], Some((11, 0))),
+    (
+        &[("192.0.2.0/24", None), ("192.0.2.0/24", None)],
+        Some((12, 1)),
+    ),
+    (
+        &[("192.0.2.0/24", None), ("192.0.2.0/24", Some(24))],
+        Some((20, 1)),
+    ),
+    (
+        &[("2001:db8::/32", None), ("192.0.2.0/24", Some(24))],
+        Some((12, 1)),
+    ),
+    (
+        &[("192.0.3.0/24", None), ("192.0.2.0/24", None)],
+        Some((12, 1)),
+    ),
+];
+
+/// Whether a ROA is made of these entries, or is refused so.
+fn is_made(made: Result<Roa, ValueFault>, (rows, refusal): &Values) -> bool {
+    match made {
+        Ok(roa) => refusal.is_none() && roa.entries().len() == rows.len(),
+        Err(fault) => *refusal == Some((fault.kind.number(), fault.index)),
+    }
+}
+
+fn expect_made<R: Abort>(rt: &R, alloc: Global, rows: &[Values]) -> Result<(), Fail> {
+    for (row, values) in rows.iter().enumerate() {
+        let made = Roa::new(Asn(64496), entries_of(alloc, values.0)?);
+        assert!(rt; is_made(made, values), "row {row}");
     }
     Ok(())
 }
 
-/// The entries of so many prefixes of 24 bits, from 0.0.0.0 on.
-fn many_entries(rt: &impl Abort, alloc: Global, count: u32) -> Result<Vec<u8>, Fail> {
-    let mut list = DerWriter::new(alloc);
-    for index in 0..count {
-        let mut entry = DerWriter::new(alloc);
-        let octets = [
-            (index / 65536 % 256) as u8,
-            (index / 256 % 256) as u8,
-            (index % 256) as u8,
-        ];
-        entry.bits(Bits {
-            unused: 0,
-            bytes: octets.as_slice(),
-        })?;
-        assert!(rt; entry.as_slice().len() < 100);
-        list.sequence(entry.as_slice())?;
-    }
-    Ok(list.into_bytes())
+#[test]
+fn makes_roas_of_values(rt: HostRuntime) -> Result<(), Fail> {
+    expect_made(&rt, rt.alloc(), VALUES)
 }
 
-/// The payload of AS64496, of a family of this number with these entries, and of what stands behind the family.
-fn payload_of(
-    rt: &impl Abort,
+/// The entries of so many prefixes of 24 bits, from 0.0.0.0 on.
+fn many_entries(alloc: Global, count: u32) -> Result<Vec<u8>, AllocError> {
+    let mut list = Vec::new(alloc);
+    for index in 0..count {
+        let [_, first, second, third] = index.to_be_bytes();
+        list.extend_from_slice(&[0x30, 6, 3, 4, 0, first, second, third])?;
+    }
+    Ok(list)
+}
+
+/// A family of this number with these entries, and what stands behind the family.
+fn blocks_of<R: Abort>(
+    rt: &R,
     alloc: Global,
     number: u8,
     entries: &[u8],
     behind: &[u8],
-) -> Result<Vec<u8>, Fail> {
+) -> Result<Vec<u8>, AllocError> {
     let mut family = DerWriter::new(alloc);
     family.octets(&[0, number])?;
-    assert!(rt; entries.len() < 4000000);
-    family.sequence(entries)?;
+    nest(rt, &mut family, entries)?;
     let mut blocks = DerWriter::new(alloc);
-    assert!(rt; family.as_slice().len() < 4000000);
-    blocks.sequence(family.as_slice())?;
+    nest(rt, &mut blocks, family.as_slice())?;
     let mut blocks = blocks.into_bytes();
     blocks.extend_from_slice(behind)?;
+    Ok(blocks)
+}
+
+/// The payload of AS64496, of a family of this number with these entries, and of what stands behind the family.
+fn payload_of<R: Abort>(
+    rt: &R,
+    alloc: Global,
+    number: u8,
+    entries: &[u8],
+    behind: &[u8],
+) -> Result<Vec<u8>, AllocError> {
+    let blocks = blocks_of(rt, alloc, number, entries, behind)?;
     let mut members = DerWriter::new(alloc);
-    members.integer(b"\x00\xfb\xf0".as_slice())?;
-    assert!(rt; blocks.len() < 4000000);
-    members.sequence(blocks.as_slice())?;
+    members.integer(b"\x00\xfb\xf0")?;
+    nest(rt, &mut members, blocks.as_slice())?;
     let mut whole = DerWriter::new(alloc);
-    assert!(rt; members.as_slice().len() < 4000000);
-    whole.sequence(members.as_slice())?;
+    nest(rt, &mut whole, members.as_slice())?;
     Ok(whole.into_bytes())
 }
 
 /// The payload of AS64496 and of so many prefixes of 24 bits, from 0.0.0.0 on.
-pub(crate) fn long_payload(rt: &impl Abort, alloc: Global, count: u32) -> Result<Vec<u8>, Fail> {
-    let entries = many_entries(rt, alloc, count)?;
+pub(crate) fn long_payload<R: Abort>(
+    rt: &R,
+    alloc: Global,
+    count: u32,
+) -> Result<Vec<u8>, AllocError> {
+    let entries = many_entries(alloc, count)?;
     payload_of(rt, alloc, 1, entries.as_slice(), b"")
+}
+
+/// Whether a payload has a fault of this number, so many bytes before its end.
+fn is_fault_before_end(alloc: Global, payload: &[u8], number: u8, before: usize) -> bool {
+    match fault(alloc, payload) {
+        None => false,
+        Some((found, offset)) => {
+            found == number && offset.checked_add(before) == Some(payload.len())
+        }
+    }
+}
+
+/// Whether these bytes are a ROA of so many entries.
+fn has_entries(alloc: Global, payload: &[u8], count: usize) -> bool {
+    decode_roa(alloc, payload).is_ok_and(|roa| roa.entries().len() == count)
 }
 
 #[test]
 fn takes_65536_entries_and_no_more(rt: HostRuntime) -> Result<(), Fail> {
     let alloc = rt.alloc();
     let most = long_payload(&rt, alloc, 65536)?;
-    let Ok(roa) = decode_roa(alloc, most.as_slice()) else {
-        assert!(rt; false);
-        return Ok(());
-    };
-    assert!(rt; roa.entries().len() == 65536);
+    assert!(rt; has_entries(alloc, most.as_slice(), 65536));
     let more = long_payload(&rt, alloc, 65537)?;
-    assert!(rt; more.len() > 8);
-    assert!(rt; fault(alloc, more.as_slice()) == Some((19, more.len() - 8)));
+    assert!(rt; is_fault_before_end(alloc, more.as_slice(), 19, 8));
+    Ok(())
+}
+
+/// What stands behind as many entries as there may be, and the number of its fault: an entry with eight unused bits, one below the last,
+/// one of another tag, one of a length in too many bytes, and one that is cut.
+const LAST: &[(&[u8], u8)] = &[
+    (b"\x30\x06\x03\x04\x08\x01\x00\x00", 19u8),
+    (b"\x30\x06\x03\x04\x00\x00\x00\x00", 19),
+    (b"\x31\x06\x03\x04\x00\x01\x00\x00", 2),
+    (b"\x30\x81\x06\x03\x04\x00\x01\x00\x00", 3),
+    (b"\x30\x07\x03\x04\x00\x01\x00\x00", 1),
+];
+
+/// The payload of a family of these entries, with another one behind them.
+fn with_last<R: Abort>(
+    rt: &R,
+    alloc: Global,
+    entries: &[u8],
+    last: &[u8],
+) -> Result<Vec<u8>, AllocError> {
+    let mut list = entries.to_vec(alloc)?;
+    list.extend_from_slice(last)?;
+    payload_of(rt, alloc, 1, list.as_slice(), b"")
+}
+
+fn expect_last<R: Abort>(
+    rt: &R,
+    alloc: Global,
+    entries: &[u8],
+    rows: &[(&[u8], u8)],
+) -> Result<(), AllocError> {
+    for (last, number) in rows {
+        let payload = with_last(rt, alloc, entries, last)?;
+        assert!(rt;
+            is_fault_before_end(alloc, payload.as_slice(), *number, last.len()),
+            "{last:?}"
+        );
+    }
     Ok(())
 }
 
 #[test]
 fn judges_an_entry_too_many_behind_its_head(rt: HostRuntime) -> Result<(), Fail> {
-    let alloc = rt.alloc();
-    let entries = many_entries(&rt, alloc, 65536)?;
-    // Behind as many entries as there may be: one with eight unused bits, one below the last, one of another tag, one of a length in too
-    // many bytes, and one that is cut.
-    for (last, number) in [
-        (b"\x30\x06\x03\x04\x08\x01\x00\x00".as_slice(), 19u8),
-        (b"\x30\x06\x03\x04\x00\x00\x00\x00".as_slice(), 19),
-        (b"\x31\x06\x03\x04\x00\x01\x00\x00".as_slice(), 2),
-        (b"\x30\x81\x06\x03\x04\x00\x01\x00\x00".as_slice(), 3),
-        (b"\x30\x07\x03\x04\x00\x01\x00\x00".as_slice(), 1),
-    ] {
-        let mut list = entries.clone()?;
-        list.extend_from_slice(last)?;
-        let payload = payload_of(&rt, alloc, 1, list.as_slice(), b"")?;
-        assert!(rt; payload.len() > last.len());
+    let entries = many_entries(rt.alloc(), 65536)?;
+    Ok(expect_last(&rt, rt.alloc(), entries.as_slice(), LAST)?)
+}
+
+/// What stands behind a family, by its number, of as many entries as there may be: the same family, IPv4 behind IPv6, a family without
+/// addresses, and one with an entry. The fault of this number stands so many bytes before the end.
+const BEHIND: &[(u8, &[u8], u8, usize)] = &[
+    (
+        1u8,
+        b"\x30\x0e\x04\x02\x00\x01\x30\x08\x30\x06\x03\x04\x00\xc0\x00\x02",
+        8u8,
+        14usize,
+    ),
+    (
+        2,
+        b"\x30\x0e\x04\x02\x00\x01\x30\x08\x30\x06\x03\x04\x00\xc0\x00\x02",
+        12,
+        14,
+    ),
+    (1, b"\x30\x06\x04\x02\x00\x02\x30\x00", 9, 2),
+    (
+        1,
+        b"\x30\x0e\x04\x02\x00\x02\x30\x08\x30\x06\x03\x04\x00\x20\x01\x0d",
+        19,
+        8,
+    ),
+];
+
+fn expect_behind<R: Abort>(
+    rt: &R,
+    alloc: Global,
+    entries: &[u8],
+    rows: &[(u8, &[u8], u8, usize)],
+) -> Result<(), AllocError> {
+    for (family, behind, number, before) in rows {
+        let payload = payload_of(rt, alloc, *family, entries, behind)?;
         assert!(rt;
-            fault(alloc, payload.as_slice()) == Some((number, payload.len() - last.len())),
-            "{last:?}"
+            is_fault_before_end(alloc, payload.as_slice(), *number, *before),
+            "{behind:?}"
         );
     }
     Ok(())
@@ -354,50 +487,18 @@ fn judges_an_entry_too_many_behind_its_head(rt: HostRuntime) -> Result<(), Fail>
 #[test]
 fn judges_what_is_before_an_entry_too_many(rt: HostRuntime) -> Result<(), Fail> {
     let alloc = rt.alloc();
-    let entries = many_entries(&rt, alloc, 65536)?;
-    // Behind a family of as many entries as there may be: the same family, IPv4 behind IPv6, a family without addresses, and one with an
-    // entry. The fault stands so many bytes before the end.
-    for (family, behind, number, before) in [
-        (
-            1u8,
-            b"\x30\x0e\x04\x02\x00\x01\x30\x08\x30\x06\x03\x04\x00\xc0\x00\x02".as_slice(),
-            8u8,
-            14usize,
-        ),
-        (
-            2,
-            b"\x30\x0e\x04\x02\x00\x01\x30\x08\x30\x06\x03\x04\x00\xc0\x00\x02".as_slice(),
-            12,
-            14,
-        ),
-        (1, b"\x30\x06\x04\x02\x00\x02\x30\x00".as_slice(), 9, 2),
-        (
-            1,
-            b"\x30\x0e\x04\x02\x00\x02\x30\x08\x30\x06\x03\x04\x00\x20\x01\x0d".as_slice(),
-            19,
-            8,
-        ),
-    ] {
-        let payload = payload_of(&rt, alloc, family, entries.as_slice(), behind)?;
-        assert!(rt; payload.len() > before);
-        assert!(rt;
-            fault(alloc, payload.as_slice()) == Some((number, payload.len() - before)),
-            "{behind:?}"
-        );
-    }
+    let entries = many_entries(alloc, 65536)?;
+    expect_behind(&rt, alloc, entries.as_slice(), BEHIND)?;
     // The last of as many entries as there may be is no greater than the one before it, and another one follows.
-    let mut list = many_entries(&rt, alloc, 65535)?;
-    list.extend_from_slice(b"\x30\x06\x03\x04\x00\x00\x00\x00")?;
-    list.extend_from_slice(b"\x30\x06\x03\x04\x00\x01\x00\x00")?;
-    let payload = payload_of(&rt, alloc, 1, list.as_slice(), b"")?;
-    assert!(rt; payload.len() > 16);
-    assert!(rt; fault(alloc, payload.as_slice()) == Some((12, payload.len() - 16)));
+    let entries = many_entries(alloc, 65535)?;
+    let last = b"\x30\x06\x03\x04\x00\x00\x00\x00\x30\x06\x03\x04\x00\x01\x00\x00";
+    let payload = with_last(&rt, alloc, entries.as_slice(), last)?;
+    assert!(rt; is_fault_before_end(alloc, payload.as_slice(), 12, 16));
     Ok(())
 }
 
-#[test]
-fn makes_no_roa_of_an_entry_too_many(rt: HostRuntime) -> Result<(), Fail> {
-    let alloc = rt.alloc();
+/// The entries of 65537 prefixes of 24 bits, from 0.0.0.0 on.
+fn too_many(alloc: Global) -> Result<Vec<RoaEntry>, Fail> {
     let mut entries = Vec::new(alloc);
     for index in 0..65537u32 {
         let prefix = Prefix::<V4>::new(u128::from(index) * 256, 24)?;
@@ -406,7 +507,12 @@ fn makes_no_roa_of_an_entry_too_many(rt: HostRuntime) -> Result<(), Fail> {
             max_len: None,
         })?;
     }
-    let made = Roa::new(Asn(64496), entries);
+    Ok(entries)
+}
+
+#[test]
+fn makes_no_roa_of_an_entry_too_many(rt: HostRuntime) -> Result<(), Fail> {
+    let made = Roa::new(Asn(64496), too_many(rt.alloc())?);
     assert!(rt; made.err().map(|fault| (fault.kind.number(), fault.index)) == Some((19, 65536)));
     Ok(())
 }
