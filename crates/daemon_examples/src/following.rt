@@ -1,12 +1,14 @@
 //! A daemon follows its files.
-use crate::stage::Stage;
-use crate::wires::{Wire, is_list, shared, wire};
+use crate::stage::{LIST, Stage};
+use crate::wires::Wire;
 use daemon_parts::VersionNames;
 use example_values::hex::bytes;
+use example_values::units::ANSWER;
 use rtr_daemon::{Daemon, Paths, Plan};
 use rtr_ends::{Cache, Timing};
 use rtr_server::Server;
-use std::alloc::Global;
+use std::alloc::{AllocGlobal, Global};
+use std::process::Abort;
 use std::test::Fail;
 use vrps::VersionLog;
 
@@ -27,107 +29,150 @@ const PLAN: Plan = Plan {
     clients: 2,
 };
 
-/// A daemon of a list, with session 4660, whose first serial is 5.
-fn opened(alloc: Global, plan: Plan, stage: &mut Stage) -> Result<Daemon<VersionLog, Wire>, Fail> {
+const NAMES: VersionNames = VersionNames {
+    session: 4660,
+    session0: 4660,
+    serial: 5,
+};
+
+/// What happens at a daemon, and what has to come of it. A router is named by its place among those that have come.
+enum Step {
+    /// The list has this text from now on.
+    Writes(&'static str),
+    /// A router comes and asks for all. One that is closed takes nothing.
+    Comes { is_closed: bool },
+    Turns(u32),
+    /// So many routers are served.
+    Serves(usize),
+    /// A router has got these PDUs, and no more.
+    Has(usize, &'static str),
+}
+
+/// A server of session 4660, whose first serial is 5.
+fn server(alloc: Global) -> Result<Server<VersionLog, Wire>, Fail> {
     let store = VersionLog::new(alloc, 4660, 5, 4)?;
     let cache = Cache::new(alloc, store, Timing::default());
-    let names = VersionNames {
-        session: 4660,
-        session0: 4660,
-        serial: 5,
-    };
+    Ok(Server::new(alloc, cache, 2))
+}
+
+/// The list is all that is served.
+fn paths(alloc: Global) -> Result<Paths, Fail> {
     let mut files = Vec::new(alloc);
-    files.push(String::from_str(alloc, "list.json")?)?;
-    let paths = Paths {
+    files.push(String::from_str(alloc, LIST)?)?;
+    Ok(Paths {
         files,
         slurm: None,
         points: Vec::new(alloc),
-    };
-    let server = Server::new(alloc, cache, 2);
-    match Daemon::open(alloc, plan, names, server, paths, stage) {
+    })
+}
+
+/// A daemon that follows the list.
+fn opened(alloc: Global, stage: &mut Stage) -> Result<Daemon<VersionLog, Wire>, Fail> {
+    let paths = paths(alloc)?;
+    let server = server(alloc)?;
+    match Daemon::open(alloc, PLAN, NAMES, server, paths, stage) {
         Ok(daemon) => Ok(daemon),
         Err(_) => Err(Fail::from("it does not start")),
     }
 }
 
-/// So many turns.
-fn turned(
-    daemon: &mut Daemon<VersionLog, Wire>,
-    stage: &mut Stage,
-    turns: u32,
-) -> Result<(), Fail> {
-    for _turn in 0..turns {
+/// Whether so many turns go well.
+fn turns(daemon: &mut Daemon<VersionLog, Wire>, stage: &mut Stage, count: u32) -> bool {
+    for _turn in 0..count {
         if daemon.turn(stage).is_err() {
-            return Err(Fail::from("a turn failed"));
+            return false;
         }
     }
-    Ok(())
+    true
 }
 
-fn is_log(stage: &Stage, text: &str) -> bool {
-    stage.log.as_slice() == text.as_bytes()
+/// Whether a step goes as it has to.
+fn goes(daemon: &mut Daemon<VersionLog, Wire>, stage: &mut Stage, step: &Step) -> bool {
+    match step {
+        Step::Writes(text) => stage.write(text),
+        Step::Comes { is_closed } => return stage.connect(*is_closed).is_ok(),
+        Step::Turns(count) => return turns(daemon, stage, *count),
+        Step::Serves(count) => return daemon.server().clients() == *count,
+        Step::Has(router, units) => return stage.has_got(*router, bytes(units).as_slice()),
+    }
+    true
+}
+
+/// Goes through steps.
+fn go_on<R: Abort>(
+    rt: &R,
+    daemon: &mut Daemon<VersionLog, Wire>,
+    stage: &mut Stage,
+    steps: &[Step],
+) {
+    for (place, step) in steps.iter().enumerate() {
+        assert!(rt; goes(daemon, stage, step), "step {place}");
+    }
+}
+
+/// Plays steps at a daemon that follows the list, which has the first text, and compares its log.
+fn play<R: AllocGlobal + Abort>(rt: &R, steps: &[Step], log: &str) -> Result<(), Fail> {
+    let mut stage = Stage::new(rt.alloc(), EVENING, ONE);
+    let mut daemon = opened(rt.alloc(), &mut stage)?;
+    go_on(rt, &mut daemon, &mut stage, steps);
+    assert!(rt; stage.log.as_slice() == log.as_bytes());
+    Ok(())
 }
 
 /// A router has the table, is notified of the next list, and of no list that cannot be taken.
-#[test]
-fn follows_a_list(rt: HostRuntime) -> Result<(), Fail> {
-    let alloc = rt.alloc();
-    let mut stage = Stage::new(alloc, EVENING);
-    stage.write("list.json", Some(ONE))?;
-    let mut daemon = opened(alloc, PLAN, &mut stage)?;
-    let input = shared(alloc, bytes("0102000000000008").as_slice())?;
-    let output = shared(alloc, b"")?;
-    stage.connect(wire(&input, &output, false)?)?;
-    turned(&mut daemon, &mut stage, 6)?;
-    let table = bytes(
-        "0103123400000008010400000000001401181800c00002000000fbf001071234000000180000000500000e100000025800001c20",
-    );
-    assert!(rt; is_list(&output, table.as_slice()));
-    stage.write("list.json", Some("[{"))?;
-    turned(&mut daemon, &mut stage, 3)?;
-    stage.write("list.json", Some(TWO))?;
-    turned(&mut daemon, &mut stage, 3)?;
-    let notified = bytes(
-        "0103123400000008010400000000001401181800c00002000000fbf001071234000000180000000500000e100000025800001c20010012340000000c00000006",
-    );
-    assert!(rt; is_list(&output, notified.as_slice()));
-    let told =
-        "2026-11-25T18:40:01Z published session=4660 serial=5 announced=1 withdrawn=0 records=1 ms=0\n\
-        2026-11-25T18:40:01Z ready\n\
-        2026-11-25T18:40:01Z client-came address=192.0.2.1:179\n\
-        2026-11-25T18:45:00Z refused file=list.json reason=\"not JSON (fault 1)\"\n\
-        2026-11-25T18:47:00Z taken file=list.json\n\
-        2026-11-25T18:47:00Z published session=4660 serial=6 announced=1 withdrawn=1 records=1 ms=0\n";
-    assert!(rt; is_log(&stage, told));
-    Ok(())
-}
+const FOLLOWS: &[Step] = &[
+    Step::Comes { is_closed: false },
+    Step::Turns(6),
+    Step::Has(0, ANSWER),
+    Step::Writes("[{"),
+    Step::Turns(3),
+    Step::Writes(TWO),
+    Step::Turns(3),
+    Step::Has(
+        0,
+        "01 03 1234 00000008 | 01 04 0000 00000014 01 18 18 00 c0000200 0000fbf0 | 01 07 1234 00000018 00000005 00000e10 00000258 00001c20
+        | 01 00 1234 0000000c 00000006",
+    ),
+];
+
+const FOLLOWS_LOG: &str =
+    "2026-11-25T18:40:01Z published session=4660 serial=5 announced=1 withdrawn=0 records=1 ms=0\n\
+    2026-11-25T18:40:01Z ready\n\
+    2026-11-25T18:40:01Z client-came address=192.0.2.1:179\n\
+    2026-11-25T18:45:00Z refused file=list.json reason=\"not JSON (fault 1)\"\n\
+    2026-11-25T18:47:00Z taken file=list.json\n\
+    2026-11-25T18:47:00Z published session=4660 serial=6 announced=1 withdrawn=1 records=1 ms=0\n";
 
 /// A router that takes nothing is closed after the time that is said, and one more than may be there at once; another is served.
+const CLOSES: &[Step] = &[
+    Step::Turns(2),
+    Step::Comes { is_closed: true },
+    Step::Comes { is_closed: false },
+    Step::Comes { is_closed: false },
+    Step::Turns(2),
+    Step::Serves(2),
+    Step::Turns(40),
+    Step::Serves(1),
+    Step::Has(0, ""),
+    Step::Has(1, ANSWER),
+    Step::Has(2, ""),
+];
+
+const CLOSES_LOG: &str =
+    "2026-11-25T18:40:01Z published session=4660 serial=5 announced=1 withdrawn=0 records=1 ms=0\n\
+    2026-11-25T18:40:01Z ready\n\
+    2026-11-25T18:40:01Z client-came address=192.0.2.1:179\n\
+    2026-11-25T18:40:01Z client-came address=192.0.2.1:179\n\
+    2026-11-25T18:40:01Z full address=192.0.2.1:179 clients=2\n\
+    2026-11-25T18:40:31Z stalled address=192.0.2.1:179\n\
+    2026-11-25T18:40:31Z client-gone address=192.0.2.1:179 why=stalled version=1 read=8 written=0 seconds=30\n";
+
+#[test]
+fn follows_a_list(rt: HostRuntime) -> Result<(), Fail> {
+    play(&rt, FOLLOWS, FOLLOWS_LOG)
+}
+
 #[test]
 fn closes_who_takes_nothing(rt: HostRuntime) -> Result<(), Fail> {
-    let alloc = rt.alloc();
-    let mut stage = Stage::new(alloc, EVENING);
-    stage.write("list.json", Some(ONE))?;
-    let mut daemon = opened(alloc, PLAN, &mut stage)?;
-    turned(&mut daemon, &mut stage, 2)?;
-    let input = shared(alloc, bytes("0102000000000008").as_slice())?;
-    let (lost, output) = (shared(alloc, b"")?, shared(alloc, b"")?);
-    for is_closed in [true, false, false] {
-        stage.connect(wire(&input, &output, is_closed)?)?;
-    }
-    turned(&mut daemon, &mut stage, 2)?;
-    assert!(rt; daemon.server().clients() == 2);
-    turned(&mut daemon, &mut stage, 40)?;
-    assert!(rt; daemon.server().clients() == 1);
-    assert!(rt; is_list(&lost, b""));
-    let told =
-        "2026-11-25T18:40:01Z published session=4660 serial=5 announced=1 withdrawn=0 records=1 ms=0\n\
-        2026-11-25T18:40:01Z ready\n\
-        2026-11-25T18:40:01Z client-came address=192.0.2.1:179\n\
-        2026-11-25T18:40:01Z client-came address=192.0.2.1:179\n\
-        2026-11-25T18:40:01Z full address=192.0.2.1:179 clients=2\n\
-        2026-11-25T18:40:31Z stalled address=192.0.2.1:179\n\
-        2026-11-25T18:40:31Z client-gone address=192.0.2.1:179 why=stalled version=1 read=8 written=0 seconds=30\n";
-    assert!(rt; is_log(&stage, told));
-    Ok(())
+    play(&rt, CLOSES, CLOSES_LOG)
 }

@@ -7,29 +7,31 @@ use std::test::Fail;
 /// 2026-11-25T18:40:00Z.
 const MOMENT: u64 = 1_795_632_000;
 
-/// The line of an event.
-fn line_of(alloc: Global, form: LogForm, seconds: u64, event: &Event<'_>) -> Result<Vec<u8>, Fail> {
-    let mut line = Vec::new(alloc);
-    write_event(&mut line, form, seconds, event)?;
-    Ok(line)
+/// Whether this is the line of an event.
+fn is_line(
+    alloc: Global,
+    form: LogForm,
+    seconds: u64,
+    event: &Event<'_>,
+    line: &str,
+) -> Result<bool, Fail> {
+    let mut told = Vec::new(alloc);
+    write_event(&mut told, form, seconds, event)?;
+    Ok(told.as_slice() == line.as_bytes())
 }
 
-/// Whether an event is logged so at 2026-11-25T18:40:00Z, in both forms: by a word, and by values, which stand behind the time and the word.
-fn tells(
-    alloc: Global,
-    event: &Event<'_>,
-    word: &str,
-    plain: &str,
-    json: &str,
-) -> Result<bool, Fail> {
-    let told = format!(in alloc; "2026-11-25T18:40:00Z {word}{plain}\n")?;
-    let object = format!(in alloc;
-        "{{\"time\":\"2026-11-25T18:40:00Z\",\"event\":\"{word}\"{json}}}\n"
+/// Whether an event is logged so at 2026-11-25T18:40:00Z: by a word, and by values, which stand behind the time and the word.
+fn is_plain(alloc: Global, event: &Event<'_>, word: &str, values: &str) -> Result<bool, Fail> {
+    let line = format!(in alloc; "2026-11-25T18:40:00Z {word}{values}\n")?;
+    is_line(alloc, LogForm::Text, MOMENT, event, line.as_str())
+}
+
+/// The same as JSON.
+fn is_object(alloc: Global, event: &Event<'_>, word: &str, values: &str) -> Result<bool, Fail> {
+    let line = format!(in alloc;
+        "{{\"time\":\"2026-11-25T18:40:00Z\",\"event\":\"{word}\"{values}}}\n"
     )?;
-    Ok(
-        line_of(alloc, LogForm::Text, MOMENT, event)?.as_slice() == told.as_bytes()
-            && line_of(alloc, LogForm::Json, MOMENT, event)?.as_slice() == object.as_bytes(),
-    )
+    is_line(alloc, LogForm::Json, MOMENT, event, line.as_str())
 }
 
 fn address() -> SocketAddr {
@@ -222,10 +224,10 @@ fn client_events() -> [Told; 7] {
     ]
 }
 
-/// Whether each of these events is logged as it should be.
+/// Whether each of these events is logged as it should be, in both forms.
 fn all_are_told(alloc: Global, events: &[Told]) -> Result<bool, Fail> {
     for (event, word, plain, json) in events {
-        if !tells(alloc, event, word, plain, json)? {
+        if !is_plain(alloc, event, word, plain)? || !is_object(alloc, event, word, json)? {
             return Ok(false);
         }
     }
@@ -253,11 +255,18 @@ const TIMES: &[(u64, &str)] = &[
     (18_446_744_073_709_551_615, "9999-12-31T23:59:59Z ready\n"),
 ];
 
+/// Whether each of these times stands in the line of an event.
+fn all_times_are_told(alloc: Global, times: &[(u64, &str)]) -> Result<bool, Fail> {
+    for &(seconds, line) in times {
+        if !is_line(alloc, LogForm::Text, seconds, &Event::Ready, line)? {
+            return Ok(false);
+        }
+    }
+    Ok(true)
+}
+
 #[test]
 fn times_are_told(rt: HostRuntime) -> Result<(), Fail> {
-    for &(seconds, line) in TIMES {
-        let told = line_of(rt.alloc(), LogForm::Text, seconds, &Event::Ready)?;
-        assert!(rt; told.as_slice() == line.as_bytes());
-    }
+    assert!(rt; all_times_are_told(rt.alloc(), TIMES)?);
     Ok(())
 }

@@ -1,7 +1,7 @@
 //! The moments of a clock that counts seconds.
 use daemon_parts::moment_at;
 use der_lite::Moment;
-use std::test::Fail;
+use std::process::Abort;
 
 /// Seconds since 1970, and the text of their moment.
 const MOMENTS: &[(u64, &str)] = &[
@@ -17,14 +17,22 @@ const MOMENTS: &[(u64, &str)] = &[
     (253_402_300_799, "99991231235959Z"),
 ];
 
-#[test]
-fn moments_of_seconds(rt: HostRuntime) -> Result<(), Fail> {
-    for &(seconds, text) in MOMENTS {
-        let moment = moment_at(seconds);
-        assert!(rt; moment.is_some());
-        assert!(rt; moment == Moment::parse(text), "{seconds}");
+/// Whether the moment of these seconds has this text.
+fn is_moment(seconds: u64, text: &str) -> bool {
+    let moment = moment_at(seconds);
+    moment.is_some() && moment == Moment::parse(text)
+}
+
+/// Checks each moment.
+fn expect_moments<R: Abort>(rt: &R, moments: &[(u64, &str)]) {
+    for &(seconds, text) in moments {
+        assert!(rt; is_moment(seconds, text), "{seconds}");
     }
+}
+
+#[test]
+fn moments_of_seconds(rt: HostRuntime) {
+    expect_moments(&rt, MOMENTS);
     assert!(rt; moment_at(253_402_300_800).is_none());
     assert!(rt; moment_at(18_446_744_073_709_551_615).is_none());
-    Ok(())
 }

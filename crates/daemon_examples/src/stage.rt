@@ -1,5 +1,5 @@
 //! Sockets, files, time and log in memory.
-use crate::wires::Wire;
+use crate::wires::{Shared, Wire, is_list, shared, wire};
 use daemon_parts::{Event, LogForm, write_event};
 use payload_commands::Directory;
 use rtr_daemon::{Accepted, Disk, Journal, Ports, Ready, Stamp, Time};
@@ -9,88 +9,67 @@ use std::io;
 use std::io::ErrorKind;
 use std::net::SocketAddr;
 
-/// A file: its path, what it holds, if it is there, and how often it was written.
-#[derive(Debug, Drop)]
-struct Sheet {
-    path: String,
-    bytes: Option<Vec<u8>>,
-    times: u64,
-}
+/// The path of the one file.
+pub(crate) const LIST: &str = "list.json";
 
 /// The surroundings of a daemon, in memory. Waiting makes time pass.
-#[derive(Debug, Drop)]
+#[derive(Drop)]
 pub(crate) struct Stage {
     alloc: Global,
-    sheets: Vec<Sheet>,
+    /// What the list holds, and how often it was written.
+    list: &'static str,
+    times: u64,
+    /// The moment at the beginning in seconds since 1970, and the milliseconds that have passed.
     began: u64,
     millis: u64,
+    /// The lines of routers that were not taken yet, and how many have come that were not told of.
     arriving: VecDeque<Wire>,
-    ready: VecDeque<Ready>,
+    untold: usize,
+    /// How many lines were taken.
     lines: usize,
+    /// What each router has got.
+    got: Vec<Shared>,
     pub(crate) log: Vec<u8>,
 }
 
 impl Stage {
-    /// A stage at a moment in seconds since 1970.
-    pub(crate) fn new(alloc: Global, seconds: u64) -> Stage {
+    /// A stage at a moment in seconds since 1970, whose list has this text.
+    pub(crate) fn new(alloc: Global, began: u64, list: &'static str) -> Stage {
         Stage {
             alloc,
-            sheets: Vec::new(alloc),
-            began: seconds,
+            list,
+            times: 0,
+            began,
             millis: 0,
             arriving: VecDeque::new(alloc),
-            ready: VecDeque::new(alloc),
+            untold: 0,
             lines: 0,
+            got: Vec::new(alloc),
             log: Vec::new(alloc),
         }
     }
 
-    /// Writes a file; none takes it away.
-    pub(crate) fn write(&mut self, path: &str, text: Option<&str>) -> Result<(), AllocError> {
-        let bytes = match text {
-            None => None,
-            Some(text) => {
-                let mut bytes = Vec::new(self.alloc);
-                bytes.extend_from_slice(text.as_bytes())?;
-                Some(bytes)
-            }
-        };
-        for sheet in self.sheets.iter_mut() {
-            if sheet.path.as_str() == path {
-                sheet.bytes = bytes;
-                sheet.times = sheet.times.saturating_add(1);
-                return Ok(());
-            }
+    /// Writes the list anew.
+    pub(crate) fn write(&mut self, list: &'static str) {
+        self.list = list;
+        self.times = self.times.saturating_add(1);
+    }
+
+    /// A router connects. One that is closed takes nothing.
+    pub(crate) fn connect(&mut self, is_closed: bool) -> Result<(), AllocError> {
+        let output = shared(self.alloc)?;
+        self.arriving.push_back(wire(&output, is_closed)?)?;
+        self.got.push(output)?;
+        self.untold = self.untold.saturating_add(1);
+        Ok(())
+    }
+
+    /// Whether the router of this place among those that have come has got these bytes and no others.
+    pub(crate) fn has_got(&self, router: usize, bytes: &[u8]) -> bool {
+        match self.got.get(router) {
+            None => false,
+            Some(output) => is_list(output, bytes),
         }
-        let path = String::from_str(self.alloc, path)?;
-        self.sheets.push(Sheet {
-            path,
-            bytes,
-            times: 0,
-        })?;
-        Ok(())
-    }
-
-    /// A router connects.
-    pub(crate) fn connect(&mut self, wire: Wire) -> Result<(), AllocError> {
-        self.arriving.push_back(wire)?;
-        self.ready.push_back(Ready::Gate(0))?;
-        Ok(())
-    }
-
-    /// The line of this number, counted from 0, is ready.
-    pub(crate) fn touch(&mut self, line: usize) -> Result<(), AllocError> {
-        self.ready.push_back(Ready::Line(line))?;
-        Ok(())
-    }
-
-    fn sheet(&self, path: &str) -> io::Result<&Sheet> {
-        for sheet in self.sheets.iter() {
-            if sheet.path.as_str() == path {
-                return Ok(sheet);
-            }
-        }
-        Err(io::Error::from(ErrorKind::NotFound))
     }
 }
 
@@ -112,27 +91,24 @@ impl Journal for Stage {
 
 impl Disk for Stage {
     fn stamp(&mut self, path: &str) -> io::Result<Stamp> {
-        let sheet = self.sheet(path)?;
-        match &sheet.bytes {
-            None => Err(io::Error::from(ErrorKind::NotFound)),
-            Some(bytes) => Ok(Stamp {
-                len: bytes.len() as u64,
-                inode: sheet.times,
-                modified: (0, 0),
-                changed: (0, 0),
-            }),
+        if path != LIST {
+            return Err(io::Error::from(ErrorKind::NotFound));
         }
+        Ok(Stamp {
+            len: self.list.len() as u64,
+            inode: self.times,
+            modified: (0, 0),
+            changed: (0, 0),
+        })
     }
 
     fn read(&mut self, path: &str) -> io::Result<Vec<u8>> {
-        let sheet = self.sheet(path)?;
-        match &sheet.bytes {
-            None => Err(io::Error::from(ErrorKind::NotFound)),
-            Some(bytes) => {
-                let copy = bytes.clone()?;
-                Ok(copy)
-            }
+        if path != LIST {
+            return Err(io::Error::from(ErrorKind::NotFound));
         }
+        let mut bytes = Vec::new(self.alloc);
+        bytes.extend_from_slice(self.list.as_bytes())?;
+        Ok(bytes)
     }
 
     fn directory<'a>(&mut self, _path: &'a str) -> io::Result<Directory<'a>> {
@@ -142,29 +118,30 @@ impl Disk for Stage {
 
 impl Ports<Wire> for Stage {
     fn wait(&mut self, millis: u64) -> io::Result<()> {
-        if self.ready.is_empty() {
+        if self.untold == 0 {
             self.millis = self.millis.saturating_add(millis);
         }
         Ok(())
     }
 
     fn next(&mut self) -> Option<Ready> {
-        self.ready.pop_front()
+        if self.untold == 0 {
+            return None;
+        }
+        self.untold -= 1;
+        Some(Ready::Gate(0))
     }
 
     fn accept(&mut self, _gate: usize) -> Accepted<Wire> {
-        let address = SocketAddr::from(([192, 0, 2, 1], 179));
-        match self.arriving.pop_front() {
-            None => Accepted::Waits,
-            Some(line) => {
-                let number = self.lines;
-                self.lines = number.saturating_add(1);
-                Accepted::Line {
-                    line,
-                    number,
-                    address,
-                }
-            }
+        let Some(line) = self.arriving.pop_front() else {
+            return Accepted::Waits;
+        };
+        let number = self.lines;
+        self.lines = number.saturating_add(1);
+        Accepted::Line {
+            line,
+            number,
+            address: SocketAddr::from(([192, 0, 2, 1], 179)),
         }
     }
 }

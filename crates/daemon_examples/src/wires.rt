@@ -1,19 +1,17 @@
 //! Lines in memory.
 use rtr_server::Duplex;
-use std::alloc::Global;
+use std::alloc::{AllocError, Global};
 use std::cell::RefCell;
 use std::io;
 use std::io::{ErrorKind, Read, Write};
 use std::rc::Rc;
-use std::test::Fail;
 
 /// Bytes that the test and a line hold both.
 pub(crate) type Shared = Rc<RefCell<Vec<u8>>>;
 
-pub(crate) fn shared(alloc: Global, bytes: &[u8]) -> Result<Shared, Fail> {
-    let mut list = Vec::new(alloc);
-    list.extend_from_slice(bytes)?;
-    Ok(Rc::new(alloc, RefCell::new(list))?)
+/// No bytes yet.
+pub(crate) fn shared(alloc: Global) -> Result<Shared, AllocError> {
+    Ok(Rc::new(alloc, RefCell::new(Vec::new(alloc)))?)
 }
 
 /// Whether it has these bytes and no others.
@@ -25,32 +23,25 @@ pub(crate) fn is_list(list: &Shared, bytes: &[u8]) -> bool {
 }
 
 /// What comes of a router: where nothing is left it waits.
-#[derive(Debug, Drop)]
+#[derive(Drop)]
 pub(crate) struct Feed {
-    list: Shared,
-    place: usize,
+    left: &'static [u8],
 }
 
 impl Read for Feed {
     fn read(&mut self, buf: &mut [u8]) -> io::Result<usize> {
-        match self.list.try_borrow() {
-            Err(_) => Err(io::Error::from(ErrorKind::Other)),
-            Ok(list) => {
-                let bytes = list.as_slice();
-                let mut rest = &bytes[self.place.min(bytes.len())..];
-                if rest.is_empty() {
-                    return Err(io::Error::from(ErrorKind::WouldBlock));
-                }
-                let count = rest.read(buf)?;
-                self.place = self.place.saturating_add(count);
-                Ok(count)
-            }
+        let mut left = self.left;
+        if left.is_empty() {
+            return Err(io::Error::from(ErrorKind::WouldBlock));
         }
+        let count = left.read(buf)?;
+        self.left = left;
+        Ok(count)
     }
 }
 
 /// What goes to it. One that is closed takes nothing, and would wait.
-#[derive(Debug, Drop)]
+#[derive(Drop)]
 pub(crate) struct Sink {
     list: Shared,
     is_closed: bool,
@@ -79,13 +70,13 @@ impl Write for Sink {
 
 pub(crate) type Wire = Duplex<Feed, Sink>;
 
-/// A line on which what `input` has comes, and what goes out stands in `output`; a closed one takes nothing.
-pub(crate) fn wire(input: &Shared, output: &Shared, is_closed: bool) -> Result<Wire, Fail> {
+/// A Reset Query of version 1 (RFC 8210 section 5.4).
+const RESET_QUERY: &[u8] = b"\x01\x02\x00\x00\x00\x00\x00\x08";
+
+/// The line of a router that asks for all. What goes out stands in `output`; a closed one takes nothing.
+pub(crate) fn wire(output: &Shared, is_closed: bool) -> Result<Wire, AllocError> {
     Ok(Duplex {
-        input: Feed {
-            list: input.clone()?,
-            place: 0,
-        },
+        input: Feed { left: RESET_QUERY },
         output: Sink {
             list: output.clone()?,
             is_closed,

@@ -1,20 +1,35 @@
 //! The words of the command line: every option, what stands where it is left out, and what is refused.
-use daemon_words::{Asked, read_words};
-use std::alloc::Global;
+use daemon_words::{Asked, Settings, WordsFault, read_words};
+use std::alloc::{AllocGlobal, Global};
+use std::process::Abort;
 use std::test::Fail;
 
-/// What the words of a line ask for, which have blanks between them, as `Debug` shows it, or why they ask for nothing.
-fn answer_to(alloc: Global, line: &str) -> Result<String, Fail> {
+/// The words of a line, which have blanks between them.
+fn words_of(alloc: Global, line: &str) -> Result<Vec<String>, Fail> {
     let mut words = Vec::new(alloc);
     for word in line.split_whitespace() {
         words.push(String::from_str(alloc, word)?)?;
     }
-    Ok(match read_words(alloc, words.as_slice()) {
-        Ok(Asked::Serve(settings)) => format!(in alloc; "{settings:?}")?,
-        Ok(Asked::Help(text)) => text,
-        Ok(Asked::Version(text)) => text,
-        Err(fault) => format!(in alloc; "{fault}")?,
-    })
+    Ok(words)
+}
+
+fn shown(alloc: Global, settings: &Settings) -> Result<String, Fail> {
+    Ok(format!(in alloc; "{settings:?}")?)
+}
+
+fn told(alloc: Global, fault: &WordsFault) -> Result<String, Fail> {
+    Ok(format!(in alloc; "{fault}")?)
+}
+
+/// What the words of a line ask for, as `Debug` shows it, or why they ask for nothing.
+fn answer_to(alloc: Global, line: &str) -> Result<String, Fail> {
+    let words = words_of(alloc, line)?;
+    match read_words(alloc, words.as_slice()) {
+        Ok(Asked::Serve(settings)) => shown(alloc, &settings),
+        Ok(Asked::Help(text)) => Ok(text),
+        Ok(Asked::Version(text)) => Ok(text),
+        Err(fault) => told(alloc, &fault),
+    }
 }
 
 const DEFAULTS: &str =
@@ -79,17 +94,22 @@ const LINES: &[(&str, &str)] = &[
     ("-V", "rpkirtrd 1.0.0"),
 ];
 
-#[test]
-fn lines_are_read(rt: HostRuntime) -> Result<(), Fail> {
-    for &(line, part) in LINES {
+/// Checks what each line asks for.
+fn expect_parts<R: AllocGlobal + Abort>(rt: &R, lines: &[(&str, &str)]) -> Result<(), Fail> {
+    for &(line, part) in lines {
         let told = answer_to(rt.alloc(), line)?;
         assert!(rt; told.as_str().contains(part), "{line}: {told}");
     }
     Ok(())
 }
 
-/// Lines that ask for nothing, and what is said of them.
-const REFUSED: &[(&str, &str)] = &[
+#[test]
+fn lines_are_read(rt: HostRuntime) -> Result<(), Fail> {
+    expect_parts(&rt, LINES)
+}
+
+/// Lines that ask for nothing, and what is said of them: of words that are unknown, missing, too many, or do not go together.
+const REFUSED_WORDS: &[(&str, &str)] = &[
     (
         "",
         "at least one of --vrps and --points is required, for something to serve",
@@ -98,6 +118,65 @@ const REFUSED: &[(&str, &str)] = &[
         "--slurm s",
         "at least one of --vrps and --points is required, for something to serve",
     ),
+    (
+        "--vrps a --keep 1 --keep 2",
+        "the argument '--keep <NUMBER>' cannot be used multiple times",
+    ),
+    (
+        "--vrps a --once --once",
+        "the argument '--once' cannot be used multiple times",
+    ),
+    (
+        "--vrps a --slurm s --slurm s",
+        "the argument '--slurm <FILE>' cannot be used multiple times",
+    ),
+    ("--vrps=", "--vrps \"\": a path is required"),
+    ("--vrps a --points=", "--points \"\": a path is required"),
+    ("--vrps a --slurm=", "--slurm \"\": a path is required"),
+    (
+        "--vrps a --retry 7200",
+        "--expire 7200: a number above --refresh (3600) and --retry (7200) is required",
+    ),
+    (
+        "--vrps a --refresh 7200",
+        "--expire 7200: a number above --refresh (7200) and --retry (600) is required",
+    ),
+    (
+        "--vrps a --stop-when-old",
+        "--max-age is required beside --stop-when-old, as nothing is old without it",
+    ),
+    (
+        "--vrps a --log xml",
+        "--log \"xml\": text or json is required",
+    ),
+    (
+        "--vrps",
+        "a value is required for '--vrps <FILE>' but none was supplied",
+    ),
+    (
+        "--vrps --points d",
+        "a value is required for '--vrps <FILE>' but none was supplied",
+    ),
+    (
+        "--vrps a --keep --once",
+        "a value is required for '--keep <NUMBER>' but none was supplied",
+    ),
+    (
+        "--vrps a --vrp b",
+        "unexpected argument '--vrp' found\n\n  tip: a similar argument exists: '--vrps'",
+    ),
+    ("--vrps a -x", "unexpected argument '-x' found"),
+    (
+        "--vrps a --once=yes",
+        "unexpected value 'yes' for '--once' found; no more were expected",
+    ),
+    ("--vrps a -- b", "unexpected argument 'b' found"),
+    ("--vrps a b", "unexpected argument 'b' found"),
+    ("--vrps a --reload", "unexpected argument '--reload' found"),
+];
+
+/// The same of numbers: of what is kept, and of sessions and serials.
+const REFUSED_NUMBERS: &[(&str, &str)] = &[
     (
         "--vrps a --keep 0",
         "--keep \"0\": a number from 1 to 65536 is required",
@@ -147,21 +226,6 @@ const REFUSED: &[(&str, &str)] = &[
         "--keep \"18446744073709551616\": a number from 1 to 65536 is required",
     ),
     (
-        "--vrps a --keep 1 --keep 2",
-        "the argument '--keep <NUMBER>' cannot be used multiple times",
-    ),
-    (
-        "--vrps a --once --once",
-        "the argument '--once' cannot be used multiple times",
-    ),
-    (
-        "--vrps a --slurm s --slurm s",
-        "the argument '--slurm <FILE>' cannot be used multiple times",
-    ),
-    ("--vrps=", "--vrps \"\": a path is required"),
-    ("--vrps a --points=", "--points \"\": a path is required"),
-    ("--vrps a --slurm=", "--slurm \"\": a path is required"),
-    (
         "--vrps a --session 65536",
         "--session \"65536\": a number from 0 to 65535 is required",
     ),
@@ -173,6 +237,10 @@ const REFUSED: &[(&str, &str)] = &[
         "--vrps a --start 4294967296",
         "--start \"4294967296\": a number from 0 to 4294967295 is required",
     ),
+];
+
+/// The same of intervals, and of how many clients there may be.
+const REFUSED_BOUNDS: &[(&str, &str)] = &[
     (
         "--vrps a --refresh 86401",
         "--refresh \"86401\": a number from 1 to 86400 is required",
@@ -198,24 +266,12 @@ const REFUSED: &[(&str, &str)] = &[
         "--expire \"172801\": a number from 600 to 172800 is required",
     ),
     (
-        "--vrps a --retry 7200",
-        "--expire 7200: a number above --refresh (3600) and --retry (7200) is required",
-    ),
-    (
-        "--vrps a --refresh 7200",
-        "--expire 7200: a number above --refresh (7200) and --retry (600) is required",
-    ),
-    (
         "--vrps a --check 0",
         "--check \"0\": a number from 1 to 4294967295 is required",
     ),
     (
         "--vrps a --max-age 0",
         "--max-age \"0\": a number from 1 to 4294967295 is required",
-    ),
-    (
-        "--vrps a --stop-when-old",
-        "--max-age is required beside --stop-when-old, as nothing is old without it",
     ),
     (
         "--vrps a --clients 0",
@@ -241,6 +297,10 @@ const REFUSED: &[(&str, &str)] = &[
         "--vrps a --stall 4294967296",
         "--stall \"4294967296\": a number from 1 to 4294967295 is required",
     ),
+];
+
+/// The same of addresses.
+const REFUSED_ADDRESSES: &[(&str, &str)] = &[
     (
         "--vrps a --listen localhost:323",
         "--listen \"localhost:323\": an address with a port, as 192.0.2.1:3323 or [2001:db8::1]:3323, is required",
@@ -289,43 +349,23 @@ const REFUSED: &[(&str, &str)] = &[
         "--vrps a --status 9323",
         "--status \"9323\": an address with a port, as 192.0.2.1:3323 or [2001:db8::1]:3323, is required",
     ),
-    (
-        "--vrps a --log xml",
-        "--log \"xml\": text or json is required",
-    ),
-    (
-        "--vrps",
-        "a value is required for '--vrps <FILE>' but none was supplied",
-    ),
-    (
-        "--vrps --points d",
-        "a value is required for '--vrps <FILE>' but none was supplied",
-    ),
-    (
-        "--vrps a --keep --once",
-        "a value is required for '--keep <NUMBER>' but none was supplied",
-    ),
-    (
-        "--vrps a --vrp b",
-        "unexpected argument '--vrp' found\n\n  tip: a similar argument exists: '--vrps'",
-    ),
-    ("--vrps a -x", "unexpected argument '-x' found"),
-    (
-        "--vrps a --once=yes",
-        "unexpected value 'yes' for '--once' found; no more were expected",
-    ),
-    ("--vrps a -- b", "unexpected argument 'b' found"),
-    ("--vrps a b", "unexpected argument 'b' found"),
-    ("--vrps a --reload", "unexpected argument '--reload' found"),
 ];
 
-#[test]
-fn lines_are_refused(rt: HostRuntime) -> Result<(), Fail> {
-    for &(line, reason) in REFUSED {
+/// Checks why each line is refused.
+fn expect_reasons<R: AllocGlobal + Abort>(rt: &R, lines: &[(&str, &str)]) -> Result<(), Fail> {
+    for &(line, reason) in lines {
         let told = answer_to(rt.alloc(), line)?;
         assert!(rt; told.as_str() == reason, "{line}: {told}");
     }
     Ok(())
+}
+
+#[test]
+fn lines_are_refused(rt: HostRuntime) -> Result<(), Fail> {
+    expect_reasons(&rt, REFUSED_WORDS)?;
+    expect_reasons(&rt, REFUSED_NUMBERS)?;
+    expect_reasons(&rt, REFUSED_BOUNDS)?;
+    expect_reasons(&rt, REFUSED_ADDRESSES)
 }
 
 /// The options with what stands behind them, and what the help says of their bounds and of what stands in their place.
@@ -388,13 +428,22 @@ fn said_of(alloc: Global, help: &str, option: &str) -> Result<String, Fail> {
     Ok(said)
 }
 
+/// Checks what the help says of each option.
+fn expect_said<R: AllocGlobal + Abort>(
+    rt: &R,
+    help: &str,
+    options: &[(&str, &str)],
+) -> Result<(), Fail> {
+    for &(option, part) in options {
+        let said = said_of(rt.alloc(), help, option)?;
+        assert!(rt; said.as_str().contains(part), "{option}: {said}");
+    }
+    Ok(())
+}
+
 #[test]
 fn help_names_each_option(rt: HostRuntime) -> Result<(), Fail> {
     let help = answer_to(rt.alloc(), "--help")?;
     assert!(rt; fits_a_screen(help.as_str()));
-    for &(option, part) in OPTIONS {
-        let said = said_of(rt.alloc(), help.as_str(), option)?;
-        assert!(rt; said.as_str().contains(part), "{option}: {said}");
-    }
-    Ok(())
+    expect_said(&rt, help.as_str(), OPTIONS)
 }
