@@ -8,7 +8,7 @@ use example_values::hex::bytes;
 use example_values::sets::V;
 use example_values::units::RESET_QUERY;
 use rtr_server::{Client, Moved, Server, Stream, Turn};
-use std::process::Abort;
+use std::alloc::Global;
 use std::test::Fail;
 use vrps::VersionLog;
 
@@ -73,23 +73,31 @@ fn turns_well(server: &mut Watched, client: Client, budget: u32) -> bool {
     }
 }
 
+/// A query on a line that takes seven bytes at a call.
+fn slow_line(alloc: Global) -> Result<Kept<Line>, Fail> {
+    let out = shared(alloc, &[])?;
+    let slow = Manner { size: 7, ..PLAIN };
+    Ok(Kept {
+        stream: line(alloc, bytes(RESET_QUERY).as_slice(), slow, &out)?,
+        answers: Vec::new(alloc),
+        is_lost: false,
+    })
+}
+
+/// Whether the first turn of a client goes well.
+fn is_bounded(alloc: Global, budget: u32) -> Result<bool, Fail> {
+    let stream = slow_line(alloc)?;
+    let mut server = Server::new(alloc, cache_of(alloc, &[V])?, 1);
+    match server.admit(stream) {
+        Err(_) => Err(Fail::from("not admitted")),
+        Ok(client) => Ok(turns_well(&mut server, client, budget)),
+    }
+}
+
 #[test]
 fn a_turn_makes_as_many_calls_as_it_may(rt: HostRuntime) -> Result<(), Fail> {
-    let alloc = rt.alloc();
     for budget in 0..16 {
-        let out = shared(alloc, &[])?;
-        let slow = Manner { size: 7, ..PLAIN };
-        let stream = line(alloc, bytes(RESET_QUERY).as_slice(), slow, &out)?;
-        let answers = Vec::new(alloc);
-        let mut server = Server::new(alloc, cache_of(alloc, &[V])?, 1);
-        match server.admit(Kept {
-            stream,
-            answers,
-            is_lost: false,
-        }) {
-            Err(_) => return Err(Fail::from("not admitted")),
-            Ok(client) => assert!(rt; turns_well(&mut server, client, budget)),
-        }
+        assert!(rt; is_bounded(rt.alloc(), budget)?);
     }
     Ok(())
 }

@@ -1,13 +1,13 @@
 //! One client whose line waits, is interrupted or fails at one call, and how clients come and go.
 use crate::lines::{
-    Manner, Memory, PLAIN, Shared, admitted, cache_of, is_front, is_list, len_of, line, shared,
+    Manner, Memory, PLAIN, Shared, client_of, is_front, is_list, len_of, line, server_of, shared,
 };
 use example_values::hex::bytes;
-use example_values::sets::{V, set_of};
+use example_values::sets::{Rows, V, set_of};
 use example_values::units::{ANSWER, RESET_QUERY};
 use rtr_pdu::{Kind, Version};
-use rtr_server::{AdmitFault, Carried, Client, Gone, Server, Turn};
-use std::alloc::Global;
+use rtr_server::{AdmitFault, Carried, Client, Gone, Turn};
+use std::alloc::{AllocGlobal, Global};
 use std::io::ErrorKind;
 use std::process::Abort;
 use std::test::Fail;
@@ -37,30 +37,43 @@ fn end_of(server: &mut Memory, client: Client, budget: u32) -> Option<Turn> {
 
 /// Two queries on a line of this manner, which then ends.
 fn served(alloc: Global, manner: Manner, out: &Shared) -> Result<Option<Turn>, Fail> {
-    let mut server = Server::new(alloc, cache_of(alloc, &[V])?, 1);
-    let line = line(alloc, bytes(TWO_QUERIES).as_slice(), manner, out)?;
-    let client = admitted(&mut server, line)?;
+    let mut server = server_of(alloc, &[V], 1)?;
+    let queries = bytes(TWO_QUERIES);
+    let client = client_of(&mut server, alloc, queries.as_slice(), manner, out)?;
     Ok(end_of(&mut server, client, 3))
+}
+
+/// Whether a line of this manner carries both answers whole.
+fn carries_all(alloc: Global, manner: Manner) -> Result<bool, Fail> {
+    let out = shared(alloc, &[])?;
+    let last = served(alloc, manner, &out)?;
+    Ok(last == Some(Turn::Gone(Gone::PeerClosed)) && is_list(&out, bytes(TWO_ANSWERS).as_slice()))
+}
+
+/// Whether a line of this manner fails, or is closed, and carries a beginning of both answers.
+fn carries_a_beginning(alloc: Global, manner: Manner) -> Result<bool, Fail> {
+    let out = shared(alloc, &[])?;
+    let last = served(alloc, manner, &out)?;
+    let failed = last == Some(Turn::Gone(Gone::ReadFailed))
+        || last == Some(Turn::Gone(Gone::WriteFailed))
+        || last == Some(Turn::Gone(Gone::PeerClosed));
+    Ok(failed && is_front(&out, bytes(TWO_ANSWERS).as_slice()))
 }
 
 #[test]
 fn a_line_that_waits_or_is_interrupted_at_any_call_carries_the_same(
     rt: HostRuntime,
 ) -> Result<(), Fail> {
-    let alloc = rt.alloc();
     for error in [ErrorKind::WouldBlock, ErrorKind::Interrupted] {
         for size in [1, 7, 64] {
             for bad_call in 0..30 {
-                let out = shared(alloc, &[])?;
                 let manner = Manner {
                     size,
                     bad_call,
                     error,
                     stays_open: false,
                 };
-                let last = served(alloc, manner, &out)?;
-                assert!(rt; last == Some(Turn::Gone(Gone::PeerClosed)));
-                assert!(rt; is_list(&out, bytes(TWO_ANSWERS).as_slice()));
+                assert!(rt; carries_all(rt.alloc(), manner)?);
             }
         }
     }
@@ -69,55 +82,82 @@ fn a_line_that_waits_or_is_interrupted_at_any_call_carries_the_same(
 
 #[test]
 fn a_line_that_fails_has_carried_a_beginning(rt: HostRuntime) -> Result<(), Fail> {
-    let alloc = rt.alloc();
     for size in [1, 7, 64] {
         for bad_call in 1..4 {
-            let out = shared(alloc, &[])?;
             let manner = Manner {
                 size,
                 bad_call,
                 error: ErrorKind::BrokenPipe,
                 stays_open: false,
             };
-            let last = served(alloc, manner, &out)?;
-            let failed = last == Some(Turn::Gone(Gone::ReadFailed))
-                || last == Some(Turn::Gone(Gone::WriteFailed))
-                || last == Some(Turn::Gone(Gone::PeerClosed));
-            assert!(rt; failed && is_front(&out, bytes(TWO_ANSWERS).as_slice()));
+            assert!(rt; carries_a_beginning(rt.alloc(), manner)?);
         }
     }
     Ok(())
 }
 
-#[test]
-fn clients_come_and_go(rt: HostRuntime) -> Result<(), Fail> {
-    let alloc = rt.alloc();
-    let out = shared(alloc, &[])?;
-    let query = bytes(RESET_QUERY);
-    let mut server = Server::new(alloc, cache_of(alloc, &[V])?, 2);
-    let first = admitted(&mut server, line(alloc, query.as_slice(), PLAIN, &out)?)?;
-    let second = admitted(&mut server, line(alloc, query.as_slice(), PLAIN, &out)?)?;
-    assert!(rt; first != second && server.clients() == 2);
-    assert!(rt; first.number() == 0 && second.number() == 1);
-    let third = server.admit(line(alloc, query.as_slice(), PLAIN, &out)?);
-    assert!(rt; third == Err(AdmitFault::TooManyClients));
-    assert!(rt; AdmitFault::TooManyClients.number() == 1 && AdmitFault::Memory.number() == 2);
+/// A client that asks for all.
+fn asking(server: &mut Memory, alloc: Global, out: &Shared) -> Result<Client, Fail> {
+    client_of(server, alloc, bytes(RESET_QUERY).as_slice(), PLAIN, out)
+}
+
+/// Whether there is no room for one more.
+fn is_full(server: &mut Memory, alloc: Global, out: &Shared) -> Result<bool, Fail> {
+    let line = line(alloc, bytes(RESET_QUERY).as_slice(), PLAIN, out)?;
+    Ok(server.admit(line) == Err(AdmitFault::TooManyClients))
+}
+
+/// Whether the first client goes, and the second stays.
+fn first_goes(server: &mut Memory, first: Client, second: Client) -> bool {
     server.drop_client(first);
-    assert!(rt; server.clients() == 1 && server.serve(first, 9) == None);
-    assert!(rt; server.stream(first).is_none() && server.stream(second).is_some());
-    let again = admitted(&mut server, line(alloc, query.as_slice(), PLAIN, &out)?)?;
-    assert!(rt; again == first && server.clients() == 2);
-    assert!(rt; server.serve(second, 0) == Some(Turn::Busy));
-    assert!(rt; server.version(second).is_none());
-    assert!(rt; server.serve(second, 99) == Some(Turn::WaitsToRead));
-    assert!(rt; is_list(&out, bytes(ANSWER).as_slice()));
-    assert!(rt; server.version(second) == Some(Version::V1));
+    server.clients() == 1
+        && server.serve(first, 9) == None
+        && server.stream(first).is_none()
+        && server.stream(second).is_some()
+}
+
+/// Whether a client that is served so often at first, which is too seldom, and then often enough, is answered, and all is counted.
+fn is_answered(server: &mut Memory, client: Client, out: &Shared) -> bool {
     let carried = Carried {
         read: 8,
         written: 52,
     };
-    assert!(rt; server.carried(second) == Some(carried));
+    server.serve(client, 0) == Some(Turn::Busy)
+        && server.version(client).is_none()
+        && server.serve(client, 99) == Some(Turn::WaitsToRead)
+        && is_list(out, bytes(ANSWER).as_slice())
+        && server.version(client) == Some(Version::V1)
+        && server.carried(client) == Some(carried)
+}
+
+/// Two clients come, the first goes, and a third has its number.
+fn come_and_go<R: AllocGlobal + Abort>(
+    rt: &R,
+    server: &mut Memory,
+    out: &Shared,
+) -> Result<(), Fail> {
+    let first = asking(server, rt.alloc(), out)?;
+    let second = asking(server, rt.alloc(), out)?;
+    assert!(rt; first != second && server.clients() == 2);
+    assert!(rt; first.number() == 0 && second.number() == 1);
+    assert!(rt; is_full(server, rt.alloc(), out)?);
+    assert!(rt; first_goes(server, first, second));
+    let again = asking(server, rt.alloc(), out)?;
+    assert!(rt; again == first && server.clients() == 2);
+    assert!(rt; is_answered(server, second, out));
     Ok(())
+}
+
+#[test]
+fn clients_come_and_go(rt: HostRuntime) -> Result<(), Fail> {
+    let out = shared(rt.alloc(), &[])?;
+    let mut server = server_of(rt.alloc(), &[V], 2)?;
+    come_and_go(&rt, &mut server, &out)
+}
+
+#[test]
+fn each_fault_has_its_number(rt: HostRuntime) {
+    assert!(rt; AdmitFault::TooManyClients.number() == 1 && AdmitFault::Memory.number() == 2);
 }
 
 /// How many PDUs of a type came from a client, and how many were sent to it.
@@ -127,35 +167,36 @@ fn counts(server: &Memory, client: Client, kind: Kind) -> Option<(u64, u64)> {
     Some((received, sent))
 }
 
+/// Whether a client that asks for all so often is answered each time, and each PDU is counted.
+fn is_counted(server: &mut Memory, client: Client, answers: u64) -> bool {
+    server.last_serial(client).is_none()
+        && server.serve(client, 99) == Some(Turn::WaitsToRead)
+        && counts(server, client, Kind::ResetQuery) == Some((answers, 0))
+        && counts(server, client, Kind::CacheResponse) == Some((0, answers))
+        && counts(server, client, Kind::Ipv4Prefix) == Some((0, answers))
+        && counts(server, client, Kind::EndOfData) == Some((0, answers))
+        && counts(server, client, Kind::ErrorReport) == Some((0, 0))
+        && server.last_serial(client) == Some(Serial(5))
+}
+
+/// A client whose line takes seven bytes at a call.
+fn slow(server: &mut Memory, alloc: Global, asks: &str, out: &Shared) -> Result<Client, Fail> {
+    let cut = Manner { size: 7, ..PLAIN };
+    client_of(server, alloc, bytes(asks).as_slice(), cut, out)
+}
+
 #[test]
 fn pdus_are_counted_in_both_versions(rt: HostRuntime) -> Result<(), Fail> {
-    let alloc = rt.alloc();
-    let out = shared(alloc, &[])?;
-    let mut server = Server::new(alloc, cache_of(alloc, &[V])?, 2);
-    let cut = Manner { size: 7, ..PLAIN };
-    let newer = admitted(
-        &mut server,
-        line(alloc, bytes(TWO_QUERIES).as_slice(), cut, &out)?,
-    )?;
-    let older = admitted(
-        &mut server,
-        line(alloc, bytes(QUERY_0).as_slice(), cut, &out)?,
-    )?;
-    assert!(rt; server.last_serial(newer).is_none());
-    for (client, answers) in [(newer, 2), (older, 1)] {
-        assert!(rt; server.serve(client, 99) == Some(Turn::WaitsToRead));
-        assert!(rt; counts(&server, client, Kind::ResetQuery) == Some((answers, 0)));
-        assert!(rt; counts(&server, client, Kind::CacheResponse) == Some((0, answers)));
-        assert!(rt; counts(&server, client, Kind::Ipv4Prefix) == Some((0, answers)));
-        assert!(rt; counts(&server, client, Kind::EndOfData) == Some((0, answers)));
-        assert!(rt; counts(&server, client, Kind::ErrorReport) == Some((0, 0)));
-        assert!(rt; server.last_serial(client) == Some(Serial(5)));
-    }
+    let out = shared(rt.alloc(), &[])?;
+    let mut server = server_of(rt.alloc(), &[V], 2)?;
+    let newer = slow(&mut server, rt.alloc(), TWO_QUERIES, &out)?;
+    let older = slow(&mut server, rt.alloc(), QUERY_0, &out)?;
+    assert!(rt; is_counted(&mut server, newer, 2) && is_counted(&mut server, older, 1));
     Ok(())
 }
 
 /// Five records and more of each family, one behind the other.
-const RUNS: [(&str, u8, u32); 11] = [
+const RUNS: Rows = &[
     ("192.0.2.0/28", 28, 64496),
     ("192.0.2.16/28", 28, 64496),
     ("192.0.2.32/28", 28, 64496),
@@ -170,7 +211,7 @@ const RUNS: [(&str, u8, u32); 11] = [
 ];
 
 /// The same, but for five and one that others take the place of.
-const OTHER_RUNS: [(&str, u8, u32); 11] = [
+const OTHER_RUNS: Rows = &[
     ("192.0.2.0/28", 28, 64496),
     ("198.51.100.0/28", 28, 64496),
     ("198.51.100.16/28", 28, 64496),
@@ -192,16 +233,19 @@ fn sent_by_pieces(
     size: usize,
 ) -> Result<Option<(u64, u64, u64)>, Fail> {
     let out = shared(alloc, &[])?;
-    let mut server = Server::new(alloc, cache_of(alloc, &RUNS)?, 1);
-    server.publish(set_of(alloc, &OTHER_RUNS)?)?;
+    let mut server = server_of(alloc, RUNS, 1)?;
+    server.publish(set_of(alloc, OTHER_RUNS)?)?;
     let manner = Manner { size, ..PLAIN };
-    let client = admitted(&mut server, line(alloc, query, manner, &out)?)?;
+    let client = client_of(&mut server, alloc, query, manner, &out)?;
     let _last = server.serve(client, 9999);
-    let Some(sent) = server.sent(client) else {
-        return Ok(None);
-    };
+    Ok(prefixes_and_ends(&server, client))
+}
+
+/// How many of them were sent.
+fn prefixes_and_ends(server: &Memory, client: Client) -> Option<(u64, u64, u64)> {
+    let sent = server.sent(client)?;
     let ends = sent.of(Kind::EndOfData);
-    Ok(Some((sent.of(Kind::Ipv4Prefix), sent.of(Kind::Ipv6Prefix), ends)))
+    Some((sent.of(Kind::Ipv4Prefix), sent.of(Kind::Ipv6Prefix), ends))
 }
 
 #[test]
@@ -217,25 +261,37 @@ fn runs_are_counted_wherever_they_are_cut(rt: HostRuntime) -> Result<(), Fail> {
     Ok(())
 }
 
-#[test]
-fn what_ends_a_client_is_told(rt: HostRuntime) -> Result<(), Fail> {
-    let alloc = rt.alloc();
-    let out = shared(alloc, &[])?;
-    let mut server = Server::new(alloc, cache_of(alloc, &[V])?, 2);
+/// Whether a client whose bytes end inside a PDU goes so.
+fn is_truncated(server: &mut Memory, alloc: Global, out: &Shared) -> Result<bool, Fail> {
     let ends = Manner {
         stays_open: false,
         ..PLAIN
     };
-    let cut = admitted(&mut server, line(alloc, &[1, 2, 0], ends, &out)?)?;
-    assert!(rt; server.serve(cut, 9) == Some(Turn::Gone(Gone::Truncated)));
+    let client = client_of(server, alloc, &[1, 2, 0], ends, out)?;
+    Ok(server.serve(client, 9) == Some(Turn::Gone(Gone::Truncated)))
+}
+
+/// Whether a client that sends what is no PDU has an answer, goes behind that, and is not there any more.
+fn is_ended(server: &mut Memory, alloc: Global, out: &Shared) -> Result<bool, Fail> {
     let waits = Manner {
         bad_call: 2,
         ..PLAIN
     };
-    let rubbish = admitted(&mut server, line(alloc, &[9; 8], waits, &out)?)?;
-    assert!(rt; server.serve(rubbish, 1) == Some(Turn::Busy));
-    assert!(rt; server.serve(rubbish, 9) == Some(Turn::Gone(Gone::CacheEnded)));
-    assert!(rt; len_of(&out) > 8);
-    assert!(rt; server.serve(rubbish, 9) == None && server.clients() == 0);
+    let client = client_of(server, alloc, &[9; 8], waits, out)?;
+    Ok(
+        server.serve(client, 1) == Some(Turn::Busy)
+            && server.serve(client, 9) == Some(Turn::Gone(Gone::CacheEnded))
+            && len_of(out) > 8
+            && server.serve(client, 9) == None
+            && server.clients() == 0,
+    )
+}
+
+#[test]
+fn what_ends_a_client_is_told(rt: HostRuntime) -> Result<(), Fail> {
+    let out = shared(rt.alloc(), &[])?;
+    let mut server = server_of(rt.alloc(), &[V], 2)?;
+    assert!(rt; is_truncated(&mut server, rt.alloc(), &out)?);
+    assert!(rt; is_ended(&mut server, rt.alloc(), &out)?);
     Ok(())
 }

@@ -176,9 +176,29 @@ pub(crate) fn cache_of(alloc: Global, rows: &[(&str, u8, u32)]) -> Result<Cache<
     Ok(cache)
 }
 
+/// A server of that cache, for so many clients.
+pub(crate) fn server_of(
+    alloc: Global,
+    rows: &[(&str, u8, u32)],
+    most: usize,
+) -> Result<Memory, Fail> {
+    Ok(Server::new(alloc, cache_of(alloc, rows)?, most))
+}
+
 pub(crate) fn admitted(server: &mut Memory, line: Line) -> Result<Client, Fail> {
     match server.admit(line) {
         Ok(client) => Ok(client),
         Err(_) => Err(Fail::from("not admitted")),
     }
+}
+
+/// A client on a line on which these bytes come.
+pub(crate) fn client_of(
+    server: &mut Memory,
+    alloc: Global,
+    bytes: &[u8],
+    manner: Manner,
+    out: &Shared,
+) -> Result<Client, Fail> {
+    admitted(server, line(alloc, bytes, manner, out)?)
 }

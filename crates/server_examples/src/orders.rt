@@ -1,36 +1,51 @@
 //! Two clients in every order of turns.
-use crate::lines::{Manner, PLAIN, admitted, cache_of, is_list, line, shared};
+use crate::lines::{Manner, Memory, PLAIN, Shared, client_of, is_list, server_of, shared};
 use example_values::hex::bytes;
 use example_values::sets::V;
 use example_values::units::{ANSWER, RESET_QUERY};
-use rtr_server::Server;
-use std::process::Abort;
+use rtr_server::Client;
+use std::alloc::Global;
 use std::test::Fail;
 
 /// The answer has 52 bytes: three writes of up to 20 each.
 const IN_THREE: Manner = Manner { size: 20, ..PLAIN };
 
+/// Eight turns: the bits of a number are whose turn it is. Then both are served to the end.
+fn serve_in(server: &mut Memory, first: Client, second: Client, order: u32) {
+    let mut left = order;
+    for _turn in 0..8 {
+        let client = if left % 2 == 0 { first } else { second };
+        left /= 2;
+        server.serve(client, 1);
+    }
+    server.serve(first, 9);
+    server.serve(second, 9);
+}
+
+/// Serves two queries in this order of turns, whose answers go to these lists.
+fn serve_both(alloc: Global, one: &Shared, two: &Shared, order: u32) -> Result<(), Fail> {
+    let query = bytes(RESET_QUERY);
+    let mut server = server_of(alloc, &[V], 2)?;
+    let first = client_of(&mut server, alloc, query.as_slice(), IN_THREE, one)?;
+    let second = client_of(&mut server, alloc, query.as_slice(), IN_THREE, two)?;
+    serve_in(&mut server, first, second, order);
+    Ok(())
+}
+
+/// Whether both get the answer.
+fn are_answered(alloc: Global, order: u32) -> Result<bool, Fail> {
+    let one = shared(alloc, &[])?;
+    let two = shared(alloc, &[])?;
+    serve_both(alloc, &one, &two, order)?;
+    let answer = bytes(ANSWER);
+    Ok(is_list(&one, answer.as_slice()) && is_list(&two, answer.as_slice()))
+}
+
 #[test]
 fn two_answers_cut_in_three_in_every_order(rt: HostRuntime) -> Result<(), Fail> {
-    let alloc = rt.alloc();
-    let query = bytes(RESET_QUERY);
-    // A read and three writes of each: the bits of a number are whose turn it is.
+    // A read and three writes of each.
     for order in 0..256 {
-        let one = shared(alloc, &[])?;
-        let two = shared(alloc, &[])?;
-        let mut server = Server::new(alloc, cache_of(alloc, &[V])?, 2);
-        let first = admitted(&mut server, line(alloc, query.as_slice(), IN_THREE, &one)?)?;
-        let second = admitted(&mut server, line(alloc, query.as_slice(), IN_THREE, &two)?)?;
-        let mut left = order;
-        for _turn in 0..8 {
-            let client = if left % 2 == 0 { first } else { second };
-            left /= 2;
-            server.serve(client, 1);
-        }
-        server.serve(first, 9);
-        server.serve(second, 9);
-        assert!(rt; is_list(&one, bytes(ANSWER).as_slice()));
-        assert!(rt; is_list(&two, bytes(ANSWER).as_slice()));
+        assert!(rt; are_answered(rt.alloc(), order)?);
     }
     Ok(())
 }
