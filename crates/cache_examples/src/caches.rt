@@ -1,6 +1,6 @@
 //! Caches over both stores of versions: the scripts, and each PDU cut at each byte.
 use crate::play::{Log, cache_of, play_each, pulled};
-use crate::scripts::{OF_CONNECTIONS, SCRIPTS};
+use crate::scripts::{OF_CONNECTIONS, OF_SESSIONS, OF_VERSIONS, SCRIPTS};
 use example_values::hex::{Bytes, bytes};
 use example_values::sets::{Row, Rows, V, W};
 use example_values::units::{
@@ -174,15 +174,32 @@ fn expect_in_each_version<S: VersionStore, R: Abort>(
     Ok(())
 }
 
-fn each_unit_in_every_cutting<S: Log + Drop, R: AllocGlobal + Abort>(rt: &R) -> Result<(), Fail> {
-    let mut cache = cache_of::<S>(rt.alloc(), 0x1234, 5, &[&[V]])?;
-    for &(units, answer, goes_on) in ROWS {
-        expect_in_each_version(rt, &mut cache, units, answer, goes_on)?;
-    }
-    for &(units, answer, goes_on) in ROWS_APART {
-        expect_row(rt, &mut cache, &bytes(units), &bytes(answer), goes_on)?;
+fn expect_rows_in_each_version<S: VersionStore, R: Abort>(
+    rt: &R,
+    cache: &mut Cache<S>,
+    rows: &[Told],
+) -> Result<(), Fail> {
+    for &(units, answer, goes_on) in rows {
+        expect_in_each_version(rt, cache, units, answer, goes_on)?;
     }
     Ok(())
+}
+
+fn expect_rows<S: VersionStore, R: Abort>(
+    rt: &R,
+    cache: &mut Cache<S>,
+    rows: &[Told],
+) -> Result<(), Fail> {
+    for &(units, answer, goes_on) in rows {
+        expect_row(rt, cache, &bytes(units), &bytes(answer), goes_on)?;
+    }
+    Ok(())
+}
+
+fn each_unit_in_every_cutting<S: Log + Drop, R: AllocGlobal + Abort>(rt: &R) -> Result<(), Fail> {
+    let mut cache = cache_of::<S>(rt.alloc(), 0x1234, 5, &[&[V]])?;
+    expect_rows_in_each_version(rt, &mut cache, ROWS)?;
+    expect_rows(rt, &mut cache, ROWS_APART)
 }
 
 const CHANGE: &str =
@@ -191,9 +208,11 @@ const CHANGE: &str =
 const CHANGE_BACK: &str =
     "01 03 1234 00000008 | 01 04 0000 00000014 00 18 18 00 cb007100 0000fbf2 | 01 06 0000 00000020 00 20 30 00 20010db8000000000000000000000000 0000fbf3 | 01 04 0000 00000014 01 18 18 00 c0000200 0000fbf0 | 01 04 0000 00000014 01 18 18 00 c6336400 0000fbf1 | 01 07 1234 00000018 00000006 00000e10 00000258 00001c20";
 
-/// Versions, a query, and what is answered. What is withdrawn comes first, and each part ascends; where nothing is published, each query
-/// is answered so.
-const CHANGES: &[(&[Rows], &str, &str)] = &[
+/// Versions, a query, and what is answered.
+type Answered = (&'static [Rows], &'static str, &'static str);
+
+/// What is withdrawn comes first, and each part ascends; where nothing is published, each query is answered so.
+const CHANGES: &[Answered] = &[
     (&[&[W, V], &[Y, X]], SERIAL_QUERY, CHANGE),
     (&[&[Y, X], &[W, V]], SERIAL_QUERY, CHANGE_BACK),
     (&[&[]], RESET_QUERY, UNCHANGED),
@@ -209,8 +228,11 @@ const CHANGES: &[(&[Rows], &str, &str)] = &[
     ),
 ];
 
-fn changes_in_each_version<S: Log + Drop, R: AllocGlobal + Abort>(rt: &R) -> Result<(), Fail> {
-    for (versions, query, answer) in CHANGES {
+fn expect_changes<S: Log + Drop, R: AllocGlobal + Abort>(
+    rt: &R,
+    rows: &[Answered],
+) -> Result<(), Fail> {
+    for &(versions, query, answer) in rows {
         let mut cache = cache_of::<S>(rt.alloc(), 0x1234, 5, versions)?;
         expect_in_each_version(rt, &mut cache, query, answer, true)?;
     }
@@ -227,16 +249,36 @@ fn long_key(alloc: Global) -> Result<Vec<u8>, Fail> {
     Ok(key)
 }
 
+/// Whether all of a long key is taken.
+fn takes_long_key<S: VersionStore>(
+    cache: &mut Cache<S>,
+    alloc: Global,
+    conn: Conn,
+) -> Result<bool, Fail> {
+    Ok(cache.receive(conn, long_key(alloc)?.as_slice()) == 4096)
+}
+
+/// Whether a report of 4,096 bytes goes out that has as much of it as there is room for.
+fn reports_long_key<S: VersionStore>(
+    cache: &mut Cache<S>,
+    alloc: Global,
+    conn: Conn,
+) -> Result<bool, Fail> {
+    let mut report = vec![in alloc; 0u8; 5000]?;
+    let head = bytes("01 0a 0003 00001000 00000ff0 010901");
+    Ok(
+        cache.pull(conn, report.as_mut_slice()) == 4096
+            && report.as_slice().get(..15) == Some(head.as_slice()),
+    )
+}
+
 fn a_long_unit_is_copied_as_far_as_there_is_room<S: Log + Drop, R: AllocGlobal + Abort>(
     rt: &R,
 ) -> Result<(), Fail> {
     let mut cache = cache_of::<S>(rt.alloc(), 0x1234, 5, &[&[V]])?;
     let conn = cache.open()?;
-    assert!(rt; cache.receive(conn, long_key(rt.alloc())?.as_slice()) == 4096);
-    let mut report = vec![in rt.alloc(); 0u8; 5000]?;
-    assert!(rt; cache.pull(conn, report.as_mut_slice()) == 4096);
-    let head = bytes("01 0a 0003 00001000 00000ff0 010901");
-    assert!(rt; report.as_slice().get(..15) == Some(head.as_slice()));
+    assert!(rt; takes_long_key(&mut cache, rt.alloc(), conn)?);
+    assert!(rt; reports_long_key(&mut cache, rt.alloc(), conn)?);
     assert!(rt; !cache.is_open(conn));
     Ok(())
 }
@@ -277,23 +319,54 @@ fn pieces<S: VersionStore>(
     Ok(all)
 }
 
+/// The answer to a Reset Query, pulled so.
+fn answer_in<S: VersionStore>(
+    cache: &mut Cache<S>,
+    alloc: Global,
+    conn: Conn,
+    size: usize,
+    publish: bool,
+) -> Result<Vec<u8>, Fail> {
+    cache.receive(conn, bytes(RESET_QUERY).as_slice());
+    pieces(cache, alloc, conn, size, publish)
+}
+
+/// Whether the answer in pieces of so many bytes is this one.
+fn is_same_in<S: VersionStore>(
+    cache: &mut Cache<S>,
+    alloc: Global,
+    conn: Conn,
+    size: usize,
+    publish: bool,
+    whole: &[u8],
+) -> Result<bool, Fail> {
+    Ok(answer_in(cache, alloc, conn, size, publish)?.as_slice() == whole)
+}
+
+/// Asks a cache of ten thousand records for all, in one piece and in small ones.
+fn expect_same_in_pieces<S: VersionStore, R: AllocGlobal + Abort>(
+    rt: &R,
+    cache: &mut Cache<S>,
+) -> Result<(), Fail> {
+    let conn = cache.open()?;
+    let whole = answer_in(cache, rt.alloc(), conn, 200_032, false)?;
+    assert!(rt; whole.len() == 200_032);
+    for (size, publish) in [(1, false), (4096, false), (7, true)] {
+        let whole = whole.as_slice();
+        assert!(rt;
+            is_same_in(cache, rt.alloc(), conn, size, publish, whole)?,
+            "{size}"
+        );
+    }
+    Ok(())
+}
+
 fn ten_thousand_records_in_pieces<S: Log + Drop, R: AllocGlobal + Abort>(
     rt: &R,
 ) -> Result<(), Fail> {
-    let alloc = rt.alloc();
-    let mut cache = cache_of::<S>(alloc, 0x1234, 5, &[])?;
-    cache.publish(many(alloc, 10_000)?)?;
-    let conn = cache.open()?;
-    let query = bytes(RESET_QUERY);
-    cache.receive(conn, query.as_slice());
-    let whole = pieces(&mut cache, alloc, conn, 200_032, false)?;
-    assert!(rt; whole.len() == 200_032);
-    for (size, publish) in [(1, false), (4096, false), (7, true)] {
-        cache.receive(conn, query.as_slice());
-        let all = pieces(&mut cache, alloc, conn, size, publish)?;
-        assert!(rt; all == whole, "{size}");
-    }
-    Ok(())
+    let mut cache = cache_of::<S>(rt.alloc(), 0x1234, 5, &[])?;
+    cache.publish(many(rt.alloc(), 10_000)?)?;
+    expect_same_in_pieces(rt, &mut cache)
 }
 
 fn caches_answer_by_scripts<S: Log + Drop, R: AllocGlobal + Abort>(rt: &R) -> Result<(), Fail> {
@@ -301,6 +374,8 @@ fn caches_answer_by_scripts<S: Log + Drop, R: AllocGlobal + Abort>(rt: &R) -> Re
 }
 
 fn connections_go_by_scripts<S: Log + Drop, R: AllocGlobal + Abort>(rt: &R) -> Result<(), Fail> {
+    play_each::<S, R>(rt, OF_VERSIONS)?;
+    play_each::<S, R>(rt, OF_SESSIONS)?;
     play_each::<S, R>(rt, OF_CONNECTIONS)
 }
 
@@ -309,7 +384,7 @@ fn each_example<S: Log + Drop, R: AllocGlobal + Abort>(rt: &R) -> Result<(), Fai
     caches_answer_by_scripts::<S, R>(rt)?;
     connections_go_by_scripts::<S, R>(rt)?;
     each_unit_in_every_cutting::<S, R>(rt)?;
-    changes_in_each_version::<S, R>(rt)?;
+    expect_changes::<S, R>(rt, CHANGES)?;
     a_long_unit_is_copied_as_far_as_there_is_room::<S, R>(rt)?;
     ten_thousand_records_in_pieces::<S, R>(rt)
 }

@@ -27,10 +27,9 @@ fn connected(cache: &mut Cache<VersionLog>, conn: Conn, router: &mut Router) {
 }
 
 /// Sets that are published, whether the router is notified of the last or asks, how many records it holds then, and the serial.
-const FOLLOWED: &[(&[Rows], bool, usize, u32)] = &[
-    (&[&[V, W]], true, 2, 6),
-    (&[&[W], &[]], false, 0, 8),
-];
+type Followed = (&'static [Rows], bool, usize, u32);
+
+const FOLLOWED: &[Followed] = &[(&[&[V, W]], true, 2, 6), (&[&[W], &[]], false, 0, 8)];
 
 /// Whether so many records are committed, under this serial of session 4660.
 fn holds(router: &Router, records: usize, serial: u32) -> bool {
@@ -44,8 +43,9 @@ fn follow<R: AllocGlobal + Abort>(
     cache: &mut Cache<VersionLog>,
     conn: Conn,
     router: &mut Router,
+    rows: &[Followed],
 ) -> Result<(), Fail> {
-    for &(sets, notifies, records, serial) in FOLLOWED {
+    for &(sets, notifies, records, serial) in rows {
         publish_all(cache, rt.alloc(), sets)?;
         let is_told = if notifies {
             cache.notify(conn)
@@ -67,5 +67,5 @@ fn a_router_follows_a_cache(rt: HostRuntime) -> Result<(), Fail> {
     router.connect(0);
     connected(&mut cache, conn, &mut router);
     assert!(rt; holds(&router, 1, 5));
-    follow(&rt, &mut cache, conn, &mut router)
+    follow(&rt, &mut cache, conn, &mut router, FOLLOWED)
 }

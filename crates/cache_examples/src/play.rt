@@ -195,6 +195,21 @@ fn cache_of_both<S: Log + Drop>(
     Ok(cache)
 }
 
+/// Goes through steps at a cache that has these connections.
+fn go_on<S: VersionStore, R: AllocGlobal + Abort>(
+    rt: &R,
+    cache: &mut Cache<S>,
+    conns: &mut Vec<Conn>,
+    script: &Script,
+    size: usize,
+) -> Result<(), Fail> {
+    for (place, step) in script.steps.iter().enumerate() {
+        let is_so = goes(cache, conns, rt.alloc(), size, step)?;
+        assert!(rt; is_so, "{}, step {place}", script.name);
+    }
+    Ok(())
+}
+
 /// Plays steps, with what goes out pulled in pieces of so many bytes.
 fn play<S: VersionStore, R: AllocGlobal + Abort>(
     rt: &R,
@@ -203,13 +218,7 @@ fn play<S: VersionStore, R: AllocGlobal + Abort>(
     size: usize,
 ) -> Result<(), Fail> {
     let mut conns = Vec::new(rt.alloc());
-    for (place, step) in script.steps.iter().enumerate() {
-        assert!(rt;
-            goes(cache, &mut conns, rt.alloc(), size, step)?,
-            "{}, step {place}",
-            script.name
-        );
-    }
+    go_on(rt, cache, &mut conns, script, size)?;
     each_has_room(cache);
     Ok(())
 }

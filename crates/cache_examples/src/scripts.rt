@@ -164,8 +164,8 @@ pub(crate) const SCRIPTS: &[Script] = &[
     },
 ];
 
-/// The versions and the numbers of connections.
-pub(crate) const OF_CONNECTIONS: &[Script] = &[
+/// One version of the protocol after another.
+pub(crate) const OF_VERSIONS: &[Script] = &[
     Script {
         name: "a version that there is not",
         start: OF_V,
@@ -233,6 +233,10 @@ pub(crate) const OF_CONNECTIONS: &[Script] = &[
             Step::At(0, Event::Takes(RESET_QUERY, 0)),
         ],
     },
+];
+
+/// A cache of a session in each version.
+pub(crate) const OF_SESSIONS: &[Script] = &[
     Script {
         name: "all in version 0",
         start: OF_BOTH,
@@ -337,6 +341,10 @@ pub(crate) const OF_CONNECTIONS: &[Script] = &[
             Step::At(0, Event::Sends(&[RESPONSE_0, END_5_0])),
         ],
     },
+];
+
+/// Notifies, and the numbers of connections.
+pub(crate) const OF_CONNECTIONS: &[Script] = &[
     Script {
         name: "routers are notified",
         start: OF_V,

@@ -6,7 +6,7 @@ use rtr_ends::{
     Cache, End, Fetched, Link, Router, Served, StreamFault, fetch_stream, serve_stream,
 };
 use rtr_pdu::{Counted, Version};
-use std::alloc::{AllocGlobal, Global};
+use std::alloc::Global;
 use std::cell::RefCell;
 use std::io;
 use std::io::{ErrorKind, Read, Write};
@@ -175,144 +175,172 @@ fn list(alloc: Global) -> Counted<Vec<u8>> {
     Counted::new(Vec::new(alloc))
 }
 
-/// Serves this input, and checks what comes of it and what goes out, and that the connection is closed.
-fn expect_served<R: Abort>(
-    rt: &R,
-    alloc: Global,
-    input: &str,
+/// A cache of session 0x1234 whose one version, of serial 5, has v.
+fn cache_of_v(alloc: Global) -> Result<Cache<VersionLog>, Fail> {
+    cache_of::<VersionLog>(alloc, 0x1234, 5, &[&[V]])
+}
+
+/// Whether an input is served so. Whatever comes of it, its connection is closed behind it: the next one has its number.
+fn serves<I: Read, O: Write>(
+    cache: &mut Cache<VersionLog>,
+    input: &mut Counted<I>,
+    output: &mut Counted<O>,
     limit: u64,
-    served: Served,
-    answers: usize,
-) -> Result<(), Fail> {
-    let mut cache = cache_of::<VersionLog>(alloc, 0x1234, 5, &[&[V]])?;
+    served: Result<Served, StreamFault>,
+) -> Result<bool, Fail> {
     let first = cache.open()?;
     cache.close(first);
-    let mut input = stepwise(input, 8, 9);
-    let mut output = list(alloc);
-    assert!(rt; serve_stream(&mut cache, &mut input, &mut output, limit) == Ok(served));
-    let out = output.device().as_slice();
+    Ok(serve_stream(cache, input, output, limit) == served && cache.open()? == first)
+}
+
+/// Whether so many answers went out, and no more, where they are all.
+fn has_answers(out: &[u8], answers: usize, are_all: bool) -> bool {
     let answer = bytes(ANSWER);
     for i in 0..answers {
         let start = i.saturating_mul(52);
-        assert!(rt; out.get(start..start.saturating_add(52)) == Some(answer.as_slice()));
+        if out.get(start..start.saturating_add(52)) != Some(answer.as_slice()) {
+            return false;
+        }
     }
-    assert!(rt; served == Served::CacheEnded || out.len() == answers.saturating_mul(52));
-    assert!(rt; cache.open()? == first);
-    Ok(())
+    !are_all || out.len() == answers.saturating_mul(52)
+}
+
+/// Whether these are served so, in at most so many reads, with so many answers; where the cache ends it, it tells why behind them.
+fn is_served(
+    alloc: Global,
+    units: &str,
+    limit: u64,
+    served: Served,
+    answers: usize,
+) -> Result<bool, Fail> {
+    let are_all = served != Served::CacheEnded;
+    let mut cache = cache_of_v(alloc)?;
+    let mut input = stepwise(units, 8, 9);
+    let mut output = list(alloc);
+    Ok(
+        serves(&mut cache, &mut input, &mut output, limit, Ok(served))?
+            && has_answers(output.device().as_slice(), answers, are_all),
+    )
 }
 
 #[test]
 fn a_connection_is_served_to_its_end(rt: HostRuntime) -> Result<(), Fail> {
     let alloc = rt.alloc();
-    expect_served(&rt, alloc, TWO_QUERIES, 9, Served::PeerClosed, 2)?;
-    expect_served(
-        &rt,
-        alloc,
-        "01 02 0000 00000008 | 01 02",
-        9,
-        Served::Truncated,
-        1,
-    )?;
-    expect_served(&rt, alloc, TWO_QUERIES, 1, Served::Limit, 1)?;
-    expect_served(&rt, alloc, TWO_QUERIES, 0, Served::Limit, 0)?;
-    expect_served(
-        &rt,
-        alloc,
-        "01 02 0000 00000008 | 00 02 0000 00000008",
-        9,
-        Served::CacheEnded,
-        1,
-    )?;
+    assert!(rt; is_served(alloc, TWO_QUERIES, 9, Served::PeerClosed, 2)?);
+    let cut = "01 02 0000 00000008 | 01 02";
+    assert!(rt; is_served(alloc, cut, 9, Served::Truncated, 1)?);
+    assert!(rt; is_served(alloc, TWO_QUERIES, 1, Served::Limit, 1)?);
+    assert!(rt; is_served(alloc, TWO_QUERIES, 0, Served::Limit, 0)?);
+    let in_both = "01 02 0000 00000008 | 00 02 0000 00000008";
+    assert!(rt; is_served(alloc, in_both, 9, Served::CacheEnded, 1)?);
     Ok(())
+}
+
+/// Two queries, the second of which comes only where the list has the answer to the first.
+fn waiting_input(list: &Rc<RefCell<Vec<u8>>>) -> Result<Counted<Waiting>, Fail> {
+    Ok(Counted::new(Waiting {
+        steps: reader_of(TWO_QUERIES, 8, 9),
+        list: list.clone()?,
+    }))
 }
 
 #[test]
 fn what_was_read_is_answered_before_the_next_read(rt: HostRuntime) -> Result<(), Fail> {
-    let alloc = rt.alloc();
-    let mut cache = cache_of::<VersionLog>(alloc, 0x1234, 5, &[&[V]])?;
-    let list = Rc::new(alloc, RefCell::new(Vec::new(alloc)))?;
-    let mut input = Counted::new(Waiting {
-        steps: reader_of(TWO_QUERIES, 8, 9),
-        list: list.clone()?,
-    });
+    let mut cache = cache_of_v(rt.alloc())?;
+    let list = Rc::new(rt.alloc(), RefCell::new(Vec::new(rt.alloc())))?;
+    let mut input = waiting_input(&list)?;
     let mut output = Counted::new(SharedEnd { list });
-    let served = serve_stream(&mut cache, &mut input, &mut output, 9);
-    assert!(rt; served == Ok(Served::PeerClosed));
+    assert!(rt;
+        serves(
+            &mut cache,
+            &mut input,
+            &mut output,
+            9,
+            Ok(Served::PeerClosed)
+        )?
+    );
     assert!(rt; input.calls() == 3 && input.failures() == 0);
     Ok(())
 }
 
-/// Serves two queries to a writer that takes so many bytes, and checks that it fails then.
-fn expect_write_failed<R: AllocGlobal + Abort>(rt: &R, room: usize) -> Result<(), Fail> {
-    let alloc = rt.alloc();
-    let mut cache = cache_of::<VersionLog>(alloc, 0x1234, 5, &[&[V]])?;
+/// Whether the writer fails that takes so many bytes of two answers, and has taken as many.
+fn fails_to_write(alloc: Global, room: usize) -> Result<bool, Fail> {
+    let mut cache = cache_of_v(alloc)?;
     let mut input = stepwise(TWO_QUERIES, 16, 9);
     let mut output = Counted::new(Narrow {
         taken: Vec::new(alloc),
         room,
     });
-    let served = serve_stream(&mut cache, &mut input, &mut output, 9);
-    assert!(rt; served == Err(StreamFault::WriteFailed));
-    assert!(rt; output.failures() == 1 && input.failures() == 0);
+    let failed = Err(StreamFault::WriteFailed);
+    let is_so = serves(&mut cache, &mut input, &mut output, 9, failed)?;
     let out = output.device().taken.as_slice();
     let front = room.min(52);
-    assert!(rt; out.len() == room && out.get(..front) == bytes(ANSWER).as_slice().get(..front));
-    Ok(())
+    Ok(
+        is_so
+            && output.failures() == 1
+            && input.failures() == 0
+            && out.len() == room
+            && out.get(..front) == bytes(ANSWER).as_slice().get(..front),
+    )
+}
+
+/// Whether one query is answered where the next read fails.
+fn fails_to_read(alloc: Global) -> Result<bool, Fail> {
+    let mut cache = cache_of_v(alloc)?;
+    let mut input = stepwise(TWO_QUERIES, 8, 1);
+    let mut output = list(alloc);
+    let failed = Err(StreamFault::ReadFailed);
+    Ok(
+        serves(&mut cache, &mut input, &mut output, 9, failed)?
+            && output.device().as_slice() == bytes(ANSWER).as_slice(),
+    )
 }
 
 #[test]
 fn a_device_that_fails_ends_the_connection(rt: HostRuntime) -> Result<(), Fail> {
     for room in [0, 1, 51, 52, 103] {
-        expect_write_failed(&rt, room)?;
+        assert!(rt; fails_to_write(rt.alloc(), room)?);
     }
-    let mut cache = cache_of::<VersionLog>(rt.alloc(), 0x1234, 5, &[&[V]])?;
-    let mut input = stepwise(TWO_QUERIES, 8, 1);
-    let mut output = list(rt.alloc());
-    let served = serve_stream(&mut cache, &mut input, &mut output, 9);
-    assert!(rt; served == Err(StreamFault::ReadFailed));
+    assert!(rt; fails_to_read(rt.alloc())?);
     assert!(rt; StreamFault::ReadFailed.number() == 1);
-    assert!(rt; output.device().as_slice() == bytes(ANSWER).as_slice());
     Ok(())
 }
 
 /// What changed since serial 5 of session 4660? Asked twice: nothing changed.
 const SINCE_TWICE: &str = "01 01 1234 0000000c 00000005 | 01 01 1234 0000000c 00000005";
 
-/// The two answers to that.
-fn unchanged_twice() -> Bytes {
+/// Whether this is the beginning, of this length, of the two answers to that.
+fn is_unchanged_twice(out: &[u8], len: usize) -> bool {
     let mut both = bytes(UNCHANGED);
     let _fits = both.try_extend_from_slice(bytes(UNCHANGED).as_slice());
-    both
+    both.as_slice().get(..len) == Some(out)
+}
+
+/// Whether what was read before so many calls is answered.
+fn is_answered_up_to(alloc: Global, calls: u8) -> Result<bool, Fail> {
+    let mut cache = cache_of_v(alloc)?;
+    let mut input = stepwise(SINCE_TWICE, 5, calls);
+    let mut output = list(alloc);
+    let failed = Err(StreamFault::ReadFailed);
+    // Each answer of 32 bytes follows the 12 bytes of its query.
+    let answered = usize::from(calls) * 5 / 12 * 32;
+    Ok(
+        serves(&mut cache, &mut input, &mut output, 9, failed)?
+            && is_unchanged_twice(output.device().as_slice(), answered),
+    )
 }
 
 #[test]
 fn each_read_may_fail(rt: HostRuntime) -> Result<(), Fail> {
-    let alloc = rt.alloc();
     for calls in 0..5u8 {
-        let mut cache = cache_of::<VersionLog>(alloc, 0x1234, 5, &[&[V]])?;
-        let first = cache.open()?;
-        cache.close(first);
-        let mut input = stepwise(SINCE_TWICE, 5, calls);
-        let mut output = list(alloc);
-        let served = serve_stream(&mut cache, &mut input, &mut output, 9);
-        assert!(rt; served == Err(StreamFault::ReadFailed));
-        // Each answer of 32 bytes follows the 12 bytes of its query.
-        let answered = usize::from(calls) * 5 / 12 * 32;
-        assert!(rt;
-            unchanged_twice().as_slice().get(..answered) == Some(output.device().as_slice()),
-            "{calls}"
-        );
-        assert!(rt; cache.open()? == first);
+        assert!(rt; is_answered_up_to(rt.alloc(), calls)?, "{calls}");
     }
     Ok(())
 }
 
-/// Serves two queries to a writer that takes seven bytes a call, and after so many calls none.
-fn expect_stalled<R: AllocGlobal + Abort>(rt: &R, calls: u8, fails: bool) -> Result<(), Fail> {
-    let alloc = rt.alloc();
-    let mut cache = cache_of::<VersionLog>(alloc, 0x1234, 5, &[&[V]])?;
-    let first = cache.open()?;
-    cache.close(first);
+/// Whether two queries are served so to a writer that takes seven bytes a call, and after so many calls none.
+fn is_stalled(alloc: Global, calls: u8, fails: bool) -> Result<bool, Fail> {
+    let mut cache = cache_of_v(alloc)?;
     let mut input = stepwise(SINCE_TWICE, 24, 9);
     let mut output = Counted::new(Stalling {
         taken: Vec::new(alloc),
@@ -320,90 +348,109 @@ fn expect_stalled<R: AllocGlobal + Abort>(rt: &R, calls: u8, fails: bool) -> Res
         calls,
         fails,
     });
-    let served = serve_stream(&mut cache, &mut input, &mut output, 9);
     // Each answer of 32 bytes takes five calls.
     let whole = usize::from(calls / 5) * 32 + usize::from(calls % 5) * 7;
-    assert!(rt; served.is_err() == (whole < 64), "{calls}");
-    assert!(rt;
-        unchanged_twice().as_slice().get(..whole) == Some(output.device().taken.as_slice()),
-        "{calls}"
-    );
-    assert!(rt; cache.open()? == first);
-    Ok(())
+    let served = if whole < 64 {
+        Err(StreamFault::WriteFailed)
+    } else {
+        Ok(Served::PeerClosed)
+    };
+    Ok(
+        serves(&mut cache, &mut input, &mut output, 9, served)?
+            && is_unchanged_twice(output.device().taken.as_slice(), whole),
+    )
 }
 
 #[test]
 fn each_write_may_fail_or_take_nothing(rt: HostRuntime) -> Result<(), Fail> {
     for calls in 0..=10u8 {
-        expect_stalled(&rt, calls, true)?;
-        expect_stalled(&rt, calls, false)?;
+        assert!(rt; is_stalled(rt.alloc(), calls, true)?, "{calls}");
+        assert!(rt; is_stalled(rt.alloc(), calls, false)?, "{calls}");
     }
     Ok(())
 }
 
-/// Fetches these bytes, and checks what comes of it, and that one question went out, in one write.
-fn expect_fetched<R: Abort>(
-    rt: &R,
+/// Whether these bytes are fetched so, in at most so many reads, with one question that went out in one write.
+fn fetches(
     router: &mut Router,
     alloc: Global,
     units: &str,
     limit: u64,
     fetched: Result<Fetched, StreamFault>,
-) {
+) -> bool {
     let mut input = stepwise(units, 20, 5);
     let mut output = list(alloc);
-    assert!(rt; fetch_stream(router, &mut input, &mut output, 100, limit) == fetched);
-    assert!(rt; output.calls() == 1);
-    assert!(rt; router.link() == Link::Closed);
+    fetch_stream(router, &mut input, &mut output, 100, limit) == fetched
+        && output.calls() == 1
+        && router.link() == Link::Closed
+}
+
+/// Whether a router that is told that there is no data has asked for all.
+fn fetches_nothing(router: &mut Router, alloc: Global) -> bool {
+    let mut input = stepwise(NO_DATA, 4096, 9);
+    let mut output = list(alloc);
+    fetch_stream(router, &mut input, &mut output, 100, 9) == Ok(Fetched::NoData)
+        && output.device().as_slice() == bytes(RESET_QUERY).as_slice()
+}
+
+/// Whether it has serial 5 of session 4660.
+fn has_committed(router: &Router) -> bool {
+    router.committed() == Some((Version::V1, 4660, Serial(5)))
 }
 
 #[test]
 fn a_router_fetches(rt: HostRuntime) -> Result<(), Fail> {
     let alloc = rt.alloc();
     let mut router = Router::new(alloc);
-    let mut input = stepwise(NO_DATA, 4096, 9);
-    let mut output = list(alloc);
-    assert!(rt; fetch_stream(&mut router, &mut input, &mut output, 100, 9) == Ok(Fetched::NoData));
-    assert!(rt; output.device().as_slice() == bytes(RESET_QUERY).as_slice());
-    expect_fetched(&rt, &mut router, alloc, "", 9, Ok(Fetched::PeerClosed));
-    expect_fetched(&rt, &mut router, alloc, ANSWER, 2, Ok(Fetched::Limit));
-    expect_fetched(&rt, &mut router, alloc, ANSWER, 0, Ok(Fetched::Limit));
+    assert!(rt; fetches_nothing(&mut router, alloc));
+    assert!(rt; fetches(&mut router, alloc, "", 9, Ok(Fetched::PeerClosed)));
+    assert!(rt; fetches(&mut router, alloc, ANSWER, 2, Ok(Fetched::Limit)));
+    assert!(rt; fetches(&mut router, alloc, ANSWER, 0, Ok(Fetched::Limit)));
     assert!(rt; router.committed().is_none());
-    expect_fetched(&rt, &mut router, alloc, ANSWER, 3, Ok(Fetched::Committed));
+    assert!(rt; fetches(&mut router, alloc, ANSWER, 3, Ok(Fetched::Committed)));
     assert!(rt; router.table().len() == 1);
-    assert!(rt; router.committed() == Some((Version::V1, 4660, Serial(5))));
+    assert!(rt; has_committed(&router));
     Ok(())
 }
 
 #[test]
 fn a_link_that_ends_is_told(rt: HostRuntime) -> Result<(), Fail> {
-    let alloc = rt.alloc();
-    let mut router = Router::new(alloc);
+    let mut router = Router::new(rt.alloc());
     let mut input = stepwise(TWO_QUERIES, 4096, 9);
-    let mut output = list(alloc);
+    let mut output = list(rt.alloc());
     let fetched = fetch_stream(&mut router, &mut input, &mut output, 100, 9);
     assert!(rt; fetched == Ok(Fetched::Ended(End::Reported(0))));
     assert!(rt; output.device().len() == 32);
     Ok(())
 }
 
-#[test]
-fn a_fetch_that_fails_leaves_the_table(rt: HostRuntime) -> Result<(), Fail> {
-    let alloc = rt.alloc();
-    let mut router = Router::new(alloc);
+/// Whether a fetch fails at the third read, and leaves the table empty.
+fn fails_at_a_read(router: &mut Router, alloc: Global) -> bool {
     let mut input = stepwise(ANSWER, 8, 2);
     let mut output = list(alloc);
-    let fetched = fetch_stream(&mut router, &mut input, &mut output, 100, 9);
-    assert!(rt; fetched == Err(StreamFault::ReadFailed));
-    assert!(rt; input.failures() == 1 && router.table().is_empty());
-    expect_fetched(&rt, &mut router, alloc, ANSWER, 9, Ok(Fetched::Committed));
+    fetch_stream(router, &mut input, &mut output, 100, 9) == Err(StreamFault::ReadFailed)
+        && input.failures() == 1
+        && router.table().is_empty()
+}
+
+/// Whether a fetch fails behind the first three bytes of its question.
+fn fails_at_a_write(router: &mut Router, alloc: Global) -> bool {
+    let mut input = stepwise(ANSWER, 8, 2);
     let mut narrow = Counted::new(Narrow {
         taken: Vec::new(alloc),
         room: 3,
     });
-    let fetched = fetch_stream(&mut router, &mut input, &mut narrow, 100, 9);
-    assert!(rt; fetched == Err(StreamFault::WriteFailed));
-    assert!(rt; narrow.device().taken.as_slice() == bytes("01 01 12").as_slice());
-    assert!(rt; router.committed() == Some((Version::V1, 4660, Serial(5))));
+    fetch_stream(router, &mut input, &mut narrow, 100, 9) == Err(StreamFault::WriteFailed)
+        && narrow.device().taken.as_slice() == bytes("01 01 12").as_slice()
+}
+
+#[test]
+fn a_fetch_that_fails_leaves_the_table(rt: HostRuntime) -> Result<(), Fail> {
+    let alloc = rt.alloc();
+    let mut router = Router::new(alloc);
+    assert!(rt; fails_at_a_read(&mut router, alloc));
+    assert!(rt; fetches(&mut router, alloc, ANSWER, 9, Ok(Fetched::Committed)));
+    assert!(rt; fails_at_a_write(&mut router, alloc));
+    assert!(rt; has_committed(&router));
     Ok(())
 }

@@ -1,4 +1,5 @@
 use rtr_ends::{Timing, TimingFault};
+use std::process::Abort;
 
 const OUT_OF_RANGE: Option<TimingFault> = Some(TimingFault::OutOfRange);
 
@@ -37,24 +38,33 @@ const ROWS: &[(u32, u32, u32, Option<TimingFault>)] = &[
     (4_294_967_295, 4_294_967_295, 4_294_967_295, OUT_OF_RANGE),
 ];
 
-#[test]
-fn intervals_at_their_bounds(rt: HostRuntime) {
-    for &(refresh, retry, expire, fault) in ROWS {
-        match Timing::new(refresh, retry, expire) {
-            Err(told) => assert!(rt; Some(told) == fault, "{refresh} {retry} {expire}"),
-            Ok(timing) => {
-                assert!(rt; fault.is_none(), "{refresh} {retry} {expire}");
-                assert!(rt;
-                    (timing.refresh(), timing.retry(), timing.expire()) == (refresh, retry, expire)
-                );
-            }
+/// Whether intervals are refused so, or are taken as they are.
+fn is_told(refresh: u32, retry: u32, expire: u32, fault: Option<TimingFault>) -> bool {
+    match Timing::new(refresh, retry, expire) {
+        Err(told) => fault == Some(told),
+        Ok(timing) => {
+            fault.is_none()
+                && timing.refresh() == refresh
+                && timing.retry() == retry
+                && timing.expire() == expire
         }
     }
+}
+
+/// Checks each row.
+fn expect_told<R: Abort>(rt: &R, rows: &[(u32, u32, u32, Option<TimingFault>)]) {
+    for &(refresh, retry, expire, fault) in rows {
+        assert!(rt;
+            is_told(refresh, retry, expire, fault),
+            "{refresh} {retry} {expire}"
+        );
+    }
+}
+
+#[test]
+fn intervals_at_their_bounds(rt: HostRuntime) {
+    expect_told(&rt, ROWS);
     assert!(rt; Timing::new(3600, 600, 7200) == Ok(Timing::default()));
-    assert!(rt;
-        (
-            TimingFault::OutOfRange.number(),
-            TimingFault::ExpireTooSmall.number()
-        ) == (1, 2)
-    );
+    assert!(rt; TimingFault::OutOfRange.number() == 1);
+    assert!(rt; TimingFault::ExpireTooSmall.number() == 2);
 }
