@@ -31,6 +31,23 @@ fn outcome(alloc: Global, now: u64, text: &[u8]) -> Result<String, Fail> {
     }
 }
 
+/// The same of a moment and a text as they stand in the file.
+fn outcome_of(alloc: Global, now: &str, digits: &str) -> Result<String, Fail> {
+    let text = hex::decode(alloc, digits)?;
+    outcome(alloc, now.parse()?, text.as_slice())
+}
+
+/// Writes what comes of each line.
+fn tell_each<W: Write>(alloc: Global, cases: &str, out: &mut W) -> Result<(), Fail> {
+    for line in cases.lines() {
+        if let Some((now, digits)) = line.split_once(' ') {
+            out.write_all(outcome_of(alloc, now, digits)?.as_bytes())?;
+            out.write_all(b"\n")?;
+        }
+    }
+    Ok(())
+}
+
 #[test]
 fn outcomes(rt: HostRuntime) -> Result<(), Fail> {
     // (the gate itself has no such file)
@@ -40,13 +57,5 @@ fn outcomes(rt: HostRuntime) -> Result<(), Fail> {
     let mut bytes = Vec::new(rt.alloc());
     io::Read::read_to_end(&mut file, &mut bytes)?;
     let mut out = rt.stdout();
-    for line in str::from_utf8(bytes.as_slice())?.lines() {
-        if let Some((now, digits)) = line.split_once(' ') {
-            let text = hex::decode(rt.alloc(), digits)?;
-            let told = outcome(rt.alloc(), now.parse()?, text.as_slice())?;
-            out.write_all(told.as_bytes())?;
-            out.write_all(b"\n")?;
-        }
-    }
-    Ok(())
+    tell_each(rt.alloc(), str::from_utf8(bytes.as_slice())?, &mut out)
 }

@@ -15,15 +15,20 @@ fn is_of(alloc: Global, export: &Export, rows: Rows) -> Result<bool, Fail> {
     Ok(export.set.as_slice() == set_of(alloc, rows)?.as_slice())
 }
 
-/// Whether a text is an export of two records and no others, that was made then.
-fn is_two(alloc: Global, text: &[u8], built: Option<u64>) -> Result<bool, Fail> {
-    let export = read_export(alloc, text, NOW)?;
-    Ok(export.built == built && export.expired == 0 && is_of(alloc, &export, TWO)?)
+/// Whether a text is an export of the two records and no others, that was made then, and has so many entries which have expired.
+fn is_two_of(alloc: Global, text: &str, built: Option<u64>, expired: u64) -> Result<bool, Fail> {
+    let export = read_export(alloc, text.as_bytes(), NOW)?;
+    Ok(export.built == built && export.expired == expired && is_of(alloc, &export, TWO)?)
+}
+
+/// Whether a text is an export of the two records and no others, none of which has expired, that was made then.
+fn is_two(alloc: Global, text: &str, built: Option<u64>) -> Result<bool, Fail> {
+    is_two_of(alloc, text, built, 0)
 }
 
 #[test]
 fn a_payload_list(rt: HostRuntime) -> Result<(), Fail> {
-    let text = br#"[{"asn":64496,"prefix":"192.0.2.0/24","maxLength":24},
+    let text = r#"[{"asn":64496,"prefix":"192.0.2.0/24","maxLength":24},
         {"asn":64497,"prefix":"2001:db8::/32","maxLength":48}]"#;
     assert!(rt; is_two(rt.alloc(), text, None)?);
     Ok(())
@@ -31,7 +36,7 @@ fn a_payload_list(rt: HostRuntime) -> Result<(), Fail> {
 
 #[test]
 fn as_rpki_client_writes_it(rt: HostRuntime) -> Result<(), Fail> {
-    let text = br#"{
+    let text = r#"{
   "metadata": {
     "buildmachine": "validator.example.net",
     "buildtime": "2023-11-14T22:10:00Z",
@@ -55,16 +60,13 @@ fn as_rpki_client_writes_it(rt: HostRuntime) -> Result<(), Fail> {
   ]
 }
 "#;
-    let export = read_export(rt.alloc(), text, NOW)?;
-    assert!(rt; is_of(rt.alloc(), &export, TWO)?);
-    assert!(rt; export.expired == 1);
-    assert!(rt; export.built == Some(1_699_999_800));
+    assert!(rt; is_two_of(rt.alloc(), text, Some(1_699_999_800), 1)?);
     Ok(())
 }
 
 #[test]
 fn as_routinator_writes_it(rt: HostRuntime) -> Result<(), Fail> {
-    let text = br#"{
+    let text = r#"{
   "metadata": {
     "generated": 1699999900,
     "generatedTime": "2023-11-14T22:11:40Z"
@@ -81,7 +83,7 @@ fn as_routinator_writes_it(rt: HostRuntime) -> Result<(), Fail> {
 
 #[test]
 fn as_fort_writes_it(rt: HostRuntime) -> Result<(), Fail> {
-    let text = br#"{ "roas" : [
+    let text = r#"{ "roas" : [
 { "asn" : "AS64496", "prefix" : "192.0.2.0/24", "maxLength" : 24 },
 { "asn" : "AS64497", "prefix" : "2001:db8::/32", "maxLength" : 48 }
 ],
@@ -94,23 +96,23 @@ fn as_fort_writes_it(rt: HostRuntime) -> Result<(), Fail> {
 #[test]
 fn as_stayrtr_and_rtrdump_write_it(rt: HostRuntime) -> Result<(), Fail> {
     let stayrtr =
-        br#"{"metadata":{"vrps":2,"buildtime":"2023-11-14T22:10:00Z"},"roas":[{"prefix":"192.0.2.0/24","maxLength":24,"asn":64496,"ta":"ripe","expires":1700050000},{"prefix":"2001:db8::/32","maxLength":48,"asn":"AS64497"}],"bgpsec_keys":null}"#;
+        r#"{"metadata":{"vrps":2,"buildtime":"2023-11-14T22:10:00Z"},"roas":[{"prefix":"192.0.2.0/24","maxLength":24,"asn":64496,"ta":"ripe","expires":1700050000},{"prefix":"2001:db8::/32","maxLength":48,"asn":"AS64497"}],"bgpsec_keys":null}"#;
     assert!(rt; is_two(rt.alloc(), stayrtr, Some(1_699_999_800))?);
     let rtrdump =
-        br#"{"metadata":{"vrps":2,"generated":1699999900,"buildtime":"2023-11-14T22:10:00Z","sessionid":7,"serial":1},"roas":[{"prefix":"192.0.2.0/24","maxLength":24,"asn":64496},{"prefix":"2001:db8::/32","maxLength":48,"asn":64497}]}"#;
+        r#"{"metadata":{"vrps":2,"generated":1699999900,"buildtime":"2023-11-14T22:10:00Z","sessionid":7,"serial":1},"roas":[{"prefix":"192.0.2.0/24","maxLength":24,"asn":64496},{"prefix":"2001:db8::/32","maxLength":48,"asn":64497}]}"#;
     assert!(rt; is_two(rt.alloc(), rtrdump, Some(1_699_999_900))?);
     Ok(())
 }
 
 /// How many entries count, and how many do not, of one that expires at this moment.
-fn counts(alloc: Global, text: &[u8], now: u64) -> Result<(usize, u64), Fail> {
-    let export = read_export(alloc, text, now)?;
+fn counts(alloc: Global, text: &str, now: u64) -> Result<(usize, u64), Fail> {
+    let export = read_export(alloc, text.as_bytes(), now)?;
     Ok((export.set.len(), export.expired))
 }
 
 #[test]
 fn an_entry_counts_before_its_expiry(rt: HostRuntime) -> Result<(), Fail> {
-    let text = br#"{"roas":[{"asn":1,"prefix":"10.0.0.0/8","maxLength":8,"expires":1700000000}]}"#;
+    let text = r#"{"roas":[{"asn":1,"prefix":"10.0.0.0/8","maxLength":8,"expires":1700000000}]}"#;
     assert!(rt; counts(rt.alloc(), text, NOW - 1)? == (1, 0));
     assert!(rt; counts(rt.alloc(), text, NOW)? == (0, 1));
     assert!(rt; counts(rt.alloc(), text, NOW + 1)? == (0, 1));
@@ -118,20 +120,31 @@ fn an_entry_counts_before_its_expiry(rt: HostRuntime) -> Result<(), Fail> {
 }
 
 /// Whether what a text exports at a moment is read the same with its end, and ends then.
-fn ends(alloc: Global, text: &[u8], now: u64, until: Option<u64>) -> Result<bool, Fail> {
-    let one = read_export(alloc, text, now)?;
-    let same = read_export_until(alloc, text, now)?;
-    Ok(
-        same.until == until
-            && same.export.set.as_slice() == one.set.as_slice()
-            && same.export.expired == one.expired
-            && same.export.built == one.built,
-    )
+fn ends(alloc: Global, text: &str, now: u64, until: Option<u64>) -> Result<bool, Fail> {
+    let one = read_export(alloc, text.as_bytes(), now)?;
+    let same = read_export_until(alloc, text.as_bytes(), now)?;
+    Ok(same.until == until && is_same(&same.export, &one))
+}
+
+fn is_same(export: &Export, other: &Export) -> bool {
+    export.set.as_slice() == other.set.as_slice()
+        && export.expired == other.expired
+        && export.built == other.built
+}
+
+/// Whether a text ends so at each of these moments.
+fn all_end(alloc: Global, text: &str, rows: &[(u64, Option<u64>)]) -> Result<bool, Fail> {
+    for &(now, until) in rows {
+        if !ends(alloc, text, now, until)? {
+            return Ok(false);
+        }
+    }
+    Ok(true)
 }
 
 #[test]
 fn an_export_ends_with_the_first_of_its_entries(rt: HostRuntime) -> Result<(), Fail> {
-    let text = br#"{"metadata":{"generated":1700000000},"roas":[
+    let text = r#"{"metadata":{"generated":1700000000},"roas":[
         {"asn":1,"prefix":"10.0.0.0/8","maxLength":8,"expires":1700000007},
         {"asn":2,"prefix":"10.0.0.0/8","maxLength":8,"expires":1700000000},
         {"asn":3,"prefix":"10.0.0.0/8","maxLength":8},
@@ -148,17 +161,15 @@ fn an_export_ends_with_the_first_of_its_entries(rt: HostRuntime) -> Result<(), F
         (NOW + 6, Some(NOW + 7)),
         (NOW + 7, None),
     ];
-    for (now, until) in told {
-        assert!(rt; ends(rt.alloc(), text, now, until)?);
-    }
+    assert!(rt; all_end(rt.alloc(), text, &told)?);
     Ok(())
 }
 
 #[test]
 fn an_export_without_expiry_does_not_end(rt: HostRuntime) -> Result<(), Fail> {
-    let list = br#"[{"asn":1,"prefix":"10.0.0.0/8","maxLength":8}]"#;
+    let list = r#"[{"asn":1,"prefix":"10.0.0.0/8","maxLength":8}]"#;
     assert!(rt; ends(rt.alloc(), list, NOW, None)?);
-    assert!(rt; ends(rt.alloc(), b"{\"roas\":[]}", NOW, None)?);
+    assert!(rt; ends(rt.alloc(), "{\"roas\":[]}", NOW, None)?);
     Ok(())
 }
 
@@ -166,7 +177,7 @@ fn an_export_without_expiry_does_not_end(rt: HostRuntime) -> Result<(), Fail> {
 #[test]
 fn the_last_second_is_an_end(rt: HostRuntime) -> Result<(), Fail> {
     let text =
-        br#"{"x":1.5,"roas":[{"asn":1,"prefix":"10.0.0.0/8","maxLength":8,"expires":18446744073709551615}]}"#;
+        r#"{"x":1.5,"roas":[{"asn":1,"prefix":"10.0.0.0/8","maxLength":8,"expires":18446744073709551615}]}"#;
     assert!(rt; ends(rt.alloc(), text, NOW, Some(u64::MAX))?);
     assert!(rt; ends(rt.alloc(), text, u64::MAX, None)?);
     Ok(())
@@ -176,11 +187,11 @@ fn the_last_second_is_an_end(rt: HostRuntime) -> Result<(), Fail> {
 #[test]
 fn other_forms_are_the_same_exports(rt: HostRuntime) -> Result<(), Fail> {
     let float =
-        br#"{"metadata":{"elapsed":1.5},"roas":[{"asn":"64496","prefix":"192.0.2.0/24","maxLength":24,"x":-1},
+        r#"{"metadata":{"elapsed":1.5},"roas":[{"asn":"64496","prefix":"192.0.2.0/24","maxLength":24,"x":-1},
         {"asn":64497,"prefix":"2001:db8::/32","maxLength":48}]}"#;
     assert!(rt; is_two(rt.alloc(), float, None)?);
     let deep =
-        br#"{"x":[[[[[[[[[[[[[[[[[[[[]]]]]]]]]]]]]]]]]]]],"roas":[{"asn":"64496","prefix":"192.0.2.0/24","maxLength":24},
+        r#"{"x":[[[[[[[[[[[[[[[[[[[[]]]]]]]]]]]]]]]]]]]],"roas":[{"asn":"64496","prefix":"192.0.2.0/24","maxLength":24},
         {"asn":64497,"prefix":"2001:db8::/32","maxLength":48}]}"#;
     assert!(rt; is_two(rt.alloc(), deep, None)?);
     Ok(())
@@ -189,24 +200,27 @@ fn other_forms_are_the_same_exports(rt: HostRuntime) -> Result<(), Fail> {
 /// Of a key that stands twice the last is read, in an entry, in the metadata and in the whole.
 #[test]
 fn the_last_of_a_key_is_read(rt: HostRuntime) -> Result<(), Fail> {
-    let text = br#"{"roas":[{"asn":"AS1"}],"metadata":{"generated":1,"generated":2},"roas":[
+    let text = r#"{"roas":[{"asn":"AS1"}],"metadata":{"generated":1,"generated":2},"roas":[
         {"asn":1,"asn":"AS64496","prefix":"10.0.0.0/8","prefix":"192.0.2.0/24","maxLength":1,"maxLength":24},
         {"asn":"AS1","asn":64497,"prefix":"2001:db8::/32","maxLength":48,"expires":1,"expires":1700000001}]}"#;
     assert!(rt; is_two(rt.alloc(), text, Some(2))?);
-    let plain = br#"{"roas":[],"metadata":{"generated":1,"generated":2},"roas":[
+    let plain = r#"{"roas":[],"metadata":{"generated":1,"generated":2},"roas":[
         {"asn":1,"asn":"AS64496","prefix":"10.0.0.0/8","prefix":"192.0.2.0/24","maxLength":1,"maxLength":24},
         {"asn":"AS1","asn":64497,"prefix":"2001:db8::/32","maxLength":48,"expires":1,"expires":1700000001}]}"#;
     assert!(rt; is_two(rt.alloc(), plain, Some(2))?);
     Ok(())
 }
 
+/// Whether a text is an export without entries, that does not say when it was made.
+fn is_nothing(alloc: Global, text: &str) -> Result<bool, Fail> {
+    let export = read_export(alloc, text.as_bytes(), NOW)?;
+    Ok(export.set.is_empty() && export.expired == 0 && export.built.is_none())
+}
+
 #[test]
 fn no_entry_at_all(rt: HostRuntime) -> Result<(), Fail> {
-    let export = read_export(rt.alloc(), b"{\"roas\":[]}", NOW)?;
-    assert!(rt; export.set.is_empty());
-    assert!(rt; export.expired == 0);
-    assert!(rt; export.built.is_none());
-    assert!(rt; read_export(rt.alloc(), b"[]", NOW)?.set.is_empty());
+    assert!(rt; is_nothing(rt.alloc(), "{\"roas\":[]}")?);
+    assert!(rt; is_nothing(rt.alloc(), "[]")?);
     Ok(())
 }
 
@@ -216,33 +230,43 @@ fn built(alloc: Global, metadata: &str) -> Result<Option<u64>, Fail> {
     Ok(read_export(alloc, text.as_bytes(), NOW)?.built)
 }
 
+/// What metadata say, and when the export was made.
+const MADE: &[(&str, Option<u64>)] = &[
+    ("{\"buildtime\":\"1970-01-01T00:00:00Z\"}", Some(0)),
+    (
+        "{\"buildtime\":\"2024-02-29T23:59:59Z\"}",
+        Some(1_709_251_199),
+    ),
+    ("{\"buildtime\":\"2023-02-29T23:59:59Z\"}", None),
+    ("{\"buildtime\":\"1969-12-31T23:59:59Z\"}", None),
+    ("{\"buildtime\":\"2024-02-29 23:59:59Z\"}", None),
+    ("{\"buildtime\":\"2024-02-29T23:59:59+00:00\"}", None),
+    ("{\"buildtime\":1709251199}", None),
+    (
+        "{\"generated\":\"7\",\"buildtime\":\"1970-01-01T00:00:01Z\"}",
+        Some(1),
+    ),
+    (
+        "{\"generated\":7,\"buildtime\":\"1970-01-01T00:00:01Z\"}",
+        Some(7),
+    ),
+    ("{\"generated\":7.5}", None),
+    ("[]", None),
+    ("7", None),
+];
+
+/// Whether each of these says so.
+fn all_are_built(alloc: Global, rows: &[(&str, Option<u64>)]) -> Result<bool, Fail> {
+    for &(metadata, then) in rows {
+        if built(alloc, metadata)? != then {
+            return Ok(false);
+        }
+    }
+    Ok(true)
+}
+
 #[test]
 fn when_it_was_made(rt: HostRuntime) -> Result<(), Fail> {
-    let told = [
-        ("{\"buildtime\":\"1970-01-01T00:00:00Z\"}", Some(0)),
-        (
-            "{\"buildtime\":\"2024-02-29T23:59:59Z\"}",
-            Some(1_709_251_199),
-        ),
-        ("{\"buildtime\":\"2023-02-29T23:59:59Z\"}", None),
-        ("{\"buildtime\":\"1969-12-31T23:59:59Z\"}", None),
-        ("{\"buildtime\":\"2024-02-29 23:59:59Z\"}", None),
-        ("{\"buildtime\":\"2024-02-29T23:59:59+00:00\"}", None),
-        ("{\"buildtime\":1709251199}", None),
-        (
-            "{\"generated\":\"7\",\"buildtime\":\"1970-01-01T00:00:01Z\"}",
-            Some(1),
-        ),
-        (
-            "{\"generated\":7,\"buildtime\":\"1970-01-01T00:00:01Z\"}",
-            Some(7),
-        ),
-        ("{\"generated\":7.5}", None),
-        ("[]", None),
-        ("7", None),
-    ];
-    for (metadata, then) in told {
-        assert!(rt; built(rt.alloc(), metadata)? == then);
-    }
+    assert!(rt; all_are_built(rt.alloc(), MADE)?);
     Ok(())
 }

@@ -1,7 +1,7 @@
+use example_values::sets::{Row, set_of};
 use prefixes::Asn;
 use slurm::{EntryFault, PrefixFilter, Slurm, SlurmArray, SlurmFault, SlurmObject, read_slurm};
 use std::alloc::Global;
-use std::process::Abort;
 use std::test::Fail;
 
 /// The full example of RFC 8416 section 3.5.
@@ -99,6 +99,11 @@ fn has_filters(slurm: &Slurm, filters: &[(Option<&str>, Option<u32>)]) -> Result
     Ok(slurm.filters.len() == filters.len())
 }
 
+/// Whether the assertions are these.
+fn has_assertions(alloc: Global, slurm: &Slurm, rows: &[Row]) -> Result<bool, Fail> {
+    Ok(slurm.assertions.is_same(&set_of(alloc, rows)?))
+}
+
 #[test]
 fn the_full_example_is_read(rt: HostRuntime) -> Result<(), Fail> {
     let slurm = read_slurm(rt.alloc(), FULL.as_bytes())?;
@@ -108,11 +113,8 @@ fn the_full_example_is_read(rt: HostRuntime) -> Result<(), Fail> {
         (Some("198.51.100.0/24"), Some(64497)),
     ];
     assert!(rt; has_filters(&slurm, &filters)?);
-    let assertions = example_values::sets::set_of(
-        rt.alloc(),
-        &[("198.51.100.0/24", 24, 64496), ("2001:db8::/32", 48, 64496)],
-    )?;
-    assert!(rt; slurm.assertions.is_same(&assertions));
+    let assertions = [("198.51.100.0/24", 24, 64496), ("2001:db8::/32", 48, 64496)];
+    assert!(rt; has_assertions(rt.alloc(), &slurm, &assertions)?);
     Ok(())
 }
 
@@ -290,29 +292,40 @@ fn tell_their_numbers(alloc: Global, faults: &[SlurmFault]) -> Result<bool, Fail
     Ok(true)
 }
 
+/// Whether a fault has this text.
+fn is_told(alloc: Global, fault: &SlurmFault, text: &str) -> Result<bool, Fail> {
+    Ok(format!(in alloc; "{fault}")?.as_str() == text)
+}
+
+const ENTRY: SlurmFault = SlurmFault::Entry(
+    SlurmArray::PrefixAssertions,
+    12,
+    EntryFault::MaxLength,
+);
+
+const ENTRY_TEXT: &str =
+    "prefixAssertions[12]: maxPrefixLength is no maximum length of the prefix (fault 5)";
+
+const MEMBERS: SlurmFault = SlurmFault::Members(SlurmObject::Filters);
+
+const MEMBERS_TEXT: &str = "validationOutputFilters is no object of exactly its members (fault 2)";
+
+/// Of each kind one.
+const KINDS: &[SlurmFault] = &[
+    SlurmFault::NotJson,
+    MEMBERS,
+    SlurmFault::Version,
+    SlurmFault::NoArray(SlurmArray::BgpsecFilters),
+    ENTRY,
+    SlurmFault::TooMany,
+    SlurmFault::Memory,
+];
+
 #[test]
 fn faults_have_texts(rt: HostRuntime) -> Result<(), Fail> {
-    let entry = SlurmFault::Entry(SlurmArray::PrefixAssertions, 12, EntryFault::MaxLength);
-    let text = format!(in rt.alloc(); "{entry}")?;
-    assert!(rt;
-        text.as_str()
-            == "prefixAssertions[12]: maxPrefixLength is no maximum length of the prefix (fault 5)"
-    );
-    let members = SlurmFault::Members(SlurmObject::Filters);
-    let text = format!(in rt.alloc(); "{members}")?;
-    assert!(rt;
-        text.as_str() == "validationOutputFilters is no object of exactly its members (fault 2)"
-    );
-    let faults = [
-        SlurmFault::NotJson,
-        members,
-        SlurmFault::Version,
-        SlurmFault::NoArray(SlurmArray::BgpsecFilters),
-        entry,
-        SlurmFault::TooMany,
-        SlurmFault::Memory,
-    ];
-    assert!(rt; tell_their_numbers(rt.alloc(), &faults)?);
-    assert!(rt; entry.number() == 5);
+    assert!(rt; is_told(rt.alloc(), &ENTRY, ENTRY_TEXT)?);
+    assert!(rt; is_told(rt.alloc(), &MEMBERS, MEMBERS_TEXT)?);
+    assert!(rt; tell_their_numbers(rt.alloc(), KINDS)?);
+    assert!(rt; ENTRY.number() == 5);
     Ok(())
 }
