@@ -15,18 +15,63 @@ use rtr_world::{CatchFault, WorldFault};
 use slurm::{EntryFault as ExceptionFault, SlurmArray, SlurmFault, SlurmObject};
 use std::alloc::Global;
 use std::fmt::Display;
-use std::test::Fail;
 use vrps::{PathFault, SetFault};
 
+/// Whether this is the text of a fault.
+fn is_text<F: Display>(alloc: Global, fault: &F, text: &str) -> bool {
+    match format!(in alloc; "{fault}") {
+        Ok(it) => it.as_str() == text,
+        Err(_) => false,
+    }
+}
+
+/// Whether the text of a fault ends so.
+fn has_end<F: Display>(alloc: Global, fault: &F, end: &str) -> bool {
+    match format!(in alloc; "{fault}") {
+        Ok(it) => it.as_str().ends_with(end),
+        Err(_) => false,
+    }
+}
+
 /// Whether the text of a fault ends with this word and this number.
-fn tells<F: Display>(alloc: Global, fault: &F, word: &str, number: u8) -> Result<bool, Fail> {
-    let text = format!(in alloc; "{fault}")?;
-    let end = format!(in alloc; "({word} {number})")?;
-    Ok(text.as_str().ends_with(end.as_str()))
+fn tells<F: Display>(alloc: Global, fault: &F, word: &str, number: u8) -> bool {
+    match format!(in alloc; "({word} {number})") {
+        Ok(end) => has_end(alloc, fault, end.as_str()),
+        Err(_) => false,
+    }
+}
+
+/// Whether the text of each of these faults ends with this word and its number.
+fn all_tell<F: Display>(alloc: Global, word: &str, faults: &[(u8, F)]) -> bool {
+    for (number, fault) in faults {
+        if !tells(alloc, fault, word, *number) {
+            return false;
+        }
+    }
+    true
+}
+
+/// Faults, each with its number.
+macro_rules! numbered {
+    ($($fault:expr),+ $(,)?) => {
+        [$(($fault.number(), $fault)),+]
+    };
+}
+
+/// Whether the text of each of these faults of an element ends with its number, also as a fault of a payload.
+fn elements_tell(alloc: Global, kinds: &[DerFaultKind]) -> bool {
+    for kind in kinds {
+        let number = kind.number();
+        let fault = GrammarFaultKind::Element(*kind);
+        if !tells(alloc, kind, "fault", number) || !tells(alloc, &fault, "fault", number) {
+            return false;
+        }
+    }
+    true
 }
 
 #[test]
-fn faults_of_payloads(rt: HostRuntime) -> Result<(), Fail> {
+fn faults_of_payloads(rt: HostRuntime) {
     let kinds = [
         DerFaultKind::Truncated,
         DerFaultKind::WrongTag,
@@ -34,12 +79,8 @@ fn faults_of_payloads(rt: HostRuntime) -> Result<(), Fail> {
         DerFaultKind::BadContent,
         DerFaultKind::Trailing,
     ];
-    for kind in kinds {
-        let fault = GrammarFaultKind::Element(kind);
-        assert!(rt; tells(rt.alloc(), &kind, "fault", kind.number())?);
-        assert!(rt; tells(rt.alloc(), &fault, "fault", kind.number())?);
-    }
-    for kind in [
+    assert!(rt; elements_tell(rt.alloc(), &kinds));
+    let faults = numbered![
         GrammarFaultKind::VersionPresent,
         GrammarFaultKind::AsnRange,
         GrammarFaultKind::Family,
@@ -55,15 +96,13 @@ fn faults_of_payloads(rt: HostRuntime) -> Result<(), Fail> {
         GrammarFaultKind::NameTwice,
         GrammarFaultKind::TooMany,
         GrammarFaultKind::MaxLengthSuperfluous,
-    ] {
-        assert!(rt; tells(rt.alloc(), &kind, "fault", kind.number())?);
-    }
-    Ok(())
+    ];
+    assert!(rt; all_tell(rt.alloc(), "fault", &faults));
 }
 
 #[test]
-fn refusals_of_offers(rt: HostRuntime) -> Result<(), Fail> {
-    for fault in [
+fn refusals_of_offers(rt: HostRuntime) {
+    let faults = numbered![
         PointFault::NotYet,
         PointFault::Stale,
         PointFault::OldNumber,
@@ -72,76 +111,76 @@ fn refusals_of_offers(rt: HostRuntime) -> Result<(), Fail> {
         PointFault::Missing(3),
         PointFault::HashDiffers(3),
         PointFault::Memory,
-    ] {
-        assert!(rt; tells(rt.alloc(), &fault, "refusal", fault.number())?);
-    }
+    ];
+    assert!(rt; all_tell(rt.alloc(), "refusal", &faults));
     let fault = FeedFault::Point(2, PointFault::Missing(3));
     assert!(rt;
-        format!(in rt.alloc(); "{fault}")?.as_str()
-            == "offer 2 is refused: listed file 3 is missing (refusal 7) (fault 1)"
+        is_text(
+            rt.alloc(),
+            &fault,
+            "offer 2 is refused: listed file 3 is missing (refusal 7) (fault 1)"
+        )
     );
-    assert!(rt; tells(rt.alloc(), &FeedFault::TooMany, "fault", 2)?);
-    assert!(rt; tells(rt.alloc(), &FeedFault::Memory, "fault", 3)?);
-    Ok(())
+    assert!(rt; tells(rt.alloc(), &FeedFault::TooMany, "fault", 2));
+    assert!(rt; tells(rt.alloc(), &FeedFault::Memory, "fault", 3));
 }
 
 #[test]
-fn faults_of_prefixes_and_sets(rt: HostRuntime) -> Result<(), Fail> {
-    for fault in [
+fn faults_of_prefixes_and_sets(rt: HostRuntime) {
+    let faults = numbered![
         PrefixFault::TooLong,
         PrefixFault::HostBits,
         PrefixFault::BadText,
         PrefixFault::MaxLength,
-    ] {
-        assert!(rt; tells(rt.alloc(), &fault, "fault", fault.number())?);
-    }
-    for fault in [SetFault::TooMany, SetFault::Memory] {
-        assert!(rt; tells(rt.alloc(), &fault, "fault", fault.number())?);
-    }
-    for fault in [ListFault::NoList, ListFault::Memory] {
-        assert!(rt; tells(rt.alloc(), &fault, "fault", fault.number())?);
-    }
-    assert!(rt; tells(rt.alloc(), &PathFault::EmptySequence, "fault", 1)?);
-    Ok(())
+    ];
+    assert!(rt; all_tell(rt.alloc(), "fault", &faults));
+    let faults = numbered![SetFault::TooMany, SetFault::Memory];
+    assert!(rt; all_tell(rt.alloc(), "fault", &faults));
+    let faults = numbered![ListFault::NoList, ListFault::Memory];
+    assert!(rt; all_tell(rt.alloc(), "fault", &faults));
+    assert!(rt; tells(rt.alloc(), &PathFault::EmptySequence, "fault", 1));
 }
 
 #[test]
-fn faults_of_exports_and_exceptions(rt: HostRuntime) -> Result<(), Fail> {
-    for fault in [
+fn faults_of_exports_and_exceptions(rt: HostRuntime) {
+    let faults = numbered![
         ExportFault::NotJson,
         ExportFault::NoRoas,
         ExportFault::Entry(3, EntryFault::Expires),
         ExportFault::TooMany,
         ExportFault::Memory,
-    ] {
-        assert!(rt; tells(rt.alloc(), &fault, "fault", fault.number())?);
-    }
-    for fault in [
+    ];
+    assert!(rt; all_tell(rt.alloc(), "fault", &faults));
+    let faults = numbered![
         SlurmFault::NotJson,
         SlurmFault::Members(SlurmObject::Filters),
         SlurmFault::Version,
         SlurmFault::NoArray(SlurmArray::BgpsecFilters),
         SlurmFault::TooMany,
         SlurmFault::Memory,
-    ] {
-        assert!(rt; tells(rt.alloc(), &fault, "fault", fault.number())?);
-    }
+    ];
+    assert!(rt; all_tell(rt.alloc(), "fault", &faults));
     let fault = SlurmFault::Entry(SlurmArray::PrefixFilters, 7, ExceptionFault::NeitherKey);
     assert!(rt;
-        format!(in rt.alloc(); "{fault}")?.as_str()
-            == "prefixFilters[7]: neither prefix nor asn (fault 5)"
+        is_text(
+            rt.alloc(),
+            &fault,
+            "prefixFilters[7]: neither prefix nor asn (fault 5)"
+        )
     );
     let fault = ExportFault::Entry(3, EntryFault::Asn);
     assert!(rt;
-        format!(in rt.alloc(); "{fault}")?.as_str()
-            == "entry 3 of roas cannot be read: asn is no AS number (fault 3)"
+        is_text(
+            rt.alloc(),
+            &fault,
+            "entry 3 of roas cannot be read: asn is no AS number (fault 3)"
+        )
     );
-    Ok(())
 }
 
 #[test]
-fn faults_of_the_protocol(rt: HostRuntime) -> Result<(), Fail> {
-    for fault in [
+fn faults_of_the_protocol(rt: HostRuntime) {
+    let faults = numbered![
         UnitFault::Version,
         UnitFault::Type,
         UnitFault::Length,
@@ -149,52 +188,42 @@ fn faults_of_the_protocol(rt: HostRuntime) -> Result<(), Fail> {
         UnitFault::Record,
         UnitFault::ErrorReport,
         UnitFault::Truncated,
-    ] {
-        assert!(rt; tells(rt.alloc(), &fault, "fault", fault.number())?);
-    }
-    assert!(rt; tells(rt.alloc(), &ReadFault::Fault(UnitFault::Type), "fault", 2)?);
-    assert!(rt; tells(rt.alloc(), &ReadFault::ReadFailed, "fault", 8)?);
-    for (number, fault) in [
+    ];
+    assert!(rt; all_tell(rt.alloc(), "fault", &faults));
+    assert!(rt; tells(rt.alloc(), &ReadFault::Fault(UnitFault::Type), "fault", 2));
+    assert!(rt; tells(rt.alloc(), &ReadFault::ReadFailed, "fault", 8));
+    let faults = [
         (1, StreamFault::ReadFailed),
         (2, StreamFault::WriteFailed),
         (3, StreamFault::Memory),
-    ] {
-        assert!(rt; tells(rt.alloc(), &fault, "fault", number)?);
-    }
-    for (number, fault) in [(1, AdmitFault::TooManyClients), (2, AdmitFault::Memory)] {
-        assert!(rt; tells(rt.alloc(), &fault, "fault", number)?);
-    }
-    for (number, fault) in [
+    ];
+    assert!(rt; all_tell(rt.alloc(), "fault", &faults));
+    let faults = [(1, AdmitFault::TooManyClients), (2, AdmitFault::Memory)];
+    assert!(rt; all_tell(rt.alloc(), "fault", &faults));
+    let faults = [
         (1, TimingFault::OutOfRange),
         (2, TimingFault::ExpireTooSmall),
-    ] {
-        assert!(rt; tells(rt.alloc(), &fault, "fault", number)?);
-    }
-    for fault in [AnswerFault::BadHex, AnswerFault::Memory] {
-        assert!(rt; tells(rt.alloc(), &fault, "fault", fault.number())?);
-    }
-    for (number, fault) in [(1, AskFault::Busy), (2, AskFault::NotConnected)] {
-        assert!(rt; tells(rt.alloc(), &fault, "fault", number)?);
-    }
-    Ok(())
+    ];
+    assert!(rt; all_tell(rt.alloc(), "fault", &faults));
+    let faults = numbered![AnswerFault::BadHex, AnswerFault::Memory];
+    assert!(rt; all_tell(rt.alloc(), "fault", &faults));
+    let faults = [(1, AskFault::Busy), (2, AskFault::NotConnected)];
+    assert!(rt; all_tell(rt.alloc(), "fault", &faults));
 }
 
 #[test]
-fn faults_of_worlds(rt: HostRuntime) -> Result<(), Fail> {
-    for (number, fault) in [
+fn faults_of_worlds(rt: HostRuntime) {
+    let faults = [
         (1, WorldFault::SessionUsed),
         (2, WorldFault::TooManyVersions),
         (3, WorldFault::NoSuchRouter),
         (4, WorldFault::Memory),
-    ] {
-        assert!(rt; tells(rt.alloc(), &fault, "fault", number)?);
-    }
-    for (number, fault) in [
+    ];
+    assert!(rt; all_tell(rt.alloc(), "fault", &faults));
+    let faults = [
         (1, CatchFault::Memory),
         (2, CatchFault::NoData),
         (3, CatchFault::NoSuchRouter),
-    ] {
-        assert!(rt; tells(rt.alloc(), &fault, "fault", number)?);
-    }
-    Ok(())
+    ];
+    assert!(rt; all_tell(rt.alloc(), "fault", &faults));
 }
