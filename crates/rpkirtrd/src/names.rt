@@ -43,9 +43,13 @@ fn own_session<R: Files + AllocGlobal>(rt: &R, settings: &Settings) -> Result<u1
 fn addresses_text(alloc: Global, addresses: &[SocketAddr]) -> Result<String, AllocError> {
     let mut text = String::new(alloc);
     for address in addresses {
-        write!(text, "{address}\n")?;
+        add_address(&mut text, address)?;
     }
     Ok(text)
+}
+
+fn add_address(text: &mut String, address: &SocketAddr) -> Result<(), AllocError> {
+    write!(text, "{address}\n")
 }
 
 /// The paths of all sources, a line each.

@@ -78,12 +78,21 @@ fn desk_of<R: Files + Net + Clock + RandomSource + AllocGlobal + Clone + Drop, E
     address: Option<SocketAddr>,
     host: &mut Host<'_, R, E>,
 ) -> Result<Option<Desk>, HostFault> {
-    let Some(address) = address else {
-        return Ok(None);
-    };
+    match address {
+        Some(address) => Ok(Some(desk_at(rt, address, host)?)),
+        None => Ok(None),
+    }
+}
+
+/// The desk at an address.
+fn desk_at<R: Files + Net + Clock + RandomSource + AllocGlobal + Clone + Drop, E: Write>(
+    rt: &R,
+    address: SocketAddr,
+    host: &mut Host<'_, R, E>,
+) -> Result<Desk, HostFault> {
     let keys = RandomState::new(rt)?;
     match Desk::open(host, keys, address) {
-        Ok(desk) => Ok(Some(desk)),
+        Ok(desk) => Ok(desk),
         Err(error) => Err(HostFault {
             address: Some(address),
             error,
@@ -232,13 +241,20 @@ fn go_on<R: Files + Net + Clock + RandomSource + AllocGlobal + Clone + Drop, E: 
 
 /// Reports why the daemon ends, with the status.
 fn stop<W: Time + Journal>(end: End, world: &mut W) -> u8 {
-    let (status, reason) = match end {
-        End::Once => (0, "the client has gone"),
-        End::Old => (1, "an export is older than --max-age"),
-    };
+    let reason = reason_of(end);
     let now = world.seconds();
     world.tell(now, &Event::Stopped { reason });
-    status
+    match end {
+        End::Once => 0,
+        End::Old => 1,
+    }
+}
+
+fn reason_of(end: End) -> &'static str {
+    match end {
+        End::Once => "the client has gone",
+        End::Old => "an export is older than --max-age",
+    }
 }
 
 /// Reports that waiting failed, with the status.
