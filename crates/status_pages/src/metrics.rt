@@ -1,13 +1,29 @@
 //! What a cache is, in the text form of Prometheus.
 
 use crate::status::{FileStatus, PduCounts, Status, Traffic};
-use crate::text::write_label;
+use crate::text::{write_decimal, write_label, write_texts};
 use std::io::{self, Write};
 
 /// Writes what a metric is: its help and its type.
 fn write_head<W: Write>(out: &mut W, name: &str, kind: &str, help: &str) -> io::Result<()> {
-    writeln!(out, "# HELP {name} {help}")?;
-    writeln!(out, "# TYPE {name} {kind}")
+    let texts = [
+        "# HELP ",
+        name,
+        " ",
+        help,
+        "\n# TYPE ",
+        name,
+        " ",
+        kind,
+        "\n",
+    ];
+    write_texts(out, &texts)
+}
+
+/// Writes a value, which ends its line.
+fn write_value<W: Write>(out: &mut W, value: u64) -> io::Result<()> {
+    write_decimal(out, value)?;
+    out.write_all(b"\n")
 }
 
 /// Writes a metric of one value.
@@ -19,7 +35,8 @@ fn write_one<W: Write>(
     value: u64,
 ) -> io::Result<()> {
     write_head(out, name, kind, help)?;
-    writeln!(out, "{name} {value}")
+    write_texts(out, &[name, " "])?;
+    write_value(out, value)
 }
 
 /// Writes a metric of one value where there is one.
@@ -30,6 +47,18 @@ fn write_any<W: Write>(out: &mut W, name: &str, help: &str, value: Option<u64>) 
     }
 }
 
+/// Writes a value of a metric under a word of a label.
+fn write_labelled<W: Write>(
+    out: &mut W,
+    name: &str,
+    label: &str,
+    word: &str,
+    value: u64,
+) -> io::Result<()> {
+    write_texts(out, &[name, "{", label, "=\"", word, "\"} "])?;
+    write_value(out, value)
+}
+
 /// Writes a metric of two values under the words of one label.
 fn write_two<W: Write>(
     out: &mut W,
@@ -38,10 +67,8 @@ fn write_two<W: Write>(
     first: (&str, u64),
     second: (&str, u64),
 ) -> io::Result<()> {
-    let (word, value) = first;
-    writeln!(out, "{name}{{{label}=\"{word}\"}} {value}")?;
-    let (word, value) = second;
-    writeln!(out, "{name}{{{label}=\"{word}\"}} {value}")
+    write_labelled(out, name, label, first.0, first.1)?;
+    write_labelled(out, name, label, second.0, second.1)
 }
 
 /// What the program is, and since when it runs.
@@ -125,8 +152,14 @@ fn write_reloads<W: Write>(out: &mut W, status: &Status) -> io::Result<()> {
         "gauge",
         "How long it took to take what came last.",
     )?;
+    out.write_all(b"rpkirtrd_reload_seconds ")?;
+    write_seconds(out, milliseconds)
+}
+
+/// Writes milliseconds as seconds, which end their line.
+fn write_seconds<W: Write>(out: &mut W, milliseconds: u64) -> io::Result<()> {
     let (seconds, rest) = (milliseconds / 1000, milliseconds % 1000);
-    writeln!(out, "rpkirtrd_reload_seconds {seconds}.{rest:03}")
+    writeln!(out, "{seconds}.{rest:03}")
 }
 
 /// Which number of a file is given.
@@ -150,6 +183,14 @@ fn told_of(file: &FileStatus, now: u64, what: Told) -> Option<u64> {
     }
 }
 
+/// Writes the value of a metric for a file.
+fn write_of_file<W: Write>(out: &mut W, name: &str, path: &str, value: u64) -> io::Result<()> {
+    write_texts(out, &[name, "{file=\""])?;
+    write_label(out, path)?;
+    out.write_all(b"\"} ")?;
+    write_value(out, value)
+}
+
 /// Writes a metric with a value for each file that has one.
 fn write_of_files<W: Write>(
     out: &mut W,
@@ -161,9 +202,7 @@ fn write_of_files<W: Write>(
     write_head(out, name, "gauge", help)?;
     for file in &status.files {
         if let Some(value) = told_of(file, status.now, what) {
-            write!(out, "{name}{{file=\"")?;
-            write_label(out, &file.path)?;
-            writeln!(out, "\"}} {value}")?;
+            write_of_file(out, name, &file.path, value)?;
         }
     }
     Ok(())
@@ -249,13 +288,28 @@ fn listed(pdus: &PduCounts) -> [(&'static str, u64); 10] {
     ]
 }
 
+/// Writes the PDUs of a type that went one way.
+fn write_pdu_count<W: Write>(
+    out: &mut W,
+    direction: &str,
+    kind: &str,
+    count: u64,
+) -> io::Result<()> {
+    let texts = [
+        "rpkirtrd_pdus_total{type=\"",
+        kind,
+        "\",direction=\"",
+        direction,
+        "\"} ",
+    ];
+    write_texts(out, &texts)?;
+    write_value(out, count)
+}
+
 /// Writes the PDUs that went one way.
 fn write_pdus<W: Write>(out: &mut W, direction: &str, traffic: &Traffic) -> io::Result<()> {
-    for (kind, count) in listed(&traffic.pdus) {
-        writeln!(
-            out,
-            "rpkirtrd_pdus_total{{type=\"{kind}\",direction=\"{direction}\"}} {count}"
-        )?;
+    for (kind, count) in &listed(&traffic.pdus) {
+        write_pdu_count(out, direction, *kind, *count)?;
     }
     Ok(())
 }

@@ -4,7 +4,7 @@ use crate::page_style::STYLE;
 use crate::page_tables::{write_changes, write_clients, write_files};
 use crate::picture::write_picture;
 use crate::status::Status;
-use crate::text::{write_grouped, write_html, write_since, write_time};
+use crate::text::{write_decimal, write_grouped, write_html, write_since, write_texts, write_time};
 use std::io::{self, Write};
 
 /// Writes what stands before the body.
@@ -29,13 +29,14 @@ fn write_title<W: Write>(out: &mut W, status: &Status) -> io::Result<()> {
 
 /// Writes the name of a fact.
 fn write_name<W: Write>(out: &mut W, name: &str) -> io::Result<()> {
-    write!(out, "<div><dt>{name}</dt><dd>")
+    write_texts(out, &["<div><dt>", name, "</dt><dd>"])
 }
 
 /// Writes a fact that is a number without groups, as names of versions are.
 fn write_plain<W: Write>(out: &mut W, name: &str, number: u32) -> io::Result<()> {
     write_name(out, name)?;
-    writeln!(out, "{number}</dd></div>")
+    write_decimal(out, u64::from(number))?;
+    out.write_all(b"</dd></div>\n")
 }
 
 /// Writes a fact that is a count.
@@ -87,7 +88,7 @@ fn write_served<W: Write>(out: &mut W, status: &Status) -> io::Result<()> {
 
 /// Writes the head of a part.
 fn write_part<W: Write>(out: &mut W, name: &str) -> io::Result<()> {
-    writeln!(out, "<section>\n<h2>{name}</h2>")
+    write_texts(out, &["<section>\n<h2>", name, "</h2>\n"])
 }
 
 /// Writes the end of a part.

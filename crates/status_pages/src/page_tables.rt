@@ -1,22 +1,29 @@
 //! The tables of the page.
 
 use crate::status::{ChangeStatus, ClientStatus, FileStatus, Status};
-use crate::text::{write_grouped, write_html, write_since};
+use crate::text::{write_decimal, write_grouped, write_html, write_since, write_texts};
 use std::io::{self, Write};
 
 /// Writes the beginning of a table that scrolls in itself, with the heads of its columns. A column whose head begins with `#` has numbers.
 fn write_heads<W: Write>(out: &mut W, label: &str, heads: &[&str]) -> io::Result<()> {
-    write!(
-        out,
-        "<div class=\"scroll\" role=\"region\" aria-label=\"{label}\" tabindex=\"0\"><table>\n<thead><tr>"
-    )?;
+    let texts = [
+        "<div class=\"scroll\" role=\"region\" aria-label=\"",
+        label,
+        "\" tabindex=\"0\"><table>\n<thead><tr>",
+    ];
+    write_texts(out, &texts)?;
     for head in heads {
-        match head.strip_prefix('#') {
-            Some(head) => write!(out, "<th scope=\"col\" class=\"n\">{head}</th>")?,
-            None => write!(out, "<th scope=\"col\">{head}</th>")?,
-        }
+        write_column(out, *head)?;
     }
     out.write_all(b"</tr></thead>\n<tbody>\n")
+}
+
+/// Writes the head of a column.
+fn write_column<W: Write>(out: &mut W, head: &str) -> io::Result<()> {
+    match head.strip_prefix('#') {
+        Some(head) => write_texts(out, &["<th scope=\"col\" class=\"n\">", head, "</th>"]),
+        None => write_texts(out, &["<th scope=\"col\">", head, "</th>"]),
+    }
 }
 
 /// Writes its end.
@@ -41,20 +48,26 @@ fn write_moment<W: Write>(out: &mut W, now: u64, moment: Option<u64>) -> io::Res
     out.write_all(b"</td>")
 }
 
-/// Writes how a file is: refused and why, old, or good.
+/// Writes a cell with how a file is.
 fn write_state<W: Write>(out: &mut W, file: &FileStatus) -> io::Result<()> {
     out.write_all(b"<td class=\"long\">")?;
+    write_how(out, file)?;
+    out.write_all(b"</td>")
+}
+
+/// Writes how a file is: refused and why, old, or good.
+fn write_how<W: Write>(out: &mut W, file: &FileStatus) -> io::Result<()> {
     if let Some(reason) = &file.refusal {
         out.write_all(b"<span class=\"warn\">refused:</span> ")?;
-        write_html(out, reason)?;
-    } else if file.is_old {
-        out.write_all(b"<span class=\"warn\">old</span>")?;
-    } else if file.taken.is_some() {
-        out.write_all(b"taken")?;
-    } else {
-        out.write_all(b"<span class=\"warn\">not taken yet</span>")?;
+        return write_html(out, reason);
     }
-    out.write_all(b"</td>")
+    if file.is_old {
+        return out.write_all(b"<span class=\"warn\">old</span>");
+    }
+    if file.taken.is_some() {
+        return out.write_all(b"taken");
+    }
+    out.write_all(b"<span class=\"warn\">not taken yet</span>")
 }
 
 /// Writes the row of a file.
@@ -87,11 +100,9 @@ pub(crate) fn write_files<W: Write>(out: &mut W, status: &Status) -> io::Result<
 
 /// Writes the row of a version.
 fn write_change<W: Write>(out: &mut W, now: u64, change: &ChangeStatus) -> io::Result<()> {
-    write!(
-        out,
-        "<tr><th scope=\"row\" class=\"n\">{}</th>",
-        change.serial
-    )?;
+    out.write_all(b"<tr><th scope=\"row\" class=\"n\">")?;
+    write_decimal(out, u64::from(change.serial))?;
+    out.write_all(b"</th>")?;
     write_moment(out, now, Some(change.at))?;
     write_number(out, change.announced)?;
     write_number(out, change.withdrawn)?;
@@ -138,8 +149,15 @@ fn write_behind<W: Write>(out: &mut W, served: Option<u32>, sent: Option<u32>) -
 fn write_optional<W: Write>(out: &mut W, number: Option<u32>) -> io::Result<()> {
     match number {
         None => out.write_all("<td class=\"n dim\">\u{2013}</td>".as_bytes()),
-        Some(number) => write!(out, "<td class=\"n\">{number}</td>"),
+        Some(number) => write_ungrouped(out, number),
     }
+}
+
+/// Writes a cell with a number without groups, as names of versions are.
+fn write_ungrouped<W: Write>(out: &mut W, number: u32) -> io::Result<()> {
+    out.write_all(b"<td class=\"n\">")?;
+    write_decimal(out, u64::from(number))?;
+    out.write_all(b"</td>")
 }
 
 /// Writes the row of a client.

@@ -2,7 +2,7 @@
 ghost use Rattle.std.specs.Prelude.{◌≤◌};
 
 use crate::status::ChangeStatus;
-use crate::text::write_grouped;
+use crate::text::{write_decimal, write_grouped};
 use std::io::{self, Write};
 
 /// How wide and how high the picture is, in units of its own.
@@ -74,7 +74,11 @@ fn write_words<W: Write>(
     changes: &[ChangeStatus],
 ) -> io::Result<()> {
     let range = range_of(changes);
-    write!(out, "From serial {} to {}: ", first.serial, last.serial)?;
+    out.write_all(b"From serial ")?;
+    write_decimal(out, u64::from(first.serial))?;
+    out.write_all(b" to ")?;
+    write_decimal(out, u64::from(last.serial))?;
+    out.write_all(b": ")?;
     write_grouped(out, first.records)?;
     out.write_all(b" records at first, ")?;
     write_grouped(out, last.records)?;

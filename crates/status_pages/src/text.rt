@@ -56,6 +56,19 @@ pub(crate) fn write_label<W: Write>(out: &mut W, text: &str) -> io::Result<()>
     Ok(())
 }
 
+/// Writes texts one behind the other.
+pub(crate) fn write_texts<W: Write>(out: &mut W, texts: &[&str]) -> io::Result<()> {
+    for text in texts {
+        out.write_all(text.as_bytes())?;
+    }
+    Ok(())
+}
+
+/// Writes a number in decimal digits.
+pub(crate) fn write_decimal<W: Write>(out: &mut W, number: u64) -> io::Result<()> {
+    write!(out, "{number}")
+}
+
 /// The powers of 1,000 below 2^64, the greatest first.
 const THOUSANDS: [u64; 7] = [
     1_000_000_000_000_000_000,
@@ -73,13 +86,18 @@ pub(crate) fn write_grouped<W: Write>(out: &mut W, number: u64) -> io::Result<()
     for power in THOUSANDS {
         let group = number.checked_div(power).unwrap_or_default() % 1000;
         if has_begun {
-            write!(out, "\u{202f}{group:03}")?;
+            write_group(out, group)?;
         } else if group > 0 || power == 1 {
-            write!(out, "{group}")?;
+            write_decimal(out, group)?;
             has_begun = true;
         }
     }
     Ok(())
+}
+
+/// Writes a group behind others: a narrow blank and three digits.
+fn write_group<W: Write>(out: &mut W, group: u64) -> io::Result<()> {
+    write!(out, "\u{202f}{group:03}")
 }
 
 /// Writes how long ago a moment was: in seconds, minutes, hours or days, none of them begun.
@@ -92,7 +110,7 @@ pub(crate) fn write_ago<W: Write>(out: &mut W, now: u64, moment: u64) -> io::Res
         _ => (seconds / 86_400, "d"),
     };
     write_grouped(out, number)?;
-    write!(out, "\u{202f}{unit} ago")
+    write_texts(out, &["\u{202f}", unit, " ago"])
 }
 
 /// Writes a moment in UTC for people, and for machines in the element's attribute.
