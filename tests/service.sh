@@ -5,26 +5,12 @@
 # wants root and these programs; with --install they are installed by apt-get first. This is no part of ./test.
 set -u
 export LC_ALL=C
-usage() {
-    echo 'usage: tests/service.sh [--install] [FOLDER]' >&2
-    exit 2
-}
 top=$(cd "$(dirname "${BASH_SOURCE[0]}")/.." && pwd) || exit 1
-if [ "${1:-}" = --install ]; then
-    { apt-get update && DEBIAN_FRONTEND=noninteractive apt-get install -y --no-install-recommends debootstrap systemd-container; } >/dev/null || exit 1
-    shift
-fi
-[ $# -le 1 ] && [[ ${1:-} != -* ]] || usage
-if [ "$(id -u)" -ne 0 ] || ! command -v debootstrap >/dev/null || ! command -v systemd-nspawn >/dev/null; then
-    echo 'service: this wants root, debootstrap and systemd-nspawn (--install)' >&2
-    exit 77
-fi
+. "$top/tests/clean_debian.bash"
+clean_debian service systemd,systemd-sysv,dbus,bird2,man-db "$@"
 for name in rpkirtr rpkirtrd; do
     bash "$top/tools/start.sh" --path $name >/dev/null || exit 1
 done
-folder=$(mktemp -d) || exit 1
-trap 'rm -rf --one-file-system "$folder"' EXIT
-mkdir "$folder/out" || exit 1
 bash "$top/tools/package.sh" "$folder/out" >/dev/null || exit 1
 
 # The blocks of a language below a heading of docs/OPERATING.md, the first or the second.
@@ -36,12 +22,6 @@ block() { # block HEADING LANGUAGE NUMBER
         on && at == number' "$top/docs/OPERATING.md"
 }
 
-if [ $# -eq 1 ]; then
-    cp -a "$1" "$folder/root" || exit 1
-else
-    echo 'service: a clean Debian is made' >&2
-    debootstrap --variant=minbase --include=systemd,systemd-sysv,dbus,bird2,man-db bookworm "$folder/root" >"$folder/out/debootstrap.log" || exit 1
-fi
 cd "$folder" || exit 1
 # (a person takes a moment before each command)
 { echo 'set -eu'; block '### Installing' sh 1 | sed 's/^sudo //; s/^birdc/sleep 2\n&/'; } >out/install.sh
