@@ -21,12 +21,23 @@ use Rattle.rtr_server.specs.declared.server.Server.{Server}
 use Rattle.rtr_server.specs.declared.turn.Turn.{Turn}
 use Rattle.rtr_server.specs.declared.turn.Turn.TheVariants.{Busy, Gone, WaitsToRead, WaitsToWrite}
 use Rattle.sources.specs.declared.sources.Sources.{Sources}
-use Rattle.rtr_daemon.specs.Serving.{GoesOn, IsLater, IsNewest, IsNewestAt, IsServedAt, Issues, SameSources, ShowsService}
+use Rattle.prefixes.proofs.Basics.{eq_of, false_if_never}
+use Rattle.rtr_daemon.specs.Serving.{OpensNone, GoesOn, IsLater, IsNewest, IsNewestAt, IsServedAt, Issues, SameSources, ShowsService}
 use Rattle.rtr_daemon.specs.declared.service.Service.{Service}
 
 -- Nothing more was called.
 pub no_later : (p : Past) → IsLater p p
-no_later p = record { more = []; calls = refl; keep = refl; timing = refl; first = refl; most = refl }
+no_later p = record { more = []; calls = refl; keep = refl; timing = refl; first = refl; most = refl; begun = λ c h. refl }
+
+-- Where calls open none, each part of them opens none.
+opens_parts : (c : ℕ) (a b : List CacheCall) → OpensNone c (a ++ b) → OpensNone c a × OpensNone c b
+opens_parts c [] b h = (tt, h)
+opens_parts c (Open d ∷ a) b h = ((h.0, (opens_parts c a b h.1).0), (opens_parts c a b h.1).1)
+opens_parts c (Publish set ∷ a) b h = opens_parts c a b h
+opens_parts c (Close d ∷ a) b h = opens_parts c a b h
+opens_parts c (Receive d wanting piece ∷ a) b h = opens_parts c a b h
+opens_parts c (Pull d most ∷ a) b h = opens_parts c a b h
+opens_parts c (Notify d ∷ a) b h = opens_parts c a b h
 
 pub later_on : (p q r : Past) → IsLater p q → IsLater q r → IsLater p r
 later_on p q r a b = record {
@@ -36,6 +47,7 @@ later_on p q r a b = record {
   timing = b.timing ∙ a.timing;
   first = b.first ∙ a.first;
   most = b.most ∙ a.most;
+  begun = λ c h. b.begun c (opens_parts c b.more a.more h).0 ∙ a.begun c (opens_parts c b.more a.more h).1;
 }
 
 -- Parts of a daemon's work, one after the other
@@ -90,7 +102,7 @@ notice_none (Close d ∷ calls) h = absurd h.0
 
 -- the same calls more, which publish nothing
 more_calls : (more : List CacheCall) (p : Past) → IsLater p (and_calls more p)
-more_calls more p = record { more = more; calls = refl; keep = refl; timing = refl; first = refl; most = refl }
+more_calls more p = record { more = more; calls = refl; keep = refl; timing = refl; first = refl; most = refl; begun = λ c h. refl }
 
 -- A server went on by a turn of a client: nothing was published.
 pub served_on : {S T : Type 0} (holds : ℕ → Instance → S → Type 0) (remaining contents : T → Option (List ℕ)) (p : Past) (c : ℕ) (turn : Option Turn) (new : Server S T) → GoesOnAfter holds remaining contents p c turn new
@@ -125,7 +137,7 @@ published_on holds remaining contents p set (Ok (New serial)) old new h =
     let cached : (present (record p { calls = h.notices ++ Publish set ∷ p.calls })).cache ≡ published set (present p).cache =
     all_keep h.notices (Publish set ∷ p.calls) (made p) (notice_none h.notices h.are) in (
       record p { calls = h.notices ++ Publish set ∷ p.calls },
-      record { more = h.notices ++ Publish set ∷ []; calls = sym (append_assoc h.notices (Publish set ∷ []) p.calls); keep = refl; timing = refl; first = refl; most = refl },
+      record { more = h.notices ++ Publish set ∷ []; calls = sym (append_assoc h.notices (Publish set ∷ []) p.calls); keep = refl; timing = refl; first = refl; most = refl; begun = λ c none. refl },
       h.shows,
       record { version = record { serial = serial_at (present p).cache.start (length (present p).cache.sets); set = set }; is = ap (λ i. newest (versions i)) cached ∙ by_new set (present p).cache h.differs; set_is = refl },
     )
@@ -159,18 +171,21 @@ server_on holds remaining contents old new same owed goes p h =
     let on = goes p h.server in
     (on.0, on.1, record { server = on.2; newest = λ e. subst (λ i. IsNewest i new.sources) (sym on.3) (subst (λ s. IsNewest (present p).cache s) (sym same) (h.newest (sym owed ∙ e))) })
 
+differs : (a b : ℕ) → ¬ (b ≡ a) → (a == b) ≡ false
+differs a b h = false_if_never (a == b) (λ e. h (sym (eq_of a b e)))
+
 -- A stream was admitted, or not: nothing was published.
 pub admitted_on : {S T : Type 0} (holds : ℕ → Instance → S → Type 0) (remaining contents : T → Option (List ℕ)) (p : Past) (stream : T) (result : Result Client AdmitFault) (old new : Server S T) → ShowsServer holds remaining contents p old
     → AdmitsTo holds remaining contents p stream result old new → (q : Past) × IsLater p q × ShowsServer holds remaining contents q new × ((present q).cache ≡ (present p).cache)
 admitted_on holds remaining contents p stream (Ok client) old new is h =
-    (_, record { more = Open client.0.0 ∷ []; calls = refl; keep = refl; timing = refl; first = refl; most = refl }, h.shows, refl)
+    (_, record { more = Open client.0.0 ∷ []; calls = refl; keep = refl; timing = refl; first = refl; most = refl; begun = λ c none. ap (λ b. if b then record { before = remaining stream; had = contents stream } else p.begun c) (differs c client.0.0 none.0) }, h.shows, refl)
 admitted_on holds remaining contents p stream (Err TooManyClients) old new is h = (p, no_later p, subst (λ s. ShowsServer holds remaining contents p s) (sym h.1) is, refl)
 admitted_on holds remaining contents p stream (Err Memory) old new is h = (p, no_later p, h.1, refl)
 
 -- A client was dropped.
 pub dropped_on : {S T : Type 0} (holds : ℕ → Instance → S → Type 0) (remaining contents : T → Option (List ℕ)) (p : Past) (c : ℕ) (new : Server S T) → ShowsServer holds remaining contents (record p { calls = Close c ∷ p.calls }) new
     → (q : Past) × IsLater p q × ShowsServer holds remaining contents q new × ((present q).cache ≡ (present p).cache)
-dropped_on holds remaining contents p c new h = (_, record { more = Close c ∷ []; calls = refl; keep = refl; timing = refl; first = refl; most = refl }, h, refl)
+dropped_on holds remaining contents p c new h = (_, record { more = Close c ∷ []; calls = refl; keep = refl; timing = refl; first = refl; most = refl; begun = λ d none. refl }, h, refl)
 
 newest_served : (now : ℕ) (s : Sources) (set : VrpSet) (i : Instance) → IsServedAt now s set → NewestIs set (newest (versions i)) → IsNewestAt now i s
 newest_served now s set i h n = record { version = n.version; is = n.is; served = subst (λ t. IsServedAt now s t) (sym n.set_is) h }

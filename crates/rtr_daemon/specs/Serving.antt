@@ -1,11 +1,11 @@
 -- What a service serves, and what leads from one service to another.
-use Rattle.std.specs.Prelude.{◌≡◌, ◌⊎◌, ℕ, false, true, List, ◌++◌, Option, Some, None, Result, Ok, Err}
+use Rattle.std.specs.Prelude.{◌≡◌, ◌⊎◌, ℕ, false, true, List, [], ◌∷◌, ◌++◌, ⊤, Option, Some, None, Result, Ok, Err}
 use Rattle.der_lite.specs.Moments.{CivilMoment}
 use Rattle.der_lite.specs.Seconds.{seconds_of}
 use Rattle.vrps.specs.Instance.{Instance, NumberedSet, versions}
 use Rattle.vrps.specs.Stores.{newest}
 use Rattle.vrps.specs.VrpSet.{VrpSet}
-use Rattle.rtr_ends.specs.CacheState.{CacheCall}
+use Rattle.rtr_ends.specs.CacheState.{CacheCall, Open}
 use Rattle.rtr_server.specs.Clients.{Past, ShowsServer, present}
 use Rattle.sources.specs.Served.{ExportTaken, ServesAt, SlurmTaken}
 use Rattle.sources.specs.declared.sources.Sources.{Sources}
@@ -14,7 +14,13 @@ use Rattle.rtr_daemon.specs.declared.following.Source.TheVariants.{Export, Slurm
 use Rattle.rtr_daemon.specs.declared.refusal.Refusal.{Refusal}
 use Rattle.rtr_daemon.specs.declared.service.Service.{Service}
 
--- The same server later: its cache was made so, and these calls more were made on it.
+-- None of these calls opens a connection under this number.
+abbrev pub OpensNone : ℕ → List CacheCall → Type 0
+OpensNone c [] = ⊤
+OpensNone c (Open d ∷ calls) = (¬ (d ≡ c)) × OpensNone c calls
+OpensNone c (call ∷ calls) = OpensNone c calls
+
+-- The same server later: its cache was made so, these calls more were made on it, and each stream that was there came as it did.
 pub record IsLater (p q : Past) : Type 0 where
   pub more : List CacheCall
   pub calls : q.calls ≡ more ++ p.calls
@@ -22,6 +28,7 @@ pub record IsLater (p q : Past) : Type 0 where
   pub timing : q.timing ≡ p.timing
   pub first : q.first ≡ p.first
   pub most : q.most ≡ p.most
+  pub begun : (c : ℕ) → OpensNone c more → q.begun c ≡ p.begun c
 
 -- What the sources have at a moment, in seconds since 1970
 pub record IsServedAt (now : ℕ) (s : Sources) (set : VrpSet) : Type 0 where

@@ -43,7 +43,7 @@ impl Gates {
     }
 
     /// A client has gone, or time has passed: there may be room again.
-    pub(crate) fn has_room(&mut self) {
+    pub(crate) fn clear_full(&mut self) {
         self.is_full = false;
     }
 

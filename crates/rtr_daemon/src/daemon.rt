@@ -74,6 +74,8 @@ pub struct Daemon<S, T> {
     pub(crate) ledger: Ledger,
     /// When it was opened, in seconds since 1970.
     pub(crate) started: u64,
+    /// When it was opened, in milliseconds of the steady clock.
+    opened: u64,
     pace: Pace,
     /// Whether a version was published.
     pub(crate) is_ready: bool,
@@ -126,6 +128,7 @@ impl<S: VersionStore + Drop, T: Stream + Drop> Daemon<S, T> {
             points: offered,
             ledger,
             started: now,
+            opened: millis,
             pace: Pace::after(now),
             is_ready: false,
             has_parted: false,
@@ -183,7 +186,7 @@ impl<S: VersionStore + Drop, T: Stream + Drop> Daemon<S, T> {
         }
         self.next_check = now.saturating_add(self.plan.check);
         self.next_round = now;
-        self.gates.has_room();
+        self.gates.clear_full();
         self.follow_all(world);
         self.offer_all(world);
         self.judge_ages(world);
@@ -201,6 +204,13 @@ impl<S: VersionStore + Drop, T: Stream + Drop> Daemon<S, T> {
         self.publish_owed(world);
     }
 
+    /// The second by which versions are paced, at a moment of the steady clock: that of the start, and those that have passed since. So a clock that is
+    /// set back holds up no version, and where none is, no serial passes it.
+    fn paced(&self, millis: u64) -> u64 {
+        self.started
+            .saturating_add(millis.saturating_sub(self.opened) / 1000)
+    }
+
     /// Publishes what is owed, where the last version is of an earlier second.
     fn publish_owed<W: Time + Journal>(&mut self, world: &mut W)
         ensures { GoesOn S.holds T.remaining T.contents self.old.service self.new.service }
@@ -209,10 +219,10 @@ impl<S: VersionStore + Drop, T: Stream + Drop> Daemon<S, T> {
         if !self.service.is_owed() {
             return;
         }
-        if !self.pace.may_publish(now) {
+        let began = world.millis();
+        if !self.pace.may_publish(self.paced(began)) {
             return;
         }
-        let began = world.millis();
         match self.service.publish(now) {
             Ok(issue) => self.note_issue(issue, now, began, world),
             Err(refusal) => self.note_failure(&refusal, now, world),
@@ -226,7 +236,8 @@ impl<S: VersionStore + Drop, T: Stream + Drop> Daemon<S, T> {
         let Published::New(serial) = issue.published else {
             return;
         };
-        self.pace.published(now);
+        let second = self.paced(began);
+        self.pace.published(second);
         self.note_version(serial, issue, now);
         self.guests.wake_all();
         let milliseconds = world.millis().saturating_sub(began);
@@ -315,7 +326,7 @@ fn is_any_old<W: Journal>(
     for file in files.iter_mut() {
         if let Some(built) = built_of(file.source, sources) {
             let age = now.saturating_sub(built);
-            if file.is_aged(age > most) {
+            if file.set_old(age > most) {
                 tell_age(file.path.as_str(), age, most, now, world);
             }
             is_old = is_old || age > most;
@@ -397,7 +408,7 @@ fn read_one<S: VersionStore, T: Stream + Drop, W: Disk>(
 {
     for _time in 0..16u8 {
         match file.look(world, false) {
-            Look::Same | Look::RefusedBefore => {}
+            Look::Same | Look::Unstable | Look::RefusedBefore => {}
             Look::Failed(error) => return Err(Refusal::Device(error)),
             Look::Read(stamp, bytes) => {
                 let expired = take(service, file.source, bytes.as_slice(), now)?;

@@ -31,6 +31,7 @@ mod guests;
 mod ledger;
 mod looking;
 mod refusal;
+mod refusals;
 mod service;
 mod serving;
 mod surroundings;

@@ -6,6 +6,7 @@ use crate::daemon::Daemon;
 use crate::following::{Followed, Look, Source};
 use crate::ledger::Ledger;
 use crate::refusal::Refusal;
+use crate::refusals::Refusals;
 use crate::service::Service;
 use crate::surroundings::{Disk, Journal, Stamp, Time};
 use daemon_parts::Event;
@@ -20,10 +21,7 @@ pub(crate) struct Offering {
     pub(crate) path: String,
     /// When it was taken last, or was what its point holds, in seconds since 1970.
     pub(crate) taken_at: Option<u64>,
-    /// Why it was refused at the look before, if it was.
-    refused: Option<Refusal>,
-    /// Whether that was reported since it was taken.
-    is_told: bool,
+    pub(crate) refusals: Refusals,
 }
 
 impl Offering {
@@ -31,34 +29,14 @@ impl Offering {
         Offering {
             path,
             taken_at: None,
-            refused: None,
-            is_told: false,
+            refusals: Refusals::none(),
         }
     }
 
     /// It was taken, or is what its point holds. It answers whether a refusal was reported before.
     pub(crate) fn take(&mut self, now: u64) -> bool {
-        let was_told = self.is_told;
         self.taken_at = Some(now);
-        self.refused = None;
-        self.is_told = false;
-        was_told
-    }
-
-    /// Why it was refused, where that was reported.
-    pub(crate) fn told_refusal(&self) -> Option<&Refusal> {
-        if self.is_told {
-            return self.refused.as_ref();
-        }
-        None
-    }
-
-    /// It was refused. It answers whether that is to be reported: where it was refused at the look before too, and that was not reported yet.
-    fn refuse(&mut self, refusal: Refusal) -> bool {
-        let is_news = self.refused.is_some() && !self.is_told;
-        self.refused = Some(refusal);
-        self.is_told = self.is_told || is_news;
-        is_news
+        self.refusals.clear()
     }
 }
 
@@ -107,7 +85,10 @@ pub(crate) fn offer<S: VersionStore, T: Stream + Drop, W: Disk>(
     ensures server { service.new.server ≡ service.old.server }
 {
     match world.directory(path) {
-        Err(error) => Err(Refusal::Device(error)),
+        Err(error) => {
+            service.owe();
+            Err(Refusal::Device(error))
+        }
         Ok(directory) => service.offer(&directory, alloc, now),
     }
 }
@@ -131,7 +112,7 @@ fn note(file: &mut Followed, stamp: Stamp, taken: Result<u64, Refusal>, now: u64
             again: file.take(stamp, now, expired),
             expired,
         },
-        Err(refusal) => news_if(file.refuse(Some(stamp), refusal)),
+        Err(refusal) => news_if(file.refusals.add(Some(stamp), refusal)),
     }
 }
 
@@ -156,9 +137,9 @@ fn follow<S: VersionStore, T: Stream + Drop, W: Disk>(
 {
     let anew = has_expired(service, file.source, now);
     match file.look(world, anew) {
-        Look::Same => News::Nothing,
-        Look::RefusedBefore => news_if(file.tells()),
-        Look::Failed(error) => news_if(file.refuse(None, Refusal::Device(error))),
+        Look::Same | Look::Unstable => News::Nothing,
+        Look::RefusedBefore => news_if(file.refusals.mark_reported()),
+        Look::Failed(error) => news_if(file.refusals.add(None, Refusal::Device(error))),
         Look::Read(stamp, bytes) => {
             let taken = take(service, file.source, bytes.as_slice(), now);
             note(file, stamp, taken, now)
@@ -247,7 +228,7 @@ fn note_offer<W: Journal>(
             }
         }
         Err(refusal) => {
-            if point.refuse(refusal) {
+            if point.refusals.add(None, refusal) {
                 tell_point(alloc, point, now, world);
             }
         }
@@ -287,14 +268,14 @@ pub(crate) fn tell_expired<W: Journal>(file: &str, entries: u64, now: u64, world
 
 /// Reports why a publication point was refused last.
 fn tell_point<W: Journal>(alloc: Global, point: &Offering, now: u64, world: &mut W) {
-    if let Some(refusal) = &point.refused {
+    if let Some(refusal) = point.refusals.last() {
         tell_refusal(alloc, point.path.as_str(), refusal, now, world);
     }
 }
 
 /// Reports why a file was refused last.
 fn tell_refused<W: Journal>(alloc: Global, file: &Followed, now: u64, world: &mut W) {
-    if let Some(refusal) = file.refusal() {
+    if let Some(refusal) = file.refusals.last() {
         tell_refusal(alloc, file.path.as_str(), refusal, now, world);
     }
 }

@@ -1,5 +1,5 @@
 //! A server, what it serves from, and whether a version is owed.
-ghost use Rattle.std.specs.Prelude.{◌≡◌, false, IfErr, IfOk, Option};
+ghost use Rattle.std.specs.Prelude.{◌≡◌, false, true, IfErr, IfOk, Option};
 ghost use Rattle.rtr_server.specs.Clients.{AdmitsTo, KeepsOthers, Past, Serves, ShowsServer, slot_at};
 ghost use Rattle.sources.specs.Served.{ExportTaken, SlurmTaken};
 ghost use Rattle.rtr_daemon.specs.Serving.{GoesOn, IsServedAt, Issues, KeepsSources, ShowsService, TakesSo};
@@ -113,6 +113,16 @@ impl<S: VersionStore, T: Stream + Drop> Service<S, T> {
         Ok(())
     }
 
+    /// A version is owed, as what the sources have may be something else by now: payloads of publication points leave by the clock.
+    pub(crate) fn owe(&mut self)
+        ensures goes { GoesOn S.holds T.remaining T.contents self.old self.new }
+        ensures server { self.new.server ≡ self.old.server }
+        ensures owed { self.new.is_owed ≡ true }
+        ensures sources { self.new.sources ≡ self.old.sources }
+    {
+        self.is_owed = true;
+    }
+
     /// Offers what a directory holds to the publication point of its name, at a moment in seconds since 1970.
     pub fn offer(
         &mut self,
@@ -123,13 +133,13 @@ impl<S: VersionStore, T: Stream + Drop> Service<S, T> {
         ensures goes { GoesOn S.holds T.remaining T.contents self.old self.new }
         ensures rest { self.new.server ≡ self.old.server }
     {
+        self.is_owed = true;
         let Some(moment) = moment_at(now) else {
             return Err(Refusal::Clock);
         };
         let Ok(files) = directory.files(alloc) else {
             return Err(Refusal::Point(PointFault::Memory));
         };
-        self.is_owed = true;
         match self.sources.offer(
             directory.name(),
             directory.manifest(),
@@ -160,6 +170,7 @@ impl<S: VersionStore, T: Stream + Drop> Service<S, T> {
         ensures issues { IfOk result (λ _. Issues S.holds T.remaining T.contents now self.old self.new) }
         ensures done { IfOk result (λ _. self.new.is_owed ≡ false) }
         ensures undone { IfErr result (λ _. self.new.is_owed ≡ self.old.is_owed) }
+        ensures kept { IfErr result (λ _. (p : Past) → ShowsServer S.holds T.remaining T.contents p self.old.server → ShowsServer S.holds T.remaining T.contents p self.new.server) }
         ensures sources { self.new.sources ≡ self.old.sources }
     {
         let set = self.served(now)?;

@@ -109,7 +109,7 @@ impl<S: VersionStore, T: Stream + Drop> Daemon<S, T> {
             return;
         };
         let carried = seen.carried.unwrap_or(guest.carried);
-        self.gates.has_room();
+        self.gates.clear_full();
         self.has_parted = true;
         self.ledger.gone = with_seen(self.ledger.gone, &seen);
         let stayed = world.millis().saturating_sub(guest.came) / 1000;

@@ -80,7 +80,7 @@ impl<S: VersionStore, T: Stream + Drop> Daemon<S, T> {
                 Source::Slurm => None,
             },
             taken: file.taken_at,
-            refusal: refusal_text(self.alloc, file.told_refusal())?,
+            refusal: refusal_text(self.alloc, file.refusals.reported())?,
             is_old: file.is_old,
             expired: file.expired,
         })
@@ -132,7 +132,7 @@ fn point_status(alloc: Global, point: &Offering) -> Result<FileStatus, AllocErro
         path: point.path.clone()?,
         built: None,
         taken: point.taken_at,
-        refusal: refusal_text(alloc, point.told_refusal())?,
+        refusal: refusal_text(alloc, point.refusals.reported())?,
         is_old: false,
         expired: 0,
     })
