@@ -216,6 +216,9 @@ impl<'a, R: Files + AllocGlobal + Clone + Drop, E: Write> Disk for Host<'a, R, E
     }
 
     fn read(&mut self, path: &str) -> io::Result<Vec<u8>> {
+        if !fs::metadata(self.rt, path)?.is_file() {
+            return Err(io::Error::from(ErrorKind::InvalidInput));
+        }
         read_file(self.rt, path)
     }
 

@@ -10,10 +10,16 @@ mod shelf;
 
 use running::{out_of_memory, run_words};
 use std::process::ExitCode;
-use std::{env, io};
+use std::{env, fs, io};
+
+/// What stands for a standard stream that is closed at the start, so that no socket gets its number.
+const NULL: &str = "/dev/null";
 
 /// Reads the words, runs them with the standard streams, and exits with the status.
 fn main(rt: HostRuntime) -> ExitCode {
+    let _first = fs::open(&rt, NULL);
+    let _second = fs::open(&rt, NULL);
+    let _third = fs::open(&rt, NULL);
     let mut out = rt.stdout();
     let mut err = rt.stderr();
     let status = match own_words(&rt) {
