@@ -42,6 +42,8 @@ enum Step {
     /// A router comes and asks for all. One that is closed takes nothing.
     Comes { is_closed: bool },
     Turns(u32),
+    /// The wall clock is set back by so many seconds.
+    SetsBack(u64),
     /// So many routers are served.
     Serves(usize),
     /// A router has got these PDUs, and no more.
@@ -92,6 +94,7 @@ fn goes(daemon: &mut Daemon<VersionLog, Wire>, stage: &mut Stage, step: &Step) -
         Step::Writes(text) => stage.write(text),
         Step::Comes { is_closed } => return stage.connect(*is_closed).is_ok(),
         Step::Turns(count) => return turns(daemon, stage, *count),
+        Step::SetsBack(seconds) => stage.set_back(*seconds),
         Step::Serves(count) => return daemon.server().clients() == *count,
         Step::Has(router, units) => return stage.has_got(*router, bytes(units).as_slice()),
     }
@@ -175,4 +178,47 @@ fn follows_a_list(rt: HostRuntime) -> Result<(), Fail> {
 #[test]
 fn closes_who_takes_nothing(rt: HostRuntime) -> Result<(), Fail> {
     play(&rt, CLOSES, CLOSES_LOG)
+}
+
+/// A list that is refused, and is another one at each look, is reported at the third look.
+const CHANGES: &[Step] = &[
+    Step::Turns(2),
+    Step::Writes("[{"),
+    Step::Turns(1),
+    Step::Writes("["),
+    Step::Turns(1),
+    Step::Writes("[{{"),
+    Step::Turns(1),
+    Step::Writes("[{\"a"),
+    Step::Turns(1),
+    Step::Writes("{"),
+    Step::Turns(1),
+];
+
+const CHANGES_LOG: &str =
+    "2026-11-25T18:40:01Z published session=4660 serial=5 announced=1 withdrawn=0 records=1 ms=0\n\
+    2026-11-25T18:40:01Z ready\n\
+    2026-11-25T18:43:00Z refused file=list.json reason=\"not JSON (fault 1)\"\n";
+
+/// A version is published although the wall clock is set back by a day.
+const GOES_BACK: &[Step] = &[
+    Step::Turns(2),
+    Step::SetsBack(86_400),
+    Step::Writes(TWO),
+    Step::Turns(2),
+];
+
+const GOES_BACK_LOG: &str =
+    "2026-11-25T18:40:01Z published session=4660 serial=5 announced=1 withdrawn=0 records=1 ms=0\n\
+    2026-11-25T18:40:01Z ready\n\
+    2026-11-24T18:41:00Z published session=4660 serial=6 announced=1 withdrawn=1 records=1 ms=0\n";
+
+#[test]
+fn reports_a_list_that_changes_and_is_refused(rt: HostRuntime) -> Result<(), Fail> {
+    play(&rt, CHANGES, CHANGES_LOG)
+}
+
+#[test]
+fn publishes_after_the_clock_goes_back(rt: HostRuntime) -> Result<(), Fail> {
+    play(&rt, GOES_BACK, GOES_BACK_LOG)
 }

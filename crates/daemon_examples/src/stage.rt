@@ -55,6 +55,11 @@ impl Stage {
         self.times = self.times.saturating_add(1);
     }
 
+    /// Sets the wall clock back.
+    pub(crate) fn set_back(&mut self, seconds: u64) {
+        self.began = self.began.saturating_sub(seconds);
+    }
+
     /// A router connects. One that is closed takes nothing.
     pub(crate) fn connect(&mut self, is_closed: bool) -> Result<(), AllocError> {
         let output = shared(self.alloc)?;
