@@ -20,6 +20,7 @@ import os
 import queue
 import random
 import re
+import shutil
 import socket
 import struct
 import subprocess
@@ -373,6 +374,67 @@ def points():
         differs("a point whose time is over", router.catch_up(), set(FIRST[2:]))
     status = subprocess.run([program, "--points", "nowhere", "--listen", "127.0.0.1:0"], stdin=subprocess.DEVNULL, capture_output=True, timeout=PATIENCE)
     differs("a point that is not there", (status.returncode, b"nowhere" in status.stderr), (3, True))
+
+
+def point_gone():
+    """A publication point that is gone stays until its nextUpdate, and no longer."""
+    put_point(1, int(time.time()) + 4, 64496, [("192.0.2.0/24", 24)])
+    put("list.json", text_of(FIRST[2:]))
+    with running("--points", "point", "--vrps", "list.json", "--listen", "127.0.0.1:0", "--check", "1") as daemon:
+        router = Router(daemon.listens())
+        shutil.rmtree("point")
+        daemon.wait("refused", file="point")
+        differs("a point that is gone", router.catch_up(), {*FIRST[2:], ("192.0.2.0/24", 24, 64496)})
+        daemon.wait("published", withdrawn=1, records=len(FIRST[2:]))
+        differs("a point that is gone, after its nextUpdate", router.catch_up(), set(FIRST[2:]))
+
+
+def pipe_for_a_file():
+    """A pipe in the place of a file is refused. Nobody waits for it."""
+    put("list.json", text_of(FIRST))
+    with running("--vrps", "list.json", "--listen", "127.0.0.1:0", "--check", "1") as daemon:
+        port = daemon.listens()
+        os.mkfifo("pipe")
+        os.replace("pipe", "list.json")
+        daemon.wait("refused", file="list.json")
+        differs("what is served with a pipe in its place", Router(port).catch_up(), set(FIRST))
+        put("list.json", text_of(SECOND))
+        daemon.wait("taken", file="list.json")
+        daemon.wait("published", records=len(SECOND))
+        differs("what is served after the pipe", Router(port).catch_up(), set(SECOND))
+
+
+def close_streams():
+    for descriptor in range(3):
+        os.close(descriptor)
+
+
+def no_streams():
+    """Without standard streams the log goes nowhere: no router gets a line of it."""
+    put("list.json", text_of(FIRST))
+    with socket.create_server(("127.0.0.1", 0)) as it:
+        port = it.getsockname()[1]
+    with subprocess.Popen([program, "--vrps", "list.json", "--listen", f"127.0.0.1:{port}", "--check", "1"], preexec_fn=close_streams) as ran:
+        try:
+            router = connected(port)
+            differs("a table without standard streams", router.catch_up(), set(FIRST))
+            put("list.json", text_of(SECOND))
+            router.wait_notify()
+            differs("the next table without standard streams", router.catch_up(), set(SECOND))
+        finally:
+            ran.kill()
+
+
+def connected(port):
+    """A router at a daemon that has no log: it tries until it is let in."""
+    end = time.time() + PATIENCE
+    while True:
+        try:
+            return Router(port)
+        except ConnectionRefusedError:
+            if time.time() > end:
+                raise
+            time.sleep(0.05)
 
 
 def got(port, target, method="GET"):
@@ -774,7 +836,7 @@ def main():
     words.add_argument("--routes", type=int, default=300)
     given = words.parse_args()
     program, shim = os.path.abspath(given.program), given.shim and os.path.abspath(given.shim)
-    parts = [soak, silent_visitor, words_and_starts, tables, refused_files, sources, points, pages, restarts, limits, full_descriptors]
+    parts = [soak, silent_visitor, words_and_starts, tables, refused_files, sources, points, point_gone, pipe_for_a_file, no_streams, pages, restarts, limits, full_descriptors]
     parts += ([routes] if given.rpkirtr else []) + ([refused_memory] if shim else [])
     with multiprocessing.get_context("fork").Pool(len(parts)) as pool:
         found = sum(pool.map(played, [it.__name__ for it in parts], chunksize=1))
