@@ -1,5 +1,5 @@
 -- The names of a daemon's versions: the first serial, and the sessions in both versions of the protocol.
-use Rattle.std.specs.Prelude.{ℕ, ◌+◌, ◌*◌, ◌/◌, ◌%◌, ◌^◌, List, ◌++◌, length, slice_index}
+use Rattle.std.specs.Prelude.{ℕ, ◌+◌, ◌*◌, ◌%◌, ◌^◌, Bool, not, ◌||◌, List, [], ◌++◌, bytes_eq, codes, length, slice_index}
 use Rattle.std.specs.Int.{w64, to_be_bytes}
 use Rattle.sha2.specs.Sha256.{sha256}
 
@@ -7,20 +7,26 @@ use Rattle.sha2.specs.Sha256.{sha256}
 abbrev pub first_serial : ℕ → ℕ
 first_serial seconds = seconds % 2 ^ 32
 
--- the number of the present four seconds, as far as a session goes
+-- the seconds since 1970, as far as a session goes
 abbrev pub session0_of : ℕ → ℕ
-session0_of seconds = seconds / 4 % 2 ^ 16
+session0_of seconds = seconds % 2 ^ 16
 
 -- a part behind its length in eight bytes, the highest first
 abbrev pub part_bytes : List ℕ → List ℕ
 part_bytes part = to_be_bytes w64 (length part) ++ part
 
-abbrev pub joined : List ℕ → List ℕ → List ℕ → List ℕ
-joined machine_id listen path = part_bytes machine_id ++ part_bytes listen ++ part_bytes path
+-- the machine id, the host name, the addresses and the sources
+abbrev pub joined : List ℕ → List ℕ → List ℕ → List ℕ → List ℕ
+joined machine_id host listen sources = part_bytes machine_id ++ part_bytes host ++ part_bytes listen ++ part_bytes sources
 
 -- the first 16 bits of a digest
 abbrev pub front_of : List ℕ → ℕ
 front_of digest = slice_index digest 0 * 256 + slice_index digest 1
 
-unfoldable pub session_of : List ℕ → List ℕ → List ℕ → ℕ
-session_of machine_id listen path = front_of (sha256 (joined machine_id listen path))
+unfoldable pub session_of : List ℕ → List ℕ → List ℕ → List ℕ → ℕ
+session_of machine_id host listen sources = front_of (sha256 (joined machine_id host listen sources))
+
+-- A file /etc/machine-id names a machine, unless it is empty or holds `uninitialized` (machine-id(5)). A newline may be at its end.
+abbrev pub is_machine_id : List ℕ → Bool
+is_machine_id id =
+    not (bytes_eq id [] || bytes_eq id (codes "\n") || bytes_eq id (codes "uninitialized") || bytes_eq id (codes "uninitialized\n"))

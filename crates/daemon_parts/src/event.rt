@@ -87,10 +87,22 @@ pub enum Event<'a> {
         /// How many clients are there.
         clients: u64,
     },
+    /// `address-full`: a client was closed at once, as its address has as many as one may have.
+    AddressFull {
+        /// The address and the port of the client that was closed.
+        address: SocketAddr,
+        /// How many clients the address has.
+        clients: u64,
+    },
     /// `no-descriptor`: the system has no descriptor left for a client that waits.
     NoDescriptor,
     /// `published`: a version is served from now on.
     Published(Publication),
+    /// `left-out`: records of length 0 are left out of what is served, and are not as many as before.
+    LeftOut {
+        /// How many.
+        records: u64,
+    },
     /// `refused`: a file or a publication point cannot be taken; what is served stays.
     Refused {
         /// The path of the file or of the directory.
@@ -123,6 +135,16 @@ pub enum Event<'a> {
         file: &'a str,
         /// How many of its entries had expired.
         entries: u64,
+    },
+    /// `clock`: the clock was set back.
+    Clock {
+        /// How many seconds it is behind: behind the start and the seconds that have passed since.
+        behind: u64,
+    },
+    /// `warning`: the daemon goes on, and something is to be known of how.
+    Warning {
+        /// What, in words.
+        reason: &'a str,
     },
     /// `memory`: memory ran out.
     Memory {

@@ -31,5 +31,5 @@ mod pace;
 pub use clock::{moment_at, time_at};
 pub use event::{Departure, Event, Publication, VersionNames};
 pub use line::{LogForm, write_event};
-pub use names::{first_serial, session_of, session0_of};
+pub use names::{first_serial, is_machine_id, session_of, session0_of};
 pub use pace::Pace;

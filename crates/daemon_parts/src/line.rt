@@ -229,7 +229,12 @@ fn write_values<W: Write>(out: &mut W, form: LogForm, event: &Event<'_>) -> io::
         Event::Full {
             address: at,
             clients,
+        }
+        | Event::AddressFull {
+            address: at,
+            clients,
         } => { write_pairs(out, form, &[address(at), number("clients", *clients)]) }
+        Event::LeftOut { records } => write_pairs(out, form, &[number("records", *records)]),
         Event::Taken { file } => write_pairs(out, form, &[text("file", file)]),
         Event::Refused { file, reason } => {
             write_pairs(out, form, &[text("file", file), text("reason", reason)])
@@ -241,11 +246,14 @@ fn write_values<W: Write>(out: &mut W, form: LogForm, event: &Event<'_>) -> io::
             file,
             entries: count,
         } => { write_pairs(out, form, &[text("file", file), number("entries", *count)]) }
+        Event::Clock { behind } => write_pairs(out, form, &[number("behind", *behind)]),
         Event::Memory { what } => write_pairs(out, form, &[text("what", what)]),
         Event::Failed { what, reason } => {
             write_pairs(out, form, &[text("what", what), text("reason", reason)])
         }
-        Event::Stopped { reason } => write_pairs(out, form, &[text("reason", reason)]),
+        Event::Warning { reason } | Event::Stopped { reason } => {
+            write_pairs(out, form, &[text("reason", reason)])
+        }
     }
 }
 

@@ -1,7 +1,7 @@
 //! The names of a daemon's versions: sessions and serials that go on over restarts.
 ghost use Rattle.std.specs.Prelude.{◌≡◌, ℕ, List, ◌++◌};
 ghost use Rattle.sha2.specs.Hashers.{Holds256};
-ghost use Rattle.daemon_parts.specs.Names.{first_serial, session0_of, part_bytes, session_of};
+ghost use Rattle.daemon_parts.specs.Names.{first_serial, is_machine_id, part_bytes, session0_of, session_of};
 
 use sha2::{Digest, Sha256};
 
@@ -14,12 +14,12 @@ pub fn first_serial(seconds: u64) -> u32
     (seconds % (1 << 32)) as u32
 }
 
-/// The session in version 0 of the protocol of a daemon that starts so many seconds after the beginning of 1970: the number of the
-/// present four seconds, modulo 65,536. So two starts within three days have different ones, if four seconds lie between them.
+/// The session in version 0 of the protocol of a daemon that starts so many seconds after the beginning of 1970: their number modulo 65,536.
+/// So two starts in different seconds have different ones, unless some 18 hours lie between them, or a multiple of that.
 pub fn session0_of(seconds: u64) -> u16
     ensures { result ≡ session0_of seconds }
 {
-    (seconds / 4 % 65_536) as u16
+    (seconds % 65_536) as u16
 }
 
 /// Adds a part, behind its length.
@@ -31,16 +31,28 @@ fn add_part(hasher: &mut Sha256, part: &[u8])
     hasher.update(part);
 }
 
-/// The session of a daemon: the first 16 bits of the SHA-256 of what names its machine, of the addresses that it listens on and of the
-/// paths of what it serves, each behind its length in eight bytes. So it is the same after a restart, and hardly that of another
+/// Whether the content of `/etc/machine-id` names a machine: it is neither empty nor `uninitialized` (machine-id(5)), each with or without a
+/// newline at its end.
+pub fn is_machine_id(content: &[u8]) -> bool
+    ensures { result ≡ is_machine_id content.now }
+{
+    !(content == b"".as_slice()
+        || content == b"\n".as_slice()
+        || content == b"uninitialized".as_slice()
+        || content == b"uninitialized\n".as_slice())
+}
+
+/// The session of a daemon: the first 16 bits of the SHA-256 of the machine id, of the host name, of the addresses at which it listens and
+/// of the words of its sources, each behind its length in eight bytes. So it is the same after a restart, and hardly that of another
 /// daemon.
-pub fn session_of(machine_id: &[u8], listen: &str, path: &str) -> u16
-    ensures { result ≡ session_of machine_id.now listen.now path.now }
+pub fn session_of(machine_id: &[u8], host: &[u8], listen: &str, sources: &str) -> u16
+    ensures { result ≡ session_of machine_id.now host.now listen.now sources.now }
 {
     let mut hasher = Sha256::new();
     add_part(&mut hasher, machine_id);
+    add_part(&mut hasher, host);
     add_part(&mut hasher, listen.as_bytes());
-    add_part(&mut hasher, path.as_bytes());
+    add_part(&mut hasher, sources.as_bytes());
     let digest = hasher.finalize();
     u16::from(digest[0]) * 256 + u16::from(digest[1])
 }
