@@ -1,9 +1,12 @@
 -- The records that cover a route are parted by what they say of it.
-use Rattle.std.proofs.Common.{◌≡◌, ℕ, suc, ◌+◌, Bool, true, false, not, ◌&&◌, cond, List, [], ◌∷◌, length, filter, refl, sym, subst, arith}
+use Rattle.std.proofs.Common.{◌≡◌, ◌∙◌, ℕ, suc, ◌+◌, Bool, true, false, not, ◌&&◌, ◌||◌, cond, List, [], ◌∷◌, length, filter, refl, sym, subst, ap, arith}
+use Rattle.std.specs.List.{list_any}
 use Rattle.prefixes.specs.Payload.{Payload}
-use Rattle.vrps.specs.Origin.{covers_route, is_origin}
+use Rattle.vrps.specs.Origin.{covers_route, is_origin, matches}
 use Rattle.vrps.specs.VrpSet.{listing}
-use Rattle.status_pages.specs.Kinds.{ListsCover, OneKindEach, is_within}
+use Rattle.vrps.specs.declared.origin.OriginState.{OriginState}
+use Rattle.vrps.specs.declared.origin.OriginState.TheVariants.{Valid, Invalid, NotFound}
+use Rattle.status_pages.specs.Kinds.{ListsCover, OneKindEach, OriginIsTooShort, is_within}
 
 -- one of three, by three tests
 matching : (c w o : Bool) → (c && (w && o)) ≡ (c && (not (c && not w) && not (c && (w && not o))))
@@ -61,3 +64,47 @@ module _ (c w o : Payload → Bool) where
 
 pub lists_cover : ListsCover
 lists_cover s r = parted (covers_route r) (is_within r) (λ v. is_origin r.origin v.asn) (listing s)
+
+-- what some member of a filtered list passes
+any_kept : (p q : Payload → Bool) (vs : List Payload) → list_any q (filter p vs) ≡ list_any (λ v. p v && q v) vs
+any_kept p q [] = refl
+any_kept p q (v ∷ vs) =
+    elim (p v) as (λ b. list_any q (cond b (v ∷ filter p vs) (filter p vs)) ≡ ((b && q v) || list_any (λ u. p u && q u) vs)) [
+      | true ↦ ap (λ b. q v || b) (any_kept p q vs)
+      | false ↦ any_kept p q vs
+    ]
+
+neither : (a b : Bool) → (a || b) ≡ false → (a ≡ false) × (b ≡ false)
+neither false b h = (refl, h)
+neither true b h = absurd (let e : true ≡ false = h in cc)
+
+-- a covering record of the origin that does not match is too short
+unmatched : (c w o : Bool) → (c && (w && o)) ≡ false → (c && ((c && not w) && o)) ≡ (c && o)
+unmatched false w o h = refl
+unmatched true false o h = refl
+unmatched true true false h = refl
+unmatched true true true h = absurd (let e : true ≡ false = h in cc)
+
+module _ (c w o : Payload → Bool) where
+  too_short_alike : (vs : List Payload) → list_any (λ v. c v && (w v && o v)) vs ≡ false
+      → list_any (λ v. c v && ((c v && not (w v)) && o v)) vs ≡ list_any (λ v. c v && o v) vs
+  too_short_alike [] h = refl
+  too_short_alike (v ∷ vs) h =
+      let n = neither (c v && (w v && o v)) _ h in
+      ap (λ b. b || list_any (λ u. c u && ((c u && not (w u)) && o u)) vs) (unmatched (c v) (w v) (o v) n.0)
+      ∙ ap (λ b. (c v && o v) || b) (too_short_alike vs n.1)
+
+  pub origin_too_short : (vs : List Payload) → list_any (λ v. c v && (w v && o v)) vs ≡ false
+      → list_any o (filter (λ v. c v && not (w v)) (filter c vs)) ≡ list_any o (filter c vs)
+  origin_too_short vs h =
+      any_kept (λ v. c v && not (w v)) o (filter c vs) ∙ any_kept c (λ v. (c v && not (w v)) && o v) vs
+      ∙ too_short_alike vs h ∙ sym (any_kept c o vs)
+
+none_matches : (m k : Bool) → cond m Valid (cond k Invalid NotFound) ≡ Invalid → m ≡ false
+none_matches false k h = refl
+none_matches true k h = absurd (let e : Valid ≡ Invalid = h in cc)
+
+pub origin_is_too_short : OriginIsTooShort
+origin_is_too_short s r is =
+    origin_too_short (covers_route r) (is_within r) (λ v. is_origin r.origin v.asn) (listing s)
+    (none_matches (list_any (matches r) (listing s)) (list_any (covers_route r) (listing s)) is)

@@ -1,5 +1,5 @@
 -- What records say of routes, worked out.
-use Rattle.std.proofs.Common.{◌≡◌, ℕ, List, [], ◌∷◌, Option, Some, None, filter, refl, ap, Bool}
+use Rattle.std.proofs.Common.{◌≡◌, ℕ, List, [], ◌∷◌, Option, Some, None, filter, refl, ap, Bool, true, false, codes}
 use Rattle.std.specs.List.Sorted.{IsStrictlySortedBy}
 use Rattle.prefixes.specs.Payload.{Payload, vrp_cmp}
 use Rattle.prefixes.specs.declared.prefix.IpPrefix.TheVariants.{V4}
@@ -7,7 +7,9 @@ use Rattle.prefixes.specs.declared.route.Route.{Route}
 use Rattle.vrps.specs.Origin.{covers_route, matches}
 use Rattle.vrps.specs.VrpSet.{listing, set_of}
 use Rattle.vrps.proofs.SetLaws.{listing-set_of}
-use Rattle.status_pages.specs.Kinds.{is_of_other_as, is_too_short, matched, unmatched_as, unmatched_length}
+use Rattle.vrps.specs.declared.origin.OriginState.TheVariants.{Valid, Invalid, NotFound}
+use Rattle.status_pages.specs.Kinds.{has_origin, is_of_other_as, is_too_short, matched, unmatched_as, unmatched_length}
+use Rattle.status_pages.specs.ValidityText.{reason_text}
 
 -- 192.0.2.0/24 maximum 24 AS0, and the same prefix maximum 25 AS64496
 abbrev of_none : Payload
@@ -79,3 +81,30 @@ short_length = kinds (is_too_short short) short [] refl
 
 short_as : unmatched_as (set_of records) short ≡ []
 short_as = kinds (is_of_other_as short) short [] refl
+
+-- The reason is by the origin. 192.0.2.0/24 maximum 24 AS64496: the route 192.0.2.0/25 of AS64511 is too long for it, and of no record's AS.
+of_no_record : has_origin (route 0xc0000200 25 (Some 64511)) (record { prefix = V4 (record { addr = 0xc0000200; len = 24 }); max_len = 24; asn = 64496 } ∷ []) ≡ false
+of_no_record = refl
+
+-- 10.0.0.0/16 maximum 16 AS1: the route 10.0.1.0/24 of AS1 is too long for it, whatever a record of AS2 allows.
+of_its_own : has_origin (route 0x0a000100 24 (Some 1)) (record { prefix = V4 (record { addr = 0x0a000000; len = 16 }); max_len = 16; asn = 1 } ∷ []) ≡ true
+of_its_own = refl
+
+-- neither AS 0 nor the origin NONE is a record's AS
+zero_of_none : has_origin (route 0xc0000200 25 (Some 0)) (of_none ∷ []) ≡ false
+zero_of_none = refl
+
+none_of_one : has_origin (route 0xc0000200 26 None) (of_one ∷ []) ≡ false
+none_of_one = refl
+
+too_long : reason_text Invalid true ≡ codes "\"reason\":\"length\","
+too_long = refl
+
+of_another : reason_text Invalid false ≡ codes "\"reason\":\"as\","
+of_another = refl
+
+valid_without : reason_text Valid true ≡ []
+valid_without = refl
+
+not_found_without : reason_text NotFound true ≡ []
+not_found_without = refl

@@ -1,9 +1,11 @@
 -- What the records that cover a route say of it (RFC 6811 section 2).
 use Rattle.std.specs.Prelude.{◌≡◌, ◌+◌, Bool, not, ◌&&◌, nat_le, List, length, filter}
+use Rattle.std.specs.List.{list_any}
 use Rattle.prefixes.specs.Payload.{Payload, block_of}
 use Rattle.prefixes.specs.declared.route.Route.{Route}
-use Rattle.vrps.specs.Origin.{covering, covers_route, is_origin, matches}
+use Rattle.vrps.specs.Origin.{covering, covers_route, is_origin, matches, state}
 use Rattle.vrps.specs.VrpSet.{VrpSet}
+use Rattle.vrps.specs.declared.origin.OriginState.TheVariants.{Invalid}
 
 -- The route's length is at most the record's maximum.
 abbrev pub is_within : Route → Payload → Bool
@@ -40,3 +42,11 @@ OneKindEach = (r : Route) (v : Payload) → IsOfOneKind r v
 abbrev pub ListsCover : Type 0
 ListsCover =
     (s : VrpSet) (r : Route) → length (covering s r) ≡ length (matched s r) + length (unmatched_length s r) + length (unmatched_as s r)
+
+-- The AS of one of these records is the route's origin.
+abbrev pub has_origin : Route → List Payload → Bool
+has_origin r vs = list_any (λ v. is_origin r.origin v.asn) vs
+
+-- If a route is invalid, and a record that covers it is of its origin, then the maximum of such a record is too small.
+abbrev pub OriginIsTooShort : Type 0
+OriginIsTooShort = (s : VrpSet) (r : Route) → state s r ≡ Invalid → has_origin r (unmatched_length s r) ≡ has_origin r (covering s r)

@@ -1,5 +1,5 @@
 -- What is said of a route as JSON, in the form of the API of Routinator.
-use Rattle.std.specs.Prelude.{ℕ, Bool, not, ◌==◌, if◌then◌else◌, List, [], ◌∷◌, ◌++◌, length, Option, None, Some, codes}
+use Rattle.std.specs.Prelude.{ℕ, Bool, if◌then◌else◌, List, [], ◌∷◌, ◌++◌, Option, None, Some, codes}
 use Rattle.std.specs.Fmt.{decimal}
 use Rattle.std.specs.Io.KnownBytes.{Appends}
 use Rattle.std.specs.List.{concat, flat_map}
@@ -10,6 +10,7 @@ use Rattle.prefixes.specs.declared.prefix.IpPrefix.{IpPrefix}
 use Rattle.prefixes.specs.declared.route.Route.{Route}
 use Rattle.vrps.specs.declared.origin.OriginState.{OriginState}
 use Rattle.vrps.specs.declared.origin.OriginState.TheVariants.{Valid, Invalid, NotFound}
+use Rattle.status_pages.specs.Kinds.{has_origin}
 use Rattle.status_pages.specs.declared.validity.Validity.{Validity}
 
 -- a record: its AS, its prefix and its maximum length, each as a text
@@ -44,26 +45,22 @@ state_word Valid = codes "valid"
 state_word Invalid = codes "invalid"
 state_word NotFound = codes "not-found"
 
--- some record is of another AS
-abbrev pub is_as_other : List Payload → Bool
-is_as_other others = not (length others == 0)
-
--- why a route is invalid: its AS, where a record would match but for that, and else its length
+-- Why a route is invalid: it is too long for the records of its origin that cover it, or none of these is of its origin.
 abbrev pub reason_text : OriginState → Bool → List ℕ
-reason_text Valid other_as = []
-reason_text NotFound other_as = []
-reason_text Invalid other_as = if other_as then codes "\"reason\":\"as\"," else codes "\"reason\":\"length\","
+reason_text Valid too_long = []
+reason_text NotFound too_long = []
+reason_text Invalid too_long = if too_long then codes "\"reason\":\"length\"," else codes "\"reason\":\"as\","
 
 abbrev pub description : OriginState → Bool → List ℕ
-description Valid other_as = codes "At least one VRP Matches the Route Prefix"
-description NotFound other_as = codes "No VRP Covers the Route Prefix"
-description Invalid other_as =
-    if other_as then codes "At least one VRP Covers the Route Prefix, but no VRP ASN matches the route origin ASN"
-    else codes "At least one VRP Covers the Route Prefix, but the Route Prefix length is greater than the maximum length allowed by VRP(s) matching this route origin ASN"
+description Valid too_long = codes "At least one VRP Matches the Route Prefix"
+description NotFound too_long = codes "No VRP Covers the Route Prefix"
+description Invalid too_long =
+    if too_long then codes "At least one VRP Covers the Route Prefix, but the Route Prefix length is greater than the maximum length allowed by VRP(s) matching this route origin ASN"
+    else codes "At least one VRP Covers the Route Prefix, but no VRP ASN matches the route origin ASN"
 
 unfoldable pub state_text : OriginState → Bool → List ℕ
-state_text s other_as =
-    codes "{\"state\":\"" ++ state_word s ++ codes "\"," ++ reason_text s other_as ++ codes "\"description\":\"" ++ description s other_as ++ codes "\""
+state_text s too_long =
+    codes "{\"state\":\"" ++ state_word s ++ codes "\"," ++ reason_text s too_long ++ codes "\"description\":\"" ++ description s too_long ++ codes "\""
 
 -- a list under its key, and the three
 unfoldable pub listed : List ℕ → List Payload → List ℕ
@@ -77,21 +74,21 @@ lists_text matched other_as too_short =
     listed (codes ",\"VRPs\":{\"matched\":") matched ++ listed (codes ",\"unmatched_as\":") other_as ++ last_list too_short
 
 -- what is judged: the state, and the lists
-unfoldable pub judged_text : OriginState → List Payload → List Payload → List Payload → List ℕ
-judged_text s matched other_as too_short = state_text s (is_as_other other_as) ++ lists_text matched other_as too_short
+unfoldable pub judged_text : Route → OriginState → List Payload → List Payload → List Payload → List ℕ
+judged_text r s matched other_as too_short = state_text s (has_origin r too_short) ++ lists_text matched other_as too_short
 
 -- the whole, at a time
 unfoldable pub beginning : Route → List ℕ
 beginning r = codes "{\"validated_route\":{\"route\":" ++ route_text r ++ codes ",\"validity\":"
 
-unfoldable pub middle : Validity → List ℕ
-middle v = judged_text v.state v.matched.items v.unmatched_as.items v.unmatched_length.items
+unfoldable pub middle : Route → Validity → List ℕ
+middle r v = judged_text r v.state v.matched.items v.unmatched_as.items v.unmatched_length.items
 
 unfoldable pub ending : List ℕ → List ℕ
 ending time = codes "},\"generatedTime\":\"" ++ time ++ codes "\"}"
 
 unfoldable pub validity_text : Route → Validity → List ℕ → List ℕ
-validity_text r v time = beginning r ++ middle v ++ ending time
+validity_text r v time = beginning r ++ middle r v ++ ending time
 
 -- That text is appended, at the time that is so many seconds after the beginning of 1970.
 abbrev pub TellsValidity : Option (List ℕ) → Option (List ℕ) → Route → Validity → ℕ → Type 0

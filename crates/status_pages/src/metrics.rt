@@ -88,11 +88,21 @@ fn write_program<W: Write>(out: &mut W, status: &Status) -> io::Result<()> {
         "gauge",
         "When the program started, in seconds since 1970.",
         status.started,
+    )?;
+    write_one(
+        out,
+        "rpkirtrd_clock_behind_seconds",
+        "gauge",
+        "How far the clock was set back since the start.",
+        status.clock_behind,
     )
 }
 
-/// What is served.
-fn write_served<W: Write>(out: &mut W, status: &Status) -> io::Result<()> {
+/// How many records are served, once a version is published.
+fn write_records<W: Write>(out: &mut W, status: &Status) -> io::Result<()> {
+    if status.serial.is_none() {
+        return Ok(());
+    }
     write_head(out, "rpkirtrd_vrps", "gauge", "Records that are served.")?;
     write_two(
         out,
@@ -101,6 +111,18 @@ fn write_served<W: Write>(out: &mut W, status: &Status) -> io::Result<()> {
         ("ipv4", status.ipv4),
         ("ipv6", status.ipv6),
     )?;
+    write_one(
+        out,
+        "rpkirtrd_left_out_vrps",
+        "gauge",
+        "Records of length 0 that are left out.",
+        status.left_out,
+    )
+}
+
+/// What is served.
+fn write_served<W: Write>(out: &mut W, status: &Status) -> io::Result<()> {
+    write_records(out, status)?;
     write_any(
         out,
         "rpkirtrd_serial",
@@ -214,7 +236,7 @@ fn write_files<W: Write>(out: &mut W, status: &Status) -> io::Result<()> {
         out,
         status,
         "rpkirtrd_export_age_seconds",
-        "How long ago what was taken last of a file was made, as far as it says so.",
+        "How long ago what was taken last of a file was made.",
         Told::Age,
     )?;
     write_of_files(

@@ -24,7 +24,19 @@ fn write_title<W: Write>(out: &mut W, status: &Status) -> io::Result<()> {
     write_since(out, status.now, status.started)?;
     out.write_all(b". All times are UTC; this is how it was at ")?;
     write_time(out, status.now)?;
-    out.write_all(b".</p>\n</header>\n")
+    out.write_all(b".</p>\n")?;
+    write_clock(out, status.clock_behind)?;
+    out.write_all(b"</header>\n")
+}
+
+/// Writes how far the clock was set back, if it was.
+fn write_clock<W: Write>(out: &mut W, behind: u64) -> io::Result<()> {
+    if behind == 0 {
+        return Ok(());
+    }
+    out.write_all(b"<p class=\"warn\">The clock was set back by ")?;
+    write_grouped(out, behind)?;
+    out.write_all(b" s since the start.</p>\n")
 }
 
 /// Writes the name of a fact.
@@ -77,6 +89,9 @@ fn write_served<W: Write>(out: &mut W, status: &Status) -> io::Result<()> {
     write_count(out, "Records", status.ipv4.saturating_add(status.ipv6))?;
     write_count(out, "IPv4 records", status.ipv4)?;
     write_count(out, "IPv6 records", status.ipv6)?;
+    if 0 < status.left_out {
+        write_count(out, "Records of length 0, left out", status.left_out)?;
+    }
     write_name(out, "Routers")?;
     write_grouped(out, status.clients.len() as u64)?;
     out.write_all(b" of ")?;

@@ -11,6 +11,8 @@ pub struct Status {
     pub now: u64,
     /// When the program started.
     pub started: u64,
+    /// How many seconds the clock is behind: it was set back by so much since the start.
+    pub clock_behind: u64,
     /// The session in version 1 of the protocol (RFC 8210 section 5.1).
     pub session: u16,
     /// The session in version 0 of the protocol (RFC 6810 section 5.1).
@@ -21,6 +23,8 @@ pub struct Status {
     pub ipv4: u64,
     /// The IPv6 records that are served.
     pub ipv6: u64,
+    /// The records of length 0 that are left out.
+    pub left_out: u64,
     /// The last versions, the oldest first. Those before the last 64 are not listed.
     pub changes: Vec<ChangeStatus>,
     /// What is followed: files and publication points.
@@ -63,7 +67,7 @@ pub struct ChangeStatus {
 pub struct FileStatus {
     /// Where it is.
     pub path: String,
-    /// When what was taken last of it was made, as far as it says so.
+    /// When what was taken last of it was made: as it says itself, or else when the file was modified.
     pub built: Option<u64>,
     /// When it was taken last, or `None` where it was never taken.
     pub taken: Option<u64>,

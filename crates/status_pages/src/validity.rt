@@ -111,7 +111,7 @@ fn is_within(route: &Route, vrp: &Vrp) -> bool
 }
 
 /// Whether the AS is this origin. AS 0 is no route's origin (RFC 6483 section 4).
-fn is_origin(origin: Option<u32>, asn: Asn) -> bool
+pub(crate) fn is_origin(origin: Option<u32>, asn: Asn) -> bool
     ensures { result ≡ is_origin origin asn.0 }
 {
     match origin {

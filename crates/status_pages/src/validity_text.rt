@@ -2,9 +2,10 @@
 ghost use Rattle.std.specs.Prelude.{◌≡◌, OnOk};
 ghost use Rattle.std.specs.Io.KnownBytes.{Appends};
 ghost use Rattle.std.specs.List.{flat_map};
-ghost use Rattle.status_pages.specs.ValidityText.{TellsValidity, after_comma, beginning, description, ending, is_as_other, joined_vrps, judged_text, last_list, listed, lists_text, middle, origin_text, prefix_text, reason_text, route_text, state_text, state_word, validity_text, vrp_text, vrps_text};
+ghost use Rattle.status_pages.specs.Kinds.{has_origin};
+ghost use Rattle.status_pages.specs.ValidityText.{TellsValidity, after_comma, beginning, description, ending, joined_vrps, judged_text, last_list, listed, lists_text, middle, origin_text, prefix_text, reason_text, route_text, state_text, state_word, validity_text, vrp_text, vrps_text};
 
-use crate::validity::Validity;
+use crate::validity::{Validity, is_origin};
 use daemon_parts::time_at;
 use prefixes::{IpPrefix, Route, Vrp};
 use std::io::{self, Write};
@@ -102,42 +103,42 @@ fn word_of(state: OriginState) -> &'static str
 }
 
 /// Why a route is invalid, as a member of the object, if it is.
-fn reason_of(state: OriginState, has_other_as: bool) -> &'static str
-    ensures { result.now ≡ reason_text state has_other_as }
+fn reason_of(state: OriginState, is_too_long: bool) -> &'static str
+    ensures { result.now ≡ reason_text state is_too_long }
 {
     match state {
         OriginState::Valid | OriginState::NotFound => "",
-        OriginState::Invalid => if has_other_as {
-            "\"reason\":\"as\","
-        } else {
+        OriginState::Invalid => if is_too_long {
             "\"reason\":\"length\","
+        } else {
+            "\"reason\":\"as\","
         },
     }
 }
 
 /// What the state means.
-fn description_of(state: OriginState, has_other_as: bool) -> &'static str
-    ensures { result.now ≡ description state has_other_as }
+fn description_of(state: OriginState, is_too_long: bool) -> &'static str
+    ensures { result.now ≡ description state is_too_long }
 {
     match state {
         OriginState::Valid => "At least one VRP Matches the Route Prefix",
         OriginState::NotFound => "No VRP Covers the Route Prefix",
-        OriginState::Invalid => if has_other_as {
-            "At least one VRP Covers the Route Prefix, but no VRP ASN matches the route origin ASN"
-        } else {
+        OriginState::Invalid => if is_too_long {
             "At least one VRP Covers the Route Prefix, but the Route Prefix length is greater than the maximum length allowed by VRP(s) matching this route origin ASN"
+        } else {
+            "At least one VRP Covers the Route Prefix, but no VRP ASN matches the route origin ASN"
         },
     }
 }
 
 /// Writes a state, with its reason and what it means.
 #[tactic(auto, unfolding(crate::specs::ValidityText::state_text))]
-fn write_state<W: Write>(out: &mut W, state: OriginState, has_other_as: bool) -> io::Result<()>
-    ensures { OnOk result (Appends (W.contents out.old) (W.contents out.new) (state_text state has_other_as)) }
+fn write_state<W: Write>(out: &mut W, state: OriginState, is_too_long: bool) -> io::Result<()>
+    ensures { OnOk result (Appends (W.contents out.old) (W.contents out.new) (state_text state is_too_long)) }
 {
     let word = word_of(state);
-    let reason = reason_of(state, has_other_as);
-    let description = description_of(state, has_other_as);
+    let reason = reason_of(state, is_too_long);
+    let description = description_of(state, is_too_long);
     write!(
         out,
         "{{\"state\":\"{word}\",{reason}\"description\":\"{description}\""
@@ -177,25 +178,26 @@ fn write_lists<W: Write>(
     write_last_list(out, too_short)
 }
 
-/// Whether some record is of another AS.
-fn is_as_other(other_as: &[Vrp]) -> bool
-    ensures { result ≡ is_as_other other_as.now }
+/// Whether the AS of one of these records is the route's origin.
+fn has_origin(route: &Route, records: &[Vrp]) -> bool
+    ensures { result ≡ has_origin route.now records.now }
 {
-    !other_as.is_empty()
+    records.iter().any(|vrp| is_origin(route.origin, vrp.asn()))
 }
 
 /// Writes what is judged of a route.
 #[tactic(auto, unfolding(crate::specs::ValidityText::judged_text))]
 fn write_judged<W: Write>(
     out: &mut W,
+    route: &Route,
     state: OriginState,
     matched: &[Vrp],
     other_as: &[Vrp],
     too_short: &[Vrp],
 ) -> io::Result<()>
-    ensures { OnOk result (Appends (W.contents out.old) (W.contents out.new) (judged_text state matched.now other_as.now too_short.now)) }
+    ensures { OnOk result (Appends (W.contents out.old) (W.contents out.new) (judged_text route.now state matched.now other_as.now too_short.now)) }
 {
-    write_state(out, state, is_as_other(other_as))?;
+    write_state(out, state, has_origin(route, too_short))?;
     write_lists(out, matched, other_as, too_short)
 }
 
@@ -211,11 +213,12 @@ fn write_beginning<W: Write>(out: &mut W, route: &Route) -> io::Result<()>
 
 /// Writes the middle: what is said of the route.
 #[tactic(auto, unfolding(crate::specs::ValidityText::middle))]
-fn write_middle<W: Write>(out: &mut W, validity: &Validity) -> io::Result<()>
-    ensures { OnOk result (Appends (W.contents out.old) (W.contents out.new) (middle validity.now)) }
+fn write_middle<W: Write>(out: &mut W, route: &Route, validity: &Validity) -> io::Result<()>
+    ensures { OnOk result (Appends (W.contents out.old) (W.contents out.new) (middle route.now validity.now)) }
 {
     write_judged(
         out,
+        route,
         validity.state,
         &validity.matched,
         &validity.unmatched_as,
@@ -244,7 +247,7 @@ fn write_validity_at<W: Write>(
     ensures { OnOk result (Appends (W.contents out.old) (W.contents out.new) (validity_text route.now validity.now time.now)) }
 {
     write_beginning(out, route)?;
-    write_middle(out, validity)?;
+    write_middle(out, route, validity)?;
     write_ending(out, time)
 }
 
