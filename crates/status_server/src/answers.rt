@@ -5,7 +5,8 @@ ghost use Rattle.http_header.specs.FieldValue.{is_visible_text};
 use crate::told::Told;
 use bytes::{BufMut, Bytes};
 use http::header::{
-    ALLOW, CACHE_CONTROL, CONTENT_SECURITY_POLICY, CONTENT_TYPE, X_CONTENT_TYPE_OPTIONS,
+    ALLOW, CACHE_CONTROL, CONTENT_SECURITY_POLICY, CONTENT_TYPE, RETRY_AFTER,
+    X_CONTENT_TYPE_OPTIONS,
 };
 use http::{HeaderValue, Request, StatusCode};
 use http_server::{Response, Service};
@@ -49,6 +50,13 @@ fn refuse(response: &mut Response, status: StatusCode, text: &[u8]) -> Result<()
     response.body.put_slice(text)
 }
 
+/// Answers that no version is published yet. The first one comes within a second or two of the start.
+fn refuse_early(response: &mut Response) -> Result<(), AllocError> {
+    response.add_header(RETRY_AFTER, HeaderValue::from_static("1"))?;
+    let text = b"no version is published yet: ask again in a second\n";
+    refuse(response, StatusCode::SERVICE_UNAVAILABLE, text)
+}
+
 /// What answers requests, by what a cache reports of itself.
 #[derive(Drop)]
 pub(crate) struct Answers<'a, S> {
@@ -84,14 +92,18 @@ impl<S: Told> Answers<'_, S> {
 
     /// The payload list.
     fn list(&mut self, response: &mut Response) -> Result<(), AllocError> {
-        let list = self.told.list()?;
+        let Some(list) = self.told.list()? else {
+            return refuse_early(response);
+        };
         add_headers(response, "application/json; charset=utf-8")?;
         response.body.push(list)
     }
 
     /// What is said of a route.
     fn validity(&mut self, route: &Route, response: &mut Response) -> Result<(), AllocError> {
-        let validity = self.told.validity(route)?;
+        let Some(validity) = self.told.validity(route)? else {
+            return refuse_early(response);
+        };
         let now = self.told.now();
         let mut text = Vec::new(self.alloc);
         if write_validity(&mut text, route, &validity, now).is_err() {

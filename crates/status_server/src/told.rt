@@ -13,9 +13,10 @@ pub trait Told {
     /// What the cache is at this moment.
     fn status(&mut self) -> Result<Status, AllocError>;
 
-    /// The payload list that is served, as text. It is shared with all who ask for it while it is served.
-    fn list(&mut self) -> Result<Bytes, AllocError>;
+    /// The payload list that is served, as text, or `None` before the first version is published. It is shared with all who ask for it while
+    /// it is served.
+    fn list(&mut self) -> Result<Option<Bytes>, AllocError>;
 
-    /// What the records that are served say of a route.
-    fn validity(&mut self, route: &Route) -> Result<Validity, AllocError>;
+    /// What the records that are served say of a route, or `None` before the first version is published.
+    fn validity(&mut self, route: &Route) -> Result<Option<Validity>, AllocError>;
 }
