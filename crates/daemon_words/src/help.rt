@@ -24,7 +24,7 @@ where memory was wanting.
 
 This is a cache for the routers of a network, beside rpki-client:
 
-  rpkirtrd --vrps /var/db/rpki-client/json --listen [::]:3323 --max-age 86400
+  rpkirtrd --vrps /var/lib/rpki-client/json --listen [::]:3323 --max-age 86400
 ";
 
 /// The program's version.

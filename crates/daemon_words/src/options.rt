@@ -66,9 +66,10 @@ pub(crate) static MATTERS: [Matter; 7] = [
                 kind: Kind::Number,
                 value: "SECONDS",
                 help: &[
-                    "The files are looked at every so many seconds, and read again where they",
-                    "have changed or where an entry has expired. Routers are notified no more",
-                    "often. The number is from 1 to 4294967295; the default is 60.",
+                    "The files are looked at every so many seconds, and read again if they have",
+                    "changed or if an entry has expired. Routers are notified no more often. RFC",
+                    "8210 section 8.2: a cache MUST NOT notify more than once a minute, so less",
+                    "than 60 breaks it. The number is from 1 to 4294967295; the default is 60.",
                 ],
             },
             Choice {
@@ -77,9 +78,31 @@ pub(crate) static MATTERS: [Matter; 7] = [
                 kind: Kind::Number,
                 value: "SECONDS",
                 help: &[
-                    "A file whose data were made longer ago is reported as old, and what is",
-                    "served stays. The number is from 1 to 4294967295; by default no file is",
-                    "old.",
+                    "A file of --vrps whose data were made longer ago is reported as old, and",
+                    "what is served stays. If a file does not say when it was made, or says a",
+                    "time more than an hour ahead, its modification time counts. DIR of --points",
+                    "and the file of --slurm have no age. The number is from 1 to 4294967295; by",
+                    "default no file is old.",
+                ],
+            },
+            Choice {
+                name: "max-size",
+                letter: None,
+                kind: Kind::Number,
+                value: "BYTES",
+                help: &[
+                    "A larger file of --vrps or --slurm is refused, and so is what is no regular",
+                    "file. The number is from 1 to 1099511627776; the default is 2147483648.",
+                ],
+            },
+            Choice {
+                name: "leave-out-length-0",
+                letter: None,
+                kind: Kind::Flag,
+                value: "",
+                help: &[
+                    "Records for 0.0.0.0/0 and ::/0 are left out, as StayRTR leaves them out:",
+                    "FRR 8.4 and other users of librtr end at them. The log says how many.",
                 ],
             },
             Choice {
@@ -116,8 +139,19 @@ pub(crate) static MATTERS: [Matter; 7] = [
                 value: "NUMBER",
                 help: &[
                     "So many routers may be connected at once, and one more is closed at once.",
-                    "The system's limit of descriptors, less 16, may allow fewer. The number is",
-                    "from 1 to 4294967295; the default is 256.",
+                    "The system's limit of descriptors, less 16, or less 80 with --status, may",
+                    "allow fewer. The number is from 1 to 4294967295; the default is 256.",
+                ],
+            },
+            Choice {
+                name: "clients-per-address",
+                letter: None,
+                kind: Kind::Number,
+                value: "NUMBER",
+                help: &[
+                    "So many routers may be connected from one address at once, and one more is",
+                    "closed at once. The number is from 1 to 4294967295; by default there is no",
+                    "such limit. A router that sends no query within 60 seconds is closed.",
                 ],
             },
             Choice {
@@ -126,8 +160,8 @@ pub(crate) static MATTERS: [Matter; 7] = [
                 kind: Kind::Number,
                 value: "SECONDS",
                 help: &[
-                    "A router to which nothing could be written for so long is closed. The",
-                    "number is from 1 to 4294967295; the default is 120.",
+                    "A router that took no byte for so long, while something was to be sent to",
+                    "it, is closed. The number is from 1 to 4294967295; the default is 120.",
                 ],
             },
         ],
@@ -142,8 +176,9 @@ pub(crate) static MATTERS: [Matter; 7] = [
                 value: "NUMBER",
                 help: &[
                     "This is the session in version 1 of the protocol, from 0 to 65535. By",
-                    "default it is made of /etc/machine-id, the addresses and the paths of the",
-                    "files, so a restart keeps it.",
+                    "default it is made of /etc/machine-id, the host name, the addresses and the",
+                    "sources, so a restart keeps it. Without a machine id it is random at each",
+                    "start. Give each of several caches behind one address its own.",
                 ],
             },
             Choice {
@@ -153,8 +188,8 @@ pub(crate) static MATTERS: [Matter; 7] = [
                 value: "NUMBER",
                 help: &[
                     "This is the session in version 0, from 0 to 65535. By default it is made",
-                    "of the time of the start: it changes every 4 seconds, and comes again",
-                    "after three days.",
+                    "of the time of the start: it changes every second, and comes again after 18",
+                    "hours.",
                 ],
             },
             Choice {

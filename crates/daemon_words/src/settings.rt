@@ -1,5 +1,5 @@
 //! What a run is asked for.
-ghost use Rattle.std.specs.Prelude.{◌≡◌, ◌≤◌, ◌+◌, true, IsSome, vec_len};
+ghost use Rattle.std.specs.Prelude.{◌≡◌, ◌≤◌, ◌+◌, true, IfSome, IsSome, vec_len};
 
 use daemon_parts::LogForm;
 use rtr_ends::Timing;
@@ -32,9 +32,15 @@ pub struct Settings {
     pub max_age: Option<u64>,
     /// Whether the daemon ends where a file is older.
     pub stop_when_old: bool,
+    /// How many bytes a file may have.
+    pub max_size: u64,
+    /// Whether records of length 0, for 0.0.0.0/0 or ::/0, are left out.
+    pub leave_out_length_0: bool,
     /// How many clients there may be at once.
     pub clients: usize,
-    /// After how many seconds a client to which nothing could be written is closed.
+    /// How many clients an address may have at once, or `None`: as many as there may be.
+    pub clients_per_address: Option<u64>,
+    /// After how many seconds a client that took no byte is closed.
     pub stall: u32,
     /// Where the status page is, if it is wanted.
     pub status: Option<SocketAddr>,
@@ -49,7 +55,11 @@ pub struct Settings {
     ghost keeps_from: { 1 ≤ keep },
     ghost keeps_to: { keep ≤ 65536 },
     ghost looks: { 1 ≤ check },
+    ghost reads: { 1 ≤ max_size },
     ghost serves: { 1 ≤ clients },
+    ghost serves_to: { clients ≤ 4294967295 },
+    ghost serves_each: { IfSome clients_per_address (λ most. 1 ≤ most) },
     ghost waits: { 1 ≤ stall },
+    ghost ages_from: { IfSome max_age (λ age. (1 ≤ age) × (age ≤ 4294967295)) },
     ghost ages: { stop_when_old ≡ true → IsSome max_age },
 }

@@ -1,5 +1,5 @@
 //! What the words ask for.
-ghost use Rattle.std.specs.Prelude.{◌≡◌, ◌≤◌, ◌+◌, true, IfOk, IsSome, vec_len};
+ghost use Rattle.std.specs.Prelude.{◌≡◌, ◌≤◌, ◌+◌, true, IfOk, IfSome, IsSome, vec_len};
 
 use crate::fault::WordsFault;
 use crate::help::{help, version};
@@ -27,6 +27,9 @@ pub enum Asked {
 
 /// The port for routers (RFC 8210 section 13), of which this daemon takes that which needs no privilege.
 const PORT: u16 = 3323;
+
+/// How many bytes a file may have by default.
+const MAX_SIZE: u64 = 2_147_483_648;
 
 /// What stands in what the parser says before the usage.
 fn before_usage(text: &str) -> &str {
@@ -113,6 +116,7 @@ struct MaxAge {
     max_age: Option<u64>,
     stop_when_old: bool,
     ghost ages: { stop_when_old ≡ true → IsSome max_age },
+    ghost ages_from: { IfSome max_age (λ age. (1 ≤ age) × (age ≤ 4294967295)) },
 }
 
 fn age(alloc: Global, found: &ArgMatches<'_>) -> Result<MaxAge, WordsFault> {
@@ -125,6 +129,16 @@ fn age(alloc: Global, found: &ArgMatches<'_>) -> Result<MaxAge, WordsFault> {
         max_age,
         stop_when_old,
     })
+}
+
+/// How many bytes a file may have.
+fn max_size(alloc: Global, found: &ArgMatches<'_>) -> Result<u64, WordsFault>
+    ensures { IfOk result (λ size. 1 ≤ size) }
+{
+    match number(alloc, found, "max-size", 1, 1_099_511_627_776)? {
+        Some(size) => Ok(size),
+        None => Ok(MAX_SIZE),
+    }
 }
 
 /// The settings of a run.
@@ -147,7 +161,10 @@ fn settings(alloc: Global, found: &ArgMatches<'_>) -> Result<Settings, WordsFaul
         check: number_or(alloc, found, "check", 1, 4_294_967_295, 60)?,
         max_age,
         stop_when_old,
+        max_size: max_size(alloc, found)?,
+        leave_out_length_0: found.get_flag("leave-out-length-0"),
         clients: number_or(alloc, found, "clients", 1, 4_294_967_295, 256)? as usize,
+        clients_per_address: number(alloc, found, "clients-per-address", 1, 4_294_967_295)?,
         stall: number_or(alloc, found, "stall", 1, 4_294_967_295, 120)?,
         status: address(alloc, found, "status")?,
         log: log_form(alloc, found, "log")?,
