@@ -1,23 +1,25 @@
 -- What is made of several sets.
-use Rattle.std.specs.Prelude.{◌≡◌, ◌≤◌, ◌<◌, ℕ, Bool, true, false, not, ◌&&◌, ◌||◌, List, [], ◌∷◌, Option, Some, None, Result, Ok, Err, refl, length}
-use Rattle.std.proofs.Common.{arith, inl, inr, ap, subst, sym, ◌∙◌, ◌+◌, IfOk, drop, get_or}
-use Rattle.std.proofs.lemmas.List.{drop_more}
+use Rattle.std.specs.Prelude.{◌≡◌, ◌≤◌, ◌<◌, ℕ, Bool, true, false, not, ◌&&◌, ◌||◌, List, [], ◌∷◌, ◌++◌, filter, Option, Some, None, Result, Ok, Err, refl, length}
+use Rattle.std.proofs.Common.{arith, inl, inr, ap, subst, sym, ◌∙◌, IfOk, get_or}
+use Rattle.std.proofs.Math.Bool.{or-true}
 use Rattle.std.specs.List.{list_any}
 use Rattle.der_lite.specs.Moments.{CivilMoment}
 use Rattle.prefixes.specs.Payload.{Payload}
-use Rattle.points.specs.InUse.{Points}
+use Rattle.points.specs.InUse.{Points, Lists}
 use Rattle.vrps.specs.VrpSet.{VrpSet, empty, has, listing, set_of, size, union, without}
 use Rattle.vrps.specs.declared.set.SetFault.{SetFault}
 use Rattle.vrps.proofs.Listed.{size_of_listing}
-use Rattle.vrps.proofs.SetLaws.{has-empty, has-listing, has-union, has-without, same_set, same_vrp}
+use Rattle.vrps.proofs.SetLaws.{has-empty, has-listing, has-set_of, has-union, has-without, kept, same_set, same_vrp}
+use Rattle.prefixes.specs.Orders.{vrp_exact}
 use Rattle.vrps.proofs.Sizes.{size_le}
 use Rattle.slurm.specs.Chains.{UnlessMemory, seen}
 use Rattle.slurm.specs.Exceptions.{exceptions_of}
 use Rattle.slurm.specs.SlurmFile.{ReadsSlurm}
 use Rattle.slurm.specs.declared.filter.Slurm.{Slurm}
 use Rattle.slurm.proofs.ExceptionLaws.{is_excepted}
-use Rattle.sources.specs.Served.{HasServed, IsServed, excepted_by, is_asserted, is_left_out, is_listed, with_lists}
+use Rattle.sources.specs.Served.{HasServed, IsServed, LeavesOut, excepted_by, has_length_0, is_asserted, is_left_out, is_listed, left_out_of, narrowed, with_lists}
 use Rattle.sources.specs.declared.listed.Listed.{Listed}
+use Rattle.sources.specs.declared.sources.Served.{Served}
 
 and_all : (b : Bool) → (b && not false) ≡ b
 and_all true = refl
@@ -61,13 +63,53 @@ grows s ls = size_le s (with_lists s ls) (λ q one. has-lists s ls q ∙ ap (λ 
 pub beyond : (s : VrpSet) (ls : List Listed) (t : VrpSet) → with_lists s ls ≡ t → 16777215 < size s → 16777215 < size t
 beyond s ls t is over = subst (λ x. 16777215 < size x) is (let more = grows s ls in omega (arith, more, over))
 
--- the files that are left, at one of them
-pub from_next : (ls : List Listed) (i : ℕ) (x : Listed) → i < length ls → x ≡ get_or ls i x → drop i ls ≡ x ∷ drop (i + 1) ls
-from_next ls i x low read = drop_more ls i x low ∙ ap (λ y. y ∷ drop (i + 1) ls) (sym read)
-
 -- A fault that is handed on is the one that was told.
 pub same_fault : {T S : Type 0} (r : Result T SetFault) (q : Result S SetFault) (x y t : SetFault) → r ≡ Err x → x ≡ y → q ≡ Err y → r ≡ Err t → q ≡ Err t
 same_fault r q x y t a b d e = cc (a, b, d, e)
+
+-- the members of files alone
+has-all : (ls : List Listed) (v : Payload) → has (with_lists empty ls) v ≡ is_listed ls v
+has-all ls v = has-lists empty ls v ∙ ap (λ b. b || is_listed ls v) (has-empty v)
+
+listed_both : (a b : List Listed) (v : Payload) → is_listed (a ++ b) v ≡ (is_listed a v || is_listed b v)
+listed_both [] b v = refl
+listed_both (l ∷ a) b v = ap (λ x. has l.set v || x) (listed_both a b v) ∙ sym (or_both (has l.set v) (is_listed a v) (is_listed b v))
+
+-- A set and the payloads of files
+pub with_all_lists : (s : VrpSet) (ls : List Listed) → union s (with_lists empty ls) ≡ with_lists s ls
+with_all_lists s ls = same_set _ _ (λ q. has-union s (with_lists empty ls) q ∙ ap (λ b. has s q || b) (has-all ls q) ∙ sym (has-lists s ls q))
+
+-- one file
+pub one_list : (ls : List Listed) (x : Listed) → length ls ≡ 1 → (get_or ls 0 x).set ≡ with_lists empty ls
+one_list [] x e = absurd (omega (arith, e))
+one_list (l ∷ []) x e = same_set l.set (union empty l.set) (λ q. sym (has-union empty l.set q ∙ ap (λ b. b || has l.set q) (has-empty q)))
+one_list (l ∷ m ∷ ls) x e = absurd (omega (arith, e))
+
+-- files in two parts
+pub both_parts : (ls a b : List Listed) → ls ≡ a ++ b → union (with_lists empty a) (with_lists empty b) ≡ with_lists empty ls
+both_parts ls a b is = same_set _ _ (λ q.
+    has-union (with_lists empty a) (with_lists empty b) q
+    ∙ (λ i. has-all a q i || has-all b q i)
+    ∙ sym (listed_both a b q) ∙ ap (λ l. is_listed l q) (sym is) ∙ sym (has-all ls q))
+
+-- A part that is over the limit takes the whole over it.
+pub beyond_first : (ls a b : List Listed) → ls ≡ a ++ b → 16777215 < size (with_lists empty a) → 16777215 < size (with_lists empty ls)
+beyond_first ls a b is over =
+    let more = size_le (with_lists empty a) (with_lists empty ls) (λ q one.
+    has-all ls q ∙ ap (λ l. is_listed l q) is ∙ listed_both a b q ∙ ap (λ x. x || is_listed b q) (sym (has-all a q) ∙ one)) in
+    omega (arith, more, over)
+
+pub beyond_second : (ls a b : List Listed) → ls ≡ a ++ b → 16777215 < size (with_lists empty b) → 16777215 < size (with_lists empty ls)
+beyond_second ls a b is over =
+    let more = size_le (with_lists empty b) (with_lists empty ls) (λ q one.
+    has-all ls q ∙ ap (λ l. is_listed l q) is ∙ listed_both a b q ∙ ap (λ x. is_listed a q || x) (sym (has-all b q) ∙ one) ∙ or-true (is_listed a q)) in
+    omega (arith, more, over)
+
+pub beyond_lists : (s : VrpSet) (ls : List Listed) → 16777215 < size (with_lists empty ls) → 16777215 < size (with_lists s ls)
+beyond_lists s ls over =
+    let more = size_le (with_lists empty ls) (with_lists s ls) (λ q one.
+    has-lists s ls q ∙ ap (λ x. has s q || x) (sym (has-all ls q) ∙ one) ∙ or-true (has s q)) in
+    omega (arith, more, over)
 
 not_excepted : (b : Bool) → b ≡ ((b && not false) || false)
 not_excepted true = refl
@@ -78,16 +120,86 @@ has-left : (e : Option Slurm) (s : VrpSet) (v : Payload) → has (excepted_by e 
 has-left None s v = not_excepted (has s v)
 has-left (Some e) s v = is_excepted (exceptions_of e) s v
 
-pub has_served : {points : Points} {lists : List Listed} {e : Option Slurm} {now : CivilMoment} {t : VrpSet} → IsServed points lists e now t → HasServed points lists e now t
-has_served {points} {lists} {e} {now} {t} h = record {
+-- A member of a set is one of those that are left out if it is of length 0 and such are left out.
+any_left_out : (leaves : Bool) (s : VrpSet) (v : Payload) → has (set_of (left_out_of leaves s)) v ≡ (leaves && (has s v && has_length_0 v))
+any_left_out false s v = has-empty v
+any_left_out true s v =
+    has-set_of (filter has_length_0 (listing s)) v
+    ∙ kept has_length_0 v (λ x tie. ap has_length_0 (sym (vrp_exact v x tie))) (listing s)
+    ∙ ap (λ b. b && has_length_0 v) (sym (has-listing s v))
+
+without_these : (h w l : Bool) → (h && not (l && (h && w))) ≡ (h && not (l && w))
+without_these false w l = refl
+without_these true w l = refl
+
+has-narrowed : (leaves : Bool) (s : VrpSet) (v : Payload) → has (narrowed leaves s) v ≡ (has s v && not (leaves && has_length_0 v))
+has-narrowed leaves s v =
+    has-without s (set_of (left_out_of leaves s)) v ∙ ap (λ b. has s v && not b) (any_left_out leaves s v) ∙ without_these (has s v) (has_length_0 v) leaves
+
+-- Nothing is left out.
+pub whole : (leaves : Bool) (s : VrpSet) (vs : List Payload) → vs ≡ left_out_of leaves s → length vs ≡ 0 → s ≡ narrowed leaves s
+whole leaves s vs is none = same_set s (narrowed leaves s) (λ v. sym (
+    has-without s (set_of (left_out_of leaves s)) v
+    ∙ ap (λ b. has s v && not b) (has-set_of (left_out_of leaves s) v ∙ none_any v (left_out_of leaves s) (sym (ap length is) ∙ none))
+    ∙ and_all (has s v)))
+
+-- To withdraw from a set, and to announce nothing
+pub withdrawn : (s t : VrpSet) → union (without s t) empty ≡ without s t
+withdrawn s t = same_set _ _ (λ v. has-union (without s t) empty v ∙ ap (λ b. has (without s t) v || b) (has-empty v) ∙ sym (or_none (has (without s t) v)))
+
+-- What is left out of a set, and what is left, is no larger.
+pub left_out_over : (leaves : Bool) (s : VrpSet) → 16777215 < size (set_of (left_out_of leaves s)) → 16777215 < size s
+left_out_over leaves s over =
+    let more = size_le (set_of (left_out_of leaves s)) s (λ v one. first_of leaves (has s v) (has_length_0 v) (sym (any_left_out leaves s v) ∙ one)) in omega (arith, more, over)
+  where
+    first_of : (l h w : Bool) → (l && (h && w)) ≡ true → h ≡ true
+    first_of true true w e = refl
+    first_of true false w e = absurd (let f : false ≡ true = e in cc)
+    first_of false h w e = absurd (let f : false ≡ true = e in cc)
+
+pub narrowed_over : (s t : VrpSet) → 16777215 < size (without s t) → 16777215 < size s
+narrowed_over s t over =
+    let more = size_le (without s t) s (λ v one. first_of (has s v) (not (has t v)) (sym (has-without s t v) ∙ one)) in omega (arith, more, over)
+  where
+    first_of : (h w : Bool) → (h && w) ≡ true → h ≡ true
+    first_of true w e = refl
+    first_of false w e = absurd (let f : false ≡ true = e in cc)
+
+pub has_served : {points : Points} {lists : List Listed} {e : Option Slurm} {leaves : Bool} {now : CivilMoment} {t : VrpSet} → IsServed points lists e leaves now t → HasServed points lists e leaves now t
+has_served {points} {lists} {e} {leaves} {now} {t} h = record {
   used = h.used;
   in_use = h.in_use;
-  those = λ v. ap (λ x. has x v) h.is ∙ has-left e (with_lists (set_of h.used) lists) v ∙ ap (λ b. (b && not (is_left_out e v)) || is_asserted e v) (has-lists (set_of h.used) lists v);
+  those = λ v.
+      ap (λ x. has x v) h.is
+      ∙ has-narrowed leaves (excepted_by e (with_lists (set_of h.used) lists)) v
+      ∙ ap (λ b. b && not (leaves && has_length_0 v)) (
+      has-left e (with_lists (set_of h.used) lists) v ∙ ap (λ b. (b && not (is_left_out e v)) || is_asserted e v) (has-lists (set_of h.used) lists v));
 }
 
-pub all_served : (points : Points) (lists : List Listed) (e : Option Slurm) (now : CivilMoment) (r : Result VrpSet SetFault) → IfOk r (λ t. IsServed points lists e now t) → IfOk r (λ t. HasServed points lists e now t)
-all_served points lists e now (Ok t) h = has_served h
-all_served points lists e now (Err f) h = tt
+pub all_served : (points : Points) (lists : List Listed) (e : Option Slurm) (leaves : Bool) (now : CivilMoment) (r : Result Served SetFault) → IfOk r (λ t. IsServed points lists e leaves now t.set) → IfOk r (λ t. HasServed points lists e leaves now t.set)
+all_served points lists e leaves now (Ok t) h = has_served h
+all_served points lists e leaves now (Err f) h = tt
+
+-- What a call answers, said in other words
+pub said_so : (r : Result VrpSet SetFault) (t u : VrpSet) → IfOk r (λ x. x ≡ t) → t ≡ u → IfOk r (λ x. x ≡ u)
+said_so (Ok x) t u h e = h ∙ e
+said_so (Err f) t u h e = tt
+
+pub over_so : (t u : VrpSet) → t ≡ u → 16777215 < size t → 16777215 < size u
+over_so t u e over = subst (λ s. 16777215 < size s) e over
+
+-- What is made of what was left of all, and how much is left out of it
+pub is_made : (points : Points) (lists : List Listed) (e : Option Slurm) (leaves : Bool) (now : CivilMoment) (used : List Payload) (left : VrpSet) (r : Result Served SetFault) → Lists used points now
+    → left ≡ excepted_by e (with_lists (set_of used) lists) → IfOk r (λ t. (t.set ≡ narrowed leaves left) × (t.left_out ≡ length (left_out_of leaves left)))
+    → IfOk r (λ t. IsServed points lists e leaves now t.set)
+is_made points lists e leaves now used left (Ok t) in_use is h = record { used = used; in_use = in_use; is = h.0 ∙ ap (narrowed leaves) is }
+is_made points lists e leaves now used left (Err f) in_use is h = tt
+
+pub is_counted : (points : Points) (lists : List Listed) (e : Option Slurm) (leaves : Bool) (now : CivilMoment) (used : List Payload) (left : VrpSet) (r : Result Served SetFault) → Lists used points now
+    → left ≡ excepted_by e (with_lists (set_of used) lists) → IfOk r (λ t. (t.set ≡ narrowed leaves left) × (t.left_out ≡ length (left_out_of leaves left)))
+    → IfOk r (λ t. LeavesOut points lists e leaves now t.left_out)
+is_counted points lists e leaves now used left (Ok t) in_use is h = record { used = used; in_use = in_use; is = h.1 ∙ ap (λ s. length (left_out_of leaves s)) is }
+is_counted points lists e leaves now used left (Err f) in_use is h = tt
 
 -- What a joining of sets gives, where it gives the same
 pub same_joined : (r : Result VrpSet SetFault) (t u : VrpSet) → IfOk r (λ x. (x ≡ t) × (size x ≤ 16777215)) → t ≡ u → IfOk r (λ x. x ≡ u)

@@ -1,9 +1,9 @@
 -- What is served: what all sources have together, with local exceptions.
-use Rattle.std.specs.Prelude.{◌≡◌, ◌⊎◌, ◌<◌, ◌≤◌, ℕ, nat_lt, length, replicate, slice_set, Bool, false, not, ◌&&◌, ◌||◌, List, [], ◌∷◌, Option, Some, None, Result, Ok, Err}
+use Rattle.std.specs.Prelude.{◌≡◌, ◌⊎◌, ◌<◌, ◌≤◌, ℕ, nat_lt, length, filter, replicate, slice_set, Bool, true, false, not, ◌&&◌, ◌||◌, ◌==◌, List, [], ◌∷◌, Option, Some, None, Result, Ok, Err}
 use Rattle.std.specs.List.{list_any}
 use Rattle.der_lite.specs.Moments.{CivilMoment}
-use Rattle.prefixes.specs.Payload.{Payload}
-use Rattle.vrps.specs.VrpSet.{VrpSet, empty, has, set_of, size, union}
+use Rattle.prefixes.specs.Payload.{Payload, block_of}
+use Rattle.vrps.specs.VrpSet.{VrpSet, empty, has, listing, set_of, size, union, without}
 use Rattle.exports.specs.Export.{HasFault}
 use Rattle.exports.specs.Until.{IsExportUntil}
 use Rattle.exports.specs.declared.export.ExportUntil.{ExportUntil}
@@ -28,11 +28,25 @@ abbrev pub excepted_by : Option Slurm → VrpSet → VrpSet
 excepted_by None s = s
 excepted_by (Some e) s = excepted (exceptions_of e) s
 
--- The payloads that publication points have in use at a moment, and those of files, with local exceptions
-pub record IsServed (points : Points) (lists : List Listed) (exceptions : Option Slurm) (now : CivilMoment) (t : VrpSet) : Type 0 where
+-- A payload of length 0, for 0.0.0.0/0 or ::/0, is about all addresses of its family.
+abbrev pub has_length_0 : Payload → Bool
+has_length_0 v = (block_of v.prefix).len == 0
+
+-- the payloads of length 0 of a set, if they are left out
+abbrev pub left_out_of : Bool → VrpSet → List Payload
+left_out_of false s = []
+left_out_of true s = filter has_length_0 (listing s)
+
+-- without these
+abbrev pub narrowed : Bool → VrpSet → VrpSet
+narrowed leaves s = without s (set_of (left_out_of leaves s))
+
+-- The payloads that publication points have in use at a moment, and those of files, with local exceptions, and without payloads of length 0
+-- if these are left out
+pub record IsServed (points : Points) (lists : List Listed) (exceptions : Option Slurm) (leaves : Bool) (now : CivilMoment) (t : VrpSet) : Type 0 where
   pub used : List Payload
   pub in_use : Lists used points now
-  pub is : t ≡ excepted_by exceptions (with_lists (set_of used) lists)
+  pub is : t ≡ narrowed leaves (excepted_by exceptions (with_lists (set_of used) lists))
 
 -- The payloads that publication points have in use at a moment and those of files are more than a set may have, or local exceptions make so
 -- many of them.
@@ -55,12 +69,21 @@ abbrev pub is_asserted : Option Slurm → Payload → Bool
 is_asserted None v = false
 is_asserted (Some e) v = has e.assertions v
 
--- A payload is served exactly where it is in use at a publication point or a file says it, and local exceptions do not leave it out; or they
--- say it.
-pub record HasServed (points : Points) (lists : List Listed) (exceptions : Option Slurm) (now : CivilMoment) (t : VrpSet) : Type 0 where
+-- So many payloads are left out.
+pub record LeavesOut (points : Points) (lists : List Listed) (exceptions : Option Slurm) (leaves : Bool) (now : CivilMoment) (n : ℕ) : Type 0 where
   pub used : List Payload
   pub in_use : Lists used points now
-  pub those : (v : Payload) → has t v ≡ (((has (set_of used) v || is_listed lists v) && not (is_left_out exceptions v)) || is_asserted exceptions v)
+  pub is : n ≡ length (left_out_of leaves (excepted_by exceptions (with_lists (set_of used) lists)))
+
+-- A payload is in use at a publication point or a file says it, and local exceptions do not leave it out; or they say it.
+abbrev pub is_wanted : List Payload → List Listed → Option Slurm → Payload → Bool
+is_wanted used lists exceptions v = ((has (set_of used) v || is_listed lists v) && not (is_left_out exceptions v)) || is_asserted exceptions v
+
+-- Exactly such payloads are served, but for those of length 0 if these are left out.
+pub record HasServed (points : Points) (lists : List Listed) (exceptions : Option Slurm) (leaves : Bool) (now : CivilMoment) (t : VrpSet) : Type 0 where
+  pub used : List Payload
+  pub in_use : Lists used points now
+  pub those : (v : Payload) → has t v ≡ (is_wanted used lists exceptions v && not (leaves && has_length_0 v))
 
 -- What was taken of a file is its export at the moment, and until when it stays so.
 pub record IsTaken (bytes : List ℕ) (now : ℕ) (expired : ℕ) (l : Listed) : Type 0 where
@@ -111,13 +134,13 @@ built_at (Some l) = l.built
 
 -- what these sources have at a moment
 abbrev pub ServesAt : Sources → CivilMoment → VrpSet → Type 0
-ServesAt s now t = IsServed s.repository s.lists.items s.exceptions now t
+ServesAt s now t = IsServed s.repository s.lists.items s.exceptions s.leaves_out now t
 
 -- What is taken of an export, and of local exceptions, by the sources
 abbrev pub ExportTaken : List ℕ → ℕ → ℕ → Result ℕ TakeFault → Sources → Sources → Type 0
 ExportTaken bytes now i result old new =
-    TakesExport bytes now i result old.lists.items new.lists.items × (new.exceptions ≡ old.exceptions) × (new.repository ≡ old.repository)
+    TakesExport bytes now i result old.lists.items new.lists.items × (new.exceptions ≡ old.exceptions) × (new.repository ≡ old.repository) × (new.leaves_out ≡ old.leaves_out)
 
 abbrev pub SlurmTaken : List ℕ → Result (Unit {0}) SlurmFault → Sources → Sources → Type 0
 SlurmTaken bytes result old new =
-    TakesSlurm bytes result old.exceptions new.exceptions × (new.lists ≡ old.lists) × (new.repository ≡ old.repository)
+    TakesSlurm bytes result old.exceptions new.exceptions × (new.lists ≡ old.lists) × (new.repository ≡ old.repository) × (new.leaves_out ≡ old.leaves_out)

@@ -12,15 +12,16 @@
 //! sources.take_export(0, text, 1_700_000_000)?;
 //! assert!(rt; sources.take_export(1, text, 1_700_000_000) == Err(TakeFault::NoSuchFile));
 //! let now = Moment::parse("20231114221320Z").ok_or("no moment")?;
-//! let set = sources.served(now)?;
-//! assert!(rt; set.len() == 1);
+//! let served = sources.served(now)?;
+//! assert!(rt; served.set.len() == 1);
 //! ```
 #![tactic(auto)]
 
 mod fault;
+pub mod laws;
 mod listed;
 mod sources;
 
 pub use fault::TakeFault;
 pub use listed::Listed;
-pub use sources::Sources;
+pub use sources::{Served, Sources};

@@ -1,16 +1,17 @@
 //! Sources, and the set that is made of them.
-ghost use Rattle.std.specs.Prelude.{◌≡◌, ◌<◌, IfOk, IfSome, IsErrOf, None, length, slice_get};
-ghost use Rattle.vrps.specs.VrpSet.{size, union};
+ghost use Rattle.std.specs.Prelude.{◌≡◌, ◌<◌, IfOk, IfSome, IsErrOf, None, false, length, slice_get, true};
+ghost use Rattle.vrps.specs.VrpSet.{empty, size, union};
 ghost use Rattle.points.specs.Answers.{told_by, NewExactly, BecomesAt};
 ghost use Rattle.points.specs.InUse.{accepted_at, no_points};
 ghost use Rattle.points.specs.Offers.{Acceptable, Judged};
-ghost use Rattle.sources.specs.Served.{HasServed, IsServed, PassesLimit, TakesExport, TakesSlurm, built_at, is_over, none_taken, with_lists};
+ghost use Rattle.sources.specs.Served.{HasServed, IsServed, LeavesOut, PassesLimit, TakesExport, TakesSlurm, built_at, excepted_by, has_length_0, is_over, left_out_of, narrowed, none_taken, with_lists};
 
 use crate::fault::TakeFault;
 use crate::listed::Listed;
 use der_lite::Moment;
 use exports::{Export, ExportUntil, read_export_until};
 use points::{FileIn, Offered, PointFault, Repository};
+use prefixes::Vrp;
 use slurm::{Slurm, SlurmFault, apply, read_slurm};
 use std::alloc::{AllocError, Global};
 use vrps::{Change, SetFault, VrpSet};
@@ -22,12 +23,23 @@ pub struct Sources {
     lists: Vec<Listed>,
     exceptions: Option<Slurm>,
     repository: Repository,
+    /// Whether payloads of length 0 are left out.
+    leaves_out: bool,
+}
+
+/// What is served, and how many payloads of length 0 were left out.
+#[derive(Debug, Drop)]
+pub struct Served {
+    /// The set.
+    pub set: VrpSet,
+    /// How many payloads of length 0 are not in it, as they are left out.
+    pub left_out: u64,
 }
 
 impl Sources {
-    /// Sources of so many files, of which nothing was taken yet, without exceptions and publication points.
+    /// Sources of so many files, of which nothing was taken yet, without exceptions and publication points. No payload is left out.
     pub fn new(alloc: Global, files: usize) -> Result<Sources, AllocError>
-        ensures { IfOk result (λ s. (s.exceptions ≡ None) × (s.repository ≡ no_points) × (s.lists.items ≡ none_taken files)) }
+        ensures { IfOk result (λ s. (s.exceptions ≡ None) × (s.repository ≡ no_points) × (s.lists.items ≡ none_taken files) × (s.leaves_out ≡ false)) }
     {
         let mut lists = Vec::with_capacity(alloc, files)?;
         for _file in 0..files {
@@ -38,7 +50,16 @@ impl Sources {
             lists,
             exceptions: None,
             repository: Repository::new(alloc),
+            leaves_out: false,
         })
+    }
+
+    /// Payloads of length 0, for 0.0.0.0/0 or ::/0, are left out from now on: some routers end at them.
+    pub fn leave_out_length_0(&mut self)
+        ensures leaves { self.new.leaves_out ≡ true }
+        ensures rest { (self.new.lists ≡ self.old.lists) × (self.new.exceptions ≡ self.old.exceptions) × (self.new.repository ≡ self.old.repository) }
+    {
+        self.leaves_out = true;
     }
 
     /// How many files there are.
@@ -72,7 +93,7 @@ impl Sources {
     /// more. Where there is no such file, or the bytes give no export, nothing changes.
     pub fn take_export(&mut self, file: usize, bytes: &[u8], now: u64) -> Result<u64, TakeFault>
         ensures lists { TakesExport bytes.now now file result self.old.lists.items self.new.lists.items }
-        ensures rest { (self.new.exceptions ≡ self.old.exceptions) × (self.new.repository ≡ self.old.repository) }
+        ensures rest { (self.new.exceptions ≡ self.old.exceptions) × (self.new.repository ≡ self.old.repository) × (self.new.leaves_out ≡ self.old.leaves_out) }
     {
         if file >= self.lists.len() {
             return Err(TakeFault::NoSuchFile);
@@ -86,7 +107,7 @@ impl Sources {
     /// Takes local exceptions. Where the bytes are none nothing changes.
     pub fn take_slurm(&mut self, bytes: &[u8]) -> Result<(), SlurmFault>
         ensures exceptions { TakesSlurm bytes.now result self.old.exceptions self.new.exceptions }
-        ensures rest { (self.new.lists ≡ self.old.lists) × (self.new.repository ≡ self.old.repository) }
+        ensures rest { (self.new.lists ≡ self.old.lists) × (self.new.repository ≡ self.old.repository) × (self.new.leaves_out ≡ self.old.leaves_out) }
     {
         let slurm = read_slurm(self.alloc, bytes)?;
         self.exceptions = Some(slurm);
@@ -104,34 +125,93 @@ impl Sources {
         ensures judged { IfSome (told_by result) (Judged (accepted_at self.old.repository name.now) manifest.now files.now now) }
         ensures exact { NewExactly result (Acceptable (accepted_at self.old.repository name.now) manifest.now files.now now) }
         ensures held { BecomesAt result name.now self.old.repository self.new.repository manifest.now files.now }
-        ensures rest { (self.new.lists ≡ self.old.lists) × (self.new.exceptions ≡ self.old.exceptions) }
+        ensures rest { (self.new.lists ≡ self.old.lists) × (self.new.exceptions ≡ self.old.exceptions) × (self.new.leaves_out ≡ self.old.leaves_out) }
     {
         self.repository.offer(name, manifest, files, now)
     }
 
     /// The set that is served at a moment: the payloads of the files as they were taken, and those that the publication points have in use,
-    /// with the local exceptions applied. `TooMany` where those payloads together, or what the exceptions make of them, are more than a set
-    /// may have; `Memory` where memory for them runs out. Both leave all as it was.
-    pub fn served(&self, now: Moment) -> Result<VrpSet, SetFault>
-        ensures is { IfOk result (λ t. IsServed self.now.repository self.now.lists.items self.now.exceptions now t) }
-        ensures those { IfOk result (λ t. HasServed self.now.repository self.now.lists.items self.now.exceptions now t) }
+    /// with the local exceptions applied, and without payloads of length 0 if these are left out. `TooMany` where those payloads together, or
+    /// what the exceptions make of them, are more than a set may have; `Memory` where memory for them runs out. Both leave all as it was.
+    pub fn served(&self, now: Moment) -> Result<Served, SetFault>
+        ensures is { IfOk result (λ t. IsServed self.now.repository self.now.lists.items self.now.exceptions self.now.leaves_out now t.set) }
+        ensures those { IfOk result (λ t. HasServed self.now.repository self.now.lists.items self.now.exceptions self.now.leaves_out now t.set) }
+        ensures left_out { IfOk result (λ t. LeavesOut self.now.repository self.now.lists.items self.now.exceptions self.now.leaves_out now t.left_out) }
         ensures too_many { IsErrOf result SetFault.TooMany → PassesLimit self.now.repository self.now.lists.items self.now.exceptions now }
     {
         self.served_at(now)
     }
 
     /// The same by what it is made of.
-    fn served_at(&self, now: Moment) -> Result<VrpSet, SetFault>
-        ensures ok { IfOk result (λ t. IsServed self.now.repository self.now.lists.items self.now.exceptions now t) }
+    fn served_at(&self, now: Moment) -> Result<Served, SetFault>
+        ensures ok { IfOk result (λ t. IsServed self.now.repository self.now.lists.items self.now.exceptions self.now.leaves_out now t.set) }
+        ensures left_out { IfOk result (λ t. LeavesOut self.now.repository self.now.lists.items self.now.exceptions self.now.leaves_out now t.left_out) }
         ensures too_many { IsErrOf result SetFault.TooMany → PassesLimit self.now.repository self.now.lists.items self.now.exceptions now }
     {
         let used = VrpSet::from_list(self.repository.payloads(now)?)?;
-        let all = together(self.alloc, used, self.lists.as_slice())?;
-        match &self.exceptions {
-            None => Ok(all),
-            Some(slurm) => apply(slurm, self.alloc, &all),
-        }
+        let all = all_of(self.alloc, used, self.lists.as_slice())?;
+        let left = excepted(self.alloc, &self.exceptions, all)?;
+        narrowed(self.alloc, self.leaves_out, left)
     }
+}
+
+/// A set, and the payloads of files.
+fn all_of(alloc: Global, used: VrpSet, lists: &[Listed]) -> Result<VrpSet, SetFault>
+    ensures ok { IfOk result (λ t. t ≡ with_lists used lists.now) }
+    ensures too_many { IsErrOf result SetFault.TooMany → 16777215 < size (with_lists used lists.now) }
+{
+    let listed = together(alloc, lists)?;
+    joined(alloc, used, listed)
+}
+
+/// A set with local exceptions, if there are any.
+fn excepted(alloc: Global, exceptions: &Option<Slurm>, all: VrpSet) -> Result<VrpSet, SetFault>
+    ensures ok { IfOk result (λ t. t ≡ excepted_by exceptions.now all) }
+    ensures too_many { IsErrOf result SetFault.TooMany → 16777215 < size (excepted_by exceptions.now all) }
+{
+    match exceptions {
+        None => Ok(all),
+        Some(slurm) => apply(slurm, alloc, &all),
+    }
+}
+
+/// Whether a payload is for 0.0.0.0/0 or ::/0.
+fn has_length_0(vrp: &Vrp) -> bool
+    ensures { result ≡ has_length_0 vrp.now }
+{
+    vrp.prefix().len() == 0
+}
+
+/// The payloads of a set that are left out.
+fn left_out_of(alloc: Global, leaves: bool, set: &VrpSet) -> Result<Vec<Vrp>, AllocError>
+    ensures { IfOk result (λ found. found.items ≡ left_out_of leaves set.now) }
+{
+    if !leaves {
+        return Ok(Vec::new(alloc));
+    }
+    set.as_slice()
+        .iter()
+        .copied()
+        .filter(|vrp| has_length_0(vrp))
+        .collect(alloc)
+}
+
+/// A set without the payloads that are left out.
+fn narrowed(alloc: Global, leaves: bool, set: VrpSet) -> Result<Served, SetFault>
+    ensures ok { IfOk result (λ t. (t.set ≡ narrowed leaves set) × (t.left_out ≡ length (left_out_of leaves set))) }
+    ensures too_many { IsErrOf result SetFault.TooMany → 16777215 < size set }
+{
+    let found = left_out_of(alloc, leaves, &set)?;
+    let left_out = found.as_slice().len() as u64;
+    if left_out == 0 {
+        return Ok(Served { set, left_out });
+    }
+    let change = Change {
+        withdraw: VrpSet::from_list(found)?,
+        announce: VrpSet::empty(alloc),
+    };
+    let set = change.apply(alloc, &set)?;
+    Ok(Served { set, left_out })
 }
 
 /// What is kept of an export, and how many of its entries did not count.
@@ -148,28 +228,33 @@ fn listed_of(read: ExportUntil) -> (Listed, u64)
 }
 
 /// A set, and the members of another.
-fn joined(alloc: Global, set: VrpSet, more: &VrpSet) -> Result<VrpSet, SetFault>
-    ensures ok { IfOk result (λ t. t ≡ union set more.now) }
-    ensures too_many { IsErrOf result SetFault.TooMany → 16777215 < size (union set more.now) }
+fn joined(alloc: Global, set: VrpSet, more: VrpSet) -> Result<VrpSet, SetFault>
+    ensures ok { IfOk result (λ t. t ≡ union set more) }
+    ensures too_many { IsErrOf result SetFault.TooMany → 16777215 < size (union set more) }
 {
     if set.is_empty() {
-        return Ok(more.duplicate()?);
+        return Ok(more);
     }
     let change = Change {
         withdraw: VrpSet::empty(alloc),
-        announce: more.duplicate()?,
+        announce: more,
     };
     change.apply(alloc, &set)
 }
 
-/// A set, and those of files.
-fn together(alloc: Global, set: VrpSet, lists: &[Listed]) -> Result<VrpSet, SetFault>
-    ensures ok { IfOk result (λ t. t ≡ with_lists set lists.now) }
-    ensures too_many { IsErrOf result SetFault.TooMany → 16777215 < size (with_lists set lists.now) }
+/// The payloads of files. Those of each half are put together first, so each is looked at once for each doubling of the number of files.
+fn together(alloc: Global, lists: &[Listed]) -> Result<VrpSet, SetFault>
+    ensures ok { IfOk result (λ t. t ≡ with_lists empty lists.now) }
+    ensures too_many { IsErrOf result SetFault.TooMany → 16777215 < size (with_lists empty lists.now) }
 {
-    let mut all = set;
-    for list in lists {
-        all = joined(alloc, all, &list.set)?;
+    if lists.is_empty() {
+        return Ok(VrpSet::empty(alloc));
     }
-    Ok(all)
+    if lists.len() == 1 {
+        return Ok(lists[0].set.duplicate()?);
+    }
+    let (first, second) = lists.split_at(lists.len() / 2);
+    let one = together(alloc, first)?;
+    let other = together(alloc, second)?;
+    joined(alloc, one, other)
 }
