@@ -155,7 +155,7 @@ same_newest i a b e (now, h) = (
   record {
     version = h.version;
     is = h.is;
-    served = record { at = h.served.at; seconds = h.served.seconds; served = rw (e.lists, e.exceptions, e.repository) h.served.served };
+    served = record { at = h.served.at; seconds = h.served.seconds; served = rw (e.lists, e.exceptions, e.repository, e.leaves_out) h.served.served };
   },
 )
 

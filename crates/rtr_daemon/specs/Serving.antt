@@ -80,6 +80,7 @@ pub record SameSources (old new : Sources) : Type 0 where
   pub lists : new.lists.items ≡ old.lists.items
   pub exceptions : new.exceptions ≡ old.exceptions
   pub repository : new.repository ≡ old.repository
+  pub leaves_out : new.leaves_out ≡ old.leaves_out
 
 -- What a file holds was taken for what the file is, at a moment; or it was refused, and nothing changed.
 abbrev pub TakenAs : Source → List ℕ → ℕ → Result ℕ Refusal → Sources → Sources → Type 0

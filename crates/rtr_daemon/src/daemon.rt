@@ -10,6 +10,7 @@ use crate::ledger::{Families, Ledger};
 use crate::looking::{Offering, offer, take, tell_expired};
 use crate::refusal::{Refusal, StartFault};
 use crate::service::{Issue, Service};
+use crate::serving::FIRST_QUERY;
 use crate::surroundings::{Disk, Journal, Ports, Time};
 use daemon_parts::{Event, Pace, Publication, VersionNames};
 use rtr_server::{Server, Stream};
@@ -20,6 +21,9 @@ use vrps::{Published, Serial, VersionStore};
 
 /// How long a turn waits at most where something is due soon, in milliseconds.
 const SOON: u64 = 1000;
+
+/// How many seconds ahead of the clock an export may say that it was made.
+const AHEAD: u64 = 3600;
 
 /// From where comes what is served.
 #[derive(Debug, Drop)]
@@ -37,8 +41,12 @@ pub struct Paths {
 pub struct Plan {
     /// How often files are looked at, in milliseconds.
     pub check: u64,
-    /// How long a client may take nothing, in milliseconds.
+    /// How long a client may take no byte, in milliseconds.
     pub stall: u64,
+    /// How many clients an address may have at once, or `None`: as many as there may be.
+    pub clients_per_address: Option<u64>,
+    /// Whether records of length 0, for 0.0.0.0/0 or ::/0, are left out.
+    pub leaves_out_length_0: bool,
     /// Up to which age an export is not old, in seconds.
     pub max_age: Option<u64>,
     /// Whether the daemon ends where one is old.
@@ -83,10 +91,14 @@ pub struct Daemon<S, T> {
     pub(crate) has_parted: bool,
     /// Whether an export is older than it may be.
     pub(crate) is_old: bool,
+    /// How many seconds the clock is behind: it was set back by so much since the start, as was reported.
+    pub(crate) clock_behind: u64,
     /// When files are to be looked at next, in milliseconds of the steady clock.
     next_check: u64,
     /// When something else is to be done next: clients that cannot be written to are looked at, or what is owed is published.
     next_round: u64,
+    /// Before when nothing is published, as publication failed.
+    held_until: u64,
 }
 
 impl<S: VersionStore + Drop, T: Stream + Drop> Daemon<S, T> {
@@ -109,7 +121,7 @@ impl<S: VersionStore + Drop, T: Stream + Drop> Daemon<S, T> {
             slurm,
             points,
         } = sources;
-        let held = Sources::new(alloc, files.len())?;
+        let held = sources_of(alloc, files.len(), plan.leaves_out_length_0)?;
         let mut service = Service::new(server, held);
         let mut followed = all_followed(alloc, files, slurm)?;
         let mut offered = all_offered(alloc, points)?;
@@ -133,8 +145,10 @@ impl<S: VersionStore + Drop, T: Stream + Drop> Daemon<S, T> {
             is_ready: false,
             has_parted: false,
             is_old: false,
+            clock_behind: 0,
             next_check: millis.saturating_add(plan.check),
             next_round: millis,
+            held_until: millis,
         };
         daemon.judge_ages(world);
         Ok(daemon)
@@ -158,14 +172,25 @@ impl<S: VersionStore + Drop, T: Stream + Drop> Daemon<S, T> {
 
     /// How long the next turn may wait, in milliseconds.
     fn wait(&self, now: u64) -> u64 {
-        if !self.guests.is_idle() || (self.is_ready && self.gates.has_waiting()) {
+        if !self.guests.is_idle() {
             return 0;
         }
-        let left = self.next_check.saturating_sub(now);
-        if self.service.is_owed() || self.guests.has_blocked() {
-            return left.min(self.next_round.saturating_sub(now));
+        self.next_moment(now).saturating_sub(now)
+    }
+
+    /// When something is due next, in milliseconds of the steady clock.
+    fn next_moment(&self, now: u64) -> u64 {
+        let mut next = self.next_check;
+        if self.guests.has_blocked() || (self.service.is_owed() && self.held_until <= now) {
+            next = next.min(self.next_round);
         }
-        left
+        if let Some(deadline) = self.guests.first_deadline(FIRST_QUERY) {
+            next = next.min(deadline);
+        }
+        match self.gates.next_try() {
+            Some(next_try) if self.is_ready => next.min(next_try),
+            _ => next,
+        }
     }
 
     /// Does what is due by the clock.
@@ -175,6 +200,7 @@ impl<S: VersionStore + Drop, T: Stream + Drop> Daemon<S, T> {
         let now = world.millis();
         self.check(now, world);
         self.go_round(now, world);
+        self.drop_silent(now, world);
     }
 
     /// Looks at the files, where it is time for that.
@@ -186,7 +212,8 @@ impl<S: VersionStore + Drop, T: Stream + Drop> Daemon<S, T> {
         }
         self.next_check = now.saturating_add(self.plan.check);
         self.next_round = now;
-        self.gates.clear_full();
+        self.held_until = now;
+        self.judge_clock(now, world);
         self.follow_all(world);
         self.offer_all(world);
         self.judge_ages(world);
@@ -200,6 +227,7 @@ impl<S: VersionStore + Drop, T: Stream + Drop> Daemon<S, T> {
             return;
         }
         self.next_round = now.saturating_add(SOON);
+        self.guests.wake_blocked();
         self.drop_stalled(world);
         self.publish_owed(world);
     }
@@ -220,7 +248,7 @@ impl<S: VersionStore + Drop, T: Stream + Drop> Daemon<S, T> {
             return;
         }
         let began = world.millis();
-        if !self.pace.may_publish(self.paced(began)) {
+        if began < self.held_until || !self.pace.may_publish(self.paced(began)) {
             return;
         }
         match self.service.publish(now) {
@@ -233,6 +261,7 @@ impl<S: VersionStore + Drop, T: Stream + Drop> Daemon<S, T> {
     fn note_issue<W: Time + Journal>(&mut self, issue: Issue, now: u64, began: u64, world: &mut W)
         ensures { self.new.service ≡ self.old.service }
     {
+        self.note_left_out(issue.left_out, now, world);
         let Published::New(serial) = issue.published else {
             return;
         };
@@ -258,6 +287,15 @@ impl<S: VersionStore + Drop, T: Stream + Drop> Daemon<S, T> {
         }
     }
 
+    /// Reports how many records are left out, if they are not as many as before.
+    fn note_left_out<W: Journal>(&mut self, records: u64, now: u64, world: &mut W)
+        ensures { self.new.service ≡ self.old.service }
+    {
+        if self.ledger.leave_out(records) {
+            world.tell(now, &Event::LeftOut { records });
+        }
+    }
+
     /// Notes what was published for those who ask.
     fn note_version(&mut self, serial: Serial, issue: Issue, now: u64)
         ensures { self.new.service ≡ self.old.service }
@@ -272,7 +310,7 @@ impl<S: VersionStore + Drop, T: Stream + Drop> Daemon<S, T> {
     fn note_failure<W: Journal>(&mut self, refusal: &Refusal, now: u64, world: &mut W)
         ensures { self.new.service ≡ self.old.service }
     {
-        self.next_round = self.next_check;
+        self.held_until = self.next_check;
         if let Ok(reason) = refusal.to_string(self.alloc) {
             world.tell(
                 now,
@@ -281,6 +319,21 @@ impl<S: VersionStore + Drop, T: Stream + Drop> Daemon<S, T> {
                     reason: reason.as_str(),
                 },
             );
+        }
+    }
+
+    /// Reports that the clock was set back, by more than before.
+    fn judge_clock<W: Time + Journal>(&mut self, millis: u64, world: &mut W)
+        ensures { self.new.service ≡ self.old.service }
+    {
+        let now = world.seconds();
+        let behind = self.paced(millis).saturating_sub(now);
+        let is_news = behind > self.clock_behind.saturating_add(1);
+        if is_news {
+            world.tell(now, &Event::Clock { behind });
+        }
+        if is_news || behind < self.clock_behind {
+            self.clock_behind = behind;
         }
     }
 
@@ -324,7 +377,7 @@ fn is_any_old<W: Journal>(
 ) -> bool {
     let mut is_old = false;
     for file in files.iter_mut() {
-        if let Some(built) = built_of(file.source, sources) {
+        if let Some(built) = built_of(file, sources, now) {
             let age = now.saturating_sub(built);
             if file.set_old(age > most) {
                 tell_age(file.path.as_str(), age, most, now, world);
@@ -335,11 +388,14 @@ fn is_any_old<W: Journal>(
     is_old
 }
 
-/// When what a file has was made, where it says so.
-fn built_of(source: Source, sources: &Sources) -> Option<u64> {
-    match source {
-        Source::Export(number) => sources.built(number),
-        Source::Slurm => None,
+/// When what an export has was made: as it says itself, unless it says none or one that is too far ahead, and then when the file was modified.
+pub(crate) fn built_of(file: &Followed, sources: &Sources, now: u64) -> Option<u64> {
+    let Source::Export(number) = file.source else {
+        return None;
+    };
+    match sources.built(number) {
+        Some(built) if built <= now.saturating_add(AHEAD) => Some(built),
+        _ => file.modified(),
     }
 }
 
@@ -350,6 +406,15 @@ fn tell_age<W: Journal>(file: &str, age: u64, most: u64, now: u64, world: &mut W
     } else {
         world.tell(now, &Event::Fresh { file, age });
     }
+}
+
+/// Sources of so many files, of which nothing was taken yet.
+fn sources_of(alloc: Global, files: usize, leaves_out: bool) -> Result<Sources, AllocError> {
+    let mut sources = Sources::new(alloc, files)?;
+    if leaves_out {
+        sources.leave_out_length_0();
+    }
+    Ok(sources)
 }
 
 /// The files that are followed: exports, and then local exceptions, if there are any.

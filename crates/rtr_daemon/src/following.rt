@@ -96,6 +96,19 @@ impl Followed {
         self.refusals.clear()
     }
 
+    /// When it was modified, as it looked when it was taken last, in seconds since 1970.
+    pub(crate) fn modified(&self) -> Option<u64> {
+        match self.taken {
+            Some(stamp) => u64::try_from(stamp.modified.0).ok(),
+            None => None,
+        }
+    }
+
+    /// Whether it was taken after a moment in seconds since 1970: the clock was set back since.
+    pub(crate) fn is_taken_after(&self, now: u64) -> bool {
+        self.taken_at.is_some_and(|at| now < at)
+    }
+
     /// Notes whether what it has is old, and answers whether that is news.
     pub(crate) fn set_old(&mut self, is_old: bool) -> bool {
         let is_news = self.is_old != is_old;

@@ -3,7 +3,7 @@ use rtr_server::{Carried, Client, Turn};
 use std::alloc::{AllocError, Global};
 use std::collections::btree_map::Values;
 use std::collections::{BTreeMap, VecDeque};
-use std::net::SocketAddr;
+use std::net::{IpAddr, SocketAddr};
 
 /// A client: its number at the server, where it comes from, and since when it cannot be written to.
 #[derive(Debug, Drop)]
@@ -26,6 +26,10 @@ pub(crate) struct Guests {
     queue: VecDeque<usize>,
     /// How many cannot be written to.
     blocked: usize,
+    /// The lines of those of which it is not known yet that they asked, and when they came, in their order. Some of them may have gone.
+    newcomers: VecDeque<(usize, u64)>,
+    /// How many there are of each address.
+    by_address: BTreeMap<IpAddr, u64>,
 }
 
 impl Guests {
@@ -34,6 +38,8 @@ impl Guests {
             by_line: BTreeMap::new(alloc),
             queue: VecDeque::new(alloc),
             blocked: 0,
+            newcomers: VecDeque::new(alloc),
+            by_address: BTreeMap::new(alloc),
         }
     }
 
@@ -56,6 +62,8 @@ impl Guests {
         now: u64,
     ) -> Result<(), AllocError> {
         self.queue.reserve(self.by_line.len().saturating_add(1))?;
+        self.newcomers.reserve(1)?;
+        self.count(address)?;
         let guest = Guest {
             client,
             address,
@@ -68,10 +76,56 @@ impl Guests {
             is_queued: false,
         };
         if self.by_line.insert(line, guest).is_err() {
+            self.discount(address);
             return Err(AllocError);
         }
+        let _ = self.newcomers.push_back((line, now));
         self.wake(line);
         Ok(())
+    }
+
+    /// How many there are of an address. An IPv4 address is the same in an IPv6 socket (RFC 4291 section 2.5.5.2).
+    pub(crate) fn of_address(&self, address: SocketAddr) -> u64 {
+        match self.by_address.get(&address.ip().to_canonical()) {
+            Some(count) => *count,
+            None => 0,
+        }
+    }
+
+    /// Counts one more of an address.
+    fn count(&mut self, address: SocketAddr) -> Result<(), AllocError> {
+        let count = self.of_address(address).saturating_add(1);
+        match self.by_address.insert(address.ip().to_canonical(), count) {
+            Ok(_) => Ok(()),
+            Err(_) => Err(AllocError),
+        }
+    }
+
+    /// Counts one less of an address.
+    fn discount(&mut self, address: SocketAddr) {
+        let key = address.ip().to_canonical();
+        let count = self.of_address(address).saturating_sub(1);
+        if count == 0 {
+            let _ = self.by_address.remove(&key);
+        } else if let Some(it) = self.by_address.get_mut(&key) {
+            *it = count;
+        }
+    }
+
+    /// When the first of those of which it is not known yet that they asked has been there for so long.
+    pub(crate) fn first_deadline(&self, patience: u64) -> Option<u64> {
+        let (_line, came) = self.newcomers.front()?;
+        Some(came.saturating_add(patience))
+    }
+
+    /// The line of one that came so long ago, of which it was not known that it asked. It may have gone.
+    pub(crate) fn next_overdue(&mut self, now: u64, patience: u64) -> Option<usize> {
+        let deadline = self.first_deadline(patience)?;
+        if now < deadline {
+            return None;
+        }
+        let (line, _came) = self.newcomers.pop_front()?;
+        Some(line)
     }
 
     /// Has the client of a line served.
@@ -87,6 +141,15 @@ impl Guests {
     pub(crate) fn wake_all(&mut self) {
         for (line, guest) in self.by_line.iter_mut() {
             if !guest.is_queued {
+                guest.is_queued = self.queue.push_back(*line).is_ok();
+            }
+        }
+    }
+
+    /// Has those served that cannot be written to.
+    pub(crate) fn wake_blocked(&mut self) {
+        for (line, guest) in self.by_line.iter_mut() {
+            if guest.blocked.is_some() && !guest.is_queued {
                 guest.is_queued = self.queue.push_back(*line).is_ok();
             }
         }
@@ -133,6 +196,7 @@ impl Guests {
         if guest.blocked.is_some() {
             self.blocked = self.blocked.saturating_sub(1);
         }
+        self.discount(guest.address);
         Some(guest)
     }
 
@@ -141,7 +205,7 @@ impl Guests {
         self.blocked > 0
     }
 
-    /// The lines of the clients to which nothing could be written for so long.
+    /// The lines of the clients that took no byte for so long.
     pub(crate) fn stalled(
         &self,
         alloc: Global,

@@ -65,6 +65,8 @@ pub(crate) struct Ledger {
     pub(crate) clients: u64,
     /// What went over the connections of clients that have gone.
     pub(crate) gone: BothWays,
+    /// How many records of length 0 are left out.
+    pub(crate) left_out: u64,
     /// How many times a file was taken.
     pub(crate) taken: u64,
     /// How many times a refusal of a file was reported.
@@ -80,6 +82,7 @@ impl Ledger {
             families: Families { ipv4: 0, ipv6: 0 },
             clients: 0,
             gone: BothWays::none(),
+            left_out: 0,
             taken: 0,
             refused: 0,
             took: None,
@@ -89,6 +92,13 @@ impl Ledger {
     /// A client was taken in.
     pub(crate) fn came(&mut self) {
         self.clients = self.clients.saturating_add(1);
+    }
+
+    /// So many records are left out. It answers whether that is news.
+    pub(crate) fn leave_out(&mut self, records: u64) -> bool {
+        let is_news = self.left_out != records;
+        self.left_out = records;
+        is_news
     }
 
     /// A file was taken within so many milliseconds.

@@ -135,9 +135,10 @@ fn follow<S: VersionStore, T: Stream + Drop, W: Disk>(
     ensures server { service.new.server ≡ service.old.server }
     ensures follows { Follows file.old.source now service.old.sources service.new.sources }
 {
-    let anew = has_expired(service, file.source, now);
+    let anew = has_expired(service, file.source, now) || file.is_taken_after(now);
     match file.look(world, anew) {
-        Look::Same | Look::Unstable => News::Nothing,
+        Look::Same => News::Nothing,
+        Look::Unstable => news_if(file.refusals.add(None, Refusal::Changing)),
         Look::RefusedBefore => news_if(file.refusals.mark_reported()),
         Look::Failed(error) => news_if(file.refusals.add(None, Refusal::Device(error))),
         Look::Read(stamp, bytes) => {
@@ -167,7 +168,13 @@ impl<S: VersionStore, T: Stream + Drop> Daemon<S, T> {
         ensures goes { GoesOn S.holds T.remaining T.contents self.old.service self.new.service }
         ensures server { self.new.service.server ≡ self.old.service.server }
     {
-        offer_each(&mut self.points, &mut self.service, self.alloc, world);
+        offer_each(
+            &mut self.points,
+            &mut self.service,
+            &mut self.ledger,
+            self.alloc,
+            world,
+        );
     }
 }
 
@@ -195,6 +202,7 @@ fn follow_each<S: VersionStore, T: Stream + Drop, W: Disk + Time + Journal>(
 fn offer_each<S: VersionStore, T: Stream + Drop, W: Disk + Time + Journal>(
     points: &mut Vec<Offering>,
     service: &mut Service<S, T>,
+    ledger: &mut Ledger,
     alloc: Global,
     world: &mut W,
 )
@@ -204,7 +212,7 @@ fn offer_each<S: VersionStore, T: Stream + Drop, W: Disk + Time + Journal>(
     for point in points.iter_mut() {
         let now = world.seconds();
         let offered = offer(service, point.path.as_str(), alloc, now, world);
-        note_offer(alloc, point, offered, now, world);
+        note_offer(alloc, point, offered, now, ledger, world);
     }
 }
 
@@ -214,6 +222,7 @@ fn note_offer<W: Journal>(
     point: &mut Offering,
     offered: Result<Offered, Refusal>,
     now: u64,
+    ledger: &mut Ledger,
     world: &mut W,
 ) {
     match offered {
@@ -229,6 +238,7 @@ fn note_offer<W: Journal>(
         }
         Err(refusal) => {
             if point.refusals.add(None, refusal) {
+                ledger.refused();
                 tell_point(alloc, point, now, world);
             }
         }

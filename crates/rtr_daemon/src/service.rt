@@ -11,7 +11,7 @@ use payload_commands::Directory;
 use points::{Offered, PointFault};
 use rtr_server::{AdmitFault, Client, Server, Stream, Turn};
 use slurm::SlurmFault;
-use sources::{Sources, TakeFault};
+use sources::{Served, Sources, TakeFault};
 use std::alloc::Global;
 use vrps::{Published, SetFault, VersionStore, VrpSet};
 
@@ -151,15 +151,15 @@ impl<S: VersionStore, T: Stream + Drop> Service<S, T> {
         }
     }
 
-    /// The set that the sources have at a moment in seconds since 1970.
-    fn served(&self, now: u64) -> Result<VrpSet, Refusal>
-        ensures { IfOk result (λ set. IsServedAt now self.now.sources set) }
+    /// What the sources have at a moment in seconds since 1970.
+    fn served(&self, now: u64) -> Result<Served, Refusal>
+        ensures { IfOk result (λ served. IsServedAt now self.now.sources served.set) }
     {
         let Some(moment) = moment_at(now) else {
             return Err(Refusal::Clock);
         };
         match self.sources.served(moment) {
-            Ok(set) => Ok(set),
+            Ok(served) => Ok(served),
             Err(fault) => Err(Refusal::Set(fault)),
         }
     }
@@ -173,7 +173,7 @@ impl<S: VersionStore, T: Stream + Drop> Service<S, T> {
         ensures kept { IfErr result (λ _. (p : Past) → ShowsServer S.holds T.remaining T.contents p self.old.server → ShowsServer S.holds T.remaining T.contents p self.new.server) }
         ensures sources { self.new.sources ≡ self.old.sources }
     {
-        let set = self.served(now)?;
+        let Served { set, left_out } = self.served(now)?;
         let counts = compared(self.set(), &set);
         let records = set.len() as u64;
         match self.server.publish(set) {
@@ -185,6 +185,7 @@ impl<S: VersionStore, T: Stream + Drop> Service<S, T> {
                     announced: counts.announced,
                     withdrawn: counts.withdrawn,
                     records,
+                    left_out,
                 })
             }
         }
@@ -210,4 +211,6 @@ pub struct Issue {
     pub withdrawn: u64,
     /// How many records it has.
     pub records: u64,
+    /// How many records of length 0 are not in it, as they are left out.
+    pub left_out: u64,
 }

@@ -6,7 +6,7 @@ use crate::daemon::Daemon;
 use crate::surroundings::{Journal, Ports, Ready, Time};
 use crate::telling::with_seen;
 use daemon_parts::{Departure, Event};
-use rtr_pdu::Version;
+use rtr_pdu::{Kind, Version};
 use rtr_server::{Carried, Client, Gone, Pdus, Stream, Turn};
 use vrps::VersionStore;
 
@@ -15,6 +15,9 @@ const BUDGET: u32 = 8;
 
 /// How many things that are ready are looked at in one turn.
 const READY: usize = 65_536;
+
+/// How long a client may be there without a query, in milliseconds.
+pub(crate) const FIRST_QUERY: u64 = 60_000;
 
 /// What is known of a client: how many bytes and PDUs went, and the version in which it speaks.
 #[derive(Clone, Copy)]
@@ -109,7 +112,7 @@ impl<S: VersionStore, T: Stream + Drop> Daemon<S, T> {
             return;
         };
         let carried = seen.carried.unwrap_or(guest.carried);
-        self.gates.clear_full();
+        self.gates.end_rests();
         self.has_parted = true;
         self.ledger.gone = with_seen(self.ledger.gone, &seen);
         let stayed = world.millis().saturating_sub(guest.came) / 1000;
@@ -127,7 +130,37 @@ impl<S: VersionStore, T: Stream + Drop> Daemon<S, T> {
         );
     }
 
-    /// Drops the clients to which nothing could be written for too long.
+    /// Drops the clients that have sent no whole query within their time.
+    pub(crate) fn drop_silent<W: Time + Journal>(&mut self, now: u64, world: &mut W)
+        ensures { GoesOn S.holds T.remaining T.contents self.old.service self.new.service }
+    {
+        for _client in 0..u64::MAX {
+            match self.guests.next_overdue(now, FIRST_QUERY) {
+                None => return,
+                Some(line) => self.drop_if_silent(line, world),
+            }
+        }
+    }
+
+    fn drop_if_silent<W: Time + Journal>(&mut self, line: usize, world: &mut W)
+        ensures { GoesOn S.holds T.remaining T.contents self.old.service self.new.service }
+    {
+        if let Some((client, _address)) = self.guests.at(line) {
+            if !self.has_asked(client) {
+                self.drop_line(line, "no-query", world);
+            }
+        }
+    }
+
+    /// Whether a client has sent a whole query.
+    fn has_asked(&self, client: Client) -> bool {
+        match self.service.server().received(client) {
+            Some(pdus) => 0 < pdus.of(Kind::SerialQuery) || 0 < pdus.of(Kind::ResetQuery),
+            None => false,
+        }
+    }
+
+    /// Drops the clients that took no byte for too long.
     pub(crate) fn drop_stalled<W: Time + Journal>(&mut self, world: &mut W)
         ensures { GoesOn S.holds T.remaining T.contents self.old.service self.new.service }
     {
@@ -136,21 +169,30 @@ impl<S: VersionStore, T: Stream + Drop> Daemon<S, T> {
             return;
         };
         for line in lines {
-            self.drop_line(line, world);
+            self.drop_stalled_line(line, world);
         }
     }
 
-    fn drop_line<W: Time + Journal>(&mut self, line: usize, world: &mut W)
+    fn drop_stalled_line<W: Time + Journal>(&mut self, line: usize, world: &mut W)
         ensures { GoesOn S.holds T.remaining T.contents self.old.service self.new.service }
     {
-        let Some((client, address)) = self.guests.at(line) else {
+        if let Some((_client, address)) = self.guests.at(line) {
+            let now = world.seconds();
+            world.tell(now, &Event::Stalled { address });
+        }
+        self.drop_line(line, "stalled", world);
+    }
+
+    /// Drops the client of a line, for this reason.
+    fn drop_line<W: Time + Journal>(&mut self, line: usize, why: &str, world: &mut W)
+        ensures { GoesOn S.holds T.remaining T.contents self.old.service self.new.service }
+    {
+        let Some((client, _address)) = self.guests.at(line) else {
             return;
         };
         let seen = self.seen(client);
         self.service.drop_client(client);
-        let now = world.seconds();
-        world.tell(now, &Event::Stalled { address });
-        self.part(line, "stalled", seen, world);
+        self.part(line, why, seen, world);
     }
 }
 

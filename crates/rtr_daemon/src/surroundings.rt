@@ -29,8 +29,10 @@ pub enum Accepted<L> {
     Waits,
     /// One that was given up before it was taken; another may wait.
     Again,
-    /// One may wait, and cannot be taken now, for want of descriptors or memory at the system.
+    /// One may wait, and cannot be taken now, as the system has no descriptor or no memory left.
     NoRoom,
+    /// One may wait, and cannot be taken now, for another reason.
+    Failed(io::Error),
 }
 
 /// The sockets, whose connections are such streams.

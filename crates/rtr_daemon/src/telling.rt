@@ -1,6 +1,6 @@
 //! What a daemon reports of itself.
-use crate::daemon::Daemon;
-use crate::following::{Followed, Source};
+use crate::daemon::{Daemon, built_of};
+use crate::following::Followed;
 use crate::guests::Guest;
 use crate::ledger::{BothWays, total};
 use crate::looking::Offering;
@@ -25,13 +25,15 @@ impl<S: VersionStore, T: Stream + Drop> Daemon<S, T> {
             version,
             now,
             started: self.started,
+            clock_behind: self.clock_behind,
             session: self.names.session,
             session0: self.names.session0,
             serial: self.serial(),
             ipv4: self.ledger.families.ipv4,
             ipv6: self.ledger.families.ipv6,
+            left_out: self.ledger.left_out,
             changes: self.ledger.changes(self.alloc)?,
-            files: self.file_statuses()?,
+            files: self.file_statuses(now)?,
             clients: self.client_statuses(now, millis)?,
             client_limit: self.plan.clients as u64,
             clients_ever: self.ledger.clients,
@@ -61,10 +63,10 @@ impl<S: VersionStore, T: Stream + Drop> Daemon<S, T> {
     }
 
     /// Of all files and publication points.
-    fn file_statuses(&self) -> Result<Vec<FileStatus>, AllocError> {
+    fn file_statuses(&self, now: u64) -> Result<Vec<FileStatus>, AllocError> {
         let mut found = Vec::new(self.alloc);
         for file in self.files.iter() {
-            found.push(self.file_status(file)?)?;
+            found.push(self.file_status(file, now)?)?;
         }
         for point in self.points.iter() {
             found.push(point_status(self.alloc, point)?)?;
@@ -72,13 +74,10 @@ impl<S: VersionStore, T: Stream + Drop> Daemon<S, T> {
         Ok(found)
     }
 
-    fn file_status(&self, file: &Followed) -> Result<FileStatus, AllocError> {
+    fn file_status(&self, file: &Followed, now: u64) -> Result<FileStatus, AllocError> {
         Ok(FileStatus {
             path: file.path.clone()?,
-            built: match file.source {
-                Source::Export(number) => self.service.sources().built(number),
-                Source::Slurm => None,
-            },
+            built: built_of(file, self.service.sources(), now),
             taken: file.taken_at,
             refusal: refusal_text(self.alloc, file.refusals.reported())?,
             is_old: file.is_old,

@@ -1,5 +1,5 @@
 use Rattle.rtr_daemon.proofs.ServiceLaws.{then_on}
-use Rattle.rtr_daemon.proofs.daemon.Daemon.admit.Goals as goal
+use Rattle.rtr_daemon.proofs.daemon.Daemon.admit_within.Goals as goal
 
 pub returns-then-is_err : goal.returns-then-is_err
 returns-then-is_err g c =

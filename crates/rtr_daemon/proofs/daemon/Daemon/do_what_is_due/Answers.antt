@@ -3,4 +3,6 @@ use Rattle.rtr_daemon.proofs.daemon.Daemon.do_what_is_due.Goals as goal
 
 pub returns : goal.returns
 returns g c =
-    then_on g.S.VersionStore.holds g.T.Stream.remaining g.T.Stream.contents c.args.self.now.service c.check.new.self.service c.go_round.new.self.service c.check.ensures c.go_round.ensures
+    then_on g.S.VersionStore.holds g.T.Stream.remaining g.T.Stream.contents c.args.self.now.service c.go_round.new.self.service c.drop_silent.new.self.service
+    (then_on g.S.VersionStore.holds g.T.Stream.remaining g.T.Stream.contents c.args.self.now.service c.check.new.self.service c.go_round.new.self.service c.check.ensures c.go_round.ensures)
+    c.drop_silent.ensures

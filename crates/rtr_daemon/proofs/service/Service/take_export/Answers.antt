@@ -5,4 +5,4 @@ use Rattle.rtr_daemon.proofs.service.Service.take_export.Goals as goal
 pub returns-in_err-expired-clause-goes : goal.returns-in_err-expired-clause-goes
 returns-in_err-expired-clause-goes g c =
     same_on g.S.VersionStore.holds g.T.Stream.remaining g.T.Stream.contents c.args.self.now (record c.args.self.now { sources = c.take_export.new.self }) refl refl
-    (record { lists = c.in_err-expired.ensures.lists.1; exceptions = c.in_err-expired.ensures.rest.0; repository = c.in_err-expired.ensures.rest.1 })
+    (record { lists = c.in_err-expired.ensures.lists.1; exceptions = c.in_err-expired.ensures.rest.0; repository = c.in_err-expired.ensures.rest.1; leaves_out = c.in_err-expired.ensures.rest.2 })
