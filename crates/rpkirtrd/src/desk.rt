@@ -2,6 +2,7 @@
 use crate::host::{Call, Host};
 use crate::line::{Line, is_bounded};
 use crate::shelf::Shelf;
+use bytes::Bytes;
 use daemon_words::VERSION;
 use mio::net::{TcpListener, TcpStream};
 use prefixes::Route;
@@ -12,7 +13,7 @@ use std::alloc::{AllocError, Global};
 use std::collections::VecDeque;
 use std::fmt::{self, Debug};
 use std::hash::RandomState;
-use std::io::Write;
+use std::io::{ErrorKind, Write};
 use std::mem;
 use std::net::SocketAddr;
 use std::rt::Files;
@@ -74,11 +75,11 @@ impl Told for Teller<'_> {
         self.daemon.status(VERSION, self.now, self.millis)
     }
 
-    fn list(&mut self) -> Result<bytes::Bytes, AllocError> {
+    fn list(&mut self) -> Result<Option<Bytes>, AllocError> {
         self.shelf.list(self.daemon.server().current())
     }
 
-    fn validity(&mut self, route: &Route) -> Result<Validity, AllocError> {
+    fn validity(&mut self, route: &Route) -> Result<Option<Validity>, AllocError> {
         self.shelf.validity(self.daemon.server().current(), route)
     }
 }
@@ -144,7 +145,7 @@ impl Desk {
         }
     }
 
-    /// Takes connections, as long as some wait.
+    /// Takes connections, as long as some wait. Where one cannot be taken it is tried again within a second.
     fn accept<R: Clock + AllocGlobal, E: Write>(&mut self, host: &mut Host<'_, R, E>) {
         for _connection in 0..AT_ONCE {
             if !self.waits {
@@ -152,7 +153,8 @@ impl Desk {
             }
             match self.listener.accept() {
                 Ok((stream, _address)) => self.take_in(stream, host),
-                Err(_) => self.waits = false,
+                Err(e) if e.kind() == ErrorKind::WouldBlock => self.waits = false,
+                Err(_) => return,
             }
         }
     }

@@ -1,7 +1,6 @@
 //! What the daemon sees of the system: sockets over `mio`, files, clocks, and standard error.
 use crate::line::Line;
 use crate::running::refuse_sockets;
-use command_parts::read_file;
 use daemon_parts::{Event, LogForm, write_event};
 use mio::net::{TcpListener, TcpStream};
 use mio::{Events, Interest, Poll, Token};
@@ -10,8 +9,8 @@ use rtr_daemon::{Accepted, Disk, Journal, Ports, Ready, Stamp, StartFault, Time}
 use std::alloc::Global;
 use std::collections::VecDeque;
 use std::fmt::{self, Debug};
-use std::fs;
-use std::io::{self, ErrorKind, Write};
+use std::fs::{self, Metadata, OpenFile};
+use std::io::{self, ErrorKind, Read, Write};
 use std::net::{Net, SocketAddr};
 use std::os::unix::fs::MetadataExt;
 use std::rt::Files;
@@ -32,6 +31,9 @@ const DESK: usize = 65_535;
 /// The number of the first visitor, behind all lines.
 const FIRST_VISITOR: usize = 4_611_686_018_427_387_904;
 
+/// The errors of `accept` that say that the system, or this process, has no descriptor or no memory left: ENOMEM, ENFILE, EMFILE, ENOBUFS.
+const SHORTAGES: [i32; 4] = [12, 23, 24, 105];
+
 /// What may be ready for the pages on the daemon's state.
 #[derive(Clone, Copy, Debug, PartialEq, Eq)]
 pub enum Call {
@@ -47,6 +49,7 @@ pub struct Host<'a, R, E> {
     rt: &'a R,
     err: &'a mut E,
     form: LogForm,
+    max_size: u64,
     poll: Poll,
     events: Events,
     ready: VecDeque<Ready>,
@@ -93,11 +96,12 @@ impl From<io::Error> for HostFault {
 }
 
 impl<'a, R: Files + Net + Clock + AllocGlobal, E: Write> Host<'a, R, E> {
-    /// The system, with a gate at each of these addresses.
+    /// The system, with a gate at each of these addresses. No file is read that has more bytes than `max_size`.
     pub fn open(
         rt: &'a R,
         err: &'a mut E,
         form: LogForm,
+        max_size: u64,
         addresses: &[SocketAddr],
     ) -> Result<Host<'a, R, E>, HostFault> {
         let poll = Poll::new(rt)?;
@@ -105,6 +109,7 @@ impl<'a, R: Files + Net + Clock + AllocGlobal, E: Write> Host<'a, R, E> {
             rt,
             err,
             form,
+            max_size,
             poll,
             events: Events::with_capacity(rt.alloc(), EVENTS).map_err(io::Error::from)?,
             ready: VecDeque::with_capacity(rt.alloc(), EVENTS).map_err(io::Error::from)?,
@@ -134,12 +139,31 @@ impl<'a, R: Files + Net + Clock + AllocGlobal, E: Write> Host<'a, R, E> {
         refuse_sockets(fault, self.err)
     }
 
-    /// Reports on standard error why the daemon does not start.
+    /// Reports on standard error why the daemon does not start. A path is in quotes if a character of it would break the line.
     pub fn refuse(&mut self, fault: &StartFault) {
+        if self.form == LogForm::Json {
+            return self.tell_refusal(fault);
+        }
         let _ = match &fault.path {
+            Some(path) if path.chars().any(char::is_control) => {
+                writeln!(self.err, "rpkirtrd: {path:?}: {}", fault.refusal)
+            }
             Some(path) => writeln!(self.err, "rpkirtrd: {path}: {}", fault.refusal),
             None => writeln!(self.err, "rpkirtrd: {}", fault.refusal),
         };
+    }
+
+    /// The same as a line of the log.
+    fn tell_refusal(&mut self, fault: &StartFault) {
+        let now = self.seconds();
+        let Ok(reason) = fault.refusal.to_string(self.rt.alloc()) else {
+            return self.tell(now, &Event::Memory { what: "the start" });
+        };
+        let reason = reason.as_str();
+        match &fault.path {
+            Some(file) => self.tell(now, &Event::Refused { file, reason }),
+            None => self.tell(now, &Event::Stopped { reason }),
+        }
     }
 
     /// Opens a gate, and reports where it is.
@@ -215,11 +239,16 @@ impl<'a, R: Files + AllocGlobal + Clone + Drop, E: Write> Disk for Host<'a, R, E
         })
     }
 
+    /// What is no regular file is not opened, as to open a pipe may wait.
     fn read(&mut self, path: &str) -> io::Result<Vec<u8>> {
-        if !fs::metadata(self.rt, path)?.is_file() {
-            return Err(io::Error::from(ErrorKind::InvalidInput));
-        }
-        read_file(self.rt, path)
+        judge_file(&fs::metadata(self.rt, path)?, self.max_size)?;
+        let opened = fs::open(self.rt, path)?;
+        judge_file(&opened.metadata()?, self.max_size)?;
+        let mut bytes = Vec::new(self.rt.alloc());
+        let mut part = opened.take(self.max_size.saturating_add(1));
+        part.read_to_end(&mut bytes)?;
+        judge_size(bytes.len() as u64, self.max_size)?;
+        Ok(bytes)
     }
 
     fn directory<'b>(&mut self, path: &'b str) -> io::Result<Directory<'b>> {
@@ -262,7 +291,8 @@ impl<'a, R: AllocGlobal, E: Write> Ports<Line> for Host<'a, R, E> {
             Ok((stream, address)) => self.take_in(stream, address),
             Err(e) if e.kind() == ErrorKind::WouldBlock => Accepted::Waits,
             Err(e) if is_of_one(e.kind()) => Accepted::Again,
-            Err(_) => Accepted::NoRoom,
+            Err(e) if is_shortage(&e) => Accepted::NoRoom,
+            Err(e) => Accepted::Failed(e),
         }
     }
 }
@@ -309,15 +339,47 @@ impl<'a, R, E> Host<'a, R, E> {
         Accepted::Line {
             line,
             number,
-            address,
+            address: SocketAddr::new(address.ip().to_canonical(), address.port()),
         }
     }
 }
 
-/// Whether it is the connection that failed, and not what takes it.
+/// Whether it is the connection that failed, and not what takes it: so accept(2) has it of errors of the network.
 fn is_of_one(kind: ErrorKind) -> bool {
     matches!(
         kind,
-        ErrorKind::ConnectionAborted | ErrorKind::Interrupted | ErrorKind::ConnectionReset
+        ErrorKind::ConnectionAborted
+            | ErrorKind::Interrupted
+            | ErrorKind::ConnectionReset
+            | ErrorKind::NetworkDown
+            | ErrorKind::NetworkUnreachable
+            | ErrorKind::HostUnreachable
     )
+}
+
+/// Whether descriptors or memory ran out.
+fn is_shortage(error: &io::Error) -> bool {
+    match error.raw_os_error() {
+        Some(code) => SHORTAGES.contains(&code),
+        None => error.kind() == ErrorKind::OutOfMemory,
+    }
+}
+
+/// Refuses what is no regular file, or has more bytes than a file may have.
+fn judge_file(found: &Metadata, max_size: u64) -> io::Result<()> {
+    if !found.is_file() {
+        return Err(io::Error::new(ErrorKind::InvalidInput, "it is no regular file"));
+    }
+    judge_size(found.len(), max_size)
+}
+
+/// Refuses more bytes than a file may have.
+fn judge_size(size: u64, max_size: u64) -> io::Result<()> {
+    if size > max_size {
+        return Err(io::Error::new(
+            ErrorKind::FileTooLarge,
+            "it has more bytes than --max-size allows",
+        ));
+    }
+    Ok(())
 }

@@ -1,4 +1,10 @@
 //! A connection of a socket.
+ghost use Rattle.libc.specs.Net.{SockOption};
+
+use libc::net::{
+    IPPROTO_TCP, SO_KEEPALIVE, SO_SNDBUF, SOL_SOCKET, TCP_KEEPCNT, TCP_KEEPIDLE, TCP_KEEPINTVL,
+    setsockopt,
+};
 use mio::net::TcpStream;
 use rtr_server::{Moved, Stream};
 use std::fmt::{self, Debug};
@@ -22,10 +28,10 @@ impl Debug for Line {
 }
 
 impl Line {
-    /// The line of a socket that was accepted: small writes go out at once, and what the system keeps of unread bytes is bounded. None where
-    /// the socket cannot be prepared.
+    /// The line of a socket that was accepted: small writes go out at once, what the system keeps of unread bytes is bounded, and a peer that
+    /// has vanished is noticed. `None` if the socket cannot be prepared.
     pub fn of(stream: TcpStream) -> Option<Line> {
-        if stream.set_nodelay(true).is_err() || !is_bounded(&stream) {
+        if stream.set_nodelay(true).is_err() || !is_bounded(&stream) || !is_kept_alive(&stream) {
             return None;
         }
         Some(Line { stream })
@@ -39,12 +45,26 @@ impl Line {
 
 /// Bounds what the system keeps of bytes that the other end has not taken, and answers whether it did.
 pub fn is_bounded(stream: &TcpStream) -> bool {
-    let mut size = [0u8; 16];
-    size[..4].copy_from_slice(&SEND_ROOM.to_ne_bytes());
+    takes_option(stream, SOL_SOCKET, SO_SNDBUF, SEND_ROOM)
+}
+
+/// Has the system ask a peer that is silent for a minute every 20 seconds whether it is still there, six times at most, and answers whether it
+/// does: so a host that has vanished is noticed within three minutes.
+fn is_kept_alive(stream: &TcpStream) -> bool {
+    takes_option(stream, SOL_SOCKET, SO_KEEPALIVE, 1)
+        && takes_option(stream, IPPROTO_TCP, TCP_KEEPIDLE, 60)
+        && takes_option(stream, IPPROTO_TCP, TCP_KEEPINTVL, 20)
+        && takes_option(stream, IPPROTO_TCP, TCP_KEEPCNT, 6)
+}
+
+/// Sets an option of a socket, and answers whether the system took it.
+fn takes_option(stream: &TcpStream, level: i32, name: i32, value: i32) -> bool
+    requires { SockOption level name }
+{
+    let mut bytes = [0u8; 16];
+    bytes[..4].copy_from_slice(&value.to_ne_bytes());
     let fd = stream.as_raw_fd();
-    let status = unsafe {
-        libc::net::setsockopt(fd, libc::net::SOL_SOCKET, libc::net::SO_SNDBUF, &size, 4)
-    };
+    let status = unsafe { setsockopt(fd, level, name, &bytes, 4) };
     status == 0
 }
 

@@ -9,6 +9,7 @@ mod running;
 mod shelf;
 
 use running::{out_of_memory, run_words};
+use std::io::Write;
 use std::process::ExitCode;
 use std::{env, fs, io};
 
@@ -25,9 +26,15 @@ fn main(rt: HostRuntime) -> ExitCode {
     let status = match own_words(&rt) {
         Ok(words) => run_words(&rt, words.as_slice(), &mut out, &mut err),
         Err(e) if e.kind() == io::ErrorKind::OutOfMemory => out_of_memory(&mut err),
-        Err(_) => 2,
+        Err(_) => refuse_words(&mut err),
     };
     ExitCode::from(status)
+}
+
+/// Reports that a word is no text, with the status.
+fn refuse_words<E: Write>(err: &mut E) -> u8 {
+    let _ = writeln!(err, "rpkirtrd: a word is not UTF-8\nTry rpkirtrd --help.");
+    2
 }
 
 fn own_words(rt: &HostRuntime) -> io::Result<Vec<String>> {

@@ -1,42 +1,98 @@
 //! The names of the versions that are served.
-use daemon_parts::{VersionNames, first_serial, session_of, session0_of};
+use daemon_parts::{VersionNames, first_serial, is_machine_id, session_of, session0_of};
 use daemon_words::Settings;
 use std::alloc::{AllocError, Global};
 use std::fs;
-use std::io::ErrorKind;
+use std::io::{self, ErrorKind};
 use std::net::SocketAddr;
+use std::random::RandomSource;
 use std::rt::Files;
 
 /// What names the machine.
 const MACHINE_ID: &str = "/etc/machine-id";
 
-/// The names that the words ask for, or else those that are made of the machine, the addresses, the files, and the clock.
-pub fn names_of<R: Files + AllocGlobal>(
+/// What names the host.
+const HOST_NAME: &str = "/proc/sys/kernel/hostname";
+
+/// The names of the versions, and whether the session was drawn at random.
+#[derive(Clone, Copy)]
+pub struct Named {
+    pub names: VersionNames,
+    pub is_random: bool,
+}
+
+/// The session in version 1 of the protocol, and whether it was drawn at random.
+#[derive(Clone, Copy)]
+struct Session {
+    number: u16,
+    is_random: bool,
+}
+
+/// The names that the words ask for, or else those that are made of the machine, the host, the addresses, the sources, and the clock. The
+/// session is random if nothing names the machine.
+pub fn names_of<R: Files + RandomSource + AllocGlobal>(
     rt: &R,
     settings: &Settings,
     start: u64,
-) -> Result<VersionNames, AllocError> {
-    Ok(VersionNames {
-        session: match settings.session {
-            Some(session) => session,
-            None => own_session(rt, settings)?,
+) -> io::Result<Named> {
+    let session = match settings.session {
+        Some(number) => Session {
+            number,
+            is_random: false,
         },
-        session0: settings.session0.unwrap_or(session0_of(start)),
-        serial: settings.start.unwrap_or(first_serial(start)),
+        None => own_session(rt, settings)?,
+    };
+    Ok(Named {
+        names: VersionNames {
+            session: session.number,
+            session0: settings.session0.unwrap_or(session0_of(start)),
+            serial: settings.start.unwrap_or(first_serial(start)),
+        },
+        is_random: session.is_random,
     })
 }
 
-/// The session of this machine, these addresses and these files.
-fn own_session<R: Files + AllocGlobal>(rt: &R, settings: &Settings) -> Result<u16, AllocError> {
+/// The session of this machine, this host, these addresses and these sources, or a random one.
+fn own_session<R: Files + RandomSource + AllocGlobal>(
+    rt: &R,
+    settings: &Settings,
+) -> io::Result<Session> {
+    let machine = content_of(rt, MACHINE_ID)?;
+    if !is_machine_id(machine.as_slice()) {
+        return random_session(rt);
+    }
     let alloc = rt.alloc();
-    let machine = match fs::read(rt, MACHINE_ID) {
-        Ok(bytes) => bytes,
-        Err(e) if e.kind() == ErrorKind::OutOfMemory => return Err(AllocError),
-        Err(_) => Vec::new(alloc),
-    };
+    let host = content_of(rt, HOST_NAME)?;
     let listen = addresses_text(alloc, settings.listen.as_slice())?;
-    let paths = paths_text(alloc, settings)?;
-    Ok(session_of(machine.as_slice(), listen.as_str(), paths.as_str()))
+    let sources = sources_text(alloc, settings)?;
+    Ok(Session {
+        number: session_of(
+            machine.as_slice(),
+            host.as_slice(),
+            listen.as_str(),
+            sources.as_str(),
+        ),
+        is_random: false,
+    })
+}
+
+/// A session of the system's random source.
+fn random_session<R: RandomSource>(rt: &R) -> io::Result<Session> {
+    let mut bytes = [0u8; 2];
+    rt.fill_bytes(&mut bytes)?;
+    Ok(Session {
+        number: u16::from_be_bytes(bytes),
+        is_random: true,
+    })
+}
+
+/// What a file of the system holds, or nothing if it cannot be read.
+fn content_of<R: Files + AllocGlobal>(rt: &R, path: &str) -> io::Result<Vec<u8>> {
+    match fs::read(rt, path) {
+        Ok(bytes) => Ok(bytes),
+        Err(e) if e.kind() == ErrorKind::OutOfMemory => Err(e),
+        Err(_) => Ok(Vec::new(rt.alloc())),
+    }
 }
 
 /// Addresses, a line each.
@@ -52,21 +108,24 @@ fn add_address(text: &mut String, address: &SocketAddr) -> Result<(), AllocError
     write!(text, "{address}\n")
 }
 
-/// The paths of all sources, a line each.
-fn paths_text(alloc: Global, settings: &Settings) -> Result<String, AllocError> {
+/// The words of all sources: each option with its path, a line each.
+fn sources_text(alloc: Global, settings: &Settings) -> Result<String, AllocError> {
     let mut text = String::new(alloc);
-    add_paths(&mut text, settings.vrps.as_slice())?;
-    add_paths(&mut text, settings.points.as_slice())?;
+    add_paths(&mut text, "--vrps", settings.vrps.as_slice())?;
+    add_paths(&mut text, "--points", settings.points.as_slice())?;
     if let Some(path) = &settings.slurm {
-        text.push_str(path.as_str())?;
+        add_path(&mut text, "--slurm", path.as_str())?;
     }
     Ok(text)
 }
 
-fn add_paths(text: &mut String, paths: &[String]) -> Result<(), AllocError> {
+fn add_paths(text: &mut String, option: &str, paths: &[String]) -> Result<(), AllocError> {
     for path in paths {
-        text.push_str(path.as_str())?;
-        text.push('\n')?;
+        add_path(text, option, path.as_str())?;
     }
     Ok(())
+}
+
+fn add_path(text: &mut String, option: &str, path: &str) -> Result<(), AllocError> {
+    write!(text, "{option} {path}\n")
 }

@@ -2,10 +2,10 @@
 use crate::desk::Desk;
 use crate::host::{Host, HostFault};
 use crate::line::Line;
-use crate::names::names_of;
+use crate::names::{Named, names_of};
 use daemon_parts::{Event, VersionNames};
 use daemon_words::{Asked, Settings, WordsFault, read_words};
-use rtr_daemon::{Daemon, End, Journal, Paths, Plan, StartFault, Time};
+use rtr_daemon::{Daemon, End, Journal, Paths, Plan, Ports, Refusal, StartFault, Time};
 use rtr_ends::Cache;
 use rtr_server::Server;
 use status_server::MAX_VISITORS;
@@ -20,6 +20,12 @@ use vrps::VersionLog;
 
 /// How many descriptors the daemon keeps for itself.
 const OWN_DESCRIPTORS: usize = 16;
+
+/// The first second of the year 2020. A clock that is before it was not set yet.
+const YEAR_2020: u64 = 1_577_836_800;
+
+/// How many seconds lie between two notifies at least (RFC 8210 section 8.2).
+const NOTIFY_SECONDS: u32 = 60;
 
 /// Reports that memory ran out, with the status.
 pub fn out_of_memory<E: Write>(err: &mut E) -> u8 {
@@ -60,16 +66,49 @@ fn serve<R: Files + Net + Clock + RandomSource + AllocGlobal + Clone + Drop, E: 
     settings: Settings,
     err: &mut E,
 ) -> u8 {
-    match Host::open(rt, err, settings.log, settings.listen.as_slice()) {
+    let addresses = settings.listen.as_slice();
+    match Host::open(rt, err, settings.log, settings.max_size, addresses) {
         Err(fault) => refuse_sockets(&fault, err),
         Ok(mut host) => match desk_of(rt, settings.status, &mut host) {
             Err(fault) => host.refuse_sockets(&fault),
-            Ok(desk) => match open(rt, settings, &mut host) {
-                Err(fault) => refuse_start(&fault, &mut host),
-                Ok(daemon) => go_on(daemon, desk, &mut host),
-            },
+            Ok(desk) => begin(rt, settings, desk, &mut host),
         },
     }
+}
+
+/// Waits until the clock is set, reads the files, and serves.
+fn begin<R: Files + Net + Clock + RandomSource + AllocGlobal + Clone + Drop, E: Write>(
+    rt: &R,
+    settings: Settings,
+    desk: Option<Desk>,
+    host: &mut Host<'_, R, E>,
+) -> u8 {
+    if let Err(error) = wait_for_clock(host) {
+        return fail(&error, host);
+    }
+    match open(rt, settings, host) {
+        Err(fault) => refuse_start(&fault, host),
+        Ok(daemon) => go_on(daemon, desk, host),
+    }
+}
+
+/// Waits until the clock is in the year 2020 or later, and reports once that it does. What is made of the start, serials among it, would else be
+/// earlier than that of the run before.
+fn wait_for_clock<W: Time + Journal + Ports<Line>>(world: &mut W) -> io::Result<()> {
+    let mut is_told = false;
+    for _second in 0..u64::MAX {
+        let now = world.seconds();
+        if now >= YEAR_2020 {
+            return Ok(());
+        }
+        if !is_told {
+            let reason = "the clock is before the year 2020: nothing is served until it is set";
+            world.tell(now, &Event::Warning { reason });
+            is_told = true;
+        }
+        world.wait(1000)?;
+    }
+    Ok(())
 }
 
 /// The desk of the pages on the daemon's state, where they are wanted at an address.
@@ -122,8 +161,9 @@ fn open<R: Files + Net + Clock + RandomSource + AllocGlobal + Clone + Drop, E: W
 ) -> Result<Daemon<VersionLog, Line>, StartFault> {
     let alloc = rt.alloc();
     let start = host.seconds();
-    let Ok(names) = names_of(rt, &settings, start) else {
-        return Err(StartFault::memory());
+    let Named { names, is_random } = match names_of(rt, &settings, start) {
+        Ok(named) => named,
+        Err(error) => return Err(name_fault(alloc, error)),
     };
     let most = client_limit(&settings, start, host);
     let plan = plan_of(&settings, most);
@@ -131,6 +171,7 @@ fn open<R: Files + Net + Clock + RandomSource + AllocGlobal + Clone + Drop, E: W
         return Err(StartFault::memory());
     };
     tell_start(names, start, host);
+    warn(&settings, is_random, start, host);
     let Settings {
         vrps,
         points,
@@ -143,6 +184,31 @@ fn open<R: Files + Net + Clock + RandomSource + AllocGlobal + Clone + Drop, E: W
         points,
     };
     Daemon::open(alloc, plan, names, server, paths, host)
+}
+
+/// Why the names cannot be had: memory, or the system's random source.
+fn name_fault(alloc: Global, error: io::Error) -> StartFault {
+    if error.kind() == ErrorKind::OutOfMemory {
+        return StartFault::memory();
+    }
+    StartFault {
+        path: String::from_str(alloc, "the system's random source").ok(),
+        refusal: Refusal::Device(error),
+    }
+}
+
+/// Reports what an operator should know of these settings.
+fn warn<J: Journal>(settings: &Settings, is_random: bool, now: u64, journal: &mut J) {
+    if is_random {
+        let reason =
+            "/etc/machine-id names no machine: the session is random at each start; --session sets it";
+        journal.tell(now, &Event::Warning { reason });
+    }
+    if settings.check < NOTIFY_SECONDS {
+        let reason =
+            "with --check below 60 routers may be notified more than once a minute (RFC 8210 section 8.2)";
+        journal.tell(now, &Event::Warning { reason });
+    }
 }
 
 /// A server of a new cache.
@@ -161,6 +227,8 @@ fn plan_of(settings: &Settings, most: usize) -> Plan {
     Plan {
         check: u64::from(settings.check).saturating_mul(1000),
         stall: u64::from(settings.stall).saturating_mul(1000),
+        clients_per_address: settings.clients_per_address,
+        leaves_out_length_0: settings.leave_out_length_0,
         max_age: settings.max_age,
         stops_when_old: settings.stop_when_old,
         once: settings.once,

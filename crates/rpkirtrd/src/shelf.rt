@@ -51,41 +51,36 @@ impl Shelf {
         }
     }
 
-    /// The payload list of the version, as text.
-    pub fn list(&mut self, version: Version<'_>) -> Result<Bytes, AllocError> {
+    /// The payload list of the version, as text, if there is a version.
+    pub fn list(&mut self, version: Version<'_>) -> Result<Option<Bytes>, AllocError> {
         self.drop_old(version);
-        if let Some(list) = &self.list {
-            return list.clone();
-        }
-        let text = match version {
-            Some((_serial, set)) => write_list(self.alloc, set.as_slice())?,
-            None => String::from_str(self.alloc, "[]")?,
+        let Some((_serial, set)) = version else {
+            return Ok(None);
         };
-        let list = Bytes::from_string(text)?;
+        if let Some(list) = &self.list {
+            return Ok(Some(list.clone()?));
+        }
+        let list = Bytes::from_string(write_list(self.alloc, set.as_slice())?)?;
         self.list = Some(list.clone()?);
-        Ok(list)
+        Ok(Some(list))
     }
 
-    /// What the version says of a route.
+    /// What the version says of a route, if there is a version.
     pub fn validity(
         &mut self,
         version: Version<'_>,
         route: &Route,
-    ) -> Result<Validity, AllocError> {
+    ) -> Result<Option<Validity>, AllocError> {
         self.drop_old(version);
+        let Some((_serial, set)) = version else {
+            return Ok(None);
+        };
         if self.index.is_none() {
-            self.index = Some(index_of(self.alloc, version)?);
+            self.index = Some(OriginIndex::over(self.alloc, set)?);
         }
         match &self.index {
-            Some(index) => Validity::of_route(self.alloc, index, route),
+            Some(index) => Ok(Some(Validity::of_route(self.alloc, index, route)?)),
             None => Err(AllocError),
         }
-    }
-}
-
-fn index_of(alloc: Global, version: Version<'_>) -> Result<OriginIndex, AllocError> {
-    match version {
-        Some((_serial, set)) => OriginIndex::over(alloc, set),
-        None => OriginIndex::over(alloc, &VrpSet::empty(alloc)),
     }
 }
