@@ -1,6 +1,6 @@
 //! A daemon follows its files.
-use crate::stage::{LIST, Stage};
-use crate::wires::Wire;
+use crate::stage::{Accepting, LIST, Stage};
+use crate::wires::{Router, Wire};
 use daemon_parts::VersionNames;
 use example_values::hex::bytes;
 use example_values::units::ANSWER;
@@ -22,6 +22,8 @@ const EVENING: u64 = 1_795_632_000;
 const PLAN: Plan = Plan {
     check: 60_000,
     stall: 30_000,
+    clients_per_address: None,
+    leaves_out_length_0: false,
     max_age: None,
     stops_when_old: false,
     once: false,
@@ -39,11 +41,16 @@ const NAMES: VersionNames = VersionNames {
 enum Step {
     /// The list has this text from now on.
     Writes(&'static str),
-    /// A router comes and asks for all. One that is closed takes nothing.
-    Comes { is_closed: bool },
+    /// The list is written anew, with the same text, at each look from now on, or is not any more.
+    IsRestless(bool),
+    /// The system takes connections so from now on.
+    Accepts(Accepting),
+    /// A router comes.
+    Comes(Router),
     Turns(u32),
-    /// The wall clock is set back by so many seconds.
+    /// The wall clock is set back by so many seconds, or ahead.
     SetsBack(u64),
+    SetsAhead(u64),
     /// So many routers are served.
     Serves(usize),
     /// A router has got these PDUs, and no more.
@@ -69,10 +76,10 @@ fn paths(alloc: Global) -> Result<Paths, Fail> {
 }
 
 /// A daemon that follows the list.
-fn opened(alloc: Global, stage: &mut Stage) -> Result<Daemon<VersionLog, Wire>, Fail> {
+fn opened(alloc: Global, plan: Plan, stage: &mut Stage) -> Result<Daemon<VersionLog, Wire>, Fail> {
     let paths = paths(alloc)?;
     let server = server(alloc)?;
-    match Daemon::open(alloc, PLAN, NAMES, server, paths, stage) {
+    match Daemon::open(alloc, plan, NAMES, server, paths, stage) {
         Ok(daemon) => Ok(daemon),
         Err(_) => Err(Fail::from("it does not start")),
     }
@@ -92,9 +99,12 @@ fn turns(daemon: &mut Daemon<VersionLog, Wire>, stage: &mut Stage, count: u32) -
 fn goes(daemon: &mut Daemon<VersionLog, Wire>, stage: &mut Stage, step: &Step) -> bool {
     match step {
         Step::Writes(text) => stage.write(text),
-        Step::Comes { is_closed } => return stage.connect(*is_closed).is_ok(),
+        Step::IsRestless(is_restless) => stage.set_restless(*is_restless),
+        Step::Accepts(accepting) => stage.set_accepting(*accepting),
+        Step::Comes(router) => return stage.connect(*router).is_ok(),
         Step::Turns(count) => return turns(daemon, stage, *count),
         Step::SetsBack(seconds) => stage.set_back(*seconds),
+        Step::SetsAhead(seconds) => stage.set_ahead(*seconds),
         Step::Serves(count) => return daemon.server().clients() == *count,
         Step::Has(router, units) => return stage.has_got(*router, bytes(units).as_slice()),
     }
@@ -115,8 +125,19 @@ fn go_on<R: Abort>(
 
 /// Plays steps at a daemon that follows the list, which has the first text, and compares its log.
 fn play<R: AllocGlobal + Abort>(rt: &R, steps: &[Step], log: &str) -> Result<(), Fail> {
-    let mut stage = Stage::new(rt.alloc(), EVENING, ONE);
-    let mut daemon = opened(rt.alloc(), &mut stage)?;
+    play_by(rt, PLAN, ONE, steps, log)
+}
+
+/// The same by a plan, from a text of the list.
+fn play_by<R: AllocGlobal + Abort>(
+    rt: &R,
+    plan: Plan,
+    text: &'static str,
+    steps: &[Step],
+    log: &str,
+) -> Result<(), Fail> {
+    let mut stage = Stage::new(rt.alloc(), EVENING, text);
+    let mut daemon = opened(rt.alloc(), plan, &mut stage)?;
     go_on(rt, &mut daemon, &mut stage, steps);
     assert!(rt; stage.log.as_slice() == log.as_bytes());
     Ok(())
@@ -124,8 +145,8 @@ fn play<R: AllocGlobal + Abort>(rt: &R, steps: &[Step], log: &str) -> Result<(),
 
 /// A router has the table, is notified of the next list, and of no list that cannot be taken.
 const FOLLOWS: &[Step] = &[
-    Step::Comes { is_closed: false },
-    Step::Turns(6),
+    Step::Comes(Router::Asks),
+    Step::Turns(7),
     Step::Has(0, ANSWER),
     Step::Writes("[{"),
     Step::Turns(3),
@@ -149,12 +170,12 @@ const FOLLOWS_LOG: &str =
 /// A router that takes nothing is closed after the time that is said, and one more than may be there at once; another is served.
 const CLOSES: &[Step] = &[
     Step::Turns(2),
-    Step::Comes { is_closed: true },
-    Step::Comes { is_closed: false },
-    Step::Comes { is_closed: false },
+    Step::Comes(Router::TakesNothing),
+    Step::Comes(Router::Asks),
+    Step::Comes(Router::Asks),
     Step::Turns(2),
     Step::Serves(2),
-    Step::Turns(40),
+    Step::Turns(64),
     Step::Serves(1),
     Step::Has(0, ""),
     Step::Has(1, ANSWER),
@@ -211,6 +232,7 @@ const GOES_BACK: &[Step] = &[
 const GOES_BACK_LOG: &str =
     "2026-11-25T18:40:01Z published session=4660 serial=5 announced=1 withdrawn=0 records=1 ms=0\n\
     2026-11-25T18:40:01Z ready\n\
+    2026-11-24T18:41:00Z clock behind=86400\n\
     2026-11-24T18:41:00Z published session=4660 serial=6 announced=1 withdrawn=1 records=1 ms=0\n";
 
 #[test]
@@ -221,4 +243,261 @@ fn reports_a_list_that_changes_and_is_refused(rt: HostRuntime) -> Result<(), Fai
 #[test]
 fn publishes_after_the_clock_goes_back(rt: HostRuntime) -> Result<(), Fail> {
     play(&rt, GOES_BACK, GOES_BACK_LOG)
+}
+
+/// A router that takes a byte now and then is not stalled, as a write is tried each second.
+const GOES_SLOWLY: &[Step] = &[
+    Step::Turns(2),
+    Step::Comes(Router::TakesSlowly),
+    Step::Turns(92),
+    Step::Serves(1),
+];
+
+const GOES_SLOWLY_LOG: &str =
+    "2026-11-25T18:40:01Z published session=4660 serial=5 announced=1 withdrawn=0 records=1 ms=0\n\
+    2026-11-25T18:40:01Z ready\n\
+    2026-11-25T18:40:01Z client-came address=192.0.2.1:179\n";
+
+#[test]
+fn leaves_who_takes_slowly(rt: HostRuntime) -> Result<(), Fail> {
+    play(&rt, GOES_SLOWLY, GOES_SLOWLY_LOG)
+}
+
+/// A client that has sent no whole query within a minute is closed, and one that has is not.
+const ASKS_NOTHING: &[Step] = &[
+    Step::Turns(2),
+    Step::Comes(Router::IsSilent),
+    Step::Comes(Router::Asks),
+    Step::Turns(2),
+    Step::Serves(2),
+    Step::Turns(1),
+    Step::Serves(1),
+    Step::Has(0, ""),
+    Step::Has(1, ANSWER),
+    Step::Comes(Router::SendsHeader),
+    Step::Turns(2),
+    Step::Serves(2),
+    Step::Turns(1),
+    Step::Serves(1),
+];
+
+const ASKS_NOTHING_LOG: &str =
+    "2026-11-25T18:40:01Z published session=4660 serial=5 announced=1 withdrawn=0 records=1 ms=0\n\
+    2026-11-25T18:40:01Z ready\n\
+    2026-11-25T18:40:01Z client-came address=192.0.2.1:179\n\
+    2026-11-25T18:40:01Z client-came address=192.0.2.1:179\n\
+    2026-11-25T18:41:01Z client-gone address=192.0.2.1:179 why=no-query version=none read=0 written=0 seconds=60\n\
+    2026-11-25T18:41:01Z client-came address=192.0.2.1:179\n\
+    2026-11-25T18:42:01Z client-gone address=192.0.2.1:179 why=no-query version=1 read=8 written=0 seconds=60\n";
+
+#[test]
+fn closes_who_asks_nothing(rt: HostRuntime) -> Result<(), Fail> {
+    play(&rt, ASKS_NOTHING, ASKS_NOTHING_LOG)
+}
+
+/// An address has one client at most, and may have another when that one has gone.
+const ONE_EACH: Plan = Plan {
+    clients_per_address: Some(1),
+    ..PLAN
+};
+
+const COMES_TWICE: &[Step] = &[
+    Step::Turns(2),
+    Step::Comes(Router::IsSilent),
+    Step::Comes(Router::Asks),
+    Step::Turns(3),
+    Step::Serves(0),
+    Step::Comes(Router::Asks),
+    Step::Turns(1),
+    Step::Serves(1),
+    Step::Has(1, ""),
+    Step::Has(2, ANSWER),
+];
+
+const COMES_TWICE_LOG: &str =
+    "2026-11-25T18:40:01Z published session=4660 serial=5 announced=1 withdrawn=0 records=1 ms=0\n\
+    2026-11-25T18:40:01Z ready\n\
+    2026-11-25T18:40:01Z client-came address=192.0.2.1:179\n\
+    2026-11-25T18:40:01Z address-full address=192.0.2.1:179 clients=1\n\
+    2026-11-25T18:41:01Z client-gone address=192.0.2.1:179 why=no-query version=none read=0 written=0 seconds=60\n\
+    2026-11-25T18:41:01Z client-came address=192.0.2.1:179\n";
+
+#[test]
+fn an_address_has_so_many_clients(rt: HostRuntime) -> Result<(), Fail> {
+    play_by(&rt, ONE_EACH, ONE, COMES_TWICE, COMES_TWICE_LOG)
+}
+
+/// A connection that cannot be taken is tried again each second. That is reported once, until one is taken.
+const WAITS_AT_THE_GATE: &[Step] = &[
+    Step::Turns(2),
+    Step::Accepts(Accepting::NoRoom),
+    Step::Comes(Router::Asks),
+    Step::Turns(3),
+    Step::Serves(0),
+    Step::Accepts(Accepting::Well),
+    Step::Turns(1),
+    Step::Serves(1),
+    Step::Has(0, ANSWER),
+    Step::Accepts(Accepting::Fails),
+    Step::Comes(Router::Asks),
+    Step::Turns(2),
+    Step::Serves(1),
+];
+
+const WAITS_AT_THE_GATE_LOG: &str =
+    "2026-11-25T18:40:01Z published session=4660 serial=5 announced=1 withdrawn=0 records=1 ms=0\n\
+    2026-11-25T18:40:01Z ready\n\
+    2026-11-25T18:40:01Z no-descriptor\n\
+    2026-11-25T18:40:04Z client-came address=192.0.2.1:179\n\
+    2026-11-25T18:40:04Z failed what=accept reason=\"permission denied\"\n";
+
+#[test]
+fn tries_again_to_take_a_connection(rt: HostRuntime) -> Result<(), Fail> {
+    play(&rt, WAITS_AT_THE_GATE, WAITS_AT_THE_GATE_LOG)
+}
+
+/// A list that changes while it is read, at each look, is reported at the second look. When it stands still it is taken.
+const STANDS_NEVER_STILL: &[Step] = &[
+    Step::Turns(2),
+    Step::IsRestless(true),
+    Step::Turns(3),
+    Step::IsRestless(false),
+    Step::Turns(1),
+];
+
+const STANDS_NEVER_STILL_LOG: &str =
+    "2026-11-25T18:40:01Z published session=4660 serial=5 announced=1 withdrawn=0 records=1 ms=0\n\
+    2026-11-25T18:40:01Z ready\n\
+    2026-11-25T18:42:00Z refused file=list.json reason=\"it changes while it is read\"\n\
+    2026-11-25T18:44:00Z taken file=list.json\n";
+
+#[test]
+fn reports_a_list_that_never_stands_still(rt: HostRuntime) -> Result<(), Fail> {
+    play(&rt, STANDS_NEVER_STILL, STANDS_NEVER_STILL_LOG)
+}
+
+/// A list with a record that ends on 2026-11-25 at 19:40 UTC.
+const ENDS: &str =
+    "{\"roas\":[{\"asn\":64496,\"prefix\":\"192.0.2.0/24\",\"maxLength\":24,\"expires\":1795635600}]}";
+
+/// A record that is left out as the clock is ahead comes again when the clock is set right.
+const GOES_AHEAD: &[Step] = &[
+    Step::Turns(2),
+    Step::SetsAhead(7200),
+    Step::Turns(1),
+    Step::SetsBack(7200),
+    Step::Turns(1),
+];
+
+const GOES_AHEAD_LOG: &str =
+    "2026-11-25T18:40:01Z published session=4660 serial=5 announced=1 withdrawn=0 records=1 ms=0\n\
+    2026-11-25T18:40:01Z ready\n\
+    2026-11-25T20:41:00Z expired file=list.json entries=1\n\
+    2026-11-25T20:41:00Z published session=4660 serial=6 announced=0 withdrawn=1 records=0 ms=0\n\
+    2026-11-25T18:42:00Z published session=4660 serial=7 announced=1 withdrawn=0 records=1 ms=0\n";
+
+#[test]
+fn a_record_comes_again_after_the_clock_is_set_right(rt: HostRuntime) -> Result<(), Fail> {
+    play_by(&rt, PLAN, ENDS, GOES_AHEAD, GOES_AHEAD_LOG)
+}
+
+/// Exports that do not say when they were made, or say a time in milliseconds, are as old as their files.
+const SHORT_LIVED: Plan = Plan {
+    max_age: Some(100),
+    ..PLAN
+};
+
+const IN_MILLISECONDS: &str = "{\"metadata\":{\"generated\":1795632000000},\"roas\":[]}";
+
+const GROWS_OLD: &[Step] = &[
+    Step::Turns(4),
+    Step::Writes(IN_MILLISECONDS),
+    Step::Turns(3),
+];
+
+const GROWS_OLD_LOG: &str =
+    "2026-11-25T18:40:01Z published session=4660 serial=5 announced=1 withdrawn=0 records=1 ms=0\n\
+    2026-11-25T18:40:01Z ready\n\
+    2026-11-25T18:42:00Z old file=list.json age=120\n\
+    2026-11-25T18:43:00Z fresh file=list.json age=60\n\
+    2026-11-25T18:43:00Z published session=4660 serial=6 announced=0 withdrawn=1 records=0 ms=0\n\
+    2026-11-25T18:44:00Z old file=list.json age=120\n";
+
+#[test]
+fn a_list_without_a_time_grows_old(rt: HostRuntime) -> Result<(), Fail> {
+    play_by(&rt, SHORT_LIVED, ONE, GROWS_OLD, GROWS_OLD_LOG)
+}
+
+/// A client has eight calls of its stream a turn: one that reads its query, and then one for each byte that it takes.
+const TAKES_TURNS: &[Step] = &[
+    Step::Turns(2),
+    Step::Comes(Router::TakesBytes),
+    Step::Turns(1),
+    Step::Has(0, "01 03 1234 000000"),
+    Step::Turns(1),
+    Step::Has(0, "01 03 1234 00000008 | 01 04 0000 000000"),
+];
+
+const TAKES_TURNS_LOG: &str =
+    "2026-11-25T18:40:01Z published session=4660 serial=5 announced=1 withdrawn=0 records=1 ms=0\n\
+    2026-11-25T18:40:01Z ready\n\
+    2026-11-25T18:40:01Z client-came address=192.0.2.1:179\n";
+
+#[test]
+fn a_client_has_so_many_calls_a_turn(rt: HostRuntime) -> Result<(), Fail> {
+    play(&rt, TAKES_TURNS, TAKES_TURNS_LOG)
+}
+
+/// Two versions are published in different seconds, however often files are looked at.
+const OFTEN: Plan = Plan { check: 100, ..PLAN };
+
+const CHANGES_AT_ONCE: &[Step] = &[Step::Turns(11), Step::Writes(TWO), Step::Turns(10)];
+
+const CHANGES_AT_ONCE_LOG: &str =
+    "2026-11-25T18:40:01Z published session=4660 serial=5 announced=1 withdrawn=0 records=1 ms=0\n\
+    2026-11-25T18:40:01Z ready\n\
+    2026-11-25T18:40:02Z published session=4660 serial=6 announced=1 withdrawn=1 records=1 ms=0\n";
+
+#[test]
+fn no_two_versions_in_a_second(rt: HostRuntime) -> Result<(), Fail> {
+    play_by(&rt, OFTEN, ONE, CHANGES_AT_ONCE, CHANGES_AT_ONCE_LOG)
+}
+
+/// Records of length 0 are left out if that is asked for, and it is said how many.
+const NARROW: Plan = Plan {
+    leaves_out_length_0: true,
+    ..PLAN
+};
+
+const WIDE: &str =
+    "[{\"asn\":64496,\"prefix\":\"0.0.0.0/0\",\"maxLength\":24},{\"asn\":64496,\"prefix\":\"192.0.2.0/24\",\"maxLength\":24},{\"asn\":64496,\"prefix\":\"::/0\",\"maxLength\":0}]";
+
+const LEAVES_OUT: &[Step] = &[
+    Step::Turns(2),
+    Step::Comes(Router::Asks),
+    Step::Turns(1),
+    Step::Has(0, ANSWER),
+    Step::Writes(TWO),
+    Step::Turns(1),
+];
+
+const LEAVES_OUT_LOG: &str = "2026-11-25T18:40:01Z left-out records=2\n\
+    2026-11-25T18:40:01Z published session=4660 serial=5 announced=1 withdrawn=0 records=1 ms=0\n\
+    2026-11-25T18:40:01Z ready\n\
+    2026-11-25T18:40:01Z client-came address=192.0.2.1:179\n\
+    2026-11-25T18:41:00Z left-out records=0\n\
+    2026-11-25T18:41:00Z published session=4660 serial=6 announced=1 withdrawn=1 records=1 ms=0\n";
+
+#[test]
+fn leaves_out_length_0(rt: HostRuntime) -> Result<(), Fail> {
+    play_by(&rt, NARROW, WIDE, LEAVES_OUT, LEAVES_OUT_LOG)
+}
+
+const KEEPS_WIDE_LOG: &str =
+    "2026-11-25T18:40:01Z published session=4660 serial=5 announced=3 withdrawn=0 records=3 ms=0\n\
+    2026-11-25T18:40:01Z ready\n";
+
+#[test]
+fn length_0_is_served(rt: HostRuntime) -> Result<(), Fail> {
+    play_by(&rt, PLAN, WIDE, &[Step::Turns(2)], KEEPS_WIDE_LOG)
 }

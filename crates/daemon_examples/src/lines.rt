@@ -42,8 +42,22 @@ fn address() -> SocketAddr {
 type Told = (Event<'static>, &'static str, &'static str, &'static str);
 
 /// The events of the daemon and of its files.
-fn daemon_events() -> [Told; 8] {
+fn daemon_events() -> [Told; 10] {
     [
+        (
+            Event::Clock { behind: 3600 },
+            "clock",
+            " behind=3600",
+            ",\"behind\":3600",
+        ),
+        (
+            Event::Warning {
+                reason: "the clock is before the year 2020",
+            },
+            "warning",
+            " reason=\"the clock is before the year 2020\"",
+            ",\"reason\":\"the clock is before the year 2020\"",
+        ),
         (
             Event::Started(VersionNames {
                 session: 4660,
@@ -102,8 +116,14 @@ fn daemon_events() -> [Told; 8] {
 }
 
 /// The events of files, with names that break no line.
-fn file_events() -> [Told; 6] {
+fn file_events() -> [Told; 7] {
     [
+        (
+            Event::LeftOut { records: 2 },
+            "left-out",
+            " records=2",
+            ",\"records\":2",
+        ),
         (
             Event::Refused {
                 file: "/var/db/vrps.json",
@@ -158,7 +178,7 @@ fn file_events() -> [Told; 6] {
 }
 
 /// The events of clients.
-fn client_events() -> [Told; 7] {
+fn client_events() -> [Told; 8] {
     let at = address();
     let v6 = SocketAddr::new(IpAddr::V6(Ipv6Addr::LOCALHOST), 3323);
     [
@@ -220,6 +240,15 @@ fn client_events() -> [Told; 7] {
             "full",
             " address=192.0.2.1:40000 clients=256",
             ",\"address\":\"192.0.2.1:40000\",\"clients\":256",
+        ),
+        (
+            Event::AddressFull {
+                address: at,
+                clients: 8,
+            },
+            "address-full",
+            " address=192.0.2.1:40000 clients=8",
+            ",\"address\":\"192.0.2.1:40000\",\"clients\":8",
         ),
     ]
 }

@@ -1,43 +1,60 @@
 //! The names of versions over restarts, and their pace.
 use daemon_parts::laws::restart_is_later;
-use daemon_parts::{Pace, first_serial, session_of, session0_of};
+use daemon_parts::{Pace, first_serial, is_machine_id, session_of, session0_of};
 
 #[test]
 fn names_of_versions(rt: HostRuntime) {
     assert!(rt; first_serial(1_764_096_000) == 1_764_096_000);
     assert!(rt; first_serial(4_294_967_295) == 4_294_967_295);
     assert!(rt; first_serial(4_294_967_296) == 0);
-    assert!(rt; session0_of(1_764_096_003) == session0_of(1_764_096_000));
-    assert!(rt; session0_of(1_764_096_004) == 32_257);
-    assert!(rt; session0_of(262_143) == 65_535);
-    assert!(rt; session0_of(262_144) == 0);
+    assert!(rt; session0_of(1_764_096_000) == 63488);
+    assert!(rt; session0_of(1_764_096_001) == 63489);
+    assert!(rt; session0_of(65_535) == 65_535);
+    assert!(rt; session0_of(65_536) == 0);
     restart_is_later();
 }
 
 /// What a session is made of, and the session, which is worked out with Python's hashlib.
-const SESSIONS: &[(&str, &str, &str, u16)] = &[
-    ("", "", "", 0x9d90),
+const SESSIONS: &[(&str, &str, &str, &str, u16)] = &[
+    ("", "", "", "", 0x6668),
     (
         "0123456789abcdef0123456789abcdef\n",
-        "127.0.0.1:3323",
-        "/var/db/rpki-client/json",
-        0x55c6,
+        "cache1\n",
+        "127.0.0.1:3323\n",
+        "--vrps /var/lib/rpki-client/json\n",
+        0xd886,
     ),
-    ("ab", "c", "d", 0x4070),
-    ("a", "bc", "d", 0x5f57),
-    ("a", "b", "cd", 0x94dc),
+    (
+        "0123456789abcdef0123456789abcdef\n",
+        "cache2\n",
+        "127.0.0.1:3323\n",
+        "--vrps /var/lib/rpki-client/json\n",
+        0x1b6b,
+    ),
+    ("ab", "c", "d", "e", 0xb29b),
+    ("a", "bc", "d", "e", 0xd445),
+    ("a", "b", "cd", "e", 0x534d),
+    ("a", "b", "c", "de", 0x33f2),
 ];
 
 /// Whether each of these has its session.
-fn have_sessions(rows: &[(&str, &str, &str, u16)]) -> bool {
-    rows.iter().all(|&(machine_id, listen, path, session)| {
-        session_of(machine_id.as_bytes(), listen, path) == session
+fn have_sessions(rows: &[(&str, &str, &str, &str, u16)]) -> bool {
+    rows.iter().all(|&(machine_id, host, listen, sources, session)| {
+        session_of(machine_id.as_bytes(), host.as_bytes(), listen, sources) == session
     })
 }
 
 #[test]
 fn sessions(rt: HostRuntime) {
     assert!(rt; have_sessions(SESSIONS));
+}
+
+#[test]
+fn a_machine_id_is_set(rt: HostRuntime) {
+    assert!(rt; is_machine_id(b"0123456789abcdef0123456789abcdef\n"));
+    for content in ["", "\n", "uninitialized", "uninitialized\n"] {
+        assert!(rt; !is_machine_id(content.as_bytes()), "{content}");
+    }
 }
 
 #[test]

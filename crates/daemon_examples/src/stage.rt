@@ -1,5 +1,5 @@
 //! Sockets, files, time and log in memory.
-use crate::wires::{Shared, Wire, is_list, shared, wire};
+use crate::wires::{Router, Shared, Wire, is_list, shared, wire};
 use daemon_parts::{Event, LogForm, write_event};
 use payload_commands::Directory;
 use rtr_daemon::{Accepted, Disk, Journal, Ports, Ready, Stamp, Time};
@@ -12,13 +12,27 @@ use std::net::SocketAddr;
 /// The path of the one file.
 pub(crate) const LIST: &str = "list.json";
 
+/// How the system takes connections.
+#[derive(Clone, Copy, PartialEq, Eq)]
+pub(crate) enum Accepting {
+    Well,
+    /// It has no descriptor left.
+    NoRoom,
+    /// It refuses for another reason.
+    Fails,
+}
+
 /// The surroundings of a daemon, in memory. Waiting makes time pass.
 #[derive(Drop)]
 pub(crate) struct Stage {
     alloc: Global,
-    /// What the list holds, and how often it was written.
+    /// What the list holds, how often it was written, and when, in seconds since 1970.
     list: &'static str,
     times: u64,
+    modified: u64,
+    /// Whether the list is written anew, with the same text, at each look.
+    is_restless: bool,
+    accepting: Accepting,
     /// The moment at the beginning in seconds since 1970, and the milliseconds that have passed.
     began: u64,
     millis: u64,
@@ -39,6 +53,9 @@ impl Stage {
             alloc,
             list,
             times: 0,
+            modified: began,
+            is_restless: false,
+            accepting: Accepting::Well,
             began,
             millis: 0,
             arriving: VecDeque::new(alloc),
@@ -53,6 +70,22 @@ impl Stage {
     pub(crate) fn write(&mut self, list: &'static str) {
         self.list = list;
         self.times = self.times.saturating_add(1);
+        self.modified = self.seconds();
+    }
+
+    /// The list is written anew at each look, or is not any more.
+    pub(crate) fn set_restless(&mut self, is_restless: bool) {
+        self.is_restless = is_restless;
+    }
+
+    /// Connections are taken so from now on.
+    pub(crate) fn set_accepting(&mut self, accepting: Accepting) {
+        self.accepting = accepting;
+    }
+
+    /// Sets the wall clock ahead.
+    pub(crate) fn set_ahead(&mut self, seconds: u64) {
+        self.began = self.began.saturating_add(seconds);
     }
 
     /// Sets the wall clock back.
@@ -60,10 +93,10 @@ impl Stage {
         self.began = self.began.saturating_sub(seconds);
     }
 
-    /// A router connects. One that is closed takes nothing.
-    pub(crate) fn connect(&mut self, is_closed: bool) -> Result<(), AllocError> {
+    /// A router connects.
+    pub(crate) fn connect(&mut self, router: Router) -> Result<(), AllocError> {
         let output = shared(self.alloc)?;
-        self.arriving.push_back(wire(&output, is_closed)?)?;
+        self.arriving.push_back(wire(&output, router)?)?;
         self.got.push(output)?;
         self.untold = self.untold.saturating_add(1);
         Ok(())
@@ -99,10 +132,13 @@ impl Disk for Stage {
         if path != LIST {
             return Err(io::Error::from(ErrorKind::NotFound));
         }
+        if self.is_restless {
+            self.times = self.times.saturating_add(1);
+        }
         Ok(Stamp {
             len: self.list.len() as u64,
             inode: self.times,
-            modified: (0, 0),
+            modified: (self.modified as i64, 0),
             changed: (0, 0),
         })
     }
@@ -138,6 +174,13 @@ impl Ports<Wire> for Stage {
     }
 
     fn accept(&mut self, _gate: usize) -> Accepted<Wire> {
+        match self.accepting {
+            Accepting::Well => {}
+            Accepting::NoRoom => return Accepted::NoRoom,
+            Accepting::Fails => {
+                return Accepted::Failed(io::Error::from(ErrorKind::PermissionDenied));
+            }
+        }
         let Some(line) = self.arriving.pop_front() else {
             return Accepted::Waits;
         };

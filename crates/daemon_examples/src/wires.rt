@@ -22,6 +22,23 @@ pub(crate) fn is_list(list: &Shared, bytes: &[u8]) -> bool {
     }
 }
 
+/// What a router does.
+#[derive(Clone, Copy, PartialEq, Eq)]
+pub(crate) enum Router {
+    /// It asks for all.
+    Asks,
+    /// It sends nothing.
+    IsSilent,
+    /// It sends the header of a Serial Query, and nothing more.
+    SendsHeader,
+    /// It asks for all, and takes nothing.
+    TakesNothing,
+    /// It asks for all, and takes one byte of each write.
+    TakesBytes,
+    /// It asks for all, and takes one byte of every other write.
+    TakesSlowly,
+}
+
 /// What comes of a router: where nothing is left it waits.
 #[derive(Drop)]
 pub(crate) struct Feed {
@@ -40,25 +57,37 @@ impl Read for Feed {
     }
 }
 
-/// What goes to it. One that is closed takes nothing, and would wait.
+/// What goes to it, at so many bytes a write, and whether the next write would wait.
 #[derive(Drop)]
 pub(crate) struct Sink {
     list: Shared,
-    is_closed: bool,
+    most: usize,
+    is_slow: bool,
+    waits: bool,
+}
+
+impl Sink {
+    /// Whether this write would wait: each one if it takes nothing, and every other one if it is slow.
+    fn take_turn(&mut self) -> bool {
+        let waits = self.waits;
+        self.waits = self.most == 0 || (self.is_slow && !waits);
+        waits
+    }
 }
 
 impl Write for Sink {
     fn write(&mut self, buf: &[u8]) -> io::Result<usize> {
-        if self.is_closed {
+        if self.take_turn() {
             return Err(io::Error::from(ErrorKind::WouldBlock));
         }
+        let count = buf.len().min(self.most);
         match self.list.try_borrow_mut() {
             Err(_) => Err(io::Error::from(ErrorKind::Other)),
             Ok(mut list) => {
-                if list.extend_from_slice(buf).is_err() {
+                if list.extend_from_slice(&buf[..count]).is_err() {
                     return Err(io::Error::from(ErrorKind::OutOfMemory));
                 }
-                Ok(buf.len())
+                Ok(count)
             }
         }
     }
@@ -73,13 +102,28 @@ pub(crate) type Wire = Duplex<Feed, Sink>;
 /// A Reset Query of version 1 (RFC 8210 section 5.4).
 const RESET_QUERY: &[u8] = b"\x01\x02\x00\x00\x00\x00\x00\x08";
 
-/// The line of a router that asks for all. What goes out stands in `output`; a closed one takes nothing.
-pub(crate) fn wire(output: &Shared, is_closed: bool) -> Result<Wire, AllocError> {
+/// The header of a Serial Query of version 1 (RFC 8210 section 5.3).
+const HEADER: &[u8] = b"\x01\x01\x12\x34\x00\x00\x00\x0c";
+
+/// The line of a router. What goes out stands in `output`.
+pub(crate) fn wire(output: &Shared, router: Router) -> Result<Wire, AllocError> {
+    let left = match router {
+        Router::IsSilent => b"".as_slice(),
+        Router::SendsHeader => HEADER,
+        _ => RESET_QUERY,
+    };
+    let most = match router {
+        Router::TakesNothing => 0,
+        Router::TakesSlowly | Router::TakesBytes => 1,
+        _ => usize::MAX,
+    };
     Ok(Duplex {
-        input: Feed { left: RESET_QUERY },
+        input: Feed { left },
         output: Sink {
             list: output.clone()?,
-            is_closed,
+            most,
+            is_slow: router == Router::TakesSlowly,
+            waits: most == 0,
         },
     })
 }

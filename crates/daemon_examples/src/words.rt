@@ -36,7 +36,8 @@ const DEFAULTS: &str =
     "Settings { vrps: [\"a\"], points: [], slurm: None, listen: [127.0.0.1:3323], \
     session: None, session0: None, start: None, keep: 16, \
     timing: Timing { refresh: 3600, retry: 600, expire: 7200 }, check: 60, max_age: None, \
-    stop_when_old: false, clients: 256, stall: 120, status: None, log: Text, once: false }";
+    stop_when_old: false, max_size: 2147483648, leave_out_length_0: false, clients: 256, clients_per_address: None, \
+    stall: 120, status: None, log: Text, once: false }";
 
 /// Lines, and a part of what they ask for.
 const LINES: &[(&str, &str)] = &[
@@ -77,6 +78,20 @@ const LINES: &[(&str, &str)] = &[
         "max_age: Some(86400), stop_when_old: true,",
     ),
     ("--vrps a --clients 1", "clients: 1,"),
+    (
+        "--vrps a --clients-per-address 1",
+        "clients_per_address: Some(1),",
+    ),
+    (
+        "--vrps a --clients-per-address 4294967295",
+        "clients_per_address: Some(4294967295),",
+    ),
+    ("--vrps a --max-size 1", "max_size: 1,"),
+    ("--vrps a --leave-out-length-0", "leave_out_length_0: true,"),
+    (
+        "--vrps a --max-size 1099511627776",
+        "max_size: 1099511627776,",
+    ),
     ("--vrps a --stall 4294967295", "stall: 4294967295,"),
     ("--vrps a --status [::1]:9323", "status: Some([::1]:9323),"),
     ("--vrps a --log text", "log: Text,"),
@@ -177,6 +192,22 @@ const REFUSED_WORDS: &[(&str, &str)] = &[
 
 /// The same of numbers: of what is kept, and of sessions and serials.
 const REFUSED_NUMBERS: &[(&str, &str)] = &[
+    (
+        "--vrps a --max-size 0",
+        "--max-size \"0\": a number from 1 to 1099511627776 is required",
+    ),
+    (
+        "--vrps a --max-size 1099511627777",
+        "--max-size \"1099511627777\": a number from 1 to 1099511627776 is required",
+    ),
+    (
+        "--vrps a --clients-per-address 0",
+        "--clients-per-address \"0\": a number from 1 to 4294967295 is required",
+    ),
+    (
+        "--vrps a --clients-per-address 4294967296",
+        "--clients-per-address \"4294967296\": a number from 1 to 4294967295 is required",
+    ),
     (
         "--vrps a --keep 0",
         "--keep \"0\": a number from 1 to 65536 is required",

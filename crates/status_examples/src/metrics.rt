@@ -19,15 +19,14 @@ rpkirtrd_build_info{version=\"0.1.0\"} 1
 # HELP rpkirtrd_start_time_seconds When the program started, in seconds since 1970.
 # TYPE rpkirtrd_start_time_seconds gauge
 rpkirtrd_start_time_seconds 1795653415
-# HELP rpkirtrd_vrps Records that are served.
-# TYPE rpkirtrd_vrps gauge
-rpkirtrd_vrps{family=\"ipv4\"} 0
-rpkirtrd_vrps{family=\"ipv6\"} 0
+# HELP rpkirtrd_clock_behind_seconds How far the clock was set back since the start.
+# TYPE rpkirtrd_clock_behind_seconds gauge
+rpkirtrd_clock_behind_seconds 0
 # HELP rpkirtrd_session The session, by the version of the protocol.
 # TYPE rpkirtrd_session gauge
 rpkirtrd_session{version=\"0\"} 22136
 rpkirtrd_session{version=\"1\"} 4660
-# HELP rpkirtrd_export_age_seconds How long ago what was taken last of a file was made, as far as it says so.
+# HELP rpkirtrd_export_age_seconds How long ago what was taken last of a file was made.
 # TYPE rpkirtrd_export_age_seconds gauge
 ";
 
@@ -35,6 +34,7 @@ rpkirtrd_session{version=\"1\"} 4660
 fn a_cache_without_a_version(rt: HostRuntime) -> Result<(), Fail> {
     let text = metrics_of(rt.alloc(), &empty(rt.alloc()))?;
     assert!(rt; text.as_str().starts_with(EMPTY));
+    assert!(rt; !text.as_str().contains("rpkirtrd_vrps"));
     assert!(rt; !text.as_str().contains("rpkirtrd_serial"));
     assert!(rt; !text.as_str().contains("rpkirtrd_reload_seconds"));
     Ok(())
@@ -42,7 +42,9 @@ fn a_cache_without_a_version(rt: HostRuntime) -> Result<(), Fail> {
 
 /// Lines that stand in the metrics of a small cache.
 const LINES: &[&str] = &[
+    "\nrpkirtrd_clock_behind_seconds 3600\n",
     "\nrpkirtrd_vrps{family=\"ipv4\"} 400000\nrpkirtrd_vrps{family=\"ipv6\"} 123456\n",
+    "\nrpkirtrd_left_out_vrps 2\n",
     "\n# HELP rpkirtrd_serial The serial of the version that is served.\n# TYPE rpkirtrd_serial gauge\nrpkirtrd_serial 1795653120\n",
     "\nrpkirtrd_last_change_timestamp_seconds 1795653120\n",
     "\nrpkirtrd_export_age_seconds{file=\"/var/db/rpki-client/json\"} 600\n",

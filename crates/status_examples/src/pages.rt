@@ -29,6 +29,8 @@ fn a_cache_without_a_version(rt: HostRuntime) -> Result<(), Fail> {
     for part in EMPTY {
         assert!(rt; text.as_str().contains(part), "{part}");
     }
+    assert!(rt; !text.as_str().contains("The clock"));
+    assert!(rt; !text.as_str().contains("left out"));
     assert!(rt; !text.as_str().contains("<script"));
     assert!(rt; !text.as_str().contains("http"));
     Ok(())
@@ -36,11 +38,13 @@ fn a_cache_without_a_version(rt: HostRuntime) -> Result<(), Fail> {
 
 /// What stands on the page of a small cache.
 const SMALL: &[&str] = &[
+    "</p>\n<p class=\"warn\">The clock was set back by 3\u{202f}600 s since the start.</p>\n</header>\n",
     "<dt>Serial</dt><dd>1795653120</dd>",
     "<dt>Session</dt><dd>4660</dd>",
     "<dt>Session in version 0</dt><dd>22136</dd>",
     "<dt>Published</dt><dd><time datetime=\"2026-11-26T00:32:00Z\">2026-11-26 00:32:00</time> <span class=\"dim\">5\u{202f}min ago</span></dd>",
     "<dt>Records</dt><dd>523\u{202f}456</dd>",
+    "<dt>Records of length 0, left out</dt><dd>2</dd>",
     "<dt>IPv4 records</dt><dd>400\u{202f}000</dd>",
     "<dt>Routers</dt><dd>3 of 256</dd>",
     "<th scope=\"row\" class=\"name\">/srv/&lt;b&gt;&quot;a\\b&quot;&amp;c\n.json</th><td class=\"long\"><span class=\"warn\">refused:</span> entry 3 of roas cannot be read: &lt;prefix&gt; is no prefix (fault 3)</td>",

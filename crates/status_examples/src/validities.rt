@@ -1,7 +1,7 @@
 //! What records say of routes, and as JSON.
 use crate::values::NOW;
 use prefixes::{Asn, IpPrefix, Route, Vrp};
-use status_pages::laws::covering_is_parted;
+use status_pages::laws::{covering_is_parted, reason_is_by_origin};
 use status_pages::{Validity, write_validity};
 use std::alloc::Global;
 use std::process::Abort;
@@ -67,6 +67,7 @@ fn records_are_told_by_kind(rt: HostRuntime) -> Result<(), Fail> {
         assert!(rt; is_judged(&rt, text, origin, state, &lists)?, "{text}");
     }
     covering_is_parted();
+    reason_is_by_origin();
     Ok(())
 }
 
@@ -96,6 +97,11 @@ const TOLD: &[(&str, u32, &str)] = &[
         "192.0.2.128/26",
         64496,
         "{\"validated_route\":{\"route\":{\"origin_asn\":\"AS64496\",\"prefix\":\"192.0.2.128/26\"},\"validity\":{\"state\":\"invalid\",\"reason\":\"length\",\"description\":\"At least one VRP Covers the Route Prefix, but the Route Prefix length is greater than the maximum length allowed by VRP(s) matching this route origin ASN\",\"VRPs\":{\"matched\":[],\"unmatched_as\":[],\"unmatched_length\":[{\"asn\":\"AS0\",\"prefix\":\"192.0.2.0/24\",\"max_length\":\"24\"},{\"asn\":\"AS64496\",\"prefix\":\"192.0.2.0/24\",\"max_length\":\"25\"}]}}},\"generatedTime\":\"2026-11-26T00:37:00Z\"}",
+    ),
+    (
+        "192.0.2.128/26",
+        64511,
+        "{\"validated_route\":{\"route\":{\"origin_asn\":\"AS64511\",\"prefix\":\"192.0.2.128/26\"},\"validity\":{\"state\":\"invalid\",\"reason\":\"as\",\"description\":\"At least one VRP Covers the Route Prefix, but no VRP ASN matches the route origin ASN\",\"VRPs\":{\"matched\":[],\"unmatched_as\":[],\"unmatched_length\":[{\"asn\":\"AS0\",\"prefix\":\"192.0.2.0/24\",\"max_length\":\"24\"},{\"asn\":\"AS64496\",\"prefix\":\"192.0.2.0/24\",\"max_length\":\"25\"}]}}},\"generatedTime\":\"2026-11-26T00:37:00Z\"}",
     ),
     (
         "2001:db8::/32",

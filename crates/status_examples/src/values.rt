@@ -27,11 +27,13 @@ pub(crate) fn empty(alloc: Global) -> Status {
         version: "0.1.0",
         now: NOW,
         started: NOW - 5,
+        clock_behind: 0,
         session: 4660,
         session0: 22136,
         serial: None,
         ipv4: 0,
         ipv6: 0,
+        left_out: 0,
         changes: Vec::new(alloc),
         files: Vec::new(alloc),
         clients: Vec::new(alloc),
@@ -105,9 +107,11 @@ fn client(address: IpAddr, version: Option<u8>, serial: Option<u32>, ago: u64) -
 pub(crate) fn small(alloc: Global) -> Result<Status, AllocError> {
     let mut status = empty(alloc);
     status.started = NOW - 90_000;
+    status.clock_behind = 3600;
     status.serial = Some(1_795_653_120);
     status.ipv4 = 400_000;
     status.ipv6 = 123_456;
+    status.left_out = 2;
     status
         .changes
         .push(change(1_795_653_119, NOW - 3900, 523_000, 0, 523_000))?;

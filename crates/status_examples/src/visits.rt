@@ -10,11 +10,11 @@ use std::hash::RandomState;
 use std::test::Fail;
 use vrps::{OriginIndex, VrpSet};
 
-/// A cache that has one record.
+/// A cache that has one record, or has published nothing yet.
 #[derive(Drop)]
 struct Small {
     alloc: Global,
-    index: OriginIndex,
+    index: Option<OriginIndex>,
 }
 
 impl Told for Small {
@@ -26,12 +26,18 @@ impl Told for Small {
         small(self.alloc)
     }
 
-    fn list(&mut self) -> Result<Bytes, AllocError> {
-        Ok(Bytes::from_static(b"[]"))
+    fn list(&mut self) -> Result<Option<Bytes>, AllocError> {
+        Ok(match &self.index {
+            Some(_index) => Some(Bytes::from_static(b"[]")),
+            None => None,
+        })
     }
 
-    fn validity(&mut self, route: &Route) -> Result<Validity, AllocError> {
-        Validity::of_route(self.alloc, &self.index, route)
+    fn validity(&mut self, route: &Route) -> Result<Option<Validity>, AllocError> {
+        match &self.index {
+            Some(index) => Ok(Some(Validity::of_route(self.alloc, index, route)?)),
+            None => Ok(None),
+        }
     }
 }
 
@@ -39,17 +45,30 @@ fn told(alloc: Global) -> Result<Small, Fail> {
     let mut list = Vec::new(alloc);
     list.push(Vrp::new(IpPrefix::parse("192.0.2.0/24")?, 24, Asn(64496))?)?;
     let index = OriginIndex::over(alloc, &VrpSet::from_list(list)?)?;
-    Ok(Small { alloc, index })
+    Ok(Small {
+        alloc,
+        index: Some(index),
+    })
 }
 
 /// What comes of one visitor that sends this, at so many bytes a call, and what it is sent.
 fn visit(rt: &HostRuntime, request: &[u8], piece: usize) -> Result<(Option<Visit>, Shared), Fail> {
+    let mut told = told(rt.alloc())?;
+    visit_to(rt, &mut told, request, piece)
+}
+
+/// The same of a cache.
+fn visit_to(
+    rt: &HostRuntime,
+    told: &mut Small,
+    request: &[u8],
+    piece: usize,
+) -> Result<(Option<Visit>, Shared), Fail> {
     let output = shared(rt.alloc(), b"")?;
     let wire = Wire::of(&shared(rt.alloc(), request)?, &output, piece)?;
     let mut visitors = Visitors::new(rt.alloc(), RandomState::new(rt)?);
     visitors.admit(7, wire, 0)?;
-    let mut told = told(rt.alloc())?;
-    let visit = visitors.serve(7, &mut told, 100_000);
+    let visit = visitors.serve(7, told, 100_000);
     Ok((visit, output))
 }
 
@@ -108,6 +127,34 @@ fn requests_are_answered(rt: HostRuntime) -> Result<(), Fail> {
         let (came, slow) = visit(&rt, request.as_bytes(), 1)?;
         assert!(rt; came == Some(Visit::Waits), "{request}");
         assert!(rt; is_list(&slow, &output), "{request}");
+    }
+    Ok(())
+}
+
+/// Requests that need a version, and what the answer has in it before the first is published.
+const EARLY: &[(&str, &str)] = &[
+    (
+        "GET /vrps.json HTTP/1.1\r\nHost: a\r\n\r\n",
+        "\r\n\r\nno version is published yet: ask again in a second\n",
+    ),
+    (
+        "GET /validity?asn=64496&prefix=192.0.2.0/24 HTTP/1.1\r\nHost: a\r\n\r\n",
+        "\r\n\r\nno version is published yet: ask again in a second\n",
+    ),
+];
+
+#[test]
+fn nothing_is_said_of_records_before_a_version(rt: HostRuntime) -> Result<(), Fail> {
+    let begin =
+        "HTTP/1.1 503 Service Unavailable\r\nretry-after: 1\r\ncontent-type: text/plain; charset=utf-8\r\n";
+    for &(request, part) in EARLY {
+        let mut told = Small {
+            alloc: rt.alloc(),
+            index: None,
+        };
+        let (came, output) = visit_to(&rt, &mut told, request.as_bytes(), 4096)?;
+        assert!(rt; came == Some(Visit::Waits), "{request}");
+        assert!(rt; has(rt.alloc(), &output, begin, part)?, "{request}");
     }
     Ok(())
 }
