@@ -13,7 +13,7 @@ if ! mkfifo "$folder/asked" "$folder/answered"; then
     exit 1
 fi
 for name in cache_over_frames router_over_frames; do
-    built $name $name bash -c 'rt run <stdin' || exit
+    built $name $name bash -c 'rt run -- $(cat args 2>/dev/null) <stdin' || exit
 done
 cache=cache_over_frames/out/cache_over_frames
 router=router_over_frames/out/router_over_frames
@@ -26,12 +26,18 @@ expect() { # expect WHAT FOUND STATUS ERRORS, where FOUND is the status that was
 
 refuses() { # refuses PROGRAM ERROR HEX
     printf "$(sed 's/ //g; s/../\\x&/g' <<<"$3")" >"$folder/input"
-    timeout 20 "$1" <"$folder/input" >"$folder/output" 2>"$folder/errors"
+    local words=()
+    [ "$1" = "$cache" ] && words=(4660 5)
+    timeout 20 "$1" "${words[@]}" <"$folder/input" >"$folder/output" 2>"$folder/errors"
     expect "$1 at $3" $? 1 "Error: $2"$'\n'
 }
 
+# Without its names a cache does not start, as they must not be those of the run before.
+timeout 20 "$cache" </dev/null >"$folder/output" 2>"$folder/errors"
+expect 'a cache without names' $? 1 'Error: usage: cache_over_frames SESSION SERIAL'$'\n'
+
 # Joined, each ends by itself: the router once it holds what the cache has, and the cache where the router's frames end.
-timeout 20 "$cache" <"$folder/asked" >"$folder/answered" 2>"$folder/cache" &
+timeout 20 "$cache" 4660 5 <"$folder/asked" >"$folder/answered" 2>"$folder/cache" &
 timeout 20 "$router" >"$folder/asked" <"$folder/answered" 2>"$folder/errors"
 expect 'the router' $? 0 'session 4660, serial 5
 192.0.2.0/24 up to 24, AS64496
@@ -55,7 +61,7 @@ done
 # An input that ends inside a PDU, a PDU of a type that there is not, and an output that takes nothing.
 refuses "$cache" 'the input ended inside a PDU' '0003 010200'
 refuses "$cache" 'the connection ended by an Error Report' '0008 01630000 00000008'
-timeout 20 "$cache" <cache_over_frames/stdin >/dev/full 2>"$folder/errors"
+timeout 20 "$cache" 4660 5 <cache_over_frames/stdin >/dev/full 2>"$folder/errors"
 [ $? -eq 1 ] && [ -s "$folder/errors" ] || exit 1
 
 # An input that ends before the End of Data, also behind a Cache Response; that the cache has no data; another Error Report; and a PDU of a

@@ -2,6 +2,9 @@
 //! input, and the cache's go to standard output. Over any transport it does the same: it publishes, opens a connection, hands in what comes
 //! on it, sends what is due, and closes it in the end. The SSH subsystem `rpki-rtr` (RFC 8210 section 9.1) has these bytes without frames.
 //!
+//! Its words are the session and the serial of the first version. A cache that starts again without its earlier versions must not give a new
+//! set an old name (RFC 8210 section 5.1): it takes another session, or goes on with later serials, as by the seconds of a clock.
+//!
 //! Each loop is proved to end, so those that go on as long as frames come are counted.
 #![tactic(auto)]
 
@@ -10,14 +13,16 @@ use frames::{FrameReader, write_frame};
 use prefixes::{Asn, Vrp};
 use rtr_ends::{Cache, Conn, Timing};
 use std::alloc::Global;
+use std::env;
 use std::io::{self, Read, Write};
 use vrps::{VersionLog, VrpSet};
 
-/// The session (RFC 8210 section 5.1). A cache that starts without its earlier versions takes another one.
-const SESSION: u16 = 4660;
-
-/// The serial of the first version.
-const FIRST_SERIAL: u32 = 5;
+/// What the versions are called (RFC 8210 section 5.1): the session, and the serial of the first one.
+#[derive(Clone, Copy)]
+struct Names {
+    session: u16,
+    serial: u32,
+}
 
 /// How many versions before the current one are kept, to tell a router what changed since.
 const KEPT_VERSIONS: u32 = 16;
@@ -30,7 +35,8 @@ const PAYLOADS: [(&str, u8, Asn); 3] = [
 ];
 
 fn main(rt: HostRuntime) -> Result<()> {
-    let mut cache = published(rt.alloc())?;
+    let words = env::args(&rt)?.skip(1).collect(rt.alloc())?;
+    let mut cache = published(rt.alloc(), names(words.as_slice())?)?;
     let mut frames = FrameReader::new(rt.alloc(), rt.stdin());
     let conn = cache.open()?;
     let served = serve(&mut cache, conn, &mut frames, &mut rt.stdout());
@@ -38,13 +44,24 @@ fn main(rt: HostRuntime) -> Result<()> {
     served
 }
 
+/// The names that two words write.
+fn names(words: &[String]) -> Result<Names> {
+    match words {
+        [session, serial] => Ok(Names {
+            session: session.parse()?,
+            serial: serial.parse()?,
+        }),
+        _ => bail!("usage: cache_over_frames SESSION SERIAL"),
+    }
+}
+
 /// A cache that has published the payloads, and as yet has no connection.
-fn published(alloc: Global) -> Result<Cache<VersionLog>> {
+fn published(alloc: Global, names: Names) -> Result<Cache<VersionLog>> {
     let mut list = Vec::new(alloc);
     for (prefix, max_len, asn) in PAYLOADS {
         list.push(Vrp::new(prefix.parse()?, max_len, asn)?)?;
     }
-    let store = VersionLog::new(alloc, SESSION, FIRST_SERIAL, KEPT_VERSIONS)?;
+    let store = VersionLog::new(alloc, names.session, names.serial, KEPT_VERSIONS)?;
     let mut cache = Cache::new(alloc, store, Timing::default());
     cache.publish(VrpSet::from_list(list)?)?;
     Ok(cache)

@@ -2,6 +2,9 @@
 //! input, the router's go to standard output, and so what it holds in the end is printed on standard error. Over any transport it does the
 //! same: it connects, sends its question, hands in what comes, and looks at its link.
 //!
+//! A router that goes on calls `tick` when `due` has come, so a read from its transport has to end by then: data that are not refreshed expire
+//! (RFC 8210 section 6), and a cache that is silent is not awaited for ever. Here reads wait, and the clock is looked at after each.
+//!
 //! Each loop is proved to end, so those that go on as long as frames come are counted.
 #![tactic(auto)]
 
@@ -10,26 +13,46 @@ use frames::{FrameReader, write_frame};
 use prefixes::{IpPrefix, Route};
 use rtr_ends::{End, Link, Router};
 use std::io::{self, Read, Write};
+use std::time::{Clock, Instant};
 use vrps::Serial;
 
-/// One fetch looks at no clock, so each moment is this one, in seconds. A router that goes on hands in the moments of its clock, and calls
-/// `tick` when `due` has come.
-const NOW: u64 = 0;
+/// A clock of seconds that never goes back.
+#[derive(Clone, Copy)]
+struct Seconds<'a, C> {
+    rt: &'a C,
+    began: Instant,
+}
+
+impl<'a, C: Clock> Seconds<'a, C> {
+    /// It begins at 0.
+    fn new(rt: &'a C) -> io::Result<Seconds<'a, C>> {
+        Ok(Seconds {
+            rt,
+            began: Instant::now(rt)?,
+        })
+    }
+
+    fn now(&self) -> io::Result<u64> {
+        Ok(Instant::now(self.rt)?.duration_since(self.began).as_secs())
+    }
+}
 
 fn main(rt: HostRuntime) -> Result<()> {
     let mut router = Router::new(rt.alloc());
     let mut frames = FrameReader::new(rt.alloc(), rt.stdin());
-    router.connect(NOW);
-    fetch(&mut router, &mut frames, &mut rt.stdout())?;
-    router.closed(NOW);
+    let clock = Seconds::new(&rt)?;
+    router.connect(clock.now()?);
+    fetch(&mut router, &mut frames, &mut rt.stdout(), &clock)?;
+    router.closed(clock.now()?);
     report(&rt, &router)
 }
 
 /// Sends the router's question, which is a Reset Query as it holds nothing yet, and reads frames until that is answered.
-fn fetch<R: Read, W: Write>(
+fn fetch<R: Read, W: Write, C: Clock>(
     router: &mut Router,
     frames: &mut FrameReader<R>,
     output: &mut W,
+    clock: &Seconds<'_, C>,
 ) -> Result<()> {
     send_due(router, output)?;
     for _ in 0..u64::MAX {
@@ -39,7 +62,9 @@ fn fetch<R: Read, W: Write>(
         let Some(bytes) = frames.read_frame()? else {
             break;
         };
-        take(router, &bytes, output)?;
+        let now = clock.now()?;
+        router.tick(now);
+        take(router, &bytes, output, now)?;
     }
     bail!("the input ended before the End of Data");
 }
@@ -60,11 +85,11 @@ fn is_answered(router: &Router) -> Result<bool> {
     }
 }
 
-/// Hands in these bytes of the cache, and sends what becomes due to it.
-fn take<W: Write>(router: &mut Router, bytes: &[u8], output: &mut W) -> io::Result<()> {
+/// Hands in these bytes of the cache at a moment, and sends what becomes due to it.
+fn take<W: Write>(router: &mut Router, bytes: &[u8], output: &mut W, now: u64) -> io::Result<()> {
     let mut rest = bytes;
     for _ in 0..u64::MAX {
-        let taken = router.receive(rest, NOW);
+        let taken = router.receive(rest, now);
         send_due(router, output)?;
         if taken == 0 {
             break;
