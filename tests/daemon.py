@@ -92,6 +92,14 @@ class Daemon:
                 return found
         return None
 
+    def find_within(self, seconds, word, **values):
+        """The same, where it may take longer than PATIENCE."""
+        end = time.time() + seconds
+        while time.time() < end and self.ran.poll() is None:
+            if found := self.find(word, **values):
+                return found
+        return None
+
     def wait(self, word, **values):
         """The next line of that event with these values, as a table."""
         found = self.find(word, **values)
@@ -245,6 +253,13 @@ def words_and_starts():
     put("bad.json", '{"roas": [{"asn": 64496, "prefix": "192.0.2.0/24", "maxLength": 24}, {"asn": "AS01", "prefix": "192.0.2.0/24", "maxLength": 24}]}')
     status, out, err = ran(*free.split(), "bad.json")
     differs("a file that is refused", (status, "bad.json: entry 1 of roas cannot be read: asn is no AS number" in err), (1, True))
+    status, out, err = ran(b"--vrps", b"\xff")
+    differs("a word that is not UTF-8", (status, out, "UTF-8" in err), (2, "", True))
+    status, out, err = ran(*free.split(), "no\x1bsuch\nfile")
+    differs("a path that would break the line", (status, '"no\\u{1b}such\\nfile": ' in err, err.count("\n")), (3, True, 2))
+    status, out, err = ran("--log", "json", *free.split(), "no\x1bsuch\nfile")
+    last = json.loads(err.splitlines()[-1])
+    differs("the same as JSON", (status, last["event"], last["file"]), (3, "refused", "no\x1bsuch\nfile"))
     with socket.create_server(("127.0.0.1", 0)) as taken:
         at = f"127.0.0.1:{taken.getsockname()[1]}"
         status, out, err = ran("--listen", at, "--vrps", "list.json")
@@ -330,19 +345,19 @@ def manifest_of(number, begin, end, files):
     return element(48, element(2, bytes([number])) + times + element(6, bytes.fromhex("608648016503040201")) + element(48, listed))
 
 
-def put_point(number, until, asn, records, is_spoiled=False):
-    """Replaces the publication point: a manifest of this number up to a second, and one ROA, which stands for the object around it too."""
+def put_point(number, until, asn, records, is_spoiled=False, name="point"):
+    """Replaces a publication point: a manifest of this number up to a second, and one ROA, which stands for the object around it too."""
     roa = roa_of(asn, records)
     now = int(time.time())
-    for folder in "point.new/objects", "point.new/contents":
+    for folder in f"{name}.new/objects", f"{name}.new/contents":
         os.makedirs(folder)
         with open(f"{folder}/a.roa", "wb") as it:
             it.write(roa)
-    with open("point.new/manifest.der", "wb") as it:
+    with open(f"{name}.new/manifest.der", "wb") as it:
         it.write(manifest_of(number, now - 60 + number, until, {"a.roa": roa + b"x" if is_spoiled else roa}))
-    if os.path.exists("point"):
-        os.rename("point", f"point.{time.time_ns()}")
-    os.rename("point.new", "point")
+    if os.path.exists(name):
+        os.rename(name, f"{name}.{time.time_ns()}")
+    os.rename(f"{name}.new", name)
 
 
 def points():
@@ -376,6 +391,26 @@ def points():
     differs("a point that is not there", (status.returncode, b"nowhere" in status.stderr), (3, True))
 
 
+def two_points():
+    """Two publication points, each by its own manifests: the second's numbers do not count for the first."""
+    hour = int(time.time()) + 3600
+    put_point(7, hour, 64496, [("192.0.2.0/24", 24)], name="one")
+    put_point(3, hour, 64497, [("198.51.100.0/24", 26)], name="two")
+    with running("--points", "one", "--points", "two", "--listen", "127.0.0.1:0", "--check", "1", "--status", "127.0.0.1:0") as daemon:
+        at = int(daemon.wait("listening")["address"].rpartition(":")[2])
+        port = int(daemon.wait("status")["address"].rpartition(":")[2])
+        daemon.wait("ready")
+        router = Router(at)
+        differs("two points", router.catch_up(), {("192.0.2.0/24", 24, 64496), ("198.51.100.0/24", 26, 64497)})
+        put_point(4, hour, 64497, [("198.51.100.0/24", 25)], name="two")
+        daemon.wait("published", announced=1, withdrawn=1)
+        put_point(6, hour, 64496, [("192.0.2.0/24", 25)], name="one")
+        daemon.wait("refused", file="one")
+        differs("an older manifest of one", router.catch_up(), {("192.0.2.0/24", 24, 64496), ("198.51.100.0/24", 25, 64497)})
+        told = metrics_of(port)
+        differs("refused points in the metrics", [told.get(it) for it in ('rpkirtrd_file_refused{file="one"}', 'rpkirtrd_file_refused{file="two"}', 'rpkirtrd_reloads_total{result="refused"}')], [1, 0, 1])
+
+
 def point_gone():
     """A publication point that is gone stays until its nextUpdate, and no longer."""
     put_point(1, int(time.time()) + 4, 64496, [("192.0.2.0/24", 24)])
@@ -402,6 +437,170 @@ def pipe_for_a_file():
         daemon.wait("taken", file="list.json")
         daemon.wait("published", records=len(SECOND))
         differs("what is served after the pipe", Router(port).catch_up(), set(SECOND))
+
+
+def large_file():
+    """A file that is larger than it may be is refused, at the start too."""
+    small, large = text_of(FIRST), text_of(SECOND) + " " * 1000
+    most = str(len(small))
+    put("list.json", small)
+    with running("--vrps", "list.json", "--listen", "127.0.0.1:0", "--check", "1", "--max-size", most) as daemon:
+        port = daemon.listens()
+        put("list.json", large)
+        daemon.wait("refused", file="list.json", reason="it cannot be read: it has more bytes than --max-size allows")
+        differs("what is served with a file that is too large", Router(port).catch_up(), set(FIRST))
+        put("list.json", text_of(SECOND))
+        daemon.wait("taken", file="list.json")
+    put("list.json", large)
+    words = [program, "--vrps", "list.json", "--listen", "127.0.0.1:0", "--max-size", most]
+    status = subprocess.run(words, stdin=subprocess.DEVNULL, capture_output=True, timeout=PATIENCE)
+    differs("a start with a file that is too large", (status.returncode, b"--max-size" in status.stderr), (3, True))
+
+
+def silent_router():
+    """A router that sends no whole query within a minute is closed; one that asked is not."""
+    put("list.json", text_of(FIRST))
+    with running("--vrps", "list.json", "--listen", "127.0.0.1:0") as daemon:
+        port = daemon.listens()
+        began, silent, half, router = time.time(), Router(port), Router(port), Router(port)
+        half.socket.sendall(bytes.fromhex("010112340000000c0000"))
+        router.catch_up()
+        for _ in range(2):
+            gone = daemon.find_within(70, "client-gone")
+            differs("why a silent router leaves", (gone or {}).get("why"), "no-query")
+        differs("how long a silent router stays", 59 < time.time() - began < 65, True)
+        differs("its end", (silent.socket.recv(1), half.socket.recv(1)), (b"", b""))
+        differs("a router that asked", router.ask(), RESPONSE)
+
+
+def one_address():
+    """An address has so many clients at once, and IPv4 through an IPv6 socket is the same address."""
+    put("list.json", text_of(FIRST))
+    words = ["--vrps", "list.json", "--listen", "[::]:0", "--clients-per-address", "2"]
+    with running(*words) as daemon:
+        port = daemon.listens()
+        routers = [Router(port) for _ in range(2)]
+        for router in routers:
+            router.catch_up()
+            differs("the address of a router", daemon.wait("client-came")["address"].startswith("127.0.0.1:"), True)
+        differs("one too many of an address", Router(port).socket.recv(1), b"")
+        differs("how many it has", daemon.wait("address-full")["clients"], "2")
+        differs("another address", Router(port, family=socket.AF_INET6).catch_up(), set(FIRST))
+        routers.pop().close()
+        daemon.wait("client-gone")
+        differs("one more of the address", Router(port).catch_up(), set(FIRST))
+
+
+def kept_alive():
+    """The system asks a silent router whether it is still there."""
+    if not shutil.which("ss"):
+        return print("kept_alive: not tried, as there is no ss", flush=True)
+    put("list.json", text_of(FIRST))
+    with running("--vrps", "list.json", "--listen", "127.0.0.1:0") as daemon:
+        port = daemon.listens()
+        router = Router(port)
+        router.catch_up()
+        sockets = subprocess.run(["ss", "-Htno", f"sport = :{port}"], capture_output=True, text=True, timeout=PATIENCE).stdout
+        differs("the timer of a connection", re.findall(r"timer:\((\w+)", sockets), ["keepalive"])
+
+
+def old_by_its_file():
+    """A file that does not say when it was made is as old as the file, and so is one that says a time in milliseconds."""
+    for text in text_of(FIRST), json.dumps({"metadata": {"generated": int(time.time() * 1000)}, "roas": json.loads(text_of(FIRST))}):
+        put("list.json", text)
+        put("slurm.json", SLURM)
+        for name in "list.json", "slurm.json":
+            os.utime(name, (time.time() - 7200,) * 2)
+        words = ["--vrps", "list.json", "--slurm", "slurm.json", "--listen", "127.0.0.1:0", "--check", "1", "--max-age"]
+        with running(*words, "3600", "--stop-when-old") as daemon:
+            differs("the age of a file", 7200 <= int(daemon.wait("old", file="list.json")["age"]) < 7200 + PATIENCE, True)
+            differs("the end of the daemon", daemon.status(), 1)
+        with running(*words, "3600") as daemon:
+            port = int(daemon.wait("listening")["address"].rpartition(":")[2])
+            daemon.wait("old", file="list.json")
+            daemon.wait("ready")
+            os.utime("list.json")
+            daemon.wait("fresh", file="list.json")
+            differs("what is served of it", Router(port).catch_up(), set(FIRST))
+
+
+SLURM = json.dumps({"slurmVersion": 1, "validationOutputFilters": {"prefixFilters": [], "bgpsecFilters": []}, "locallyAddedAssertions": {"prefixAssertions": [], "bgpsecAssertions": []}})
+
+
+def own_session(listen, sources):
+    """The session that a daemon makes of the machine id, the host name, its addresses and its sources, if the machine has an id."""
+    machine, host = (open(it, "rb").read() if os.path.exists(it) else b"" for it in ("/etc/machine-id", "/proc/sys/kernel/hostname"))
+    if machine.strip() in (b"", b"uninitialized"):
+        return None
+    parts = [machine, host, listen.encode(), sources.encode()]
+    return int.from_bytes(hashlib.sha256(b"".join(struct.pack("!Q", len(it)) + it for it in parts)).digest()[:2], "big")
+
+
+def warnings_and_names():
+    """The session, what is said of --check below 60, and the session of version 0, which is the second of the start."""
+    put("list.json", text_of(FIRST))
+    put("slurm.json", SLURM)
+    with socket.create_server(("127.0.0.1", 0)) as it:
+        at = f"127.0.0.1:{it.getsockname()[1]}"
+    with running("--vrps", "list.json", "--slurm", "slurm.json", "--listen", at) as daemon:
+        session = int(daemon.wait("started")["session"])
+        differs("the session", own_session(f"{at}\n", "--vrps list.json\n--slurm slurm.json\n") in (None, session), True)
+    with running("--vrps", "list.json", "--listen", "127.0.0.1:0", "--check", "59") as daemon:
+        started = daemon.wait("started")
+        second = int(datetime.datetime.fromisoformat(started["time"].replace("Z", "+00:00")).timestamp())
+        differs("the session in version 0", int(started["session0"]), second % 65536)
+        differs("a warning", "RFC 8210 section 8.2" in daemon.wait("warning")["reason"], True)
+        daemon.wait("ready")
+    with running("--vrps", "list.json", "--listen", "127.0.0.1:0", "--check", "60") as daemon:
+        daemon.wait("ready")
+        differs("warnings", [it for it in daemon.said if " warning " in it and "8210" in it], [])
+
+
+def early_visitors():
+    """Before the first version is published the pages say so, and give no empty list."""
+    put("list.json", text_of(FIRST))
+    early = 0
+    for _ in range(20):
+        with running("--vrps", "list.json", "--listen", "127.0.0.1:0", "--status", "127.0.0.1:0") as daemon:
+            port = int(daemon.wait("status")["address"].rpartition(":")[2])
+            status, headers, body = got(port, "/vrps.json")
+            if status == 503:
+                early += 1
+                differs("how long to wait", headers.get("retry-after"), "1")
+                found = got(port, "/validity?asn=64496&prefix=192.0.2.0%2F24")[0]
+                differs("a route before the first version", found in (503, 200), True)
+            else:
+                differs("the list", (status, len(json.loads(body))), (200, len(FIRST)))
+            daemon.wait("ready")
+            differs("the list then", len(json.loads(got(port, "/vrps.json")[2])), len(FIRST))
+            if early == 3:
+                return
+    differs("answers before the first version", early, 3)
+
+
+def narrowed():
+    """Records of length 0 are left out if that is asked for, and counted."""
+    wide = [("0.0.0.0/0", 0, 64496), ("::/0", 48, 64498)]
+    put("list.json", text_of(FIRST + wide))
+    for words, records, left_out in ([], FIRST + wide, 0), (["--leave-out-length-0"], FIRST, 2):
+        with running("--vrps", "list.json", "--listen", "127.0.0.1:0", "--status", "127.0.0.1:0", *words) as daemon:
+            at = int(daemon.wait("listening")["address"].rpartition(":")[2])
+            port = int(daemon.wait("status")["address"].rpartition(":")[2])
+            daemon.wait("ready")
+            differs(f"what is served with {words}", Router(at).catch_up(), set(records))
+            differs(f"what is left out with {words}", metrics_of(port)["rpkirtrd_left_out_vrps"], left_out)
+
+
+def reasons():
+    """Why a route is invalid: its length if a record of its own AS covers it, and else its AS."""
+    put("list.json", text_of([("192.0.2.0/24", 24, 64496), ("10.0.0.0/16", 16, 1), ("10.0.0.0/16", 24, 2)]))
+    with running("--vrps", "list.json", "--listen", "127.0.0.1:0", "--status", "127.0.0.1:0") as daemon:
+        port = int(daemon.wait("status")["address"].rpartition(":")[2])
+        daemon.wait("ready")
+        for prefix, asn, reason in [("192.0.2.0/25", 64511, "as"), ("192.0.2.0/25", 64496, "length"), ("10.0.1.0/24", 1, "length"), ("10.0.1.0/25", 2, "length"), ("10.0.1.0/24", 3, "as")]:
+            body = got(port, f"/validity?asn={asn}&prefix={prefix.replace('/', '%2F')}")[2]
+            told = json.loads(body)["validated_route"]["validity"]
+            differs(f"why {prefix} of AS{asn} is invalid", (told["state"], told.get("reason")), ("invalid", reason))
 
 
 def close_streams():
@@ -709,7 +908,9 @@ def restarts():
             names.append((router.session, router.serial))
             differs("the session told", int(started["session"]), router.session)
             daemon.end()
-    differs("the sessions", len({session for session, _ in names}), 1)
+    with contextlib.suppress(OSError), open("/etc/machine-id") as it:
+        if it.read().strip() not in ("", "uninitialized"):
+            differs("the sessions", len({session for session, _ in names}), 1)
     serials = [serial for _, serial in names]
     differs("the serials", serials, sorted(set(serials)))
 
@@ -836,7 +1037,8 @@ def main():
     words.add_argument("--routes", type=int, default=300)
     given = words.parse_args()
     program, shim = os.path.abspath(given.program), given.shim and os.path.abspath(given.shim)
-    parts = [soak, silent_visitor, words_and_starts, tables, refused_files, sources, points, point_gone, pipe_for_a_file, no_streams, pages, restarts, limits, full_descriptors]
+    parts = [soak, silent_visitor, words_and_starts, tables, refused_files, sources, points, two_points, point_gone, pipe_for_a_file, large_file, no_streams, pages, restarts, limits, full_descriptors]
+    parts += [silent_router, one_address, kept_alive, old_by_its_file, warnings_and_names, early_visitors, reasons, narrowed]
     parts += ([routes] if given.rpkirtr else []) + ([refused_memory] if shim else [])
     with multiprocessing.get_context("fork").Pool(len(parts)) as pool:
         found = sum(pool.map(played, [it.__name__ for it in parts], chunksize=1))
