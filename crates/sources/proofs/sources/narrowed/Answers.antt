@@ -28,6 +28,6 @@ pub returns-clause-ok : goal.returns-clause-ok
 returns-clause-ok c =
     let w = c.in_ok-from_list.field-0 in (
       c.in_ok-set.ensures.ok.0 ∙ (λ i. union (without c.args.set w) (c.empty.ensures i)) ∙ withdrawn c.args.set w
-      ∙ ap (λ t. without c.args.set t) (c.in_ok-from_list.ensures.ok ∙ ap set_of c.in_ok-found.ensures),
+          ∙ ap (λ t. without c.args.set t) (c.in_ok-from_list.ensures.ok ∙ ap set_of c.in_ok-found.ensures),
       ap length (c.as_slice.ensures.value ∙ c.in_ok-found.ensures),
     )

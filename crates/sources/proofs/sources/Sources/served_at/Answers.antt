@@ -21,7 +21,7 @@ returns-in_err-all-clause-too_many c e =
       used = c.in_ok-payloads.field-0.items;
       in_use = c.in_ok-payloads.ensures;
       passes = inl (over_so _ _ (λ i. with_lists (c.in_ok-used.ensures.ok i) (c.as_slice.ensures.value i))
-      (c.all_of.ensures.too_many (same_fault c.from_residual-in_err-all.result c.all_of.result p.0 _ TooMany p.1 p.2 c.in_err-all.was e)));
+          (c.all_of.ensures.too_many (same_fault c.from_residual-in_err-all.result c.all_of.result p.0 _ TooMany p.1 p.2 c.in_err-all.was e)));
     }
 
 pub returns-in_err-left-clause-too_many : goal.returns-in_err-left-clause-too_many
@@ -31,7 +31,7 @@ returns-in_err-left-clause-too_many c e =
       used = c.in_ok-payloads.field-0.items;
       in_use = c.in_ok-payloads.ensures;
       passes = inr (over_so _ _ (ap (excepted_by c.args.self.now.exceptions) (c.in_ok-all.ensures.ok ∙ (λ i. with_lists (c.in_ok-used.ensures.ok i) (c.as_slice.ensures.value i))))
-      (c.excepted.ensures.too_many (same_fault c.from_residual-in_err-left.result c.excepted.result p.0 _ TooMany p.1 p.2 c.in_err-left.was e)));
+          (c.excepted.ensures.too_many (same_fault c.from_residual-in_err-left.result c.excepted.result p.0 _ TooMany p.1 p.2 c.in_err-left.was e)));
     }
 
 pub returns-clause-ok : goal.returns-clause-ok
