@@ -1,5 +1,5 @@
 //! What a run is asked for.
-ghost use Rattle.std.specs.Prelude.{◌≡◌, ◌≤◌, ◌+◌, true, IfSome, IsSome, vec_len};
+ghost use Rattle.std.specs.Prelude.{◌≡◌, ◌≤◌, ◌+◌, true, IsSome, vec_len};
 
 use daemon_parts::LogForm;
 use rtr_ends::Timing;
@@ -58,8 +58,6 @@ pub struct Settings {
     ghost reads: { 1 ≤ max_size },
     ghost serves: { 1 ≤ clients },
     ghost serves_to: { clients ≤ 4294967295 },
-    ghost serves_each: { IfSome clients_per_address (λ most. 1 ≤ most) },
     ghost waits: { 1 ≤ stall },
-    ghost ages_from: { IfSome max_age (λ age. (1 ≤ age) × (age ≤ 4294967295)) },
     ghost ages: { stop_when_old ≡ true → IsSome max_age },
 }

@@ -1,5 +1,5 @@
 //! What the words ask for.
-ghost use Rattle.std.specs.Prelude.{◌≡◌, ◌≤◌, ◌+◌, true, IfOk, IfSome, IsSome, vec_len};
+ghost use Rattle.std.specs.Prelude.{◌≡◌, ◌≤◌, ◌+◌, true, IfOk, IsSome, vec_len};
 
 use crate::fault::WordsFault;
 use crate::help::{help, version};
@@ -116,7 +116,6 @@ struct MaxAge {
     max_age: Option<u64>,
     stop_when_old: bool,
     ghost ages: { stop_when_old ≡ true → IsSome max_age },
-    ghost ages_from: { IfSome max_age (λ age. (1 ≤ age) × (age ≤ 4294967295)) },
 }
 
 fn age(alloc: Global, found: &ArgMatches<'_>) -> Result<MaxAge, WordsFault> {
