@@ -1,11 +1,11 @@
 -- What is counted of bytes, worked out.
-use Rattle.std.specs.Prelude.{◌≡◌, ℕ, ◌+◌, List, [], ◌∷◌, ◌++◌, take, Some, None, refl}
+use Rattle.std.specs.Prelude.{◌≡◌, ℕ, ◌+◌, true, false, List, [], ◌∷◌, ◌++◌, take, Some, None, refl}
 use Rattle.std.proofs.Common.{arith}
 use Rattle.rtr_pdu.specs.Unit.{unit_bytes}
 use Rattle.rtr_pdu.specs.declared.kind.Kind.TheVariants as kinds
-use Rattle.rtr_pdu.specs.declared.unit.Unit.TheVariants.{SerialNotify, ResetQuery, EndOfData, EndOfData0}
+use Rattle.rtr_pdu.specs.declared.unit.Unit.TheVariants.{SerialNotify, SerialQuery, ResetQuery, CacheReset, EndOfData, EndOfData0}
 use Rattle.rtr_pdu.specs.declared.version.Version.TheVariants.{V0, V1}
-use Rattle.rtr_server.specs.Counting.{capped, count_of, counted}
+use Rattle.rtr_server.specs.Counting.{asks, capped, count_of, counted, has_query}
 use Rattle.rtr_server.specs.Runs.{PassesMany, ShowsHeader, length_in, type_in}
 use Rattle.rtr_server.specs.declared.tally.Pdus.{Pdus}
 use Rattle.rtr_server.proofs.CountingLaws.{passes_one}
@@ -37,6 +37,17 @@ no_types = refl
 
 short : (counted (1 ∷ 2 ∷ 0 ∷ 0 ∷ 0 ∷ 0 ∷ 0 ∷ 0 ∷ 1 ∷ 2 ∷ 0 ∷ 0 ∷ 0 ∷ 0 ∷ 0 ∷ 8 ∷ [])).pdus ≡ these (0 ∷ 0 ∷ 2 ∷ 0 ∷ 0 ∷ 0 ∷ 0 ∷ 0 ∷ 0 ∷ 0 ∷ 0 ∷ [])
 short = refl
+
+-- A query is one at its last byte, in both versions; the header of a Serial Query is none, nor is another PDU (RFC 8210 sections 5.3 and 5.4).
+queries : (has_query (counted (unit_bytes V1 ResetQuery)).pdus ≡ true) × (has_query (counted (unit_bytes V0 (SerialQuery 0x1234 5))).pdus ≡ true) × (has_query (counted (unit_bytes V0 ResetQuery ++ 0 ∷ 1 ∷ [])).pdus ≡ true)
+queries = (refl, refl, refl)
+
+no_queries : (has_query (counted []).pdus ≡ false) × (has_query (counted (take 7 (unit_bytes V1 ResetQuery))).pdus ≡ false) × (has_query (counted (take 8 (unit_bytes V1 (SerialQuery 0x1234 5)))).pdus ≡ false)
+    × (has_query (counted (take 11 (unit_bytes V0 (SerialQuery 0x1234 5)))).pdus ≡ false) × (has_query (counted (unit_bytes V1 CacheReset ++ unit_bytes V1 (SerialNotify 0x1234 5))).pdus ≡ false)
+no_queries = (refl, refl, refl, refl, refl)
+
+asked : (asks (CacheReset ∷ SerialQuery 0x1234 5 ∷ []) ≡ true) × (asks (ResetQuery ∷ []) ≡ true) × (asks (SerialNotify 0x1234 5 ∷ CacheReset ∷ []) ≡ false) × (asks [] ≡ false)
+asked = (refl, refl, refl, refl)
 
 -- Counts stop at the greatest number of 64 bits.
 stops : (capped (18446744073709551615 + 1) ≡ 18446744073709551615) × (capped 18446744073709551615 ≡ 18446744073709551615) × (capped (2 + 1) ≡ 3)

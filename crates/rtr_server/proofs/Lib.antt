@@ -5,6 +5,7 @@ pub mod MemoryLaws
 pub mod NoticeLaws
 pub mod PastLaws
 pub mod PlaceLaws
+pub mod QueryLaws
 pub mod TurnLaws
 pub mod TurnRows
 pub mod UnitCounts

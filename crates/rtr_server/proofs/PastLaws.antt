@@ -18,7 +18,7 @@ use Rattle.rtr_ends.specs.declared.cache.Conn.{Conn as Number}
 use Rattle.rtr_ends.proofs.CacheStateLaws.{with_conn_at}
 use Rattle.rtr_ends.proofs.LifeLaws.{each_is_served}
 use Rattle.prefixes.proofs.Basics.{eq_of, eq_self, not_eq_of}
-use Rattle.rtr_server.specs.Clients.{Admits, Becomes, ClientIsServed, EachClientIsServed, GoesOnAfter, IsCounted, IsOn, KeepsAll, KeepsOthers, Leaves, OwesSo, Past, PublishesNew, PublishesSo, PublishesTo, Serves, ShowsClient, ShowsServer, Turned, and_calls, awaits, can_be_sent, clients_in, made, notified_below, present, slot_at}
+use Rattle.rtr_server.specs.Clients.{Admits, Becomes, ClientIsServed, EachClientIsServed, GoesOnAfter, IsCounted, IsOn, KeepsAll, KeepsOthers, Leaves, NoneBeforeQuery, OwesSo, Past, PublishesNew, PublishesSo, PublishesTo, Serves, ShowsClient, ShowsServer, Turned, and_calls, awaits, can_be_sent, clients_in, made, notified_below, present, slot_at}
 use Rattle.rtr_server.specs.Turns.{Anyhow, ClientState, ClientStep, EndsSo, Flow, GoesFrom, HandsIn, HasRoom, MaySteps, Notifies, Pulls, Reads, StandsSo, Writes, and_read, client_after, client_of, no_traffic, steps_after}
 use Rattle.rtr_server.specs.declared.server.Server.{Server}
 use Rattle.rtr_server.specs.declared.stream.Moved.{Moved}
@@ -27,6 +27,7 @@ use Rattle.rtr_server.specs.declared.turn.Traffic.{Traffic}
 use Rattle.rtr_server.specs.declared.turn.Turn.{Turn}
 use Rattle.rtr_server.specs.declared.turn.Turn.TheVariants.{Busy, Gone, WaitsToRead, WaitsToWrite}
 use Rattle.rtr_server.proofs.NoticeLaws as notices
+use Rattle.rtr_server.proofs.QueryLaws.{awaits_asked}
 use Rattle.rtr_server.proofs.TurnLaws.{cache_is, room_kept, set_twice}
 
 -- The steps of one client change no other connection.
@@ -153,6 +154,15 @@ module _ (c : ℕ) (start : CacheState) (rest : List CacheCall) (l : Life) (s : 
       let after = client_after m.keep m.timing (Writes count) a in
       same c m l (life rest start) (awaits rest start) (ran (calls_after steps) start) (life (calls_after steps) start) (awaits (calls_after steps) start) a a.unread after.unwritten after.traffic (follows steps)
 
+  -- The router is notified only where it awaits that, and so has asked.
+  pub are_asked : (steps : List ClientStep) → MaySteps m.keep m.timing steps s → NoneBeforeQuery rest start → NoneBeforeQuery (calls_after steps) start
+  are_asked [] may h = h
+  are_asked (HandsIn wanting ∷ steps) may h = are_asked steps may.1 h
+  are_asked (Pulls most ∷ steps) may h = are_asked steps may.1 h
+  are_asked (Notifies ∷ steps) may h = (awaits_asked (calls_after steps) start c ((follows steps).owed ∙ may.0), are_asked steps may.1 h)
+  are_asked (Reads bytes ∷ steps) may h = are_asked steps may.1 h
+  are_asked (Writes count ∷ steps) may h = are_asked steps may.1 h
+
 -- A cache that shows a state shows each that is the same.
 pub shows_same : {S : Type 0} (holds : ℕ → Instance → S → Type 0) (a b : CacheState) (cache : Cache S) → b.keep ≡ a.keep → b.timing ≡ a.timing → b.cache ≡ a.cache → ((d : ℕ) → b.at d ≡ a.at d) → ShowsCache holds a cache → ShowsCache holds b cache
 shows_same holds a b cache keep timing cached at shows = record {
@@ -185,6 +195,7 @@ module _ {S T : Type 0} (holds : ℕ → Instance → S → Type 0) (remaining c
   none_past was now same = record {
     first = shows.first;
     lawful = shows.lawful;
+    asked = shows.asked;
     shows = subst (ShowsCache holds state) (sym same) shows.shows;
     each = each_so (life p.calls (made p)) (awaits p.calls (made p)) (λ d is. refl) (λ d is. refl) (subst (λ x. ShowsClient remaining contents (p.begun c) c (life p.calls (made p) c) (awaits p.calls (made p) c) x) (was ∙ sym now) (shows.each c));
     most = most ∙ shows.most;
@@ -196,10 +207,12 @@ module _ {S T : Type 0} (holds : ℕ → Instance → S → Type 0) (remaining c
   drops_past none closed = record {
     first = shows.first;
     lawful = (tt, shows.lawful);
+    asked = shows.asked;
     shows = closed state shows.shows;
-    each = each_so (life (Close c ∷ p.calls) (made p)) (awaits p.calls (made p)) (λ d other. ap (λ b. if b then None else life p.calls (made p) d) other) (λ d other. refl)
-        (subst (λ k. ShowsClient remaining contents (p.begun c) c k (awaits p.calls (made p) c) (slot_at new.slots.items c)) (sym (ap (λ b. if b then None else life p.calls (made p) c) (eq_self c)))
-        (subst (λ y. ShowsClient remaining contents (p.begun c) c None (awaits p.calls (made p) c) y) (sym none) tt));
+    each = each_so (life (Close c ∷ p.calls) (made p)) (awaits (Close c ∷ p.calls) (made p)) (λ d other. ap (λ b. if b then None else life p.calls (made p) d) other)
+        (λ d other. ap (λ b. if b then false else awaits p.calls (made p) d) other)
+        (subst (λ k. ShowsClient remaining contents (p.begun c) c k (awaits (Close c ∷ p.calls) (made p) c) (slot_at new.slots.items c)) (sym (ap (λ b. if b then None else life p.calls (made p) c) (eq_self c)))
+        (subst (λ y. ShowsClient remaining contents (p.begun c) c None (awaits (Close c ∷ p.calls) (made p) c) y) (sym none) tt));
     most = most ∙ shows.most;
     count = counted shows.count;
   }
@@ -218,6 +231,7 @@ module _ {S T : Type 0} (holds : ℕ → Instance → S → Type 0) (remaining c
     record Led (calls : List CacheCall) (y : Slot T) (cache : Cache S) : Type 0 where
       pub own : AllByRecursion (IsOn c) calls
       pub lawful : AllByRecursion IsCacheCall (calls ++ p.calls)
+      pub asked : NoneBeforeQuery (calls ++ p.calls) (made p)
       pub shown : ShowsCache holds (ran (calls ++ p.calls) (made p)) cache
       pub now : Serving
       pub life_is : life (calls ++ p.calls) (made p) c ≡ Some (record l { serving = now })
@@ -236,6 +250,7 @@ module _ {S T : Type 0} (holds : ℕ → Instance → S → Type 0) (remaining c
           record {
             own = are_on c state.keep state.timing g.steps (client_of l.serving x);
             lawful = are_lawful c state.keep state.timing g.steps (client_of l.serving x) p.calls g.may shows.lawful;
+            asked = are_asked c (made p) p.calls l (client_of l.serving x) refl is at_is now_is (sym owed) g.steps g.may shows.asked;
             shown = shows_same holds (with_conn c (Some g.now.conn) state) (ran (calls_of c state.keep state.timing g.steps (client_of l.serving x) ++ p.calls) (made p)) cache h.keep h.timing h.cache
                 (at_all (Some g.now.conn) (ran (calls_of c state.keep state.timing g.steps (client_of l.serving x) ++ p.calls) (made p)) h.at h.others)
                 (subst (λ n. ShowsCache holds (with_conn n (Some g.now.conn) state) cache) number g.shows);
@@ -266,10 +281,12 @@ module _ {S T : Type 0} (holds : ℕ → Instance → S → Type 0) (remaining c
           record {
             first = shows.first;
             lawful = (tt, g.1.lawful);
+            asked = g.1.asked;
             shows = leaves.closed (ran (calls ++ p.calls) (made p)) g.1.shown;
-            each = each_so (life (Close c ∷ calls ++ p.calls) (made p)) (awaits (calls ++ p.calls) (made p)) (λ d other. ap (λ b. if b then None else life (calls ++ p.calls) (made p) d) other ∙ g.1.lives_are d other) g.1.waits_are
-                (subst (λ k. ShowsClient remaining contents (p.begun c) c k (awaits (calls ++ p.calls) (made p) c) (slot_at new.slots.items c)) (sym (ap (λ b. if b then None else life (calls ++ p.calls) (made p) c) (eq_self c)))
-                (subst (λ y. ShowsClient remaining contents (p.begun c) c None (awaits (calls ++ p.calls) (made p) c) y) (sym leaves.gone) tt));
+            each = each_so (life (Close c ∷ calls ++ p.calls) (made p)) (awaits (Close c ∷ calls ++ p.calls) (made p)) (λ d other. ap (λ b. if b then None else life (calls ++ p.calls) (made p) d) other ∙ g.1.lives_are d other)
+                (λ d other. ap (λ b. if b then false else awaits (calls ++ p.calls) (made p) d) other ∙ g.1.waits_are d other)
+                (subst (λ k. ShowsClient remaining contents (p.begun c) c k (awaits (Close c ∷ calls ++ p.calls) (made p) c) (slot_at new.slots.items c)) (sym (ap (λ b. if b then None else life (calls ++ p.calls) (made p) c) (eq_self c)))
+                (subst (λ y. ShowsClient remaining contents (p.begun c) c None (awaits (Close c ∷ calls ++ p.calls) (made p) c) y) (sym leaves.gone) tt));
             most = most ∙ shows.most;
             count = counted shows.count;
           },
@@ -285,6 +302,7 @@ module _ {S T : Type 0} (holds : ℕ → Instance → S → Type 0) (remaining c
           record {
             first = shows.first;
             lawful = g.1.lawful;
+            asked = g.1.asked;
             shows = g.1.shown;
             each = each_so (life (calls ++ p.calls) (made p)) (awaits (calls ++ p.calls) (made p)) g.1.lives_are g.1.waits_are
                 (subst (λ k. ShowsClient remaining contents (p.begun c) c k (awaits (calls ++ p.calls) (made p) c) (slot_at new.slots.items c)) (sym g.1.life_is)
@@ -323,6 +341,7 @@ module _ {S T : Type 0} (holds : ℕ → Instance → S → Type 0) (remaining c
   same_past same most count cache = record {
     first = shows.first;
     lawful = shows.lawful;
+    asked = shows.asked;
     shows = cache;
     each = λ d. subst (λ x. ShowsClient remaining contents (p.begun d) d (life p.calls (made p) d) (awaits p.calls (made p) d) x) (sym (same d)) (shows.each d);
     most = most ∙ shows.most;
@@ -345,6 +364,7 @@ module _ {S T : Type 0} (holds : ℕ → Instance → S → Type 0) (remaining c
         shows = record {
           first = shows.first;
           lawful = t.lawful (fits, shows.lawful);
+          asked = t.only_asked shows.asked;
           shows = subst (λ m. ShowsCache holds m new.cache) (sym t.ran_is) cache;
           each = t.each_is;
           most = most ∙ shows.most;
@@ -396,6 +416,7 @@ module _ {S T : Type 0} (holds : ℕ → Instance → S → Type 0) (remaining c
       shows = record {
         first = shows.first;
         lawful = (tt, shows.lawful);
+        asked = shows.asked;
         shows = cache;
         each = λ d. by_test d (d == c.0) refl;
         most = most ∙ shows.most;

@@ -12,6 +12,7 @@ use Rattle.rtr_ends.specs.Cache.{IsServed}
 use Rattle.rtr_ends.specs.CacheState.{CacheCall, CacheState, Close, IsCacheCall, IsLeastFree, Life, Notify, Open, Publish, Pull, Receive, ShowsCache, can_notify_at, joined, life, notified, ran, with_conn, without_conns}
 use Rattle.rtr_ends.specs.Timing.{Intervals}
 use Rattle.rtr_ends.specs.declared.cache.Cache.{Cache}
+use Rattle.rtr_server.specs.Counting.{counted, has_query}
 use Rattle.rtr_server.specs.Turns.{AnswersTurn, Anyhow, EndsSo, Flow, GoesFrom, HasRoom, client_of}
 use Rattle.rtr_server.specs.declared.server.AdmitFault.{AdmitFault}
 use Rattle.rtr_server.specs.declared.server.AdmitFault.TheVariants.{Memory, TooManyClients}
@@ -85,38 +86,48 @@ Serves holds remaining contents answers budget c (Some old) cache (Some turn) ne
 Serves holds remaining contents answers budget c None cache (Some turn) new after = ⊥
 Serves holds remaining contents answers budget c (Some old) cache None new after = ⊥
 
+-- Whether a client has asked: a whole query is counted of what came from it (RFC 8210 section 7).
+abbrev pub has_asked : {T : Type 0} → Option (Slot T) → Bool
+has_asked None = false
+has_asked (Some slot) = has_query slot.traffic.received.pdus
+
+-- a client that has asked
+abbrev pub asking : {T : Type 0} → Option (Slot T) → Option (Slot T)
+asking client = if has_asked client then client else None
+
 -- the router of a client is notified, if there is one
 abbrev pub notified_one : {T : Type 0} → Option (Slot T) → CacheState → CacheState
 notified_one None m = m
 notified_one (Some slot) m = notified slot.conn.0 m
 
--- the routers of the clients below a number, one after the other
+-- the routers of the clients below a number that have asked, one after the other
 abbrev pub notified_below : {T A : Type 0} → List (Option (Box (Slot T) A)) → ℕ → CacheState → CacheState
 notified_below slots zero m = m
-notified_below slots (suc n) m = notified_one (slot_at slots n) (notified_below slots n m)
+notified_below slots (suc n) m = notified_one (asking (slot_at slots n)) (notified_below slots n m)
 
--- A client is owed a notify exactly where it is not notified, and is else as it was.
+-- A client that has asked is owed a notify exactly where it is not notified; one that has not asked is owed none, as its first answer is current.
+-- It is else as it was.
 abbrev pub OwesSo : {T : Type 0} → Option (Slot T) → Bool → Option (Slot T) → Type 0
 OwesSo None told None = ⊤
-OwesSo (Some old) told (Some new) = new ≡ record old { is_owed = not told }
+OwesSo (Some old) told (Some new) = new ≡ record old { is_owed = has_asked (Some old) && not told }
 OwesSo None told (Some new) = ⊥
 OwesSo (Some old) told None = ⊥
 
--- A client is owed a notify exactly where it cannot be sent one.
+-- whether a client can be sent a notify
 abbrev pub can_be_sent : {T : Type 0} → Option (Slot T) → CacheState → Bool
 can_be_sent None m = false
 can_be_sent (Some slot) m = can_notify_at m.cache (m.at slot.conn.0)
 
 abbrev pub NotifiesAt : {S T : Type 0} → (ℕ → Instance → S → Type 0) → Option (Slot T) → CacheState → Option (Slot T) → Cache S → Type 0
-NotifiesAt holds old m new after = OwesSo old (can_be_sent old m) new × ShowsCache holds (notified_one old m) after
+NotifiesAt holds old m new after = OwesSo old (can_be_sent old m) new × ShowsCache holds (notified_one (asking old) m) after
 
--- Each client below a number was notified, or is owed a notify; the others are as they were.
+-- Each client below a number that has asked was notified, or is owed a notify; the others are as they were.
 pub record NotifiesBelow {S T A : Type 0} (holds : ℕ → Instance → S → Type 0) (start : List (Option (Box (Slot T) A))) (first : Cache S) (n : ℕ) (slots : List (Option (Box (Slot T) A))) (cache : Cache S) : Type 0 where
   pub shows : (m : CacheState) → ShowsCache holds m first → ShowsCache holds (notified_below start n m) cache
   pub owed : (m : CacheState) → ShowsCache holds m first → (c : ℕ) → c < n → OwesSo (slot_at start c) (can_be_sent (slot_at start c) (notified_below start c m)) (slot_at slots c)
   pub left : (c : ℕ) → ¬ (c < n) → slot_at slots c ≡ slot_at start c
 
--- Each client is notified of what is published, or is owed that; without a new version no client is touched.
+-- Each client that has asked is notified of what is published, or is owed that; without a new version no client is touched.
 abbrev pub PublishesSo : {S T A : Type 0} → (ℕ → Instance → S → Type 0) → CacheState → VrpSet → List (Option (Box (Slot T) A)) → Result Published AllocError → List (Option (Box (Slot T) A)) → Cache S → Type 0
 PublishesSo holds m set old (Ok (New serial)) new after =
     let now : CacheState = record m { cache = published set m.cache } in
@@ -125,13 +136,25 @@ PublishesSo holds m set old (Ok (New serial)) new after =
 PublishesSo holds m set old (Ok Unchanged) new after = (is_current m.cache.sets set ≡ true) × ShowsCache holds m after × (new ≡ old)
 PublishesSo holds m set old (Err error) new after = ShowsCache holds m after × (new ≡ old)
 
--- Whether a router awaits a notify: a new version was published since its connection was opened, and no notify went into it since.
+-- Whether a router has asked: a whole query is among the bytes that its connection consumed, and not its header alone.
+abbrev pub router_asked : Option Life → Bool
+router_asked None = false
+router_asked (Some l) = has_query (counted l.serving.came).pdus
+
+-- Whether a router awaits a notify: a new version was published since it asked, and no notify went into its connection since.
 abbrev pub awaits : List CacheCall → CacheState → ℕ → Bool
 awaits [] m c = false
-awaits (Publish set ∷ calls) m c = if is_current (ran calls m).cache.sets set then awaits calls m c else true
+awaits (Publish set ∷ calls) m c = if is_current (ran calls m).cache.sets set then awaits calls m c else router_asked (life calls m c)
 awaits (Open d ∷ calls) m c = if c == d then false else awaits calls m c
+awaits (Close d ∷ calls) m c = if c == d then false else awaits calls m c
 awaits (Notify d ∷ calls) m c = if c == d then awaits calls m c && not (can_notify_at (ran calls m).cache ((ran calls m).at d)) else awaits calls m c
 awaits (call ∷ calls) m c = awaits calls m c
+
+-- No router is notified before it asked.
+abbrev pub NoneBeforeQuery : List CacheCall → CacheState → Type 0
+NoneBeforeQuery [] m = ⊤
+NoneBeforeQuery (Notify c ∷ calls) m = (router_asked (life calls m c) ≡ true) × NoneBeforeQuery calls m
+NoneBeforeQuery (call ∷ calls) m = NoneBeforeQuery calls m
 
 -- What was left of a stream, and what was written to it, when it came
 pub record Begun : Type 0 where
@@ -168,6 +191,7 @@ ShowsClient remaining contents b c (Some l) waits None = ⊥
 pub record ShowsServer {S T : Type 0} (holds : ℕ → Instance → S → Type 0) (remaining contents : T → Option (List ℕ)) (p : Past) (server : Server S T) : Type 0 where
   pub first : IsInstance p.first
   pub lawful : AllByRecursion IsCacheCall p.calls
+  pub asked : NoneBeforeQuery p.calls (made p)
   pub shows : ShowsCache holds (present p) server.cache
   pub each : (c : ℕ) → ShowsClient remaining contents (p.begun c) c (life p.calls (made p) c) (awaits p.calls (made p) c) (slot_at server.slots.items c)
   pub most : server.most ≡ p.most
@@ -234,7 +258,7 @@ IsNotice call = ⊥
 abbrev pub can_be_told_of : VrpSet → Past → ℕ → Bool
 can_be_told_of set p c = can_notify_at (published set (present p).cache) ((present p).at c)
 
--- A new version was published, and routers were notified; each client that could not be is owed a notify, and is else as it was.
+-- A new version was published, and routers were notified; each client that has asked and could not be is owed a notify. It is else as it was.
 pub record PublishesNew {S T : Type 0} (holds : ℕ → Instance → S → Type 0) (remaining contents : T → Option (List ℕ)) (p : Past) (set : VrpSet) (serial : ℕ) (old new : Server S T) : Type 0 where
   pub differs : is_current (present p).cache.sets set ≡ false
   pub serial_is : serial ≡ serial_at (present p).cache.start (length (present p).cache.sets)

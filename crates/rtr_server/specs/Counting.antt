@@ -1,5 +1,5 @@
 -- How many PDUs of each type went one way, as their headers say (RFC 6810 section 5, RFC 8210 section 5).
-use Rattle.std.specs.Prelude.{ℕ, ◌+◌, ◌-◌, ◌^◌, min, max, ◌&&◌, nat_le, List, [], ◌∷◌, ◌++◌, take, replicate, slice_index, slice_set, Option, Some, None, if◌then◌else◌, ◌≡◌, suc, ◌==◌, false}
+use Rattle.std.specs.Prelude.{ℕ, ◌+◌, ◌-◌, ◌^◌, min, max, ◌&&◌, ◌||◌, nat_le, nat_lt, Bool, true, List, [], ◌∷◌, ◌++◌, take, replicate, slice_index, slice_set, Option, Some, None, if◌then◌else◌, ◌≡◌, suc, ◌==◌, false}
 use Rattle.vrps.specs.declared.serial.Serial.{Serial}
 use Rattle.prefixes.specs.declared.prefix.IpPrefix.{IpPrefix}
 use Rattle.prefixes.specs.declared.prefix.IpPrefix.TheVariants.{V4, V6}
@@ -20,6 +20,10 @@ capped n = min n (2 ^ 64 - 1)
 -- how many PDUs of a type
 abbrev pub count_of : Pdus → Kind → ℕ
 count_of pdus kind = slice_index pdus.counts (type_number kind)
+
+-- A query is among these PDUs: a Serial Query (RFC 8210 section 5.3) or a Reset Query (section 5.4).
+abbrev pub has_query : Pdus → Bool
+has_query pdus = nat_lt 0 (count_of pdus kinds.SerialQuery) || nat_lt 0 (count_of pdus kinds.ResetQuery)
 
 -- So many more of the type with this number. Numbers above ten stand for no type, and are not counted.
 abbrev pub and_pdus : ℕ → ℕ → Pdus → Pdus
@@ -110,3 +114,19 @@ abbrev pub CountsUnits : Type 0
 CountsUnits =
     (version : Version) (units : List Unit) (front rest : List ℕ) → AreRead version false units front → IsPartial version rest →
     ((kind : Kind) → count_of (counted (front ++ rest)).pdus kind ≡ capped (units_of kind units)) × ((counted (front ++ rest)).serial ≡ last_serial None units)
+
+abbrev pub is_query : Unit → Bool
+is_query (SerialQuery session serial) = true
+is_query ResetQuery = true
+is_query u = false
+
+-- whether a query is among these PDUs
+abbrev pub asks : List Unit → Bool
+asks [] = false
+asks (u ∷ units) = is_query u || asks units
+
+-- Of bytes that are read as these PDUs, with the beginning of one more, a query is counted exactly where one is among the PDUs: a header or
+-- another part of a query counts for nothing.
+abbrev pub CountsQueries : Type 0
+CountsQueries =
+    (version : Version) (units : List Unit) (front rest : List ℕ) → AreRead version false units front → IsPartial version rest → has_query (counted (front ++ rest)).pdus ≡ asks units

@@ -1,6 +1,6 @@
 //! Laws of the definitions and of servers. These functions do nothing: their contracts are the laws.
 ghost use Rattle.rtr_server.specs.Clients.{EachClientIsServed};
-ghost use Rattle.rtr_server.specs.Counting.{CountsUnits};
+ghost use Rattle.rtr_server.specs.Counting.{CountsQueries, CountsUnits};
 ghost use Rattle.rtr_server.specs.Turns.{MemoryEnds};
 
 use crate::server::Server;
@@ -23,4 +23,9 @@ pub fn memory_ends_its_client()
 /// the serial that the last End of Data among them carries.
 pub fn counts_units()
     ensures { CountsUnits }
+{}
+
+/// A query is counted exactly where one is among the PDUs that were read: no header and no other part of a query counts as one.
+pub fn counts_queries()
+    ensures { CountsQueries }
 {}

@@ -1,10 +1,10 @@
 //! One cache and many clients.
-ghost use Rattle.std.specs.Prelude.{◌≡◌, ◌+◌, ◌<◌, ℕ, false, true, [], ◌∷◌, IfErr, IfOk, Option, cond, length, option_map};
+ghost use Rattle.std.specs.Prelude.{◌≡◌, ◌+◌, ◌<◌, ◌&&◌, ℕ, false, true, not, [], ◌∷◌, IfErr, IfOk, Option, cond, if◌then◌else◌, length, option_map};
 ghost use Rattle.vrps.specs.Instance.{Instance, IsInstance, versions};
 ghost use Rattle.vrps.specs.Stores.{newest};
 ghost use Rattle.rtr_ends.specs.Timing.{Intervals};
-ghost use Rattle.rtr_ends.specs.CacheState.{CacheCall, CacheState, ShowsCache, joined, version_at, with_conn, without_conns};
-ghost use Rattle.rtr_server.specs.Clients.{AdmitsTo, Begun, GoesOnAfter, IsCounted, KeepsAll, KeepsOthers, NotifiesAt, NotifiesBelow, Past, PublishesSo, PublishesTo, Serves, ShowsServer, TakesTurn, admit_fault_number, clients_in, is_gone, present, slot_at};
+ghost use Rattle.rtr_ends.specs.CacheState.{CacheCall, CacheState, ShowsCache, can_notify_at, joined, life, notified, version_at, with_conn, without_conns};
+ghost use Rattle.rtr_server.specs.Clients.{AdmitsTo, Begun, GoesOnAfter, IsCounted, KeepsAll, KeepsOthers, NotifiesAt, NotifiesBelow, Past, PublishesSo, PublishesTo, Serves, ShowsServer, TakesTurn, admit_fault_number, clients_in, has_asked, is_gone, made, present, router_asked, slot_at};
 ghost use Rattle.rtr_server.specs.Turns.{no_traffic};
 
 use crate::stream::Stream;
@@ -124,7 +124,7 @@ impl<S: VersionStore, T: Stream + Drop> Server<S, T> {
         self.serve_one(client, budget)
     }
 
-    /// Publishes a set, and notifies the routers of all clients if it is new.
+    /// Publishes a set, and notifies the routers of all clients that have asked if it is new.
     fn publish_to_all(&mut self, set: VrpSet) -> Result<Published, AllocError>
         ensures publishes { (m : CacheState) → ShowsCache S.holds m self.old.cache → PublishesSo S.holds m set self.old.slots.items result self.new.slots.items self.new.cache }
         ensures most { self.new.most ≡ self.old.most }
@@ -137,9 +137,10 @@ impl<S: VersionStore, T: Stream + Drop> Server<S, T> {
         Ok(published)
     }
 
-    /// Publishes a set. Each client whose connection goes on and has nothing due is notified of a new version: the notify stands behind
-    /// what was pulled and is not written. Each other is owed a notify, which it gets as soon as nothing is due, before anything more is
-    /// handed in. Without memory nothing is published.
+    /// Publishes a set. Each client that has asked, whose connection goes on and has nothing due, is notified of a new version: the notify
+    /// stands behind what was pulled and is not written. Each other that has asked is owed a notify, which it gets as soon as nothing is due,
+    /// before anything more is handed in. A client that has not asked is sent none and owed none (RFC 8210 section 7): its first answer is of
+    /// the current version. Without memory nothing is published.
     pub fn publish(&mut self, set: VrpSet) -> Result<Published, AllocError>
         ensures { (p : Past) → ShowsServer S.holds T.remaining T.contents p self.old → PublishesTo S.holds T.remaining T.contents p set result self.old self.new }
     {
@@ -218,6 +219,18 @@ impl<S: VersionStore, T: Stream + Drop> Server<S, T> {
         }
     }
 
+    /// Whether a client has asked: a whole Serial Query or Reset Query came from it, of which its connection consumed the last byte. No header
+    /// alone is a query. False if there is no such client.
+    pub fn has_asked(&self, client: Client) -> bool
+        ensures counted { result ≡ has_asked (slot_at self.now.slots.items client.0.0) }
+        ensures past { (p : Past) → ShowsServer S.holds T.remaining T.contents p self.now → result ≡ router_asked (life p.calls (made p) client.0.0) }
+    {
+        match self.received(client) {
+            None => false,
+            Some(pdus) => pdus.has_query(),
+        }
+    }
+
     /// The serial of the last End of Data (RFC 8210 section 5.8) that was sent to a client: of the version that its router has, where it took
     /// all of its answers.
     pub fn last_serial(&self, client: Client) -> Option<Serial>
@@ -244,7 +257,14 @@ impl<S: VersionStore, T: Stream + Drop> Server<S, T> {
     }
 }
 
-/// Notifies the client under a number, or owes it a notify.
+/// Notifies a router that has asked, and says whether it is owed a notify: it is if it could not be sent one.
+fn owes<S: VersionStore>(cache: &mut Cache<S>, conn: Conn, asked: bool) -> bool
+    ensures { (m : CacheState) → ShowsCache S.holds m cache.old → (result ≡ (asked && not (can_notify_at m.cache (m.at conn.0)))) × ShowsCache S.holds (if asked then notified conn.0 m else m) cache.new }
+{
+    asked && !cache.notify(conn)
+}
+
+/// Notifies the client under a number, or owes it a notify, if it has asked.
 fn notify_at<S: VersionStore, T: Stream>(
     cache: &mut Cache<S>,
     slots: &mut Vec<Option<Box<Slot<T>>>>,
@@ -258,11 +278,14 @@ fn notify_at<S: VersionStore, T: Stream>(
 {
     match &mut slots[number] {
         None => {}
-        Some(slot) => slot.is_owed = !cache.notify(slot.conn),
+        Some(slot) => {
+            let asked = slot.traffic.received.pdus().has_query();
+            slot.is_owed = owes(cache, slot.conn, asked);
+        }
     }
 }
 
-/// Notifies all clients, or owes them a notify.
+/// Notifies all clients that have asked, or owes them a notify.
 fn notify_all<S: VersionStore, T: Stream>(
     cache: &mut Cache<S>,
     slots: &mut Vec<Option<Box<Slot<T>>>>,

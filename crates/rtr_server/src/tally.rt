@@ -1,7 +1,7 @@
 //! How many PDUs of each type went one way, as their headers say (RFC 6810 section 5, RFC 8210 section 5).
 ghost use Rattle.std.specs.Prelude.{◌≡◌, ◌+◌, ◌≤◌, ◌<◌, ◌-◌, ◌*◌, ◌^◌, ◌++◌, ◌∷◌, [], ◌&&◌, IfSome, length, max, min, take, drop, nat_le, nat_lt, slice_set, if◌then◌else◌, true};
 ghost use Rattle.rtr_pdu.specs.Stream.{type_of};
-ghost use Rattle.rtr_server.specs.Counting.{Counted, and_byte, and_many, and_pdu, and_pdus, and_whole, capped, count_of, counted_on, none_counted, serial_after, told_len};
+ghost use Rattle.rtr_server.specs.Counting.{Counted, and_byte, and_many, and_pdu, and_pdus, and_whole, capped, count_of, counted_on, has_query, none_counted, serial_after, told_len};
 ghost use Rattle.rtr_server.specs.Runs.{PassesMany, ShowsHeader, length_in, type_in};
 
 use byteorder::{BigEndian, ByteOrder};
@@ -29,6 +29,13 @@ impl Pdus {
         ensures { result ≡ count_of self.now kind }
     {
         self.counts[usize::from(kind.number())]
+    }
+
+    /// Whether a query is among them: a Serial Query (RFC 8210 section 5.3) or a Reset Query (section 5.4).
+    pub fn has_query(&self) -> bool
+        ensures { result ≡ has_query self.now }
+    {
+        self.of(Kind::SerialQuery) > 0 || self.of(Kind::ResetQuery) > 0
     }
 
     /// Counts so many more of the type with this number. Numbers above ten stand for no type, and are not counted.

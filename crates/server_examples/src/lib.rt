@@ -12,3 +12,5 @@ mod lines;
 mod notices;
 #[cfg(test)]
 mod orders;
+#[cfg(test)]
+mod queries;

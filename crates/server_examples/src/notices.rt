@@ -5,7 +5,7 @@ use crate::lines::{
 };
 use example_values::hex::bytes;
 use example_values::sets::{Row, V, W, set_of};
-use example_values::units::{RESET_QUERY, RESPONSE};
+use example_values::units::{ANSWER, RESET_QUERY, RESPONSE, all_of};
 use prefixes::{Asn, IpPrefix, Vrp};
 use rtr_ends::{Cache, Timing};
 use rtr_server::{Client, Server, Turn};
@@ -36,7 +36,7 @@ fn has(server: &Memory, serial: u32, records: usize) -> bool {
     }
 }
 
-/// Publishes the same set and another one for a client that waits.
+/// Publishes the same set and another one for a client that has its answer and waits.
 fn notify_idle<R: AllocGlobal + Abort>(
     rt: &R,
     server: &mut Memory,
@@ -45,7 +45,7 @@ fn notify_idle<R: AllocGlobal + Abort>(
 ) -> Result<(), Fail> {
     assert!(rt; waits(server, client, 9));
     publish(server, rt.alloc(), &[V])?;
-    assert!(rt; waits(server, client, 9) && len_of(out) == 0);
+    assert!(rt; waits(server, client, 9) && len_of(out) == 52);
     publish(server, rt.alloc(), &[W])?;
     assert!(rt; has(server, 6, 1));
     assert!(rt; waits(server, client, 9));
@@ -56,9 +56,10 @@ fn notify_idle<R: AllocGlobal + Abort>(
 fn an_idle_client_is_notified_at_once(rt: HostRuntime) -> Result<(), Fail> {
     let out = shared(rt.alloc(), &[])?;
     let mut server = server_of(rt.alloc(), &[V], 2)?;
-    let client = client_of(&mut server, rt.alloc(), &[], PLAIN, &out)?;
+    let query = bytes(RESET_QUERY);
+    let client = client_of(&mut server, rt.alloc(), query.as_slice(), PLAIN, &out)?;
     notify_idle(&rt, &mut server, client, &out)?;
-    assert!(rt; is_list(&out, bytes(NOTIFY_6).as_slice()));
+    assert!(rt; is_list(&out, all_of(&[ANSWER, NOTIFY_6]).as_slice()));
     Ok(())
 }
 
