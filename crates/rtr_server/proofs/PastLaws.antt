@@ -22,6 +22,7 @@ use Rattle.rtr_server.specs.Clients.{Admits, Becomes, ClientIsServed, EachClient
 use Rattle.rtr_server.specs.Turns.{Anyhow, ClientState, ClientStep, EndsSo, Flow, GoesFrom, HandsIn, HasRoom, MaySteps, Notifies, Pulls, Reads, StandsSo, Writes, and_read, client_after, client_of, no_traffic, steps_after}
 use Rattle.rtr_server.specs.declared.server.Server.{Server}
 use Rattle.rtr_server.specs.declared.stream.Moved.{Moved}
+use Rattle.rtr_server.specs.declared.turn.Parted.{Parted}
 use Rattle.rtr_server.specs.declared.turn.Slot.{Slot}
 use Rattle.rtr_server.specs.declared.turn.Traffic.{Traffic}
 use Rattle.rtr_server.specs.declared.turn.Turn.{Turn}
@@ -271,9 +272,9 @@ module _ {S T : Type 0} (holds : ℕ → Instance → S → Type 0) (remaining c
             by_test true e = ap n.at (eq_of d c e) ∙ here
             by_test false e = there d e
 
-    gone_past : (answers : T → Option (List Moved)) (budget : ℕ) (turn : Turn) → Leaves holds remaining contents answers budget c x old.cache turn (slot_at new.slots.items c) new.cache
+    gone_past : (answers : T → Option (List Moved)) (budget : ℕ) (turn : Turn) (parted : Option Parted) → Leaves holds remaining contents answers budget c x old.cache turn (slot_at new.slots.items c) new.cache parted
         → (own : List CacheCall) × AllByRecursion (IsOn c) own × ShowsServer holds remaining contents (and_calls (Close c ∷ own) p) new
-    gone_past answers budget turn leaves =
+    gone_past answers budget turn parted leaves =
         let g = led leaves.last leaves.between (EndsSo turn (remaining leaves.last.stream)) leaves.turned.goes in
         let calls = g.0 in (
           calls,
@@ -313,14 +314,15 @@ module _ {S T : Type 0} (holds : ℕ → Instance → S → Type 0) (remaining c
         )
 
   -- One turn of a client
-  pub goes_past : (answers : T → Option (List Moved)) (budget : ℕ) (turn : Option Turn) → Serves holds remaining contents answers budget c (slot_at old.slots.items c) old.cache turn (slot_at new.slots.items c) new.cache
+  pub goes_past : (answers : T → Option (List Moved)) (budget : ℕ) (turn : Option Turn) (parted : Option Parted)
+      → Serves holds remaining contents answers budget c (slot_at old.slots.items c) old.cache turn (slot_at new.slots.items c) new.cache parted
       → GoesOnAfter holds remaining contents p c turn new
-  goes_past answers budget turn serves = by_slot (slot_at old.slots.items c) refl (slot_at new.slots.items c) refl turn serves
+  goes_past answers budget turn parted serves = by_slot (slot_at old.slots.items c) refl (slot_at new.slots.items c) refl turn serves
     where
       by_life : (x : Slot T) (l : Option Life) → life p.calls (made p) c ≡ l → ShowsClient remaining contents (p.begun c) c l (awaits p.calls (made p) c) (Some x) → (b : Option (Slot T)) → slot_at new.slots.items c ≡ b → (t : Turn)
-          → Becomes holds remaining contents answers budget c x old.cache t b new.cache → GoesOnAfter holds remaining contents p c (Some t) new
+          → Becomes holds remaining contents answers budget c x old.cache t b new.cache parted → GoesOnAfter holds remaining contents p c (Some t) new
       by_life x None is h b there t told = absurd h
-      by_life x (Some l) is h b there (Gone how) told = gone_past x l is h.0 h.1 h.2 h.3 answers budget (Gone how) (subst (λ y. Leaves holds remaining contents answers budget c x old.cache (Gone how) y new.cache) (sym there) told)
+      by_life x (Some l) is h b there (Gone how) told = gone_past x l is h.0 h.1 h.2 h.3 answers budget (Gone how) parted (subst (λ y. Leaves holds remaining contents answers budget c x old.cache (Gone how) y new.cache parted) (sym there) told)
       by_life x (Some l) is h None there WaitsToRead told = absurd told
       by_life x (Some l) is h None there WaitsToWrite told = absurd told
       by_life x (Some l) is h None there Busy told = absurd told
@@ -328,7 +330,7 @@ module _ {S T : Type 0} (holds : ℕ → Instance → S → Type 0) (remaining c
       by_life x (Some l) is h (Some y) there WaitsToWrite told = stays_past x l is h.0 h.1 h.2 h.3 answers budget WaitsToWrite y there told
       by_life x (Some l) is h (Some y) there Busy told = stays_past x l is h.0 h.1 h.2 h.3 answers budget Busy y there told
 
-      by_slot : (a : Option (Slot T)) → slot_at old.slots.items c ≡ a → (b : Option (Slot T)) → slot_at new.slots.items c ≡ b → (turn : Option Turn) → Serves holds remaining contents answers budget c a old.cache turn b new.cache
+      by_slot : (a : Option (Slot T)) → slot_at old.slots.items c ≡ a → (b : Option (Slot T)) → slot_at new.slots.items c ≡ b → (turn : Option Turn) → Serves holds remaining contents answers budget c a old.cache turn b new.cache parted
           → GoesOnAfter holds remaining contents p c turn new
       by_slot None was b there None h = none_past was (there ∙ h.0) h.1
       by_slot None was b there (Some t) h = absurd h

@@ -4,12 +4,13 @@ use Rattle.std.proofs.Common.{sym, ap, ◌∙◌, subst, arith, get_or}
 use Rattle.std.proofs.lemmas.List.Sums.{sum_by-set, sum_by_push}
 use Rattle.std.proofs.lemmas.Option.{slice_get-get_or}
 use Rattle.vrps.specs.Instance.{Instance}
-use Rattle.rtr_ends.specs.CacheState.{CacheState, ShowsCache, joined, with_conn}
+use Rattle.rtr_ends.specs.CacheState.{CacheState, ShowsCache, joined, version_at, with_conn}
 use Rattle.rtr_ends.specs.declared.cache.Cache.{Cache}
 use Rattle.rtr_ends.proofs.TableLaws.{false_true}
 use Rattle.prefixes.proofs.Basics.{set_other, set_same}
-use Rattle.rtr_server.specs.Clients.{KeepsAll, KeepsOthers, Serves, TakesTurn, Turned, clients_in, is_gone, slot_at, slot_value}
+use Rattle.rtr_server.specs.Clients.{KeepsAll, KeepsOthers, Serves, TakesTurn, Turned, clients_in, is_gone, parted_last, slot_at, slot_value}
 use Rattle.rtr_server.specs.declared.stream.Moved.{Moved}
+use Rattle.rtr_server.specs.declared.turn.Parted.{Parted}
 use Rattle.rtr_server.specs.declared.turn.Slot.{Slot}
 use Rattle.rtr_server.specs.declared.turn.Turn.{Turn}
 use Rattle.rtr_server.specs.declared.turn.Turn.TheVariants.{Busy, Gone, WaitsToRead, WaitsToWrite}
@@ -58,18 +59,20 @@ module _ {S T A : Type 0} (holds : ℕ → Instance → S → Type 0) (remaining
       (subst (λ y. TakesTurn holds remaining contents answers budget (Some old) cache (Some turn) y after) (sym (slot_set slots n new low)) turned)
 
   -- a client that went, and whose place is emptied
-  pub gone_serves : (c number : ℕ) → number ≡ c → (old mid new : List (Option (Box (Slot T) A))) (cache between after : Cache S) (turn : Option Turn) → true ≡ is_gone turn
+  pub gone_serves : (c number : ℕ) → number ≡ c → (old mid new : List (Option (Box (Slot T) A))) (cache between after : Cache S) (turn : Option Turn) (before parted : Option Parted) → true ≡ is_gone turn
       → TakesTurn holds remaining contents answers budget (slot_at old number) cache turn (slot_at mid number) between → slot_at new c ≡ None
       → ((m : CacheState) → ShowsCache holds m between → ShowsCache holds (with_conn c None m) after)
-      → Serves holds remaining contents answers budget c (slot_at old c) cache turn (slot_at new c) after
-  gone_serves c number e old mid new cache between after turn is turns gone closed =
-      by_slot (slot_at old c) (slot_at mid c) turn is (subst (λ n. TakesTurn holds remaining contents answers budget (slot_at old n) cache turn (slot_at mid n) between) e turns)
+      → ((m : CacheState) → ShowsCache holds m between → parted ≡ parted_last (version_at (m.at c)) (slot_at mid c) before)
+      → Serves holds remaining contents answers budget c (slot_at old c) cache turn (slot_at new c) after parted
+  gone_serves c number e old mid new cache between after turn before parted is turns gone closed counted =
+      by_slot (slot_at old c) (slot_at mid c) turn is (subst (λ n. TakesTurn holds remaining contents answers budget (slot_at old n) cache turn (slot_at mid n) between) e turns) counted
     where
-      by_slot : (a b : Option (Slot T)) (turn : Option Turn) → true ≡ is_gone turn → TakesTurn holds remaining contents answers budget a cache turn b between → Serves holds remaining contents answers budget c a cache turn (slot_at new c) after
-      by_slot a b None is h = false_true (sym is)
-      by_slot None b (Some t) is h = absurd h
-      by_slot (Some x) None (Some t) is h = absurd h
-      by_slot (Some x) (Some y) (Some (Gone how)) is h = record { last = y; between = between; turned = h; gone = gone; closed = closed }
-      by_slot (Some x) (Some y) (Some WaitsToRead) is h = false_true (sym is)
-      by_slot (Some x) (Some y) (Some WaitsToWrite) is h = false_true (sym is)
-      by_slot (Some x) (Some y) (Some Busy) is h = false_true (sym is)
+      by_slot : (a b : Option (Slot T)) (turn : Option Turn) → true ≡ is_gone turn → TakesTurn holds remaining contents answers budget a cache turn b between
+          → ((m : CacheState) → ShowsCache holds m between → parted ≡ parted_last (version_at (m.at c)) b before) → Serves holds remaining contents answers budget c a cache turn (slot_at new c) after parted
+      by_slot a b None is h kept = false_true (sym is)
+      by_slot None b (Some t) is h kept = absurd h
+      by_slot (Some x) None (Some t) is h kept = absurd h
+      by_slot (Some x) (Some y) (Some (Gone how)) is h kept = record { last = y; between = between; turned = h; gone = gone; closed = closed; counted = kept }
+      by_slot (Some x) (Some y) (Some WaitsToRead) is h kept = false_true (sym is)
+      by_slot (Some x) (Some y) (Some WaitsToWrite) is h kept = false_true (sym is)
+      by_slot (Some x) (Some y) (Some Busy) is h kept = false_true (sym is)

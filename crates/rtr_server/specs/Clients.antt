@@ -1,7 +1,8 @@
 -- One cache and many clients.
-use Rattle.std.specs.Prelude.{◌≡◌, ℕ, zero, suc, ◌<◌, ◌≤◌, ◌==◌, Bool, true, false, not, ◌&&◌, List, [], ◌∷◌, ◌++◌, Box, Option, Some, None, Result, Ok, Err, is_some, length, slice_get, if◌then◌else◌, ⊤}
+use Rattle.std.specs.Prelude.{◌≡◌, ℕ, zero, suc, ◌<◌, ◌≤◌, ◌==◌, Bool, true, false, not, ◌&&◌, List, [], ◌∷◌, ◌++◌, Box, Option, Some, None, Result, Ok, Err, is_some, length, option_map, slice_get, if◌then◌else◌, ⊤}
 use Rattle.std.specs.declared.alloc.AllocError.{AllocError}
 use Rattle.std.specs.List.{AllByRecursion, count_by}
+use Rattle.std.specs.Option.{option_or}
 use Rattle.vrps.specs.Instance.{Instance, IsInstance}
 use Rattle.vrps.specs.Serial.{serial_at}
 use Rattle.vrps.specs.Store.{is_current, published}
@@ -9,8 +10,9 @@ use Rattle.vrps.specs.VrpSet.{VrpSet}
 use Rattle.vrps.specs.declared.store.Published.{Published}
 use Rattle.vrps.specs.declared.store.Published.TheVariants.{New, Unchanged}
 use Rattle.rtr_ends.specs.Cache.{IsServed}
-use Rattle.rtr_ends.specs.CacheState.{CacheCall, CacheState, Close, IsCacheCall, IsLeastFree, Life, Notify, Open, Publish, Pull, Receive, ShowsCache, can_notify_at, joined, life, notified, ran, with_conn, without_conns}
+use Rattle.rtr_ends.specs.CacheState.{CacheCall, CacheState, Close, IsCacheCall, IsLeastFree, Life, Notify, Open, Publish, Pull, Receive, ShowsCache, can_notify_at, joined, life, notified, ran, version_at, with_conn, without_conns}
 use Rattle.rtr_ends.specs.Timing.{Intervals}
+use Rattle.rtr_pdu.specs.declared.version.Version.{Version}
 use Rattle.rtr_ends.specs.declared.cache.Cache.{Cache}
 use Rattle.rtr_server.specs.Counting.{counted, has_query}
 use Rattle.rtr_server.specs.Turns.{AnswersTurn, Anyhow, EndsSo, Flow, GoesFrom, HasRoom, client_of}
@@ -19,6 +21,7 @@ use Rattle.rtr_server.specs.declared.server.AdmitFault.TheVariants.{Memory, TooM
 use Rattle.rtr_server.specs.declared.server.Client.{Client}
 use Rattle.rtr_server.specs.declared.server.Server.{Server}
 use Rattle.rtr_server.specs.declared.stream.Moved.{Moved}
+use Rattle.rtr_server.specs.declared.turn.Parted.{Parted}
 use Rattle.rtr_server.specs.declared.turn.Slot.{Slot}
 use Rattle.rtr_server.specs.declared.turn.Turn.{Turn}
 use Rattle.rtr_server.specs.declared.turn.Turn.TheVariants.{Gone}
@@ -65,26 +68,36 @@ TakesTurn holds remaining contents answers budget None cache (Some turn) new aft
 TakesTurn holds remaining contents answers budget (Some old) cache None new after = ⊥
 TakesTurn holds remaining contents answers budget (Some old) cache (Some turn) None after = ⊥
 
--- A client took a turn that ended so, and then it went, and its connection was closed: all other connections are as they were.
-pub record Leaves {S T : Type 0} (holds : ℕ → Instance → S → Type 0) (remaining contents : T → Option (List ℕ)) (answers : T → Option (List Moved)) (budget c : ℕ) (old : Slot T) (cache : Cache S) (turn : Turn) (new : Option (Slot T)) (after : Cache S) : Type 0 where
+-- what is counted of a client that speaks in this version
+abbrev pub parted_of : {T : Type 0} → Option Version → Slot T → Parted
+parted_of version slot = record { carried = slot.traffic.carried; received = slot.traffic.received.pdus; sent = slot.traffic.sent.pdus; version = version }
+
+-- What was counted of the client that left last: of this one, if one was there, else as before
+abbrev pub parted_last : {T : Type 0} → Option Version → Option (Slot T) → Option Parted → Option Parted
+parted_last version client before = option_or (option_map (parted_of version) client) before
+
+-- A client took a turn that ended so, and then it went, and its connection was closed: all other connections are as they were. What was
+-- counted of it to its end is kept.
+pub record Leaves {S T : Type 0} (holds : ℕ → Instance → S → Type 0) (remaining contents : T → Option (List ℕ)) (answers : T → Option (List Moved)) (budget c : ℕ) (old : Slot T) (cache : Cache S) (turn : Turn) (new : Option (Slot T)) (after : Cache S) (parted : Option Parted) : Type 0 where
   pub last : Slot T
   pub between : Cache S
   pub turned : Turned holds remaining contents answers budget old cache turn last between
   pub gone : new ≡ None
   pub closed : (m : CacheState) → ShowsCache holds m between → ShowsCache holds (with_conn c None m) after
+  pub counted : (m : CacheState) → ShowsCache holds m between → parted ≡ Some (parted_of (version_at (m.at c)) last)
 
 -- What became of a client by a turn: it stays, or it is gone.
-abbrev pub Becomes : {S T : Type 0} → (ℕ → Instance → S → Type 0) → (T → Option (List ℕ)) → (T → Option (List ℕ)) → (T → Option (List Moved)) → ℕ → ℕ → Slot T → Cache S → Turn → Option (Slot T) → Cache S → Type 0
-Becomes holds remaining contents answers budget c old cache (Gone how) new after = Leaves holds remaining contents answers budget c old cache (Gone how) new after
-Becomes holds remaining contents answers budget c old cache turn None after = ⊥
-Becomes holds remaining contents answers budget c old cache turn (Some new) after = Turned holds remaining contents answers budget old cache turn new after
+abbrev pub Becomes : {S T : Type 0} → (ℕ → Instance → S → Type 0) → (T → Option (List ℕ)) → (T → Option (List ℕ)) → (T → Option (List Moved)) → ℕ → ℕ → Slot T → Cache S → Turn → Option (Slot T) → Cache S → Option Parted → Type 0
+Becomes holds remaining contents answers budget c old cache (Gone how) new after parted = Leaves holds remaining contents answers budget c old cache (Gone how) new after parted
+Becomes holds remaining contents answers budget c old cache turn None after parted = ⊥
+Becomes holds remaining contents answers budget c old cache turn (Some new) after parted = Turned holds remaining contents answers budget old cache turn new after
 
 -- What became of the client under a number: where there is none, nothing.
-abbrev pub Serves : {S T : Type 0} → (ℕ → Instance → S → Type 0) → (T → Option (List ℕ)) → (T → Option (List ℕ)) → (T → Option (List Moved)) → ℕ → ℕ → Option (Slot T) → Cache S → Option Turn → Option (Slot T) → Cache S → Type 0
-Serves holds remaining contents answers budget c None cache None new after = (new ≡ None) × (after ≡ cache)
-Serves holds remaining contents answers budget c (Some old) cache (Some turn) new after = Becomes holds remaining contents answers budget c old cache turn new after
-Serves holds remaining contents answers budget c None cache (Some turn) new after = ⊥
-Serves holds remaining contents answers budget c (Some old) cache None new after = ⊥
+abbrev pub Serves : {S T : Type 0} → (ℕ → Instance → S → Type 0) → (T → Option (List ℕ)) → (T → Option (List ℕ)) → (T → Option (List Moved)) → ℕ → ℕ → Option (Slot T) → Cache S → Option Turn → Option (Slot T) → Cache S → Option Parted → Type 0
+Serves holds remaining contents answers budget c None cache None new after parted = (new ≡ None) × (after ≡ cache)
+Serves holds remaining contents answers budget c (Some old) cache (Some turn) new after parted = Becomes holds remaining contents answers budget c old cache turn new after parted
+Serves holds remaining contents answers budget c None cache (Some turn) new after parted = ⊥
+Serves holds remaining contents answers budget c (Some old) cache None new after parted = ⊥
 
 -- Whether a client has asked: a whole query is counted of what came from it (RFC 8210 section 7).
 abbrev pub has_asked : {T : Type 0} → Option (Slot T) → Bool

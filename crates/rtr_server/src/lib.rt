@@ -32,4 +32,4 @@ mod turn;
 pub use server::{AdmitFault, Client, Server};
 pub use stream::{Duplex, Moved, Stream};
 pub use tally::Pdus;
-pub use turn::{Carried, Gone, Turn};
+pub use turn::{Carried, Gone, Parted, Turn};

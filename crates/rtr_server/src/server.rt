@@ -4,12 +4,12 @@ ghost use Rattle.vrps.specs.Instance.{Instance, IsInstance, versions};
 ghost use Rattle.vrps.specs.Stores.{newest};
 ghost use Rattle.rtr_ends.specs.Timing.{Intervals};
 ghost use Rattle.rtr_ends.specs.CacheState.{CacheCall, CacheState, ShowsCache, can_notify_at, joined, life, notified, version_at, with_conn, without_conns};
-ghost use Rattle.rtr_server.specs.Clients.{AdmitsTo, Begun, GoesOnAfter, IsCounted, KeepsAll, KeepsOthers, NotifiesAt, NotifiesBelow, Past, PublishesSo, PublishesTo, Serves, ShowsServer, TakesTurn, admit_fault_number, clients_in, has_asked, is_gone, made, present, router_asked, slot_at};
+ghost use Rattle.rtr_server.specs.Clients.{AdmitsTo, Begun, GoesOnAfter, IsCounted, KeepsAll, KeepsOthers, NotifiesAt, NotifiesBelow, Past, PublishesSo, PublishesTo, Serves, ShowsServer, TakesTurn, admit_fault_number, clients_in, has_asked, is_gone, made, parted_last, parted_of, present, router_asked, slot_at};
 ghost use Rattle.rtr_server.specs.Turns.{no_traffic};
 
 use crate::stream::Stream;
 use crate::tally::Pdus;
-use crate::turn::{Carried, Slot, Turn};
+use crate::turn::{Carried, Parted, Slot, Turn};
 use rtr_ends::{Cache, Conn};
 use rtr_pdu::Version;
 use std::alloc::{AllocError, Global};
@@ -58,13 +58,16 @@ pub struct Server<S, T> {
     /// How many are there.
     count: usize,
     slots: Vec<Option<Box<Slot<T>>>>,
+    /// What was counted of the client that left last.
+    parted: Option<Parted>,
 }
 
 impl<S: VersionStore, T: Stream + Drop> Server<S, T> {
     /// A server of this cache, which has no connection, for so many clients at most. It takes no memory.
     pub fn new(alloc: Global, cache: Cache<S>, most: usize) -> Server<S, T>
-        ensures { (keep : ℕ) (timing : Intervals) (i : Instance) (begun : ℕ → Begun) → IsInstance i → ShowsCache S.holds (without_conns keep timing i) cache →
+        ensures past { (keep : ℕ) (timing : Intervals) (i : Instance) (begun : ℕ → Begun) → IsInstance i → ShowsCache S.holds (without_conns keep timing i) cache →
             ShowsServer S.holds T.remaining T.contents (record { keep = keep; timing = timing; first = i; most = most; calls = []; begun = begun }) result }
+        ensures parted { result.parted ≡ Option.None }
     {
         Server {
             alloc,
@@ -72,13 +75,15 @@ impl<S: VersionStore, T: Stream + Drop> Server<S, T> {
             most,
             count: 0,
             slots: Vec::new(alloc),
+            parted: None,
         }
     }
 
     /// Admits a client. Its number is the least that no client has. `TooManyClients` comes exactly where as many are there as may be; after
     /// it and after `Memory` the stream is dropped, and all clients are as they were.
     pub fn admit(&mut self, stream: T) -> Result<Client, AdmitFault>
-        ensures { (p : Past) → ShowsServer S.holds T.remaining T.contents p self.old → AdmitsTo S.holds T.remaining T.contents p stream result self.old self.new }
+        ensures admits { (p : Past) → ShowsServer S.holds T.remaining T.contents p self.old → AdmitsTo S.holds T.remaining T.contents p stream result self.old self.new }
+        ensures parted { self.new.parted ≡ self.old.parted }
     {
         if self.count >= self.most {
             return Err(AdmitFault::TooManyClients);
@@ -101,7 +106,8 @@ impl<S: VersionStore, T: Stream + Drop> Server<S, T> {
     /// One turn of a client, and its end where it is gone.
     fn serve_one(&mut self, client: Client, budget: u32) -> Option<Turn>
         ensures others { KeepsOthers client.0.0 self.old.slots.items self.new.slots.items }
-        ensures serves { Serves S.holds T.remaining T.contents T.answers budget client.0.0 (slot_at self.old.slots.items client.0.0) self.old.cache result (slot_at self.new.slots.items client.0.0) self.new.cache }
+        ensures serves { Serves S.holds T.remaining T.contents T.answers budget client.0.0 (slot_at self.old.slots.items client.0.0) self.old.cache result (slot_at self.new.slots.items client.0.0) self.new.cache self.new.parted }
+        ensures stays { is_gone result ≡ false → self.new.parted ≡ self.old.parted }
         ensures most { self.new.most ≡ self.old.most }
         ensures counted { IsCounted self.old → IsCounted self.new }
     {
@@ -115,10 +121,11 @@ impl<S: VersionStore, T: Stream + Drop> Server<S, T> {
 
     /// One turn of a client, of at most `budget` calls of its stream: what was pulled is written, then more is pulled; where nothing is due,
     /// what was read is handed in; where nothing is left of that, a piece is read. None where no client has the number. A number is free
-    /// again once its client is gone, and may go to another.
+    /// again once its client is gone, and may go to another; `parted` has what was counted of it.
     pub fn serve(&mut self, client: Client, budget: u32) -> Option<Turn>
         ensures others { KeepsOthers client.0.0 self.old.slots.items self.new.slots.items }
-        ensures serves { Serves S.holds T.remaining T.contents T.answers budget client.0.0 (slot_at self.old.slots.items client.0.0) self.old.cache result (slot_at self.new.slots.items client.0.0) self.new.cache }
+        ensures serves { Serves S.holds T.remaining T.contents T.answers budget client.0.0 (slot_at self.old.slots.items client.0.0) self.old.cache result (slot_at self.new.slots.items client.0.0) self.new.cache self.new.parted }
+        ensures stays { is_gone result ≡ false → self.new.parted ≡ self.old.parted }
         ensures past { (p : Past) → ShowsServer S.holds T.remaining T.contents p self.old → GoesOnAfter S.holds T.remaining T.contents p client.0.0 result self.new }
     {
         self.serve_one(client, budget)
@@ -128,6 +135,7 @@ impl<S: VersionStore, T: Stream + Drop> Server<S, T> {
     fn publish_to_all(&mut self, set: VrpSet) -> Result<Published, AllocError>
         ensures publishes { (m : CacheState) → ShowsCache S.holds m self.old.cache → PublishesSo S.holds m set self.old.slots.items result self.new.slots.items self.new.cache }
         ensures most { self.new.most ≡ self.old.most }
+        ensures parted { self.new.parted ≡ self.old.parted }
         ensures counted { IsCounted self.old → IsCounted self.new }
     {
         let published = self.cache.publish(set)?;
@@ -142,29 +150,34 @@ impl<S: VersionStore, T: Stream + Drop> Server<S, T> {
     /// before anything more is handed in. A client that has not asked is sent none and owed none (RFC 8210 section 7): its first answer is of
     /// the current version. Without memory nothing is published.
     pub fn publish(&mut self, set: VrpSet) -> Result<Published, AllocError>
-        ensures { (p : Past) → ShowsServer S.holds T.remaining T.contents p self.old → PublishesTo S.holds T.remaining T.contents p set result self.old self.new }
+        ensures publishes { (p : Past) → ShowsServer S.holds T.remaining T.contents p self.old → PublishesTo S.holds T.remaining T.contents p set result self.old self.new }
+        ensures parted { self.new.parted ≡ self.old.parted }
     {
         let _size = set.len();
         self.publish_to_all(set)
     }
 
-    /// Drops the client that has the number now, if there is one, with all that was to be written to it.
+    /// Drops the client that has the number now, if there is one, with all that was to be written to it. `parted` has what was counted of it.
     pub fn drop_client(&mut self, client: Client)
         ensures others { KeepsOthers client.0.0 self.old.slots.items self.new.slots.items }
         ensures gone { slot_at self.new.slots.items client.0.0 ≡ Option.None }
         ensures past { (p : Past) → ShowsServer S.holds T.remaining T.contents p self.old → ShowsServer S.holds T.remaining T.contents (record p { calls = CacheCall.Close client.0.0 ∷ p.calls }) self.new }
+        ensures parted { (m : CacheState) → ShowsCache S.holds m self.old.cache → self.new.parted ≡ parted_last (version_at (m.at client.0.0)) (slot_at self.old.slots.items client.0.0) self.old.parted }
     {
         self.close(client);
     }
 
-    /// Empties the client's place, and closes its connection.
+    /// Keeps what was counted of the client, empties its place, and closes its connection.
     fn close(&mut self, client: Client)
         ensures others { KeepsOthers client.0.0 self.old.slots.items self.new.slots.items }
         ensures gone { slot_at self.new.slots.items client.0.0 ≡ Option.None }
         ensures closed { (m : CacheState) → ShowsCache S.holds m self.old.cache → ShowsCache S.holds (with_conn client.0.0 Option.None m) self.new.cache }
         ensures most { self.new.most ≡ self.old.most }
         ensures counted { IsCounted self.old → IsCounted self.new }
+        ensures parted { (m : CacheState) → ShowsCache S.holds m self.old.cache → self.new.parted ≡ parted_last (version_at (m.at client.0.0)) (slot_at self.old.slots.items client.0.0) self.old.parted }
     {
+        let version = self.cache.version(client.0);
+        self.parted = counts_at(&self.slots, client.0.number(), version).or(self.parted);
         if empty_at(&mut self.slots, client.0.number()) {
             self.count = self.count.saturating_sub(1);
         }
@@ -176,6 +189,13 @@ impl<S: VersionStore, T: Stream + Drop> Server<S, T> {
         ensures { (p : Past) → ShowsServer S.holds T.remaining T.contents p self.now → result ≡ clients_in self.now.slots.items }
     {
         self.count
+    }
+
+    /// What was counted of the client that left last, to its end: by a turn that came to `Gone`, or as it was dropped. None before any left.
+    pub fn parted(&self) -> Option<Parted>
+        ensures { result ≡ self.now.parted }
+    {
+        self.parted
     }
 
     /// A client's stream, where there is such a client.
@@ -360,6 +380,25 @@ fn turn_at<S: VersionStore, T: Stream>(
     match &mut slots[number] {
         None => None,
         Some(slot) => Some(slot.turn(cache, budget)),
+    }
+}
+
+/// What is counted of the client under a number, which speaks in this version, if there is one.
+fn counts_at<T: Stream>(
+    slots: &Vec<Option<Box<Slot<T>>>>,
+    number: usize,
+    version: Option<Version>,
+) -> Option<Parted>
+    ensures { result ≡ option_map (parted_of version) (slot_at slots.now.items number) }
+{
+    match slots.get(number)? {
+        None => None,
+        Some(slot) => Some(Parted {
+            carried: slot.traffic.carried,
+            received: slot.traffic.received.pdus(),
+            sent: slot.traffic.sent.pdus(),
+            version,
+        }),
     }
 }
 

@@ -4,8 +4,9 @@ ghost use Rattle.rtr_server.specs.Turns.{Anyhow, AnswersTurn, AnswersStep, EndsS
 
 use crate::pieces::{Unread, Unwritten};
 use crate::stream::{Moved, Stream};
-use crate::tally::Tally;
+use crate::tally::{Pdus, Tally};
 use rtr_ends::{Cache, Conn};
+use rtr_pdu::Version;
 use std::alloc::Global;
 use vrps::VersionStore;
 
@@ -44,6 +45,19 @@ pub struct Carried {
     pub read: u64,
     /// Bytes that were written to it.
     pub written: u64,
+}
+
+/// What was counted of a client to its end, and the version in which it spoke.
+#[derive(Clone, Copy, Debug, PartialEq, Eq)]
+pub struct Parted {
+    /// How many bytes went over its stream.
+    pub carried: Carried,
+    /// The PDUs that came from it, by type: an Error Report that ended its connection is among them.
+    pub received: Pdus,
+    /// The PDUs that were sent to it, by type.
+    pub sent: Pdus,
+    /// The version of the protocol in which it spoke, if a whole header came (RFC 8210 section 7).
+    pub version: Option<Version>,
 }
 
 /// What is counted of a client: the bytes that went over its stream, the PDUs of what its connection consumed, and those of what was written.

@@ -13,4 +13,6 @@ mod notices;
 #[cfg(test)]
 mod orders;
 #[cfg(test)]
+mod parted;
+#[cfg(test)]
 mod queries;

@@ -1,0 +1,187 @@
+//! What was counted of a client that has left.
+use crate::lines::{Manner, Memory, PLAIN, client_of, server_of, shared};
+use example_values::hex::bytes;
+use example_values::sets::V;
+use example_values::units::RESET_QUERY;
+use rtr_pdu::{Kind, Version};
+use rtr_server::{Carried, Client, Gone, Parted, Pdus, Turn};
+use std::alloc::Global;
+use std::test::Fail;
+
+/// What comes of a client, after which its bytes end or it waits, how it goes, and what is counted then of it.
+struct Leaving {
+    sends: &'static str,
+    stays_open: bool,
+    how: Gone,
+    /// Bytes read and written.
+    carried: (u64, u64),
+    version: Option<Version>,
+    received: &'static [(Kind, u64)],
+    sent: &'static [(Kind, u64)],
+}
+
+/// The types that are counted, but for those of the prefixes.
+const KINDS: [Kind; 8] = [
+    Kind::SerialNotify,
+    Kind::SerialQuery,
+    Kind::ResetQuery,
+    Kind::CacheResponse,
+    Kind::EndOfData,
+    Kind::CacheReset,
+    Kind::RouterKey,
+    Kind::ErrorReport,
+];
+
+const LEAVINGS: &[Leaving] = &[
+    // A Reset Query, and an Error Report of code 0 behind its answer.
+    Leaving {
+        sends: "01 02 0000 00000008 | 01 0a 0000 00000010 00000000 00000000",
+        stays_open: true,
+        how: Gone::CacheEnded,
+        carried: (24, 52),
+        version: Some(Version::V1),
+        received: &[(Kind::ResetQuery, 1), (Kind::ErrorReport, 1)],
+        sent: &[(Kind::CacheResponse, 1), (Kind::EndOfData, 1)],
+    },
+    // An Error Report of version 0 before anything else.
+    Leaving {
+        sends: "00 0a 0002 00000010 00000000 00000000",
+        stays_open: true,
+        how: Gone::CacheEnded,
+        carried: (16, 0),
+        version: Some(Version::V0),
+        received: &[(Kind::ErrorReport, 1)],
+        sent: &[],
+    },
+    // A Cache Reset, which no router sends: an Error Report with a copy of it goes out.
+    Leaving {
+        sends: "01 08 0000 00000008",
+        stays_open: true,
+        how: Gone::CacheEnded,
+        carried: (8, 24),
+        version: Some(Version::V1),
+        received: &[(Kind::CacheReset, 1)],
+        sent: &[(Kind::ErrorReport, 1)],
+    },
+    Leaving {
+        sends: RESET_QUERY,
+        stays_open: false,
+        how: Gone::PeerClosed,
+        carried: (8, 52),
+        version: Some(Version::V1),
+        received: &[(Kind::ResetQuery, 1)],
+        sent: &[(Kind::CacheResponse, 1), (Kind::EndOfData, 1)],
+    },
+    Leaving {
+        sends: "01 02 00",
+        stays_open: false,
+        how: Gone::Truncated,
+        carried: (3, 0),
+        version: None,
+        received: &[],
+        sent: &[],
+    },
+    Leaving {
+        sends: "",
+        stays_open: false,
+        how: Gone::PeerClosed,
+        carried: (0, 0),
+        version: None,
+        received: &[],
+        sent: &[],
+    },
+];
+
+/// How often a type stands in a list.
+fn told(list: &[(Kind, u64)], kind: Kind) -> u64 {
+    for &(other, count) in list {
+        if other == kind {
+            return count;
+        }
+    }
+    0
+}
+
+/// Whether the PDUs are these, and no others but prefixes.
+fn are(pdus: &Pdus, list: &[(Kind, u64)]) -> bool {
+    KINDS
+        .iter()
+        .all(|kind| pdus.of(*kind) == told(list, *kind))
+}
+
+/// Whether it is counted so.
+fn is_counted(parted: &Parted, leaving: &Leaving) -> bool {
+    let (read, written) = leaving.carried;
+    parted.carried == Carried { read, written }
+        && parted.version == leaving.version
+        && are(&parted.received, leaving.received)
+        && are(&parted.sent, leaving.sent)
+}
+
+/// Serves a client to its end, call by call, and says how it went.
+fn end_of(server: &mut Memory, client: Client) -> Option<Gone> {
+    for _call in 0..40 {
+        if let Some(Turn::Gone(how)) = server.serve(client, 1) {
+            return Some(how);
+        }
+    }
+    None
+}
+
+/// Whether a client leaves so.
+fn leaves_so(server: &mut Memory, alloc: Global, leaving: &Leaving) -> Result<bool, Fail> {
+    let out = shared(alloc, &[])?;
+    let manner = Manner {
+        stays_open: leaving.stays_open,
+        ..PLAIN
+    };
+    let sent = bytes(leaving.sends);
+    let client = client_of(server, alloc, sent.as_slice(), manner, &out)?;
+    let how = end_of(server, client);
+    match server.parted() {
+        None => Ok(false),
+        Some(parted) => Ok(how == Some(leaving.how) && is_counted(&parted, leaving)),
+    }
+}
+
+fn all_leave_so(server: &mut Memory, alloc: Global) -> Result<bool, Fail> {
+    for leaving in LEAVINGS {
+        if !leaves_so(server, alloc, leaving)? {
+            return Ok(false);
+        }
+    }
+    Ok(true)
+}
+
+#[test]
+fn a_client_that_has_left_is_counted_to_its_end(rt: HostRuntime) -> Result<(), Fail> {
+    let mut server = server_of(rt.alloc(), &[V], 1)?;
+    assert!(rt; server.parted().is_none());
+    assert!(rt; all_leave_so(&mut server, rt.alloc())?);
+    Ok(())
+}
+
+/// Whether a client that is dropped, and then none, leave what was counted of it.
+fn is_dropped_so(server: &mut Memory, client: Client) -> bool {
+    let carried = server.carried(client);
+    server.drop_client(client);
+    server.drop_client(client);
+    match (carried, server.parted()) {
+        (Some(carried), Some(parted)) => {
+            parted.carried == carried && parted.received.of(Kind::ResetQuery) == 1
+        }
+        _ => false,
+    }
+}
+
+#[test]
+fn a_client_that_is_dropped_is_counted_as_it_was(rt: HostRuntime) -> Result<(), Fail> {
+    let out = shared(rt.alloc(), &[])?;
+    let mut server = server_of(rt.alloc(), &[V], 1)?;
+    let query = bytes(RESET_QUERY);
+    let client = client_of(&mut server, rt.alloc(), query.as_slice(), PLAIN, &out)?;
+    assert!(rt; server.serve(client, 9) == Some(Turn::WaitsToRead));
+    assert!(rt; server.parted().is_none());
+    assert!(rt; is_dropped_so(&mut server, client));
+    Ok(())
+}
