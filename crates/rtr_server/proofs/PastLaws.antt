@@ -21,7 +21,8 @@ use Rattle.prefixes.proofs.Basics.{eq_of, eq_self, not_eq_of}
 use Rattle.rtr_server.specs.Clients.{Admits, Becomes, ClientIsServed, EachClientIsServed, GoesOnAfter, IsCounted, IsOn, KeepsAll, KeepsOthers, Leaves, NoneBeforeQuery, OwesSo, Past, PublishesNew, PublishesSo, PublishesTo, Serves, ShowsClient, ShowsServer, Turned, and_calls, awaits, can_be_sent, clients_in, made, notified_below, present, slot_at}
 use Rattle.rtr_server.specs.Turns.{Anyhow, ClientState, ClientStep, EndsSo, Flow, GoesFrom, HandsIn, HasRoom, MaySteps, Notifies, Pulls, Reads, StandsSo, Writes, and_read, client_after, client_of, no_traffic, steps_after}
 use Rattle.rtr_server.specs.declared.server.Server.{Server}
-use Rattle.rtr_server.specs.declared.stream.Moved.{Moved}
+use Rattle.rtr_server.specs.declared.stream.Call.{Call}
+use Rattle.rtr_server.specs.declared.turn.Parted.{Parted}
 use Rattle.rtr_server.specs.declared.turn.Parted.{Parted}
 use Rattle.rtr_server.specs.declared.turn.Slot.{Slot}
 use Rattle.rtr_server.specs.declared.turn.Traffic.{Traffic}
@@ -272,7 +273,7 @@ module _ {S T : Type 0} (holds : ℕ → Instance → S → Type 0) (remaining c
             by_test true e = ap n.at (eq_of d c e) ∙ here
             by_test false e = there d e
 
-    gone_past : (answers : T → Option (List Moved)) (budget : ℕ) (turn : Turn) (parted : Option Parted) → Leaves holds remaining contents answers budget c x old.cache turn (slot_at new.slots.items c) new.cache parted
+    gone_past : (answers : T → Option (List Call)) (budget : ℕ) (turn : Turn) (parted : Option Parted) → Leaves holds remaining contents answers budget c x old.cache turn (slot_at new.slots.items c) new.cache parted
         → (own : List CacheCall) × AllByRecursion (IsOn c) own × ShowsServer holds remaining contents (and_calls (Close c ∷ own) p) new
     gone_past answers budget turn parted leaves =
         let g = led leaves.last leaves.between (EndsSo turn (remaining leaves.last.stream)) leaves.turned.goes in
@@ -293,7 +294,7 @@ module _ {S T : Type 0} (holds : ℕ → Instance → S → Type 0) (remaining c
           },
         )
 
-    stays_past : (answers : T → Option (List Moved)) (budget : ℕ) (turn : Turn) (y : Slot T) → slot_at new.slots.items c ≡ Some y → Turned holds remaining contents answers budget x old.cache turn y new.cache
+    stays_past : (answers : T → Option (List Call)) (budget : ℕ) (turn : Turn) (y : Slot T) → slot_at new.slots.items c ≡ Some y → Turned holds remaining contents answers budget x old.cache turn y new.cache
         → (own : List CacheCall) × AllByRecursion (IsOn c) own × ShowsServer holds remaining contents (and_calls own p) new
     stays_past answers budget turn y there turned =
         let g = led y new.cache (EndsSo turn (remaining y.stream)) turned.goes in
@@ -314,7 +315,7 @@ module _ {S T : Type 0} (holds : ℕ → Instance → S → Type 0) (remaining c
         )
 
   -- One turn of a client
-  pub goes_past : (answers : T → Option (List Moved)) (budget : ℕ) (turn : Option Turn) (parted : Option Parted)
+  pub goes_past : (answers : T → Option (List Call)) (budget : ℕ) (turn : Option Turn) (parted : Option Parted)
       → Serves holds remaining contents answers budget c (slot_at old.slots.items c) old.cache turn (slot_at new.slots.items c) new.cache parted
       → GoesOnAfter holds remaining contents p c turn new
   goes_past answers budget turn parted serves = by_slot (slot_at old.slots.items c) refl (slot_at new.slots.items c) refl turn serves

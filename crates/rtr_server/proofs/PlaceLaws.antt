@@ -9,7 +9,7 @@ use Rattle.rtr_ends.specs.declared.cache.Cache.{Cache}
 use Rattle.rtr_ends.proofs.TableLaws.{false_true}
 use Rattle.prefixes.proofs.Basics.{set_other, set_same}
 use Rattle.rtr_server.specs.Clients.{KeepsAll, KeepsOthers, Serves, TakesTurn, Turned, clients_in, is_gone, parted_last, slot_at, slot_value}
-use Rattle.rtr_server.specs.declared.stream.Moved.{Moved}
+use Rattle.rtr_server.specs.declared.stream.Call.{Call}
 use Rattle.rtr_server.specs.declared.turn.Parted.{Parted}
 use Rattle.rtr_server.specs.declared.turn.Slot.{Slot}
 use Rattle.rtr_server.specs.declared.turn.Turn.{Turn}
@@ -49,7 +49,7 @@ none_read (x ∷ slots) (suc n) e = none_read slots n e
 pub count_one : {T A : Type 0} (slots : List (Option (Box (Slot T) A))) (n : ℕ) (b : Box (Slot T) A) → n < length slots → slot_at slots n ≡ None → clients_in (slice_set slots n (Some b)) ≡ clients_in slots + 1
 count_one slots n b low none = let e = sum_by-set one slots n (Some b) None low in let k = ap one (none_read slots n none) in omega (arith, e, k)
 
-module _ {S T A : Type 0} (holds : ℕ → Instance → S → Type 0) (remaining contents : T → Option (List ℕ)) (answers : T → Option (List Moved)) (budget : ℕ) where
+module _ {S T A : Type 0} (holds : ℕ → Instance → S → Type 0) (remaining contents : T → Option (List ℕ)) (answers : T → Option (List Call)) (budget : ℕ) where
   -- a client in its place took a turn
   pub turns_at : (slots : List (Option (Box (Slot T) A))) (n : ℕ) (cell : Option (Box (Slot T) A)) (b new : Box (Slot T) A) (old : Slot T) (cache after : Cache S) (turn : Turn) → n < length slots → cell ≡ get_or slots n cell → cell ≡ Some b → old ≡ b.value
       → Turned holds remaining contents answers budget old cache turn new.value after

@@ -9,6 +9,7 @@ use Rattle.rtr_server.specs.Counting.{none_counted}
 use Rattle.rtr_server.specs.Streams.{moved_by}
 use Rattle.rtr_server.specs.Turns.{Reads, ToldSo, Writes, FitsBudget, after_read, after_write, steps_after}
 use Rattle.rtr_server.specs.declared.server.AdmitFault.TheVariants as faults
+use Rattle.rtr_server.specs.declared.stream.Call.TheVariants as calls
 use Rattle.rtr_server.specs.declared.stream.Moved.TheVariants.{Bytes, Waits, Interrupted, Failed}
 use Rattle.rtr_server.specs.declared.turn.Gone.TheVariants.{PeerClosed, ReadFailed, Truncated, WriteFailed}
 use Rattle.rtr_server.specs.declared.turn.Turn.TheVariants.{Busy, Gone, WaitsToRead, WaitsToWrite}
@@ -29,9 +30,10 @@ reads = (refl, refl, refl, refl, refl, refl)
 writes : (after_write (Bytes 0) ≡ Some (Gone WriteFailed)) × (after_write (Bytes 1) ≡ None) × (after_write Waits ≡ Some WaitsToWrite) × (after_write Interrupted ≡ None) × (after_write Failed ≡ Some (Gone WriteFailed))
 writes = (refl, refl, refl, refl, refl)
 
--- No call of the stream is Busy where none is allowed; a wait is told by the last answer alone.
-told : FitsBudget 0 Busy 0 × FitsBudget 2 Busy 2 × FitsBudget 2 WaitsToRead 1 × ToldSo WaitsToRead (Waits ∷ Bytes 8 ∷ [])
-told = (refl, refl, omega arith, refl)
+-- No call of the stream is Busy where none is allowed; a wait is told by the last call alone, and a read that would wait is no wait to write.
+told : FitsBudget 0 Busy 0 × FitsBudget 2 Busy 2 × FitsBudget 2 WaitsToRead 1 × ToldSo WaitsToRead (calls.Read Waits ∷ calls.Read (Bytes 8) ∷ []) × ToldSo WaitsToWrite (calls.Write Waits ∷ calls.Read (Bytes 8) ∷ [])
+    × (ToldSo WaitsToWrite (calls.Read Waits ∷ []) → ⊥) × (ToldSo (Gone PeerClosed) (calls.Write (Bytes 0) ∷ []) → ⊥)
+told = (refl, refl, omega arith, refl, refl, λ e. cc, λ e. cc)
 
 module _ (keep : ℕ) (t : Intervals) (s : Serving) where
   -- three bytes are left to be written, and two of them are; five come

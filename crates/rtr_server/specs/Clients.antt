@@ -20,7 +20,7 @@ use Rattle.rtr_server.specs.declared.server.AdmitFault.{AdmitFault}
 use Rattle.rtr_server.specs.declared.server.AdmitFault.TheVariants.{Memory, TooManyClients}
 use Rattle.rtr_server.specs.declared.server.Client.{Client}
 use Rattle.rtr_server.specs.declared.server.Server.{Server}
-use Rattle.rtr_server.specs.declared.stream.Moved.{Moved}
+use Rattle.rtr_server.specs.declared.stream.Call.{Call}
 use Rattle.rtr_server.specs.declared.turn.Parted.{Parted}
 use Rattle.rtr_server.specs.declared.turn.Slot.{Slot}
 use Rattle.rtr_server.specs.declared.turn.Turn.{Turn}
@@ -55,13 +55,13 @@ abbrev pub KeepsAll : {T A : Type 0} → List (Option (Box (Slot T) A)) → List
 KeepsAll old new = (d : ℕ) → slot_at new d ≡ slot_at old d
 
 -- A client took a turn of at most so many calls of its stream, which ended so.
-pub record Turned {S T : Type 0} (holds : ℕ → Instance → S → Type 0) (remaining contents : T → Option (List ℕ)) (answers : T → Option (List Moved)) (budget : ℕ) (old : Slot T) (cache : Cache S) (turn : Turn) (new : Slot T) (after : Cache S) : Type 0 where
+pub record Turned {S T : Type 0} (holds : ℕ → Instance → S → Type 0) (remaining contents : T → Option (List ℕ)) (answers : T → Option (List Call)) (budget : ℕ) (old : Slot T) (cache : Cache S) (turn : Turn) (new : Slot T) (after : Cache S) : Type 0 where
   pub conn : new.conn ≡ old.conn
   pub goes : GoesFrom holds remaining contents Anyhow old cache new after (EndsSo turn (remaining new.stream))
   pub told : AnswersTurn budget turn (answers old.stream) (answers new.stream)
 
 -- where there is one
-abbrev pub TakesTurn : {S T : Type 0} → (ℕ → Instance → S → Type 0) → (T → Option (List ℕ)) → (T → Option (List ℕ)) → (T → Option (List Moved)) → ℕ → Option (Slot T) → Cache S → Option Turn → Option (Slot T) → Cache S → Type 0
+abbrev pub TakesTurn : {S T : Type 0} → (ℕ → Instance → S → Type 0) → (T → Option (List ℕ)) → (T → Option (List ℕ)) → (T → Option (List Call)) → ℕ → Option (Slot T) → Cache S → Option Turn → Option (Slot T) → Cache S → Type 0
 TakesTurn holds remaining contents answers budget None cache None new after = (new ≡ None) × (after ≡ cache)
 TakesTurn holds remaining contents answers budget (Some old) cache (Some turn) (Some new) after = Turned holds remaining contents answers budget old cache turn new after
 TakesTurn holds remaining contents answers budget None cache (Some turn) new after = ⊥
@@ -78,7 +78,7 @@ parted_last version client before = option_or (option_map (parted_of version) cl
 
 -- A client took a turn that ended so, and then it went, and its connection was closed: all other connections are as they were. What was
 -- counted of it to its end is kept.
-pub record Leaves {S T : Type 0} (holds : ℕ → Instance → S → Type 0) (remaining contents : T → Option (List ℕ)) (answers : T → Option (List Moved)) (budget c : ℕ) (old : Slot T) (cache : Cache S) (turn : Turn) (new : Option (Slot T)) (after : Cache S) (parted : Option Parted) : Type 0 where
+pub record Leaves {S T : Type 0} (holds : ℕ → Instance → S → Type 0) (remaining contents : T → Option (List ℕ)) (answers : T → Option (List Call)) (budget c : ℕ) (old : Slot T) (cache : Cache S) (turn : Turn) (new : Option (Slot T)) (after : Cache S) (parted : Option Parted) : Type 0 where
   pub last : Slot T
   pub between : Cache S
   pub turned : Turned holds remaining contents answers budget old cache turn last between
@@ -87,13 +87,13 @@ pub record Leaves {S T : Type 0} (holds : ℕ → Instance → S → Type 0) (re
   pub counted : (m : CacheState) → ShowsCache holds m between → parted ≡ Some (parted_of (version_at (m.at c)) last)
 
 -- What became of a client by a turn: it stays, or it is gone.
-abbrev pub Becomes : {S T : Type 0} → (ℕ → Instance → S → Type 0) → (T → Option (List ℕ)) → (T → Option (List ℕ)) → (T → Option (List Moved)) → ℕ → ℕ → Slot T → Cache S → Turn → Option (Slot T) → Cache S → Option Parted → Type 0
+abbrev pub Becomes : {S T : Type 0} → (ℕ → Instance → S → Type 0) → (T → Option (List ℕ)) → (T → Option (List ℕ)) → (T → Option (List Call)) → ℕ → ℕ → Slot T → Cache S → Turn → Option (Slot T) → Cache S → Option Parted → Type 0
 Becomes holds remaining contents answers budget c old cache (Gone how) new after parted = Leaves holds remaining contents answers budget c old cache (Gone how) new after parted
 Becomes holds remaining contents answers budget c old cache turn None after parted = ⊥
 Becomes holds remaining contents answers budget c old cache turn (Some new) after parted = Turned holds remaining contents answers budget old cache turn new after
 
 -- What became of the client under a number: where there is none, nothing.
-abbrev pub Serves : {S T : Type 0} → (ℕ → Instance → S → Type 0) → (T → Option (List ℕ)) → (T → Option (List ℕ)) → (T → Option (List Moved)) → ℕ → ℕ → Option (Slot T) → Cache S → Option Turn → Option (Slot T) → Cache S → Option Parted → Type 0
+abbrev pub Serves : {S T : Type 0} → (ℕ → Instance → S → Type 0) → (T → Option (List ℕ)) → (T → Option (List ℕ)) → (T → Option (List Call)) → ℕ → ℕ → Option (Slot T) → Cache S → Option Turn → Option (Slot T) → Cache S → Option Parted → Type 0
 Serves holds remaining contents answers budget c None cache None new after parted = (new ≡ None) × (after ≡ cache)
 Serves holds remaining contents answers budget c (Some old) cache (Some turn) new after parted = Becomes holds remaining contents answers budget c old cache turn new after parted
 Serves holds remaining contents answers budget c None cache (Some turn) new after parted = ⊥

@@ -1,5 +1,5 @@
 -- What the calls of a stream that does not wait do to its bytes, where those are known.
-use Rattle.std.specs.Prelude.{◌≡◌, ℕ, ◌<◌, ◌≤◌, ◌==◌, List, [], ◌++◌, length, take, drop, Option, Some, None, if◌then◌else◌, ⊤}
+use Rattle.std.specs.Prelude.{◌≡◌, ℕ, ◌<◌, ◌≤◌, ◌==◌, List, [], ◌∷◌, ◌++◌, length, take, drop, Option, Some, None, if◌then◌else◌, ⊤}
 use Rattle.std.specs.Io.KnownBytes.{Appends, Consumes, IsAtEnd, Keeps}
 use Rattle.std.specs.declared.io.ErrorKind.{ErrorKind}
 use Rattle.std.specs.declared.io.ErrorKind.TheVariants.{WouldBlock}
@@ -7,6 +7,8 @@ use Rattle.std.specs.declared.io.ErrorKind.TheVariants as kinds
 use Rattle.vrps.specs.Instance.{Instance}
 use Rattle.rtr_ends.specs.CacheState.{CacheState, ShowsCache, due_at, given}
 use Rattle.rtr_ends.specs.declared.cache.Cache.{Cache}
+use Rattle.rtr_server.specs.declared.stream.Call.{Call}
+use Rattle.rtr_server.specs.declared.stream.Call.TheVariants.{Read, Write}
 use Rattle.rtr_server.specs.declared.stream.Moved.{Moved}
 use Rattle.rtr_server.specs.declared.stream.Moved.TheVariants.{Bytes, Waits, Interrupted, Failed}
 
@@ -37,8 +39,16 @@ WritesSo had has Waits buf = Keeps had has
 WritesSo had has Interrupted buf = Keeps had has
 WritesSo had has Failed buf = Keeps had has
 
--- These were the answers of the calls made since, the last first, where all answers are known.
-abbrev pub Logged : List Moved → Option (List Moved) → Option (List Moved) → Type 0
+-- one read, which answered this
+abbrev pub a_read : Moved → List Call
+a_read moved = Read moved ∷ []
+
+-- one write, which answered this
+abbrev pub a_write : Moved → List Call
+a_write moved = Write moved ∷ []
+
+-- These were the calls made since and their answers, the last first, where all are known.
+abbrev pub Logged : List Call → Option (List Call) → Option (List Call) → Type 0
 Logged since before None = ⊤
 Logged since None (Some now) = ⊥
 Logged since (Some before) (Some now) = now ≡ since ++ before

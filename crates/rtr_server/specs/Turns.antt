@@ -15,6 +15,8 @@ use Rattle.rtr_ends.specs.Timing.{Intervals}
 use Rattle.rtr_ends.specs.declared.cache.Cache.{Cache}
 use Rattle.rtr_server.specs.Counting.{capped, counted, counted_on, none_counted}
 use Rattle.rtr_server.specs.Streams.{IsRoom, Logged}
+use Rattle.rtr_server.specs.declared.stream.Call.{Call}
+use Rattle.rtr_server.specs.declared.stream.Call.TheVariants as calls
 use Rattle.rtr_server.specs.declared.stream.Moved.{Moved}
 use Rattle.rtr_server.specs.declared.stream.Moved.TheVariants.{Bytes, Waits, Interrupted, Failed}
 use Rattle.rtr_server.specs.declared.turn.Gone.TheVariants.{CacheEnded, PeerClosed, ReadFailed, Truncated, WriteFailed}
@@ -232,21 +234,21 @@ abbrev pub GoesOrEnds : Option Turn → Option (List ℕ) → ClientState → Ty
 GoesOrEnds None left s = ⊤
 GoesOrEnds (Some turn) left s = EndsSo turn left s
 
-abbrev pub LastIs : Moved → List Moved → Type 0
-LastIs answer [] = ⊥
-LastIs answer (last ∷ earlier) = last ≡ answer
+abbrev pub LastIs : Call → List Call → Type 0
+LastIs call [] = ⊥
+LastIs call (last ∷ earlier) = last ≡ call
 
--- What the stream said last, where a turn came to this: that it would wait, that it has ended, or that it failed. A write that takes nothing
--- is a failure.
-abbrev pub ToldSo : Turn → List Moved → Type 0
-ToldSo WaitsToRead answers = LastIs Waits answers
-ToldSo WaitsToWrite answers = LastIs Waits answers
+-- What the last call of the stream was and answered, where a turn came to this: a read or a write that would wait, a read at the end, or one
+-- that failed. A write that takes nothing is a failure.
+abbrev pub ToldSo : Turn → List Call → Type 0
+ToldSo WaitsToRead answers = LastIs (calls.Read Waits) answers
+ToldSo WaitsToWrite answers = LastIs (calls.Write Waits) answers
 ToldSo Busy answers = ⊤
-ToldSo (Gone PeerClosed) answers = LastIs (Bytes 0) answers
-ToldSo (Gone Truncated) answers = LastIs (Bytes 0) answers
+ToldSo (Gone PeerClosed) answers = LastIs (calls.Read (Bytes 0)) answers
+ToldSo (Gone Truncated) answers = LastIs (calls.Read (Bytes 0)) answers
 ToldSo (Gone CacheEnded) answers = ⊤
-ToldSo (Gone ReadFailed) answers = LastIs Failed answers
-ToldSo (Gone WriteFailed) answers = LastIs (Bytes 0) answers ⊎ LastIs Failed answers
+ToldSo (Gone ReadFailed) answers = LastIs (calls.Read Failed) answers
+ToldSo (Gone WriteFailed) answers = LastIs (calls.Write (Bytes 0)) answers ⊎ LastIs (calls.Write Failed) answers
 
 -- As many calls of the stream were made as are allowed, or fewer.
 abbrev pub FitsBudget : ℕ → Turn → ℕ → Type 0
@@ -254,19 +256,19 @@ FitsBudget budget Busy count = count ≡ budget
 FitsBudget budget turn count = count ≤ budget
 
 -- So the answers go on by one call of the stream, or none, where the turn goes on or comes to this.
-abbrev pub StepTold : Option Turn → List Moved → Type 0
+abbrev pub StepTold : Option Turn → List Call → Type 0
 StepTold None answers = length answers ≡ 1
 StepTold (Some Busy) answers = ⊥
 StepTold (Some turn) answers = (length answers ≤ 1) × ToldSo turn answers
 
-pub record AnswersStep (turn : Option Turn) (before after : Option (List Moved)) : Type 0 where
-  pub since : List Moved
+pub record AnswersStep (turn : Option Turn) (before after : Option (List Call)) : Type 0 where
+  pub since : List Call
   pub logged : Logged since before after
   pub told : StepTold turn since
 
 -- So they go on in a turn: at most as many calls were made as are allowed, exactly as many where it is Busy, and the last said what it came to.
-pub record AnswersTurn (budget : ℕ) (turn : Turn) (before after : Option (List Moved)) : Type 0 where
-  pub since : List Moved
+pub record AnswersTurn (budget : ℕ) (turn : Turn) (before after : Option (List Call)) : Type 0 where
+  pub since : List Call
   pub logged : Logged since before after
   pub fits : FitsBudget budget turn (length since)
   pub told : ToldSo turn since

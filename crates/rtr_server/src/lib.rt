@@ -30,6 +30,6 @@ mod tally;
 mod turn;
 
 pub use server::{AdmitFault, Client, Server};
-pub use stream::{Duplex, Moved, Stream};
+pub use stream::{Call, Duplex, Moved, Stream};
 pub use tally::Pdus;
 pub use turn::{Carried, Gone, Parted, Turn};

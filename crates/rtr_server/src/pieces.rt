@@ -1,9 +1,9 @@
 //! What was read of a stream and is not consumed, and what was pulled and is not written.
-ghost use Rattle.std.specs.Prelude.{◌≡◌, ◌↔◌, ◌∷◌, ◌≤◌, [], IsTrue, length, take, drop};
+ghost use Rattle.std.specs.Prelude.{◌≡◌, ◌↔◌, ◌≤◌, [], IsTrue, length, take, drop};
 ghost use Rattle.std.specs.Io.KnownBytes.{Keeps};
 ghost use Rattle.rtr_pdu.specs.Payloads.{AreBytes};
 ghost use Rattle.rtr_ends.specs.CacheState.{CacheState, GivesBytes, ShowsCache, TakesPiece};
-ghost use Rattle.rtr_server.specs.Streams.{EmptiesSo, FillsSo, Logged, PullsInto, moved_count, room_of};
+ghost use Rattle.rtr_server.specs.Streams.{EmptiesSo, FillsSo, Logged, PullsInto, a_read, a_write, moved_count, room_of};
 ghost use Rattle.rtr_server.specs.Counting.{counted_on};
 
 use crate::stream::{Moved, Stream};
@@ -58,7 +58,7 @@ impl Unread {
         ensures fills { FillsSo (T.remaining stream.old) (T.remaining stream.new) result self.new }
         ensures room { length self.new ≤ 4096 }
         ensures keeps { Keeps (T.contents stream.old) (T.contents stream.new) }
-        ensures logs { Logged (result ∷ []) (T.answers stream.old) (T.answers stream.new) }
+        ensures logs { Logged (a_read result) (T.answers stream.old) (T.answers stream.new) }
     {
         let moved = stream.read(&mut self.bytes);
         self.from = 0;
@@ -187,7 +187,7 @@ impl Unwritten {
     pub(crate) fn write<T: Stream>(&mut self, stream: &mut T, sent: &mut Tally) -> Moved
         ensures empties { EmptiesSo (T.contents stream.old) (T.contents stream.new) result self.old self.new }
         ensures keeps { Keeps (T.remaining stream.old) (T.remaining stream.new) }
-        ensures logs { Logged (result ∷ []) (T.answers stream.old) (T.answers stream.new) }
+        ensures logs { Logged (a_write result) (T.answers stream.old) (T.answers stream.new) }
         ensures counts { sent.new ≡ counted_on sent.old (take (moved_count result) self.old) }
     {
         let room = room_at_hand(&self.small, &self.large);

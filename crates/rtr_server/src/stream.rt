@@ -1,8 +1,8 @@
 //! Streams that do not wait.
-ghost use Rattle.std.specs.Prelude.{◌≡◌, ◌∷◌, ℕ, ◌≤◌, [], List, Option, length};
+ghost use Rattle.std.specs.Prelude.{◌≡◌, ℕ, ◌≤◌, List, Option, length};
 ghost use Rattle.std.specs.Io.KnownBytes.{Keeps};
 ghost use Rattle.std.specs.IoError.{error_kind};
-ghost use Rattle.rtr_server.specs.Streams.{IsWithin, Logged, ReadsSo, WritesSo, moved_by, moved_count};
+ghost use Rattle.rtr_server.specs.Streams.{IsWithin, Logged, ReadsSo, WritesSo, a_read, a_write, moved_by, moved_count};
 
 use std::io;
 use std::io::{ErrorKind, Read, Write};
@@ -32,9 +32,18 @@ impl Moved {
     }
 }
 
+/// A call of a stream, and what it came to.
+#[derive(Clone, Copy, Debug, PartialEq, Eq)]
+pub enum Call {
+    /// A read.
+    Read(Moved),
+    /// A write.
+    Write(Moved),
+}
+
 /// Both directions of a connection, whose calls do not wait. What is read changes nothing of what was written, nor the other way round.
 pub trait Stream {
-    ghost use Rattle.rtr_server.specs.declared.stream.Moved.{Moved};
+    ghost use Rattle.rtr_server.specs.declared.stream.Call.{Call};
 
     /// What is left to be read, where that is known.
     ghost remaining: { Self → Option (List ℕ) };
@@ -42,22 +51,22 @@ pub trait Stream {
     /// What was written, where that is known.
     ghost contents: { Self → Option (List ℕ) };
 
-    /// What its calls answered, the last first, where that is known.
-    ghost answers: { Self → Option (List Moved) };
+    /// Its calls and what each answered, the last first, where that is known.
+    ghost answers: { Self → Option (List Call) };
 
     /// Reads into the front of the buffer, as many bytes as it answers.
     fn read(&mut self, buf: &mut [u8]) -> Moved
         ensures reads { ReadsSo (remaining self.old) (remaining self.new) result buf.new }
         ensures within { IsWithin (length buf.old) result }
         ensures keeps { Keeps (contents self.old) (contents self.new) }
-        ensures logs { Logged (result ∷ []) (answers self.old) (answers self.new) };
+        ensures logs { Logged (a_read result) (answers self.old) (answers self.new) };
 
     /// Writes from the front of the buffer, as many bytes as it answers.
     fn write(&mut self, buf: &[u8]) -> Moved
         ensures writes { WritesSo (contents self.old) (contents self.new) result buf.now }
         ensures within { IsWithin (length buf.now) result }
         ensures keeps { Keeps (remaining self.old) (remaining self.new) }
-        ensures logs { Logged (result ∷ []) (answers self.old) (answers self.new) };
+        ensures logs { Logged (a_write result) (answers self.old) (answers self.new) };
 }
 
 /// A stream of a reader and a writer. An error of kind `WouldBlock` is that it would wait, and one of kind `Interrupted` that it was

@@ -28,9 +28,10 @@ pub enum Gone {
 /// What a turn came to.
 #[derive(Clone, Copy, Debug, PartialEq, Eq)]
 pub enum Turn {
-    /// The stream would wait for bytes to be read.
+    /// The stream would wait for bytes to be read, as the last call of the turn said.
     WaitsToRead,
-    /// The stream would wait for room to write.
+    /// The stream would wait for room to write, as the last call of the turn said, which was a write. If no more bytes are counted as written
+    /// than before the turn, no write of it took a byte.
     WaitsToWrite,
     /// As many calls of the stream were made as are allowed.
     Busy,

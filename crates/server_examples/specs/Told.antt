@@ -1,8 +1,8 @@
--- What a line that keeps what its calls answered says of it.
+-- What a line that keeps its calls and their answers says of them.
 use Rattle.std.specs.Prelude.{Bool, true, false, List, reverse, Option, Some, None}
-use Rattle.rtr_server.specs.declared.stream.Moved.{Moved}
+use Rattle.rtr_server.specs.declared.stream.Call.{Call}
 
--- The answers, the last first, where all could be kept
-abbrev pub told : Bool → List Moved → Option (List Moved)
+-- The calls and their answers, the last first, where all could be kept
+abbrev pub told : Bool → List Call → Option (List Call)
 told true answers = None
 told false answers = Some (reverse answers)

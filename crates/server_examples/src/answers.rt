@@ -1,4 +1,4 @@
-//! A line that keeps what its calls answered, so that what a turn says of the calls that it made can be seen.
+//! A line that keeps its calls and what they answered, so that what a turn says of the calls that it made can be seen.
 ghost use Rattle.std.specs.Prelude.{◌∷◌, []};
 ghost use Rattle.rtr_server.specs.Streams.{Logged};
 ghost use Rattle.server_examples.specs.Told.{told};
@@ -7,22 +7,22 @@ use crate::lines::{Line, Manner, PLAIN, cache_of, line, shared};
 use example_values::hex::bytes;
 use example_values::sets::V;
 use example_values::units::RESET_QUERY;
-use rtr_server::{Client, Moved, Server, Stream, Turn};
+use rtr_server::{Call, Client, Moved, Server, Stream, Turn};
 use std::alloc::Global;
 use std::test::Fail;
 use vrps::VersionLog;
 
-/// A stream, and what its calls answered.
+/// A stream, its calls, and what they answered.
 #[derive(Drop)]
 pub(crate) struct Kept<T> {
     stream: T,
-    answers: Vec<Moved>,
+    answers: Vec<Call>,
     /// Memory for one of them ran out.
     is_lost: bool,
 }
 
 /// Keeps an answer.
-fn note(answers: &mut Vec<Moved>, is_lost: &mut bool, answer: Moved)
+fn note(answers: &mut Vec<Call>, is_lost: &mut bool, answer: Call)
     ensures { Logged (answer ∷ []) (told is_lost.old answers.old.items) (told is_lost.new answers.new.items) }
 {
     if answers.push(answer).is_err() {
@@ -41,21 +41,21 @@ impl<T: Stream> Stream for Kept<T> {
 
     fn read(&mut self, buf: &mut [u8]) -> Moved {
         let answer = self.stream.read(buf);
-        note(&mut self.answers, &mut self.is_lost, answer);
+        note(&mut self.answers, &mut self.is_lost, Call::Read(answer));
         answer
     }
 
     fn write(&mut self, buf: &[u8]) -> Moved {
         let answer = self.stream.write(buf);
-        note(&mut self.answers, &mut self.is_lost, answer);
+        note(&mut self.answers, &mut self.is_lost, Call::Write(answer));
         answer
     }
 }
 
 type Watched = Server<VersionLog, Kept<Line>>;
 
-/// How many calls of a client's stream were made, and what the last of them answered.
-fn calls(server: &Watched, client: Client) -> Option<(usize, Option<Moved>)> {
+/// How many calls of a client's stream were made, and the last of them.
+fn calls(server: &Watched, client: Client) -> Option<(usize, Option<Call>)> {
     let answers = &server.stream(client)?.answers;
     Some((answers.len(), answers.as_slice().last().copied()))
 }
@@ -67,7 +67,7 @@ fn turns_well(server: &mut Watched, client: Client, budget: u32) -> bool {
     match (turn, calls(server, client)) {
         (Some(Turn::Busy), Some((count, _))) => count == most,
         (Some(Turn::WaitsToRead), Some((count, last))) => {
-            count <= most && last == Some(Moved::Waits)
+            count <= most && last == Some(Call::Read(Moved::Waits))
         }
         _ => false,
     }

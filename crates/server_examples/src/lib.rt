@@ -16,3 +16,5 @@ mod orders;
 mod parted;
 #[cfg(test)]
 mod queries;
+#[cfg(test)]
+mod stalls;

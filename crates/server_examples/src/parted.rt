@@ -104,9 +104,7 @@ fn told(list: &[(Kind, u64)], kind: Kind) -> u64 {
 
 /// Whether the PDUs are these, and no others but prefixes.
 fn are(pdus: &Pdus, list: &[(Kind, u64)]) -> bool {
-    KINDS
-        .iter()
-        .all(|kind| pdus.of(*kind) == told(list, *kind))
+    KINDS.iter().all(|kind| pdus.of(*kind) == told(list, *kind))
 }
 
 /// Whether it is counted so.

@@ -1,0 +1,88 @@
+//! A client that takes no byte, and one that takes few.
+use crate::lines::cache_of;
+use example_values::sets::V;
+use rtr_server::{Carried, Client, Duplex, Server, Turn};
+use std::alloc::Global;
+use std::cell::RefCell;
+use std::io;
+use std::io::{ErrorKind, Write};
+use std::rc::Rc;
+use std::test::Fail;
+use vrps::VersionLog;
+
+/// How many bytes more a client takes, which the test and its line hold both.
+type Room = Rc<RefCell<usize>>;
+
+/// What goes to a client that takes so many bytes, and then none.
+#[derive(Drop)]
+struct Narrow {
+    room: Room,
+}
+
+impl Write for Narrow {
+    fn write(&mut self, buf: &[u8]) -> io::Result<usize> {
+        match self.room.try_borrow_mut() {
+            Err(_) => Err(io::Error::from(ErrorKind::Other)),
+            Ok(mut room) => {
+                let count = buf.len().min(*room);
+                if count == 0 {
+                    return Err(io::Error::from(ErrorKind::WouldBlock));
+                }
+                *room = room.saturating_sub(count);
+                Ok(count)
+            }
+        }
+    }
+
+    fn flush(&mut self) -> io::Result<()> {
+        Ok(())
+    }
+}
+
+type Tight = Server<VersionLog, Duplex<&'static [u8], Narrow>>;
+
+/// A Reset Query.
+const QUERY: &[u8] = &[1, 2, 0, 0, 0, 0, 0, 8];
+
+/// The client takes so many bytes more.
+fn widen(room: &Room, more: usize) -> bool {
+    match room.try_borrow_mut() {
+        Err(_) => false,
+        Ok(mut room) => {
+            *room = room.saturating_add(more);
+            true
+        }
+    }
+}
+
+/// Whether a client that takes so many bytes more waits to be written to, and has so many then.
+fn waits_with(server: &mut Tight, client: Client, room: &Room, more: usize, written: u64) -> bool {
+    widen(room, more)
+        && server.serve(client, 9) == Some(Turn::WaitsToWrite)
+        && server.carried(client) == Some(Carried { read: 8, written })
+}
+
+/// A client whose answer has 52 bytes takes 20 of them, none in two turns, one, and none.
+fn takes_some(server: &mut Tight, client: Client, room: &Room) -> bool {
+    waits_with(server, client, room, 20, 20)
+        && waits_with(server, client, room, 0, 20)
+        && waits_with(server, client, room, 0, 20)
+        && waits_with(server, client, room, 1, 21)
+        && waits_with(server, client, room, 0, 21)
+}
+
+#[test]
+fn what_a_client_takes_is_seen_by_its_count(rt: HostRuntime) -> Result<(), Fail> {
+    let alloc: Global = rt.alloc();
+    let room: Room = Rc::new(alloc, RefCell::new(0))?;
+    let output = Narrow {
+        room: room.clone()?,
+    };
+    let mut server = Server::new(alloc, cache_of(alloc, &[V])?, 1);
+    let client = server.admit(Duplex {
+        input: QUERY,
+        output,
+    })?;
+    assert!(rt; takes_some(&mut server, client, &room));
+    Ok(())
+}
