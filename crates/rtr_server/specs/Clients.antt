@@ -60,13 +60,11 @@ pub record Turned {S T : Type 0} (holds : ℕ → Instance → S → Type 0) (re
   pub goes : GoesFrom holds remaining contents Anyhow old cache new after (EndsSo turn (remaining new.stream))
   pub told : AnswersTurn budget turn (answers old.stream) (answers new.stream)
 
--- where there is one
+-- A turn of the client under a number, if there is one: else there is no turn, and nothing changes.
 abbrev pub TakesTurn : {S T : Type 0} → (ℕ → Instance → S → Type 0) → (T → Option (List ℕ)) → (T → Option (List ℕ)) → (T → Option (List Call)) → ℕ → Option (Slot T) → Cache S → Option Turn → Option (Slot T) → Cache S → Type 0
-TakesTurn holds remaining contents answers budget None cache None new after = (new ≡ None) × (after ≡ cache)
 TakesTurn holds remaining contents answers budget (Some old) cache (Some turn) (Some new) after = Turned holds remaining contents answers budget old cache turn new after
-TakesTurn holds remaining contents answers budget None cache (Some turn) new after = ⊥
-TakesTurn holds remaining contents answers budget (Some old) cache None new after = ⊥
-TakesTurn holds remaining contents answers budget (Some old) cache (Some turn) None after = ⊥
+TakesTurn holds remaining contents answers budget None cache None new after = (new ≡ None) × (after ≡ cache)
+TakesTurn holds remaining contents answers budget client cache turn new after = ⊥
 
 -- what is counted of a client that speaks in this version
 abbrev pub parted_of : {T : Type 0} → Option Version → Slot T → Parted
@@ -94,10 +92,9 @@ Becomes holds remaining contents answers budget c old cache turn (Some new) afte
 
 -- What became of the client under a number: where there is none, nothing.
 abbrev pub Serves : {S T : Type 0} → (ℕ → Instance → S → Type 0) → (T → Option (List ℕ)) → (T → Option (List ℕ)) → (T → Option (List Call)) → ℕ → ℕ → Option (Slot T) → Cache S → Option Turn → Option (Slot T) → Cache S → Option Parted → Type 0
-Serves holds remaining contents answers budget c None cache None new after parted = (new ≡ None) × (after ≡ cache)
 Serves holds remaining contents answers budget c (Some old) cache (Some turn) new after parted = Becomes holds remaining contents answers budget c old cache turn new after parted
-Serves holds remaining contents answers budget c None cache (Some turn) new after parted = ⊥
-Serves holds remaining contents answers budget c (Some old) cache None new after parted = ⊥
+Serves holds remaining contents answers budget c None cache None new after parted = (new ≡ None) × (after ≡ cache)
+Serves holds remaining contents answers budget c client cache turn new after parted = ⊥
 
 -- Whether a client has asked: a whole query is counted of what came from it (RFC 8210 section 7).
 abbrev pub has_asked : {T : Type 0} → Option (Slot T) → Bool
@@ -121,10 +118,9 @@ notified_below slots (suc n) m = notified_one (asking (slot_at slots n)) (notifi
 -- A client that has asked is owed a notify exactly where it is not notified; one that has not asked is owed none, as its first answer is current.
 -- It is else as it was.
 abbrev pub OwesSo : {T : Type 0} → Option (Slot T) → Bool → Option (Slot T) → Type 0
-OwesSo None told None = ⊤
 OwesSo (Some old) told (Some new) = new ≡ record old { is_owed = has_asked (Some old) && not told }
-OwesSo None told (Some new) = ⊥
-OwesSo (Some old) told None = ⊥
+OwesSo None told None = ⊤
+OwesSo old told new = ⊥
 
 -- whether a client can be sent a notify
 abbrev pub can_be_sent : {T : Type 0} → Option (Slot T) → CacheState → Bool
@@ -194,11 +190,10 @@ present p = ran p.calls (made p)
 -- A client stands under the number of its connection; what went over its stream since it came is what went over that; it is owed a
 -- notify exactly where its router awaits one; and its two buffers have room.
 abbrev pub ShowsClient : {T : Type 0} → (T → Option (List ℕ)) → (T → Option (List ℕ)) → Begun → ℕ → Option Life → Bool → Option (Slot T) → Type 0
-ShowsClient remaining contents b c None waits None = ⊤
 ShowsClient remaining contents b c (Some l) waits (Some slot) =
     (slot.conn.0 ≡ c) × Flow b.before (remaining slot.stream) b.had (contents slot.stream) (client_of l.serving slot) × (slot.is_owed ≡ waits) × HasRoom (client_of l.serving slot)
-ShowsClient remaining contents b c None waits (Some slot) = ⊥
-ShowsClient remaining contents b c (Some l) waits None = ⊥
+ShowsClient remaining contents b c None waits None = ⊤
+ShowsClient remaining contents b c l waits client = ⊥
 
 -- This past led to this server.
 pub record ShowsServer {S T : Type 0} (holds : ℕ → Instance → S → Type 0) (remaining contents : T → Option (List ℕ)) (p : Past) (server : Server S T) : Type 0 where
