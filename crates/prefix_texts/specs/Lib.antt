@@ -1,0 +1,3 @@
+pub mod MixedText
+pub mod MixedLaws
+pub mod Steps
