@@ -1,0 +1,4 @@
+pub mod Groups
+pub mod MixedRows
+pub mod Refused
+pub mod Sayings

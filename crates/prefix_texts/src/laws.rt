@@ -1,14 +1,10 @@
 //! Laws of the texts of prefixes. The functions do nothing: each states a law, which is proved.
 ghost use Rattle.prefix_texts.specs.MixedLaws.{OneSaying, PlainIsRead, PlainSpells};
 
-use prefixes::laws::one_reading;
-
 /// A text says one address and one length at most, in either notation.
 pub fn one_saying()
     ensures { OneSaying }
-{
-    one_reading();
-}
+{}
 
 /// A plain text of a prefix spells it.
 pub fn plain_spells()

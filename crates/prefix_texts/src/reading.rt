@@ -1,9 +1,9 @@
 //! Prefixes, read from text.
-ghost use Rattle.std.specs.Prelude.{◌≡◌, ◌⊎◌, ℕ, ◌<◌, ◌^◌, IfSome, IfNone, Ok};
+ghost use Rattle.std.specs.Prelude.{◌≡◌, ◌⊎◌, ℕ, ◌<◌, ◌^◌, Ok};
 ghost use Rattle.std.specs.Fmt.{decimal};
 ghost use Rattle.prefixes.specs.Address.{Block};
 ghost use Rattle.prefixes.specs.Text.{IsV6Address};
-ghost use Rattle.prefixes.specs.TextSteps.{IsBlockJudged};
+ghost use Rattle.prefixes.specs.TextSteps.{IsBlockJudged, IsOnly};
 ghost use Rattle.prefixes.specs.declared.prefix.IpPrefix.{IpPrefix as OfEither};
 ghost use Rattle.prefix_texts.specs.MixedText.{IsMixedAddress, ReadsPrefix, SpellsPrefix};
 ghost use Rattle.prefix_texts.specs.Steps.{ReadsV6};
@@ -12,9 +12,8 @@ use prefixes::{Asn, IpPrefix, Prefix, PrefixFault, V6};
 use std::net::Ipv6Addr;
 
 /// The number that a text writes in decimal digits without leading zeros.
-fn number(text: &str) -> Option<u32>
-    ensures some { IfSome result (λ n. (n < 2 ^ 32) × (text.now ≡ decimal n)) }
-    ensures none { IfNone result ((n : ℕ) → n < 2 ^ 32 → ¬ (text.now ≡ decimal n)) }
+fn number_in(text: &str) -> Option<u32>
+    ensures { IsOnly (2 ^ 32) (λ n. text.now ≡ decimal n) result }
 {
     match Asn::parse(text) {
         Ok(number) => Some(number.0),
@@ -22,10 +21,9 @@ fn number(text: &str) -> Option<u32>
     }
 }
 
-/// The IPv6 address that a text spells in either notation, as a number.
-fn address(text: &str) -> Option<u128>
-    ensures some { IfSome result (λ n. (n < 2 ^ 128) × (IsV6Address n text.now ⊎ IsMixedAddress n text.now)) }
-    ensures none { IfNone result ((n : ℕ) → n < 2 ^ 128 → ¬ (IsV6Address n text.now ⊎ IsMixedAddress n text.now)) }
+/// The IPv6 address that a text spells in plain or in mixed notation, as a number.
+fn address_in(text: &str) -> Option<u128>
+    ensures { IsOnly (2 ^ 128) (λ n. IsV6Address n text.now ⊎ IsMixedAddress n text.now) result }
 {
     match text.parse::<Ipv6Addr>() {
         Ok(address) => Some(address.to_bits()),
@@ -43,26 +41,26 @@ fn judged(addr: u128, len: u32) -> Result<Prefix<V6>, PrefixFault>
     Prefix::new(addr, len as u8)
 }
 
-/// The IPv6 prefix that a text spells in either notation.
-fn v6_prefix(text: &str) -> Result<Prefix<V6>, PrefixFault>
+/// The IPv6 prefix that a text spells in plain or in mixed notation.
+fn v6_prefix(text: &str) -> Result<IpPrefix, PrefixFault>
     ensures { ReadsV6 text.now result }
 {
-    let Some((front, back)) = text.split_once('/') else {
+    let Some((address, length)) = text.split_once('/') else {
         return Err(PrefixFault::BadText);
     };
-    let Some(len) = number(back) else {
+    let Some(len) = number_in(length) else {
         return Err(PrefixFault::BadText);
     };
     if 1000 <= len {
         return Err(PrefixFault::BadText);
     }
-    let Some(addr) = address(front) else {
+    let Some(addr) = address_in(address) else {
         return Err(PrefixFault::BadText);
     };
-    judged(addr, len)
+    Ok(IpPrefix::V6(judged(addr, len)?))
 }
 
-/// The prefix that a text spells, as `IpPrefix::parse` reads it; besides, the last 32 bits of an IPv6 address may stand as an IPv4
+/// The prefix that a text spells, as `IpPrefix::parse` reads it. Besides, the last 32 bits of an IPv6 address may stand as an IPv4
 /// address does, in dotted decimal (RFC 4291 section 2.2, form 3; RFC 5952 section 5). Other text is `BadText`; then a length over the
 /// family's width is `TooLong`; then a bit set after the first bits is `HostBits`.
 pub fn parse_prefix(text: &str) -> Result<IpPrefix, PrefixFault>
@@ -70,7 +68,10 @@ pub fn parse_prefix(text: &str) -> Result<IpPrefix, PrefixFault>
     ensures only { (p : OfEither) → SpellsPrefix p text.now → result ≡ Ok p }
 {
     match IpPrefix::parse(text) {
-        Err(PrefixFault::BadText) => Ok(IpPrefix::V6(v6_prefix(text)?)),
-        plain => plain,
+        Ok(prefix) => Ok(prefix),
+        Err(fault) => match fault {
+            PrefixFault::BadText => v6_prefix(text),
+            _ => Err(fault),
+        },
     }
 }
