@@ -22,6 +22,7 @@ NOW = 1_700_000_000
 GROUP = r"[0-9A-Fa-f]{1,4}"
 OCTET = r"(?:0|[1-9]\d?|1\d\d|2[0-4]\d|25[0-5])"
 LENGTH = re.compile(r"0|[1-9]\d{0,2}")
+PLAIN, MIXED = range(2)
 WHAT = ["it is no object", "asn is no AS number", "prefix is no prefix", "maxLength is no length of the prefix's parts", "expires is no whole number"]
 
 
@@ -58,10 +59,14 @@ def is_whole(value):
     return type(value) is int
 
 
-def address_of(text):
-    """The width and the number of an address, or None."""
+def address_of(text, notation):
+    """The width and the number of an address, or None. In mixed notation the last 32 bits of an IPv6 address may be in dotted decimal."""
     if re.fullmatch(rf"{OCTET}(?:\.{OCTET}){{3}}", text):
         return 32, sum(int(it) << 8 * (3 - at) for at, it in enumerate(text.split(".")))
+    mixed = re.fullmatch(rf"(.*:)({OCTET}(?:\.{OCTET}){{3}})", text)
+    if mixed and notation == MIXED:
+        tail = address_of(mixed[2], PLAIN)[1]
+        text = f"{mixed[1]}{tail >> 16:x}:{tail & 65535:x}"
     before, gap, behind = text.partition("::")
     groups = [part.split(":") if part else [] for part in (before, behind)]
     if not all(re.fullmatch(GROUP, it) for part in groups for it in part):
@@ -73,12 +78,12 @@ def address_of(text):
     return 128, sum(it << 16 * (7 - at) for at, it in enumerate(numbers))
 
 
-def prefix_of(text):
+def prefix_of(text, notation):
     """The width, the address and the length that a text says, or None."""
     if type(text) is not str or text.count("/") != 1:
         return None
     address, length = text.split("/")
-    found = address_of(address)
+    found = address_of(address, notation)
     if found is None or not LENGTH.fullmatch(length):
         return None
     (width, bits), length = found, int(length)
@@ -93,9 +98,9 @@ def asn_of(value):
     return value if is_whole(value) and value < 1 << 32 else None
 
 
-def entry_of(entry, index):
+def entry_of(entry, index, notation=MIXED):
     """What an entry lists: its record, and its expiry or None."""
-    prefix = prefix_of(entry.get("prefix")) if isinstance(entry, dict) else None
+    prefix = prefix_of(entry.get("prefix"), notation) if isinstance(entry, dict) else None
     wrong = [
         not isinstance(entry, dict),
         isinstance(entry, dict) and asn_of(entry.get("asn")) is None,
@@ -112,7 +117,7 @@ def listed(entry):
     """The record of a payload list's entry."""
     if not isinstance(entry, dict) or sorted(entry) != ["asn", "maxLength", "prefix"] or type(entry["asn"]) is str:
         raise Refused("")
-    return entry_of(entry, 0)
+    return entry_of(entry, 0, PLAIN)
 
 
 def second_of(text):
@@ -207,11 +212,14 @@ class Maker(Chance):
             bits = chance.getrandbits(128) & chance.getrandbits(128) & chance.getrandbits(128) & chance.getrandbits(128) >> 1 if length else 0
             bits = bits >> (128 - length) << (128 - length)
             groups = [f"{bits >> 16 * at & 65535:{one(['x', 'X', '04x'])}}" for at in range(7, -1, -1)]
-            text = ":".join(groups)
+            tail = ".".join(str(bits >> 8 * at & 255) for at in (3, 2, 1, 0)) if self.rarely(0.2) else ""
+            text = ":".join(groups[:6] if tail else groups)
             zeros = [it for it in re.finditer(r"\b0+(?::0+\b)*", text)]
             if zeros and chance.random() < 0.7:
                 run = one(zeros)
                 text = f"{text[: run.start()].removesuffix(':')}::{text[run.end() :].removeprefix(':')}"
+            if tail:
+                text += tail if text.endswith("::") else f":{tail}"
             text += f"/{length}"
         if self.rarely():
             at = chance.randrange(len(text) + 1)

@@ -62,6 +62,7 @@ const OF_NEITHER_FORM: &[&[u8]] = &[
     b"[7]",
     b"[{\"asn\":\"AS1\",\"prefix\":\"10.0.0.0/8\",\"maxLength\":8}]",
     b"[{\"asn\":1,\"prefix\":\"10.0.0.0/8\",\"maxLength\":8,\"ta\":\"\"}]",
+    b"[{\"asn\":1,\"prefix\":\"::ffff:0.0.0.0/96\",\"maxLength\":96}]",
 ];
 
 #[test]
@@ -126,6 +127,10 @@ const ENTRIES: &[(&str, EntryFault)] = &[
     ),
     (
         "{\"asn\":1,\"prefix\":\"10.0.0.0\",\"maxLength\":8}",
+        EntryFault::Prefix,
+    ),
+    (
+        "{\"asn\":1,\"prefix\":\"::ffff:192.0.2.1/120\",\"maxLength\":120}",
         EntryFault::Prefix,
     ),
     ("{\"asn\":1,\"maxLength\":8}", EntryFault::Prefix),

@@ -104,6 +104,25 @@ fn as_stayrtr_and_rtrdump_write_it(rt: HostRuntime) -> Result<(), Fail> {
     Ok(())
 }
 
+/// IPv6 addresses in mixed notation, as rpki-client and FORT write them.
+const MIXED: &str = r#"{"roas":[{"asn":1,"prefix":"::ffff:0.0.0.0/96","maxLength":96},
+    {"asn":2,"prefix":"64:ff9b::192.0.2.0/120","maxLength":128},
+    {"asn":3,"prefix":"::10.0.0.0/104","maxLength":104}]}"#;
+
+/// The same in plain notation.
+const MIXED_ROWS: Rows = &[
+    ("::ffff:0:0/96", 96, 1),
+    ("64:ff9b::c000:200/120", 128, 2),
+    ("::a00:0/104", 104, 3),
+];
+
+#[test]
+fn prefixes_in_mixed_notation(rt: HostRuntime) -> Result<(), Fail> {
+    let export = read_export(rt.alloc(), MIXED.as_bytes(), NOW)?;
+    assert!(rt; is_of(rt.alloc(), &export, MIXED_ROWS)?);
+    Ok(())
+}
+
 /// How many entries count, and how many do not, of one that expires at this moment.
 fn counts(alloc: Global, text: &str, now: u64) -> Result<(usize, u64), Fail> {
     let export = read_export(alloc, text.as_bytes(), now)?;

@@ -1,5 +1,6 @@
-//! Examples of exports and of local exceptions (RFC 8416), which are the tests of the libraries `exports` and `slurm`: files as validators
-//! write them, the RFC's own file, a fault of each kind, and what comes of sets. They stand apart, as a crate with tests is proved twice.
+//! Examples of exports and of local exceptions (RFC 8416), which are the tests of the libraries `prefix_texts`, `exports` and `slurm`: files
+//! as validators write them, the RFC's own file, a fault of each kind, and what comes of sets. They stand apart, as a crate with tests is
+//! proved twice.
 #![tactic(auto)]
 
 #[cfg(test)]
@@ -10,6 +11,8 @@ mod export_faults;
 mod export_files;
 #[cfg(test)]
 mod list_parts;
+#[cfg(test)]
+mod mixed_texts;
 #[cfg(test)]
 mod slurm_cases;
 #[cfg(test)]

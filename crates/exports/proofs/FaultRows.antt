@@ -8,12 +8,13 @@ use Rattle.serde_json.specs.Read as json
 use Rattle.serde_json.proofs.OnLiterals.{serde_json_on_literals}
 use Rattle.prefixes.proofs.Decimals.{begins, decimal_lacks}
 use Rattle.prefixes.proofs.Lacks.{Lacks}
-use Rattle.prefixes.proofs.Spelling.{one_reading}
 use Rattle.prefixes.specs.Address.{IsPrefix}
 use Rattle.prefixes.specs.Payload.{Payload, block_of, width_of}
-use Rattle.prefixes.specs.Text.{PrefixText, Says}
 use Rattle.prefixes.specs.declared.prefix.IpPrefix.{IpPrefix}
-use Rattle.prefixes.specs.declared.prefix.IpPrefix.TheVariants.{V4}
+use Rattle.prefixes.specs.declared.prefix.IpPrefix.TheVariants.{V4, V6}
+use Rattle.prefix_texts.proofs.MixedRows.{mapped, mapped_host_bit}
+use Rattle.prefix_texts.proofs.Sayings.{one_saying}
+use Rattle.prefix_texts.specs.MixedText.{SaysText, SpellsPrefix}
 use Rattle.payload_lists.proofs.Entries.{one_some}
 use Rattle.payload_lists.specs.PayloadList as lists
 use Rattle.exports.specs.Entry.{AsnText, IsEntry, Said, SaysAsn, SaysExpiry, SaysFault, SaysPrefix, said}
@@ -114,11 +115,11 @@ the_prefix_next : SaysFault (record { asn_number = Some 1; asn_text = None; pref
 the_prefix_next = ((1, (lit< tt, refl)), λ p h. absurd (cc))
 
 -- A text that says no prefix: its prefix is told, whatever stands behind.
-no_prefix : (text : List ℕ) (p : IpPrefix) → Says p text → ¬ (IsPrefix (width_of p) (block_of p)) → SaysFault (of_as_1 text) faults.Prefix
+no_prefix : (text : List ℕ) (p : IpPrefix) → SaysText p text → ¬ (IsPrefix (width_of p) (block_of p)) → SaysFault (of_as_1 text) faults.Prefix
 no_prefix text p says none = (as_1 text, λ q h. none (subst (λ r. IsPrefix (width_of r) (block_of r)) (same q h) h.2.is_prefix))
   where
     same : (q : IpPrefix) (h : SaysPrefix (of_as_1 text) q) → q ≡ p
-    same q h = one_reading text q p (subst (λ t. Says q t) (one_some h.0 text (Some text) h.1 refl) h.2.says) says
+    same q h = one_saying text q p (subst (λ t. SaysText q t) (one_some h.0 text (Some text) h.1 refl) h.2.says) says
 
 -- a host bit
 host_bits : SaysFault (of_as_1 (codes "10.0.0.1/8")) faults.Prefix
@@ -134,10 +135,17 @@ over_the_width =
     no_prefix (codes "10.0.0.0/33") (V4 (record { addr = 0x0a000000; len = 33 })) (record { address = codes "10.0.0.0"; is_address = (lit< tt, refl); three_digits = lit< tt; text_is = refl })
     (λ h. absurd (omega (arith, h.in_family)))
 
+-- An IPv6 address in mixed notation, as rpki-client and FORT write it, and one of which a host bit is set
+mapped_prefix : SaysPrefix (of_as_1 (codes "::ffff:0.0.0.0/96")) (V6 (record { addr = 0xffff00000000; len = 96 }))
+mapped_prefix = (codes "::ffff:0.0.0.0/96", refl, record { is_prefix = record { in_family = lit≤ tt; address = lit< tt; no_host_bits = omega arith }; says = inr mapped })
+
+host_bit_of_the_tail : SaysFault (of_as_1 (codes "::ffff:192.0.2.1/120")) faults.Prefix
+host_bit_of_the_tail = no_prefix (codes "::ffff:192.0.2.1/120") (V6 (record { addr = 0xffffc0000201; len = 120 })) (inr mapped_host_bit) (λ h. absurd (omega (arith, h.no_host_bits)))
+
 abbrev ten : IpPrefix
 ten = V4 (record { addr = 0x0a000000; len = 8 })
 
-ten_text : PrefixText ten (codes "10.0.0.0/8")
+ten_text : SpellsPrefix ten (codes "10.0.0.0/8")
 unfolding digits
 ten_text = record {
   is_prefix = record { in_family = lit≤ tt; address = lit< tt; no_host_bits = omega arith };

@@ -11,6 +11,8 @@ use Rattle.der_lite.specs.Seconds.{days_of_months, days_of_years}
 use Rattle.prefixes.specs.Payload.{IsPayload, Payload, vrp_cmp}
 use Rattle.prefixes.specs.Text.{PrefixText}
 use Rattle.prefixes.specs.declared.prefix.IpPrefix.TheVariants.{V4, V6}
+use Rattle.prefix_texts.proofs.Sayings.{plain_spells}
+use Rattle.prefix_texts.specs.MixedText.{SpellsPrefix}
 use Rattle.vrps.specs.VrpSet.{VrpSet, set_of, size}
 use Rattle.vrps.proofs.SetLaws.{size-set_of}
 use Rattle.payload_lists.specs.PayloadList as lists
@@ -74,6 +76,16 @@ w_text = record {
   };
 }
 
+-- They are texts of an entry too.
+v_spelled : SpellsPrefix v.prefix (codes "192.0.2.0/24")
+v_spelled = plain_spells (codes "192.0.2.0/24") v.prefix v_text
+
+gone_spelled : SpellsPrefix gone.prefix (codes "198.51.100.0/24")
+gone_spelled = plain_spells (codes "198.51.100.0/24") gone.prefix gone_text
+
+w_spelled : SpellsPrefix w.prefix (codes "2001:db8::/32")
+w_spelled = plain_spells (codes "2001:db8::/32") w.prefix w_text
+
 -- what an entry lists
 abbrev listed : Payload → Option ℕ → Listed
 listed p end = record { payload = p; expires = end }
@@ -126,10 +138,10 @@ rpki_client_listed = listed v (Some 1700050000) ∷ listed gone (Some 1700000000
 rpki_client_entries : AreEntries rpki_client_items rpki_client_listed
 unfolding digits
 rpki_client_entries = (
-  (refl, record { asn = (lit< tt, refl); prefix = (codes "192.0.2.0/24", refl, v_text); max_len = (refl, lit≤ tt, lit≤ tt); expires = refl }),
+  (refl, record { asn = (lit< tt, refl); prefix = (codes "192.0.2.0/24", refl, v_spelled); max_len = (refl, lit≤ tt, lit≤ tt); expires = refl }),
   (
-    (refl, record { asn = (lit< tt, refl); prefix = (codes "198.51.100.0/24", refl, gone_text); max_len = (refl, lit≤ tt, lit≤ tt); expires = refl }),
-    ((refl, record { asn = (lit< tt, refl); prefix = (codes "2001:db8::/32", refl, w_text); max_len = (refl, lit≤ tt, lit≤ tt); expires = refl }), tt),
+    (refl, record { asn = (lit< tt, refl); prefix = (codes "198.51.100.0/24", refl, gone_spelled); max_len = (refl, lit≤ tt, lit≤ tt); expires = refl }),
+    ((refl, record { asn = (lit< tt, refl); prefix = (codes "2001:db8::/32", refl, w_spelled); max_len = (refl, lit≤ tt, lit≤ tt); expires = refl }), tt),
   ),
 )
 
@@ -167,8 +179,8 @@ routinator_listed = listed v None ∷ listed w None ∷ []
 routinator_entries : AreEntries routinator_items routinator_listed
 unfolding digits
 routinator_entries = (
-  (refl, record { asn = (lit< tt, (codes "AS64496", refl, inr refl)); prefix = (codes "192.0.2.0/24", refl, v_text); max_len = (refl, lit≤ tt, lit≤ tt); expires = refl }),
-  ((refl, record { asn = (lit< tt, (codes "AS64497", refl, inr refl)); prefix = (codes "2001:db8::/32", refl, w_text); max_len = (refl, lit≤ tt, lit≤ tt); expires = refl }), tt),
+  (refl, record { asn = (lit< tt, (codes "AS64496", refl, inr refl)); prefix = (codes "192.0.2.0/24", refl, v_spelled); max_len = (refl, lit≤ tt, lit≤ tt); expires = refl }),
+  ((refl, record { asn = (lit< tt, (codes "AS64497", refl, inr refl)); prefix = (codes "2001:db8::/32", refl, w_spelled); max_len = (refl, lit≤ tt, lit≤ tt); expires = refl }), tt),
 )
 
 routinator_row : IsExport routinator 1700000000 (record { set = both; expired = 0; built = Some 1699999900 })
@@ -205,8 +217,8 @@ fort_listed = listed v None ∷ listed w None ∷ []
 fort_entries : AreEntries fort_items fort_listed
 unfolding digits
 fort_entries = (
-  (refl, record { asn = (lit< tt, (codes "AS64496", refl, inr refl)); prefix = (codes "192.0.2.0/24", refl, v_text); max_len = (refl, lit≤ tt, lit≤ tt); expires = refl }),
-  ((refl, record { asn = (lit< tt, (codes "AS64497", refl, inr refl)); prefix = (codes "2001:db8::/32", refl, w_text); max_len = (refl, lit≤ tt, lit≤ tt); expires = refl }), tt),
+  (refl, record { asn = (lit< tt, (codes "AS64496", refl, inr refl)); prefix = (codes "192.0.2.0/24", refl, v_spelled); max_len = (refl, lit≤ tt, lit≤ tt); expires = refl }),
+  ((refl, record { asn = (lit< tt, (codes "AS64497", refl, inr refl)); prefix = (codes "2001:db8::/32", refl, w_spelled); max_len = (refl, lit≤ tt, lit≤ tt); expires = refl }), tt),
 )
 
 fort_row : IsExport fort 1700000000 (record { set = both; expired = 0; built = None })
@@ -243,8 +255,8 @@ stayrtr_listed = listed v (Some 1700050000) ∷ listed w None ∷ []
 stayrtr_entries : AreEntries stayrtr_items stayrtr_listed
 unfolding digits
 stayrtr_entries = (
-  (refl, record { asn = (lit< tt, refl); prefix = (codes "192.0.2.0/24", refl, v_text); max_len = (refl, lit≤ tt, lit≤ tt); expires = refl }),
-  ((refl, record { asn = (lit< tt, (codes "64497", refl, inl refl)); prefix = (codes "2001:db8::/32", refl, w_text); max_len = (refl, lit≤ tt, lit≤ tt); expires = refl }), tt),
+  (refl, record { asn = (lit< tt, refl); prefix = (codes "192.0.2.0/24", refl, v_spelled); max_len = (refl, lit≤ tt, lit≤ tt); expires = refl }),
+  ((refl, record { asn = (lit< tt, (codes "64497", refl, inl refl)); prefix = (codes "2001:db8::/32", refl, w_spelled); max_len = (refl, lit≤ tt, lit≤ tt); expires = refl }), tt),
 )
 
 stayrtr_row : IsExport stayrtr 1700000000 (record { set = both; expired = 0; built = Some 1699999800 })
@@ -281,8 +293,8 @@ rtrdump_listed = listed v None ∷ listed w None ∷ []
 rtrdump_entries : AreEntries rtrdump_items rtrdump_listed
 unfolding digits
 rtrdump_entries = (
-  (refl, record { asn = (lit< tt, refl); prefix = (codes "192.0.2.0/24", refl, v_text); max_len = (refl, lit≤ tt, lit≤ tt); expires = refl }),
-  ((refl, record { asn = (lit< tt, refl); prefix = (codes "2001:db8::/32", refl, w_text); max_len = (refl, lit≤ tt, lit≤ tt); expires = refl }), tt),
+  (refl, record { asn = (lit< tt, refl); prefix = (codes "192.0.2.0/24", refl, v_spelled); max_len = (refl, lit≤ tt, lit≤ tt); expires = refl }),
+  ((refl, record { asn = (lit< tt, refl); prefix = (codes "2001:db8::/32", refl, w_spelled); max_len = (refl, lit≤ tt, lit≤ tt); expires = refl }), tt),
 )
 
 rtrdump_row : IsExport rtrdump 1700000000 (record { set = both; expired = 0; built = Some 1699999900 })

@@ -4,13 +4,13 @@ use Rattle.std.specs.Prelude.{◌⊎◌, ◌↔◌, Contains, not}
 use Rattle.std.specs.List.{cons_option}
 use Rattle.std.proofs.lemmas.Bool.Decides.{nat_tests}
 use Rattle.std.proofs.lemmas.List.Sums.{sum_by-cons}
-use Rattle.prefixes.specs.Text.{OneReading}
 use Rattle.exports.specs.Entry.{counts_at, expired, is_after}
 use Rattle.exports.specs.Export.{IsExport, Lists}
 use Rattle.exports.specs.Until.{IsBefore, IsExportUntil, IsFirst, endings}
 use Rattle.exports.specs.declared.entry.Listed.{Listed}
 use Rattle.exports.specs.declared.export.ExportUntil.{ExportUntil}
 use Rattle.exports.proofs.Ends.{endings-cons, lasts}
+use Rattle.exports.proofs.Once.{OneMeaning}
 use Rattle.exports.proofs.Outcomes.{one_lists, one_value}
 
 -- ---- how many do not count
@@ -76,11 +76,11 @@ still_before now t (Some end) es later first same = by_test (nat_lt t end) refl
     by_test true is = grind (arith, nat_tests)
     by_test false is = let over : end ≤ t = grind (arith, nat_tests) in let more = expired-grows now t end es later over first.0 in absurd (omega (arith, more, same))
 
-then_before : OneReading → (bytes : List ℕ) (now : ℕ) (x : ExportUntil) → IsExportUntil bytes now x → (t : ℕ) → now ≤ t → IsExport bytes t x.export → IsBefore t x.until
+then_before : OneMeaning → (bytes : List ℕ) (now : ℕ) (x : ExportUntil) → IsExportUntil bytes now x → (t : ℕ) → now ≤ t → IsExport bytes t x.export → IsBefore t x.until
 then_before one bytes now x is t later then =
     let value = one_value bytes then.value is.export.value then.reads is.export.reads in
     let entries = one_lists one is.export.value then.entries is.export.entries (subst (λ d. Lists d then.entries) value then.lists) is.export.lists in
     still_before now t x.until is.export.entries later is.until (ap (expired t) (sym entries) ∙ sym then.expired_is ∙ is.export.expired_is)
 
-pub same_until : OneReading → (bytes : List ℕ) (now : ℕ) (x : ExportUntil) → IsExportUntil bytes now x → (t : ℕ) → now ≤ t → (IsExport bytes t x.export ↔ IsBefore t x.until)
+pub same_until : OneMeaning → (bytes : List ℕ) (now : ℕ) (x : ExportUntil) → IsExportUntil bytes now x → (t : ℕ) → now ≤ t → (IsExport bytes t x.export ↔ IsBefore t x.until)
 same_until one bytes now x is t later = (then_before one bytes now x is t later, lasts bytes now x is t later)

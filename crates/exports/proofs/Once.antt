@@ -4,14 +4,21 @@ use Rattle.std.specs.Fmt.{decimal}
 use Rattle.std.proofs.lemmas.Fmt.{decimal_injective}
 use Rattle.prefixes.proofs.Decimals.{decimal_lacks}
 use Rattle.prefixes.proofs.Lacks.{Lacks}
-use Rattle.prefixes.specs.Text.{OneReading, Says}
+use Rattle.prefixes.specs.Text.{OneReading}
 use Rattle.prefixes.specs.declared.prefix.IpPrefix.{IpPrefix}
+use Rattle.prefix_texts.specs.MixedLaws.{OneSaying}
+use Rattle.prefix_texts.specs.MixedText.{SaysText}
 use Rattle.serde_json.specs.Data.{Data, Items, no_items, item}
 use Rattle.payload_lists.proofs.Entries.{one_some}
 use Rattle.exports.specs.Entry.{AreEntries, AsnText, FailsAt, IsEntry, IsNoEntry, Said, SaysAsn, SaysEntry, SaysExpiry, SaysFault, SaysMaxLen, SaysPrefix, SpellsAsn, said}
 use Rattle.exports.specs.declared.entry.Listed.{Listed}
 use Rattle.exports.specs.declared.fault.EntryFault.{EntryFault}
 use Rattle.exports.specs.declared.fault.EntryFault.TheVariants as faults
+
+-- No text says two things, neither one of a payload list nor one of an entry.
+pub record OneMeaning : Type 0 where
+  pub of_lists : OneReading
+  pub of_entries : OneSaying
 
 no_as_before : (n m : ℕ) → n < 2 ^ 32 → ¬ (decimal n ≡ codes "AS" ++ decimal m)
 no_as_before n m small e = let lacks : Lacks 65 (codes "AS" ++ decimal m) = subst (λ t. Lacks 65 t) e (decimal_lacks 65 n (omega arith) (omega arith)) in lacks.0 refl
@@ -30,8 +37,8 @@ spelled_once None p n m a b h i = one_number n m h.0 a b h.2 (subst (λ t. AsnTe
 one_asn : (s : Said) (n m : ℕ) → SaysAsn s n → SaysAsn s m → n ≡ m
 one_asn s n m h i = spelled_once s.asn_number s.asn_text n m h.0 i.0 h.1 i.1
 
-one_prefix : OneReading → (s : Said) (p q : IpPrefix) → SaysPrefix s p → SaysPrefix s q → p ≡ q
-one_prefix one s p q h i = one h.0 p q h.2.says (subst (λ t. Says q t) (one_some i.0 h.0 s.prefix i.1 h.1) i.2.says)
+one_prefix : OneSaying → (s : Said) (p q : IpPrefix) → SaysPrefix s p → SaysPrefix s q → p ≡ q
+one_prefix one s p q h i = one h.0 p q h.2.says (subst (λ t. SaysText q t) (one_some i.0 h.0 s.prefix i.1 h.1) i.2.says)
 
 one_expiry : (s : Said) (a b : Option ℕ) → SaysExpiry s a → SaysExpiry s b → a ≡ b
 one_expiry s None None h i = refl
@@ -39,7 +46,7 @@ one_expiry s None (Some u) h i = absurd (cc)
 one_expiry s (Some t) None h i = absurd (cc)
 one_expiry s (Some t) (Some u) h i = cc
 
-one_listed : OneReading → (s : Said) (e f : Listed) → SaysEntry s e → SaysEntry s f → e ≡ f
+one_listed : OneSaying → (s : Said) (e f : Listed) → SaysEntry s e → SaysEntry s f → e ≡ f
 one_listed one s e f h i =
     let p = one_prefix one s e.payload.prefix f.payload.prefix h.prefix i.prefix in
     let m = one_some e.payload.max_len f.payload.max_len s.max_len h.max_len.0 i.max_len.0 in
@@ -47,22 +54,22 @@ one_listed one s e f h i =
     let t = one_expiry s e.expires f.expires h.expires i.expires in
     λ i. record { payload = record { prefix = p i; max_len = m i; asn = n i }; expires = t i }
 
-pub one_entry : OneReading → (d : Data) (e f : Listed) → IsEntry d e → IsEntry d f → e ≡ f
+pub one_entry : OneSaying → (d : Data) (e f : Listed) → IsEntry d e → IsEntry d f → e ≡ f
 one_entry one d e f h i = one_listed one (said d) e f h.1 i.1
 
 -- ---- faults
 
-right_maximum : OneReading → (s : Said) (p : IpPrefix) (v : IpPrefix) (m : ℕ) → SaysPrefix s p → SaysPrefix s v → SaysMaxLen s v m → SaysMaxLen s p m
+right_maximum : OneSaying → (s : Said) (p : IpPrefix) (v : IpPrefix) (m : ℕ) → SaysPrefix s p → SaysPrefix s v → SaysMaxLen s v m → SaysMaxLen s p m
 right_maximum one s p v m hp hv h = subst (λ q. SaysMaxLen s q m) (one_prefix one s v p hv hp) h
 
-no_fault_said : OneReading → (s : Said) (e : Listed) (w : EntryFault) → SaysEntry s e → SaysFault s w → ⊥
+no_fault_said : OneSaying → (s : Said) (e : Listed) (w : EntryFault) → SaysEntry s e → SaysFault s w → ⊥
 no_fault_said one s e faults.NoObject h k = k
 no_fault_said one s e faults.Asn h k = k e.payload.asn h.asn
 no_fault_said one s e faults.Prefix h k = k.1 e.payload.prefix h.prefix
 no_fault_said one s e faults.MaxLength h k = k.1.2 e.payload.max_len (right_maximum one s k.1.0 e.payload.prefix e.payload.max_len k.1.1 h.prefix h.max_len)
 no_fault_said one s e faults.Expires h k = k.2 e.expires h.expires
 
-one_fault_said : OneReading → (s : Said) (v w : EntryFault) → SaysFault s v → SaysFault s w → v ≡ w
+one_fault_said : OneSaying → (s : Said) (v w : EntryFault) → SaysFault s v → SaysFault s w → v ≡ w
 one_fault_said one s faults.NoObject w h k = absurd h
 one_fault_said one s faults.Asn faults.NoObject h k = absurd k
 one_fault_said one s faults.Asn faults.Asn h k = refl
@@ -88,11 +95,11 @@ one_fault_said one s faults.Expires faults.Expires h k = refl
 apart : {P : Type 0} (b : Bool) → b ≡ true → b ≡ false → P
 apart b t f = let no : true ≡ false = sym t ∙ f in absurd (cc)
 
-no_fault : OneReading → (d : Data) (e : Listed) (w : EntryFault) → IsEntry d e → IsNoEntry d w → ⊥
+no_fault : OneSaying → (d : Data) (e : Listed) (w : EntryFault) → IsEntry d e → IsNoEntry d w → ⊥
 no_fault one d e w h (inl k) = apart _ h.0 k.0
 no_fault one d e w h (inr k) = no_fault_said one (said d) e w h.1 k.1
 
-one_fault : OneReading → (d : Data) (v w : EntryFault) → IsNoEntry d v → IsNoEntry d w → v ≡ w
+one_fault : OneSaying → (d : Data) (v w : EntryFault) → IsNoEntry d v → IsNoEntry d w → v ≡ w
 one_fault one d v w (inl h) (inl k) = h.1 ∙ sym k.1
 one_fault one d v w (inl h) (inr k) = apart _ k.0 h.0
 one_fault one d v w (inr h) (inl k) = apart _ h.0 k.0
@@ -100,7 +107,7 @@ one_fault one d v w (inr h) (inr k) = one_fault_said one (said d) v w h.1 k.1
 
 -- ---- entries
 
-pub one_entries : OneReading → (ds : Items) (es fs : List Listed) → AreEntries ds es → AreEntries ds fs → es ≡ fs
+pub one_entries : OneSaying → (ds : Items) (es fs : List Listed) → AreEntries ds es → AreEntries ds fs → es ≡ fs
 one_entries one no_items [] [] h k = refl
 one_entries one no_items [] (f ∷ fs) h k = absurd k
 one_entries one no_items (e ∷ es) fs h k = absurd h
@@ -108,13 +115,13 @@ one_entries one (item d ds) (e ∷ es) (f ∷ fs) h k = ap₂ (λ x xs. x ∷ xs
 one_entries one (item d ds) (e ∷ es) [] h k = absurd k
 one_entries one (item d ds) [] fs h k = absurd h
 
-pub none_fails : OneReading → (ds : Items) (es : List Listed) (i : ℕ) (w : EntryFault) → AreEntries ds es → FailsAt ds i w → ⊥
+pub none_fails : OneSaying → (ds : Items) (es : List Listed) (i : ℕ) (w : EntryFault) → AreEntries ds es → FailsAt ds i w → ⊥
 none_fails one no_items es i w h k = k
 none_fails one (item d ds) [] i w h k = h
 none_fails one (item d ds) (e ∷ es) zero w h k = no_fault one d e w h.0 k
 none_fails one (item d ds) (e ∷ es) (suc i) w h k = none_fails one ds es i w h.1 k.1
 
-pub one_fails : OneReading → (ds : Items) (i j : ℕ) (v w : EntryFault) → FailsAt ds i v → FailsAt ds j w → (i ≡ j) × (v ≡ w)
+pub one_fails : OneSaying → (ds : Items) (i j : ℕ) (v w : EntryFault) → FailsAt ds i v → FailsAt ds j w → (i ≡ j) × (v ≡ w)
 one_fails one no_items i j v w h k = absurd h
 one_fails one (item d ds) zero zero v w h k = (refl, one_fault one d v w h k)
 one_fails one (item d ds) zero (suc j) v w h k = absurd (no_fault one d k.0.0 v k.0.1 h)

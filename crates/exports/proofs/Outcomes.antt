@@ -3,7 +3,6 @@ use Rattle.std.proofs.Common.{◌≡◌, ℕ, List, Option, Some, None, refl, sy
 use Rattle.der_lite.specs.Moments.{CivilMoment, moment_of}
 use Rattle.der_lite.specs.Seconds.{seconds_of}
 use Rattle.der_lite.proofs.MomentLaws.{text_said}
-use Rattle.prefixes.specs.Text.{OneReading}
 use Rattle.serde_json.specs.Data.{Data, null, boolean, number, string, array, object, Items}
 use Rattle.serde_json.specs.Find.{as_array}
 use Rattle.serde_json.specs.Read as json
@@ -19,7 +18,7 @@ use Rattle.exports.specs.declared.export.Export.{Export}
 use Rattle.exports.specs.declared.fault.EntryFault.{EntryFault}
 use Rattle.exports.specs.declared.fault.ExportFault.{ExportFault}
 use Rattle.exports.specs.declared.fault.ExportFault.TheVariants.{NotJson, NoRoas, Entry, TooMany, Memory}
-use Rattle.exports.proofs.Once.{none_fails, one_entries, one_fails}
+use Rattle.exports.proofs.Once.{OneMeaning, none_fails, one_entries, one_fails}
 use Rattle.exports.proofs.Times.{plain_time}
 
 pub one_value : (bytes : List ℕ) (d e : Data) → Reads bytes d → Reads bytes e → d ≡ e
@@ -52,18 +51,18 @@ not_both (string s) ds es h k = absurd (cc)
 not_both (array xs) ds es h k = absurd (cc)
 not_both (object ms) ds es h k = absurd (cc)
 
-one_of_list : OneReading → (d : Data) (es fs : List Listed) → IsList d es → IsList d fs → es ≡ fs
+one_of_list : OneMeaning → (d : Data) (es fs : List Listed) → IsList d es → IsList d fs → es ≡ fs
 one_of_list one d es fs h k =
     let items = one_some k.items h.items (as_array d) k.is_array h.is_array in
-    let same = one_list one h.items h.payloads k.payloads h.listed (subst (λ ds. lists.AreEntries ds k.payloads) items k.listed) in
+    let same = one_list one.of_lists h.items h.payloads k.payloads h.listed (subst (λ ds. lists.AreEntries ds k.payloads) items k.listed) in
     h.entries_are ∙ ap (map lasting) (sym same) ∙ sym k.entries_are
 
-one_of_roas : OneReading → (d : Data) (es fs : List Listed) → HasRoas d es → HasRoas d fs → es ≡ fs
+one_of_roas : OneMeaning → (d : Data) (es fs : List Listed) → HasRoas d es → HasRoas d fs → es ≡ fs
 one_of_roas one d es fs h k =
     let items = one_some k.items h.items (roas d) k.roas_are h.roas_are in
-    one_entries one h.items es fs h.entries (subst (λ ds. AreEntries ds fs) items k.entries)
+    one_entries one.of_entries h.items es fs h.entries (subst (λ ds. AreEntries ds fs) items k.entries)
 
-pub one_lists : OneReading → (d : Data) (es fs : List Listed) → Lists d es → Lists d fs → es ≡ fs
+pub one_lists : OneMeaning → (d : Data) (es fs : List Listed) → Lists d es → Lists d fs → es ≡ fs
 one_lists one d es fs (inl h) (inl k) = one_of_list one d es fs h k
 one_lists one d es fs (inl h) (inr k) = not_both d h.items k.items h.is_array k.roas_are
 one_lists one d es fs (inr h) (inl k) = not_both d k.items h.items k.is_array h.roas_are
@@ -71,7 +70,7 @@ one_lists one d es fs (inr h) (inr k) = one_of_roas one d es fs h k
 
 -- ---- exports
 
-pub one_export : OneReading → (bytes : List ℕ) (now : ℕ) (x y : Export) → IsExport bytes now x → IsExport bytes now y → x ≡ y
+pub one_export : OneMeaning → (bytes : List ℕ) (now : ℕ) (x y : Export) → IsExport bytes now x → IsExport bytes now y → x ≡ y
 one_export one bytes now x y h k =
     let value = one_value bytes k.value h.value k.reads h.reads in
     let entries = one_lists one h.value h.entries k.entries h.lists (subst (λ d. Lists d k.entries) value k.lists) in
@@ -84,12 +83,12 @@ not_neither : {P : Type 0} (d : Data) (es : List Listed) → Lists d es → roas
 not_neither d es (inl h) none no_list = absurd (no_list es h)
 not_neither d es (inr h) none no_list = let no : Some h.items ≡ None = sym h.roas_are ∙ none in absurd (cc)
 
-not_failing : {P : Type 0} → OneReading → (d : Data) (es : List Listed) (ds : Items) (i : ℕ) (w : EntryFault) → Lists d es → roas d ≡ Some ds → FailsAt ds i w → P
+not_failing : {P : Type 0} → OneMeaning → (d : Data) (es : List Listed) (ds : Items) (i : ℕ) (w : EntryFault) → Lists d es → roas d ≡ Some ds → FailsAt ds i w → P
 not_failing one d es ds i w (inl h) are fails = not_both d h.items ds h.is_array are
 not_failing one d es ds i w (inr h) are fails =
-    let same = one_some h.items ds (roas d) h.roas_are are in absurd (none_fails one ds es i w (subst (λ xs. AreEntries xs es) same h.entries) fails)
+    let same = one_some h.items ds (roas d) h.roas_are are in absurd (none_fails one.of_entries ds es i w (subst (λ xs. AreEntries xs es) same h.entries) fails)
 
-pub no_fault : OneReading → (bytes : List ℕ) (now : ℕ) (x : Export) (f : ExportFault) → IsExport bytes now x → HasFault bytes now f → f ≡ Memory
+pub no_fault : OneMeaning → (bytes : List ℕ) (now : ℕ) (x : Export) (f : ExportFault) → IsExport bytes now x → HasFault bytes now f → f ≡ Memory
 no_fault one bytes now x NotJson h k = absurd (k h.value h.reads)
 no_fault one bytes now x NoRoas h k =
     let lists_it = subst (λ d. Lists d h.entries) (one_value bytes h.value k.0 h.reads k.1) h.lists in not_neither k.0 h.entries lists_it k.2 k.3
@@ -104,12 +103,12 @@ no_fault one bytes now x Memory h k = refl
 
 -- ---- faults
 
-entries_differ : {P : Type 0} → OneReading → (bytes : List ℕ) (now i : ℕ) (w : EntryFault) → HasFault bytes now (Entry i w) → HasFault bytes now NoRoas → P
+entries_differ : {P : Type 0} → OneMeaning → (bytes : List ℕ) (now i : ℕ) (w : EntryFault) → HasFault bytes now (Entry i w) → HasFault bytes now NoRoas → P
 entries_differ one bytes now i w h k =
     let same = one_value bytes h.0 k.0 h.1 k.1 in
     let no : Some h.2.0 ≡ None = sym h.2.1 ∙ ap roas same ∙ k.2 in absurd (cc)
 
-entry_and_many : {P : Type 0} → OneReading → (bytes : List ℕ) (now i : ℕ) (w : EntryFault) → HasFault bytes now (Entry i w) → HasFault bytes now TooMany → P
+entry_and_many : {P : Type 0} → OneMeaning → (bytes : List ℕ) (now i : ℕ) (w : EntryFault) → HasFault bytes now (Entry i w) → HasFault bytes now TooMany → P
 entry_and_many one bytes now i w h k =
     let lists_it = subst (λ d. Lists d k.2.0) (one_value bytes k.0 h.0 k.1 h.1) k.2.1 in not_failing one h.0 k.2.0 h.2.0 i w lists_it h.2.1 h.2.2
 
@@ -117,7 +116,7 @@ neither_and_many : {P : Type 0} (bytes : List ℕ) (now : ℕ) → HasFault byte
 neither_and_many bytes now h k =
     let lists_it = subst (λ d. Lists d k.2.0) (one_value bytes k.0 h.0 k.1 h.1) k.2.1 in not_neither h.0 k.2.0 lists_it h.2 h.3
 
-pub one_fault : OneReading → (bytes : List ℕ) (now : ℕ) (f g : ExportFault) → HasFault bytes now f → HasFault bytes now g → ¬ (f ≡ Memory) → ¬ (g ≡ Memory) → f ≡ g
+pub one_fault : OneMeaning → (bytes : List ℕ) (now : ℕ) (f g : ExportFault) → HasFault bytes now f → HasFault bytes now g → ¬ (f ≡ Memory) → ¬ (g ≡ Memory) → f ≡ g
 one_fault one bytes now Memory g h k a b = absurd (a refl)
 one_fault one bytes now NotJson Memory h k a b = absurd (b refl)
 one_fault one bytes now NotJson NotJson h k a b = refl
@@ -134,7 +133,7 @@ one_fault one bytes now (Entry i w) NotJson h k a b = absurd (k h.0 h.1)
 one_fault one bytes now (Entry i w) NoRoas h k a b = entries_differ one bytes now i w h k
 one_fault one bytes now (Entry i w) (Entry j v) h k a b =
     let items = one_some k.2.0 h.2.0 (roas h.0) (ap roas (one_value bytes h.0 k.0 h.1 k.1) ∙ k.2.1) h.2.1 in
-    let both = one_fails one h.2.0 i j w v h.2.2 (subst (λ ds. FailsAt ds j v) items k.2.2) in ap₂ (λ n x. Entry n x) both.0 both.1
+    let both = one_fails one.of_entries h.2.0 i j w v h.2.2 (subst (λ ds. FailsAt ds j v) items k.2.2) in ap₂ (λ n x. Entry n x) both.0 both.1
 one_fault one bytes now (Entry i w) TooMany h k a b = entry_and_many one bytes now i w h k
 one_fault one bytes now TooMany Memory h k a b = absurd (b refl)
 one_fault one bytes now TooMany NotJson h k a b = absurd (k h.0 h.1)

@@ -4,8 +4,8 @@ use Rattle.std.specs.Fmt.{decimal}
 use Rattle.serde_json.specs.Data.{Data, Items, no_items, item}
 use Rattle.serde_json.specs.Find.{get, as_number, as_object, as_u64}
 use Rattle.prefixes.specs.Payload.{Payload, block_of, width_of}
-use Rattle.prefixes.specs.Text.{PrefixText}
 use Rattle.prefixes.specs.declared.prefix.IpPrefix.{IpPrefix}
+use Rattle.prefix_texts.specs.MixedText.{SpellsPrefix}
 use Rattle.payload_lists.specs.PayloadList.{text_at, whole_at}
 use Rattle.exports.specs.declared.entry.Listed.{Listed}
 use Rattle.exports.specs.declared.fault.EntryFault.{EntryFault}
@@ -45,9 +45,9 @@ SpellsAsn None text n = (t : List ℕ) × (text ≡ Some t) × AsnText n t
 abbrev pub SaysAsn : Said → ℕ → Type 0
 SaysAsn s n = (n < 2 ^ 32) × SpellsAsn s.asn_number s.asn_text n
 
--- The prefix is a readable spelling of it.
+-- The prefix is a readable spelling of it, in which an IPv6 address may be in mixed notation.
 abbrev pub SaysPrefix : Said → IpPrefix → Type 0
-SaysPrefix s p = (text : List ℕ) × (s.prefix ≡ Some text) × PrefixText p text
+SaysPrefix s p = (text : List ℕ) × (s.prefix ≡ Some text) × SpellsPrefix p text
 
 -- The maximum is not below the length of the prefix, nor over the width of its family.
 abbrev pub SaysMaxLen : Said → IpPrefix → ℕ → Type 0

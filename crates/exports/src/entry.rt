@@ -10,6 +10,7 @@ ghost use Rattle.exports.specs.Found.{said_by};
 
 use crate::fault::EntryFault;
 use payload_lists::parts::{text, whole};
+use prefix_texts::parse_prefix;
 use prefixes::{Asn, IpPrefix, Vrp};
 use serde_json::Value;
 
@@ -72,7 +73,7 @@ fn prefix(found: &Found<'_>) -> Option<IpPrefix>
     ensures some { IfSome result (λ p. SaysPrefix (said_by found.now) p) }
     ensures none { IfNone result ((p : Prefix) → ¬ (SaysPrefix (said_by found.now) p)) }
 {
-    match IpPrefix::parse(found.prefix?) {
+    match parse_prefix(found.prefix?) {
         Ok(prefix) => Some(prefix),
         Err(_) => None,
     }

@@ -1,6 +1,7 @@
 //! Laws of exports. The functions do nothing: each states a law, which is proved.
 ghost use Rattle.exports.specs.ExportLaws.{NoFaultOfExports, OneExport, OneFault, SameUntil};
 
+use prefix_texts::laws::one_saying;
 use prefixes::laws::one_reading;
 
 /// What bytes are an export of, at a moment, is one thing.
@@ -8,6 +9,7 @@ pub fn one_export()
     ensures { OneExport }
 {
     one_reading();
+    one_saying();
 }
 
 /// Bytes that are an export, at a moment, have no fault; so `read_export` refuses them only where memory runs out.
@@ -15,6 +17,7 @@ pub fn no_fault_of_exports()
     ensures { NoFaultOfExports }
 {
     one_reading();
+    one_saying();
 }
 
 /// Bytes that are no export have one fault: the first.
@@ -22,6 +25,7 @@ pub fn one_fault()
     ensures { OneFault }
 {
     one_reading();
+    one_saying();
 }
 
 /// What bytes are an export of at a moment they are at each later one before its end, and at none from then on.
@@ -29,4 +33,5 @@ pub fn same_until()
     ensures { SameUntil }
 {
     one_reading();
+    one_saying();
 }
