@@ -12,17 +12,22 @@ use Rattle.prefixes.specs.Address.{IsPrefix}
 use Rattle.prefixes.specs.Payload.{Payload, block_of, width_of}
 use Rattle.prefixes.specs.declared.prefix.IpPrefix.{IpPrefix}
 use Rattle.prefixes.specs.declared.prefix.IpPrefix.TheVariants.{V4, V6}
+use Rattle.prefixes.proofs.Spelling.{one_reading}
 use Rattle.prefix_texts.proofs.MixedRows.{mapped, mapped_host_bit}
 use Rattle.prefix_texts.proofs.Sayings.{one_saying}
 use Rattle.prefix_texts.specs.MixedText.{SaysText, SpellsPrefix}
 use Rattle.payload_lists.proofs.Entries.{one_some}
 use Rattle.payload_lists.specs.PayloadList as lists
-use Rattle.exports.specs.Entry.{AsnText, IsEntry, Said, SaysAsn, SaysExpiry, SaysFault, SaysPrefix, said}
-use Rattle.exports.specs.Export.{HasFault}
+use Rattle.vrps.specs.VrpSet.{set_of, size}
+use Rattle.exports.specs.Entry.{AsnText, IsEntry, Said, SaysAsn, SaysExpiry, SaysFault, SaysMaxLen, SaysPrefix, current, said}
+use Rattle.exports.specs.Export.{HasFault, Lists, Reads}
+use Rattle.exports.specs.declared.entry.Listed.{Listed}
 use Rattle.exports.specs.Faults.{export_fault_number}
 use Rattle.exports.specs.declared.fault.EntryFault.TheVariants as faults
 use Rattle.exports.specs.declared.fault.ExportFault.TheVariants.{NotJson, NoRoas, Entry, TooMany, Memory}
 use Rattle.exports.proofs.Ascii.{utf8}
+use Rattle.exports.proofs.Once.{OneMeaning}
+use Rattle.exports.proofs.Outcomes.{one_lists, one_value}
 use Rattle.exports.proofs.Texts.{none_after}
 
 -- ---- the texts of AS numbers
@@ -170,6 +175,13 @@ a_text_for_a_maximum = ((1, (lit< tt, refl)), (ten, (codes "10.0.0.0/8", refl, t
 no_maximum : SaysFault (said (of_ten no_members)) faults.MaxLength
 no_maximum = ((1, (lit< tt, refl)), (ten, (codes "10.0.0.0/8", refl, ten_text), λ m h. absurd (cc)))
 
+-- The greatest maximum is the width of the family.
+up_to_32 : SaysMaxLen (said (of_ten (member (codes "maxLength") (number (unsigned 32)) no_members))) ten 32
+up_to_32 = (refl, lit≤ tt, lit≤ tt)
+
+up_to_128 : SaysMaxLen (said (of_ten (member (codes "maxLength") (number (unsigned 128)) no_members))) (V6 (record { addr = 0; len = 128 })) 128
+up_to_128 = (refl, lit≤ tt, lit≤ tt)
+
 -- `expires` is no whole number.
 abbrev of_ten_to_8 : Data → Said
 of_ten_to_8 d = said (of_ten (member (codes "maxLength") (number (unsigned 8)) (member (codes "expires") d no_members)))
@@ -180,6 +192,13 @@ no_moment (Some t) h = absurd (cc)
 
 a_text_for_an_expiry : SaysFault (of_ten_to_8 (string (codes "1700000001"))) faults.Expires
 a_text_for_an_expiry = ((1, (lit< tt, refl)), (ten, (codes "10.0.0.0/8", refl, ten_text), (8, (refl, lit≤ tt, lit≤ tt))), no_moment)
+
+null_moment : (t : Option ℕ) → ¬ (SaysExpiry (of_ten_to_8 null) t)
+null_moment None h = absurd (cc)
+null_moment (Some t) h = absurd (cc)
+
+null_for_an_expiry : SaysFault (of_ten_to_8 null) faults.Expires
+null_for_an_expiry = ((1, (lit< tt, refl)), (ten, (codes "10.0.0.0/8", refl, ten_text), (8, (refl, lit≤ tt, lit≤ tt))), null_moment)
 
 -- ---- bytes that are no export
 
@@ -237,6 +256,28 @@ no_list (v ∷ vs) h = let no : None ≡ Some h.0.members = h.0.is_object in abs
 no_payload_list : HasFault (codes "[7]") 0 NoRoas
 no_payload_list = (array one_seven, (utf8 (codes "[7]") refl, read_one_seven), refl, λ es h. no_list h.payloads (subst (λ ds. lists.AreEntries ds h.payloads) (one_some h.items one_seven (Some one_seven) h.is_array refl) h.listed))
 
+-- an entry of a payload list with a fourth key
+abbrev four_members : Members
+four_members = member (codes "asn") (number (unsigned 1)) (member (codes "maxLength") (number (unsigned 8)) (member (codes "prefix") (string (codes "10.0.0.0/8")) (member (codes "ta") (string []) no_members)))
+
+abbrev four_keys : Data
+four_keys = object four_members
+
+abbrev list_of_four : List ℕ
+list_of_four = codes "[{\"asn\":1,\"prefix\":\"10.0.0.0/8\",\"maxLength\":8,\"ta\":\"\"}]"
+
+read_four : json.read list_of_four ≡ Some (array (item four_keys no_items))
+unfolding serde_json_on_literals
+read_four = refl
+
+no_fourth : (vs : List Payload) → ¬ (lists.AreEntries (item four_keys no_items) vs)
+no_fourth [] h = h
+no_fourth (v ∷ vs) h = let count : lists.member_count h.0.members ≡ 4 = ap lists.member_count (one_some h.0.members four_members (Some four_members) h.0.is_object refl) in absurd (omega (arith, count, h.0.three))
+
+a_fourth_key : HasFault list_of_four 0 NoRoas
+a_fourth_key =
+    (array (item four_keys no_items), (utf8 list_of_four refl, read_four), refl, λ es h. no_fourth h.payloads (subst (λ ds. lists.AreEntries ds h.payloads) (one_some h.items (item four_keys no_items) (Some (item four_keys no_items)) h.is_array refl) h.listed))
+
 -- An entry that cannot be read refuses the whole, and it is the first one that is told: of three the second, whose AS is none.
 abbrev well : Data
 well = object (member (codes "asn") (number (unsigned 1)) (member (codes "maxLength") (number (unsigned 8)) (member (codes "prefix") (string (codes "10.0.0.0/8")) no_members)))
@@ -256,6 +297,20 @@ well_is = (refl, record { asn = (lit< tt, refl); prefix = (codes "10.0.0.0/8", r
 
 the_second_of_three : HasFault three 0 (Entry 1 faults.Asn)
 the_second_of_three = (object (member (codes "roas") (array three_items) no_members), (utf8 three refl, read_three), (three_items, refl, ((record { payload = record { prefix = ten; max_len = 8; asn = 1 }; expires = None }, well_is), inr (refl, as_minus_one))))
+
+-- Of 16,777,216 different payloads there are too many, and of one less not.
+one_too_many : (bytes : List ℕ) (d : Data) (es : List Listed) → Reads bytes d → Lists d es → size (set_of (current 0 es)) ≡ 16777216 → HasFault bytes 0 TooMany
+one_too_many bytes d es reads lists_it is = (d, reads, (es, lists_it, omega (arith, is)))
+
+meaning : OneMeaning
+meaning = record { of_lists = one_reading; of_entries = one_saying }
+
+not_too_many : (bytes : List ℕ) (d : Data) (es : List Listed) → Reads bytes d → Lists d es → size (set_of (current 0 es)) ≡ 16777215 → ¬ (HasFault bytes 0 TooMany)
+not_too_many bytes d es reads lists_it is h =
+    let value = one_value bytes h.0 d h.1 reads in
+    let same = one_lists meaning d h.2.0 es (subst (λ x. Lists x h.2.0) value h.2.1) lists_it in
+    let sizes : size (set_of (current 0 h.2.0)) ≡ 16777215 = ap (λ l. size (set_of (current 0 l))) same ∙ is in
+    omega (arith, sizes, h.2.2)
 
 numbers : (export_fault_number NotJson ≡ 1) × (export_fault_number NoRoas ≡ 2) × (export_fault_number (Entry 7 faults.Asn) ≡ 3) × (export_fault_number TooMany ≡ 4) × (export_fault_number Memory ≡ 5)
 numbers = (refl, refl, refl, refl, refl)
