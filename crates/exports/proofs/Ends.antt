@@ -9,12 +9,16 @@ use Rattle.prefixes.proofs.Basics.{lt_true}
 use Rattle.serde_json.specs.Data.{Data}
 use Rattle.serde_json.specs.Read.{read}
 use Rattle.std.specs.Str.{IsUtf8}
-use Rattle.exports.specs.PlainForm.{TellsParts}
+use Rattle.exports.specs.PlainForm.{TellsEntries, TellsParts}
+use Rattle.exports.specs.declared.fault.EntryFault.{EntryFault}
+use Rattle.exports.specs.declared.fault.ExportFault.TheVariants.{NoRoas, Entry, TooMany}
+use Rattle.exports.specs.declared.plain.Entries.{Entries}
+use Rattle.exports.specs.declared.plain.Entries.TheVariants.{Whole, Broken}
 use Rattle.exports.specs.declared.plain.Parts.{Parts}
 use Rattle.vrps.specs.VrpSet.{set_of, size}
 use Rattle.exports.specs.Built.{IsBuilt, buildtime, generated}
 use Rattle.exports.specs.Entry.{counts_at, expired, is_after}
-use Rattle.exports.specs.Export.{IsExport, Lists, Reads}
+use Rattle.exports.specs.Export.{HasFault, IsExport, Lists, Reads}
 use Rattle.exports.specs.Found.{Gathers}
 use Rattle.exports.specs.Until.{IsBefore, IsExportUntil, IsFirst, endings}
 use Rattle.exports.specs.declared.entry.Listed.{Listed}
@@ -122,10 +126,29 @@ is_made bytes now d g built x reads found is made = record {
 }
 
 -- What was gathered of a text in its plain form
-pub of_parts : (text : List ℕ) (now : ℕ) (o : Option Parts) (p : Parts) (g : Gathered) (x : ExportUntil) → IsUtf8 text → IfSome o (λ parts. (d : Data) × (read text ≡ Some d) × TellsParts now d parts) → o ≡ Some p → p.gathered ≡ Some g → Made g p.built x → IsExportUntil text now x
+pub of_parts : (text : List ℕ) (now : ℕ) (o : Option Parts) (p : Parts) (g : Gathered) (x : ExportUntil) → IsUtf8 text → IfSome o (λ parts. (d : Data) × (read text ≡ Some d) × TellsParts now d parts) → o ≡ Some p → p.entries ≡ Some (Whole g) → Made g p.built x → IsExportUntil text now x
 of_parts text now o p g x utf8 told is has made =
     let parts = subst (λ o. IfSome o (λ parts. (d : Data) × (read text ≡ Some d) × TellsParts now d parts)) is told in
-    is_made text now parts.0 g p.built x (utf8, parts.1) (subst (λ o. IfSome o (λ g. (es : List Listed) × Lists parts.0 es × Gathers now es g)) has parts.2.gathered) parts.2.built made
+    is_made text now parts.0 g p.built x (utf8, parts.1) (subst (λ x. TellsEntries now parts.0 x) has parts.2.entries) parts.2.built made
+
+-- and what is wrong with it
+told_of : (text : List ℕ) (now : ℕ) (o : Option Parts) (p : Parts) (e : Option Entries) → IfSome o (λ parts. (d : Data) × (read text ≡ Some d) × TellsParts now d parts) → o ≡ Some p → p.entries ≡ e → (d : Data) × (read text ≡ Some d) × TellsEntries now d e
+told_of text now o p e told is has =
+    let parts = subst (λ o. IfSome o (λ parts. (d : Data) × (read text ≡ Some d) × TellsParts now d parts)) is told in
+    (parts.0, parts.1, subst (λ x. TellsEntries now parts.0 x) has parts.2.entries)
+
+pub broken_parts : (text : List ℕ) (now : ℕ) (o : Option Parts) (p : Parts) (i : ℕ) (w : EntryFault) → IsUtf8 text → IfSome o (λ parts. (d : Data) × (read text ≡ Some d) × TellsParts now d parts) → o ≡ Some p → p.entries ≡ Some (Broken i w) → HasFault text now (Entry i w)
+broken_parts text now o p i w utf8 told is has = let d = told_of text now o p (Some (Broken i w)) told is has in (d.0, (utf8, d.1), d.2)
+
+pub no_entries : (text : List ℕ) (now : ℕ) (o : Option Parts) (p : Parts) → IsUtf8 text → IfSome o (λ parts. (d : Data) × (read text ≡ Some d) × TellsParts now d parts) → o ≡ Some p → p.entries ≡ None → HasFault text now NoRoas
+no_entries text now o p utf8 told is has = let d = told_of text now o p None told is has in (d.0, (utf8, d.1), d.2.0, d.2.1)
+
+pub too_many : (text : List ℕ) (now : ℕ) (o : Option Parts) (p : Parts) (g : Gathered) (f : ExportFault) → IsUtf8 text → IfSome o (λ parts. (d : Data) × (read text ≡ Some d) × TellsParts now d parts) → o ≡ Some p → p.entries ≡ Some (Whole g)
+    → ◌≡◌ {A = Result ExportUntil ExportFault} (Err f) (Err TooMany) → 16777215 < size (set_of g.records.items) → HasFault text now f
+too_many text now o p g f utf8 told is has fault many =
+    let d = told_of text now o p (Some (Whole g)) told is has in
+    let same : f ≡ TooMany = cc in
+    subst (λ x. HasFault text now x) (sym same) (d.0, (utf8, d.1), (d.2.0, d.2.1, subst (λ vs. 16777215 < size (set_of vs)) d.2.2.records many))
 
 pub if_made : (bytes : List ℕ) (now : ℕ) (d : Data) (g : Gathered) (built : Option ℕ) (r : Result ExportUntil ExportFault) → Reads bytes d → (es : List Listed) × Lists d es × Gathers now es g → IsBuilt (generated d) (buildtime d) built
     → IfOk r (λ x. (x.export.set ≡ set_of g.records.items) × (size x.export.set ≤ 16777215)) → IfOk r (λ x. (x.export.expired ≡ g.expired) × (x.export.built ≡ built) × (x.until ≡ g.until)) → IfOk r (λ x. IsExportUntil bytes now x)

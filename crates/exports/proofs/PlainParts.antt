@@ -1,17 +1,20 @@
 -- What is found in the members of an object while they are read.
-use Rattle.std.proofs.Common.{◌≡◌, ℕ, ◌++◌, ◌∷◌, [], List, Option, Some, None, Result, Ok, Err, option_map, get_or, refl, sym, ap, subst, ◌∙◌, arith}
-use Rattle.std.specs.Prelude.{IfOk, IfSome, codes, option_and_then}
+use Rattle.std.proofs.Common.{◌≡◌, ℕ, zero, suc, ◌++◌, ◌∷◌, [], true, false, List, length, Option, Some, None, Result, Ok, Err, option_map, get_or, refl, sym, ap, subst, ◌∙◌, arith, inr}
+use Rattle.std.specs.Prelude.{IfErr, IfOk, IfSome, codes, is_some, option_and_then}
 use Rattle.json.specs.Token.{Token}
-use Rattle.serde_json.specs.Data.{Data, Items, no_items, Members, no_members, object, put}
-use Rattle.serde_json.specs.Find.{as_array, as_number, as_str, as_u64, get_member}
+use Rattle.serde_json.specs.Data.{Num, Data, null, boolean, number, string, array, object, Items, no_items, Members, no_members, put}
+use Rattle.serde_json.specs.Find.{as_array, as_number, as_object, as_str, as_u64, get_member}
+use Rattle.serde_json.specs.Read.{number_of}
 use Rattle.serde_json.proofs.Views.{get_member-put, get_member-put_other}
 use Rattle.payload_lists.specs.PayloadList.{text_at, whole_at}
 use Rattle.exports.specs.Built.{IsBuilt}
-use Rattle.exports.specs.Entry.{AreEntries, IsEntry, whole}
-use Rattle.exports.specs.PlainForm.{AreListed, IsFound, IsMetadata, IsSeen, ReadsEntries, ReadsRoas, TellsBuilt, before}
+use Rattle.exports.specs.Entry.{AreEntries, FailsAt, IsEntry, IsNoEntry, Said, SaysEntry, SaysFault, said, whole}
+use Rattle.exports.specs.PlainForm.{AreListed, FailsIn, IsFound, IsJudged, IsMetadata, IsSeen, ReadsEntries, ReadsRoas, ReadsSome, TellsBuilt, TellsItems, TellsListed, TellsRoas, before}
 use Rattle.exports.proofs.PlainSteps.{array_read}
 use Rattle.exports.specs.declared.entry.Listed.{Listed}
-use Rattle.exports.specs.declared.gathered.Gathered.{Gathered}
+use Rattle.exports.specs.declared.fault.EntryFault.{EntryFault}
+use Rattle.exports.specs.declared.plain.Entries.{Entries}
+use Rattle.exports.specs.declared.plain.Entries.TheVariants.{Whole, Broken}
 use Rattle.exports.specs.declared.entry.Found.{Found}
 use Rattle.exports.specs.declared.plain.Metadata.{Metadata}
 use Rattle.exports.specs.declared.plain.Seen.{Seen}
@@ -117,14 +120,75 @@ are_all (x ∷ ds) (y ∷ es) h = (h.0, are_all ds es h.1)
 are_all [] (y ∷ es) h = absurd h
 are_all (x ∷ ds) [] h = absurd h
 
-roas_read : (now : ℕ) (old ts new : List Token) (g : Gathered) → old ≡ Token.begin_array ∷ ts → ReadsEntries now ts new g → ReadsRoas now old new g
-roas_read now old ts new g first read =
-    (read.0, read.1, array_read 17 (λ ds. AreListed ds read.0) (λ d. (ds : Items) × (as_array d ≡ Some ds) × AreEntries ds read.0) old ts new first read.2 (λ ds h. (before ds no_items, refl, are_all ds read.0 h)))
+-- The first that is no entry stays the first, where others follow,
+pub fails_more : (ds : List Data) (d : Data) (i : ℕ) (w : EntryFault) → FailsIn ds i w → FailsIn (ds ++ d ∷ []) i w
+fails_more [] d i w h = absurd h
+fails_more (x ∷ ds) d zero w h = h
+fails_more (x ∷ ds) d (suc i) w h = (h.0, fails_more ds d i w h.1)
+
+-- and behind entries the next one is.
+pub fails_last : (ds : List Data) (es : List Listed) (d : Data) (w : EntryFault) → AreListed ds es → IsNoEntry d w → FailsIn (ds ++ d ∷ []) (length ds) w
+fails_last [] [] d w h none = none
+fails_last (x ∷ ds) (e ∷ es) d w h none = ((e, h.0), fails_last ds es d w h.1 none)
+fails_last [] (e ∷ es) d w h none = absurd h
+fails_last (x ∷ ds) [] d w h none = absurd h
+
+fails_all : (ds : List Data) (i : ℕ) (w : EntryFault) → FailsIn ds i w → FailsAt (before ds no_items) i w
+fails_all [] i w h = absurd h
+fails_all (d ∷ ds) zero w h = h
+fails_all (d ∷ ds) (suc i) w h = (h.0, fails_all ds i w h.1)
+
+pub told_all : (now : ℕ) (ds : List Data) (entries : Entries) → TellsListed now ds entries → TellsItems now (before ds no_items) entries
+told_all now ds (Whole g) h = (h.0, are_all ds h.0 h.1, h.2)
+told_all now ds (Broken i w) h = fails_all ds i w h
+
+pub roas_read : (now : ℕ) (old ts new : List Token) (entries : Entries) → old ≡ Token.begin_array ∷ ts → ReadsEntries now ts new entries → ReadsRoas now old new (Some entries)
+roas_read now old ts new entries first read =
+    array_read 125 (λ ds. TellsListed now ds entries) (λ d. TellsRoas now d (Some entries)) old ts new first read (λ ds h. (before ds no_items, refl, told_all now ds entries h))
 
 pub each_found : {A E : Type 0} {P Q : A → Type 0} (r : Result (Option A) E) → ((x : A) → P x → Q x) → IfOk r (λ o. IfSome o P) → IfOk r (λ o. IfSome o Q)
 each_found (Err e) f h = tt
 each_found (Ok None) f h = tt
 each_found (Ok (Some x)) f h = f x h
 
-pub roas_found : {E : Type 0} (now : ℕ) (old ts new : List Token) (r : Result (Option Gathered) E) → old ≡ Token.begin_array ∷ ts → IfOk r (λ o. IfSome o (λ g. ReadsEntries now ts new g)) → IfOk r (λ o. IfSome o (λ g. ReadsRoas now old new g))
-roas_found now old ts new r first h = each_found r (λ g read. roas_read now old ts new g first read) h
+-- What was read of the rest of a value was read of the value.
+pub read_at : {A : Type 0} (k : ℕ) (Is : A → Data → Type 0) (old rest new : List Token) (o : Option A) → old ≡ rest → IfSome o (λ a. ReadsSome k (Is a) rest new) → IfSome o (λ a. ReadsSome k (Is a) old new)
+read_at k Is old rest new None same h = tt
+read_at k Is old rest new (Some a) same h = subst (λ ts. ReadsSome k (Is a) ts new) (sym same) h
+
+pub at_now : (now : ℕ) (old new : List Token) (o : Option (Option Entries)) → IfSome o (λ e. (n : ℕ) → ReadsRoas n old new e) → IfSome o (λ e. ReadsRoas now old new e)
+at_now now old new None h = tt
+at_now now old new (Some e) h = h now
+
+-- ---- values
+
+pub number_some : (s : List ℕ) (n : Option ℕ) → Some n ≡ option_map as_u64 (number_of s) → (x : Num) × (number_of s ≡ Some x) × (as_u64 x ≡ n)
+number_some s n e = of (number_of s) e
+  where
+    of : (o : Option Num) → Some n ≡ option_map as_u64 o → (x : Num) × (o ≡ Some x) × (as_u64 x ≡ n)
+    of None e = absurd (cc)
+    of (Some x) e = (x, refl, cc)
+
+pub none_of : {A : Type 0} (o : Option A) → is_some o ≡ false → o ≡ None
+none_of None h = refl
+none_of (Some a) h = absurd (let no : true ≡ false = h in cc)
+
+pub not_built : (d : Data) → is_some (as_object d) ≡ false → TellsBuilt d None
+not_built null h = λ t e m says. absurd (cc)
+not_built (boolean b) h = λ t e m says. absurd (cc)
+not_built (number n) h = λ t e m says. absurd (cc)
+not_built (string s) h = λ t e m says. absurd (cc)
+not_built (array ds) h = λ t e m says. absurd (cc)
+not_built (object ms) h = absurd (let no : true ≡ false = h in cc)
+
+pub an_array : (d : Data) → is_some (as_array d) ≡ true → (ds : Items) × (d ≡ array ds)
+an_array null h = absurd (let no : false ≡ true = h in cc)
+an_array (boolean b) h = absurd (let no : false ≡ true = h in cc)
+an_array (number n) h = absurd (let no : false ≡ true = h in cc)
+an_array (string s) h = absurd (let no : false ≡ true = h in cc)
+an_array (array ds) h = (ds, refl)
+an_array (object ms) h = absurd (let no : false ≡ true = h in cc)
+
+pub judged_of : (ms : Members) (s : Said) (r : Result Listed EntryFault) → said (object ms) ≡ s → IfOk r (λ e. SaysEntry s e) → IfErr r (λ w. SaysFault s w) → IsJudged (object ms) r
+judged_of ms s (Ok e) same ok fault = (refl, subst (λ x. SaysEntry x e) (sym same) ok)
+judged_of ms s (Err w) same ok fault = inr (refl, subst (λ x. SaysFault x w) (sym same) fault)

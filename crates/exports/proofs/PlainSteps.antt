@@ -132,6 +132,10 @@ array_read k Are Is old ts new first read is =
           ),
     )
 
+-- Items of one kind are of one that is wider.
+pub items_weaker : (k : ℕ) (Are More : List Data → Type 0) (old new : List Token) → ((ds : List Data) → Are ds → More ds) → ReadsItems k Are old new → ReadsItems k More old new
+items_weaker k Are More old new more read = (read.0, λ depth h. let m = read.1 depth h in (m.0, more m.0 m.1, m.2))
+
 -- ---- values
 
 -- What nests no deeper than k nests no deeper than what is more.

@@ -1,19 +1,21 @@
--- Steps of reading an export token by token. What is passed over nests 16 deep at most (`NESTING`), so metadata and entries 17 deep, and
--- `roas` 18.
-use Rattle.std.specs.Prelude.{◌≡◌, ℕ, ◌≤◌, ◌<◌, List, [], ◌∷◌, length, Option, Some, None, option_map, codes, ⊤, IfSome}
+-- Steps of reading an export token by token. What is passed over nests 124 deep at most (`NESTING`), so metadata and entries 125 deep,
+-- and `roas` 126.
+use Rattle.std.specs.Prelude.{◌≡◌, ℕ, zero, suc, ◌≤◌, ◌<◌, List, [], ◌∷◌, length, Option, Some, None, Result, Ok, Err, is_some, option_map, codes, ⊤}
 use Rattle.json.specs.Token.{Token}
 use Rattle.json.specs.Json.{items, members, value}
 use Rattle.serde_json.specs.Data.{Data, object, Items, no_items, item, Members, no_members, put}
-use Rattle.serde_json.specs.Find.{as_array, as_str}
+use Rattle.serde_json.specs.Find.{as_array, as_object, as_str}
 use Rattle.serde_json.specs.Read.{of_items, of_json, of_members, converted}
 use Rattle.payload_lists.specs.PayloadList.{text_at, whole_at}
 use Rattle.exports.specs.Built.{IsBuilt, buildtime, generated}
-use Rattle.exports.specs.Entry.{AreEntries, IsEntry, said, whole}
-use Rattle.exports.specs.Export.{HasRoas, Lists, roas}
+use Rattle.exports.specs.Entry.{AreEntries, FailsAt, IsEntry, IsNoEntry, said, whole}
+use Rattle.exports.specs.Export.{IsList, Lists, roas}
 use Rattle.exports.specs.Found.{Gathers, said_by}
 use Rattle.exports.specs.declared.entry.Found.{Found}
 use Rattle.exports.specs.declared.entry.Listed.{Listed}
-use Rattle.exports.specs.declared.gathered.Gathered.{Gathered}
+use Rattle.exports.specs.declared.fault.EntryFault.{EntryFault}
+use Rattle.exports.specs.declared.plain.Entries.{Entries}
+use Rattle.exports.specs.declared.plain.Entries.TheVariants.{Whole, Broken}
 use Rattle.exports.specs.declared.plain.Metadata.{Metadata}
 use Rattle.exports.specs.declared.plain.Parts.{Parts}
 use Rattle.exports.specs.declared.plain.Seen.{Seen}
@@ -47,7 +49,8 @@ PassesMembers k = ReadsMembers k (λ _. ⊤)
 
 -- what was seen of a value
 abbrev pub IsSeen : Data → Seen → Type 0
-IsSeen d s = (whole d ≡ s.number) × (as_str d ≡ option_map (λ t. t.now) s.text)
+IsSeen d s =
+    (whole d ≡ s.number) × (as_str d ≡ option_map (λ t. t.now) s.text) × (is_some (as_array d) ≡ s.array) × (is_some (as_object d) ≡ s.object)
 
 -- what was found in an entry of these members
 abbrev pub IsFound : Members → Found → Type 0
@@ -68,29 +71,61 @@ AreListed (d ∷ ds) (e ∷ es) = IsEntry d e × AreListed ds es
 AreListed [] (e ∷ es) = ⊥
 AreListed (d ∷ ds) [] = ⊥
 
--- The entries of which this was gathered were read to the end of their array.
-abbrev pub ReadsEntries : ℕ → List Token → List Token → Gathered → Type 0
-ReadsEntries now old new g = (es : List Listed) × Gathers now es g × ReadsItems 17 (λ ds. AreListed ds es) old new
+-- This is what a value lists as an entry, or what of it cannot be read.
+abbrev pub IsJudged : Data → Result Listed EntryFault → Type 0
+IsJudged d (Ok e) = IsEntry d e
+IsJudged d (Err w) = IsNoEntry d w
 
--- The array of the entries of which this was gathered was read.
-abbrev pub ReadsRoas : ℕ → List Token → List Token → Gathered → Type 0
-ReadsRoas now old new g = (es : List Listed) × Gathers now es g × ReadsSome 18 (λ d. (ds : Items) × (as_array d ≡ Some ds) × AreEntries ds es) old new
+-- The first of the data that is no entry has this index, and this is wrong with it.
+abbrev pub FailsIn : List Data → ℕ → EntryFault → Type 0
+FailsIn [] i w = ⊥
+FailsIn (d ∷ ds) zero w = IsNoEntry d w
+FailsIn (d ∷ ds) (suc i) w = ((e : Listed) × IsEntry d e) × FailsIn ds i w
 
--- What was gathered of the array roas, where there is one
-abbrev pub HasGathered : ℕ → Data → Option Gathered → Type 0
-HasGathered now d None = roas d ≡ None
-HasGathered now d (Some g) = (es : List Listed) × HasRoas d es × Gathers now es g
+-- This was read of these data as entries ..
+abbrev pub TellsListed : ℕ → List Data → Entries → Type 0
+TellsListed now ds (Whole g) = (es : List Listed) × AreListed ds es × Gathers now es g
+TellsListed now ds (Broken i w) = FailsIn ds i w
 
--- What was gathered of an export of these members
+-- .. and of the items of an array.
+abbrev pub TellsItems : ℕ → Items → Entries → Type 0
+TellsItems now ds (Whole g) = (es : List Listed) × AreEntries ds es × Gathers now es g
+TellsItems now ds (Broken i w) = FailsAt ds i w
+
+-- The entries of which this is told were read to the end of their array.
+abbrev pub ReadsEntries : ℕ → List Token → List Token → Entries → Type 0
+ReadsEntries now old new entries = ReadsItems 125 (λ ds. TellsListed now ds entries) old new
+
+-- This is told of the value roas.
+abbrev pub TellsRoas : ℕ → Data → Option Entries → Type 0
+TellsRoas now d None = as_array d ≡ None
+TellsRoas now d (Some entries) = (ds : Items) × (as_array d ≡ Some ds) × TellsItems now ds entries
+
+-- The value roas was read, of which this is told.
+abbrev pub ReadsRoas : ℕ → List Token → List Token → Option Entries → Type 0
+ReadsRoas now old new entries = ReadsSome 126 (λ d. TellsRoas now d entries) old new
+
+-- This is told of the member roas, where it is an array.
+abbrev pub HasEntries : ℕ → Data → Option Entries → Type 0
+HasEntries now d None = roas d ≡ None
+HasEntries now d (Some entries) = (ds : Items) × (roas d ≡ Some ds) × TellsItems now ds entries
+
+-- What was read of an export of these members
 pub record HasParts (now : ℕ) (ms : Members) (p : Parts) : Type 0 where
-  pub gathered : HasGathered now (object ms) p.gathered
+  pub entries : HasEntries now (object ms) p.entries
   pub built : IsBuilt (generated (object ms)) (buildtime (object ms)) p.built
 
 -- The value of a member of this name was read.
 abbrev pub ReadsPart : ℕ → List ℕ → Parts → Parts → List Token → List Token → Type 0
-ReadsPart now name before after old new = ReadsSome 18 (λ d. (ms : Members) → HasParts now ms before → HasParts now (put name d ms) after) old new
+ReadsPart now name before after old new = ReadsSome 126 (λ d. (ms : Members) → HasParts now ms before → HasParts now (put name d ms) after) old new
 
--- What was gathered of a value in either form
+-- What is told of the entries of a value in either form
+abbrev pub TellsEntries : ℕ → Data → Option Entries → Type 0
+TellsEntries now d None = (roas d ≡ None) × ((es : List Listed) → ¬ (IsList d es))
+TellsEntries now d (Some (Whole g)) = (es : List Listed) × Lists d es × Gathers now es g
+TellsEntries now d (Some (Broken i w)) = (ds : Items) × (roas d ≡ Some ds) × FailsAt ds i w
+
+-- What was read of a value in either form
 pub record TellsParts (now : ℕ) (d : Data) (p : Parts) : Type 0 where
-  pub gathered : IfSome p.gathered (λ g. (es : List Listed) × Lists d es × Gathers now es g)
+  pub entries : TellsEntries now d p.entries
   pub built : IsBuilt (generated d) (buildtime d) p.built

@@ -14,7 +14,7 @@ ghost use Rattle.exports.specs.declared.entry.Listed.{Listed as Entry};
 use crate::built::built_of;
 use crate::fault::ExportFault;
 use crate::gathered::{Gathered, gather};
-use crate::plain::{Parts, plain_export};
+use crate::plain::{Entries, Parts, is_json, no_parts, plain_export};
 use payload_lists::ListFault;
 use payload_lists::parts::{plain_list, records_of};
 use prefixes::Vrp;
@@ -118,22 +118,22 @@ fn read_any(alloc: Global, bytes: &[u8], now: u64) -> Result<ExportUntil, Export
     export_of(gathered, built_of(&value))
 }
 
-/// What is gathered of a text in its plain form, of either kind.
+/// What is read token by token of a text of either form.
 fn gather_plain(alloc: Global, text: &str, now: u64) -> Result<Option<Parts>, AllocError>
     ensures { IfOk result (λ found. IfSome found (λ parts. (d : Data) × (read text.now ≡ Some d) × TellsParts now d parts)) }
 {
     match plain_list(alloc, text) {
         Ok(Some(records)) => Ok(Some(Parts {
-            gathered: Some(Gathered::lasting(records)),
+            entries: Some(Entries::Whole(Gathered::lasting(records))),
             built: None,
         })),
         Ok(None) => plain_export(alloc, text, now),
-        Err(ListFault::NoList) => Ok(None),
+        Err(ListFault::NoList) => no_parts(alloc, text),
         Err(ListFault::Memory) => Err(AllocError),
     }
 }
 
-/// The export of a text in its plain form.
+/// The export of a text that is read token by token. `None`: it has to be read as a whole.
 fn read_plain(alloc: Global, text: &str, now: u64) -> Result<Option<ExportUntil>, ExportFault>
     ensures ok { IfOk result (λ found. IfSome found (λ x. IsExportUntil text.now now x)) }
     ensures fault { IfErr result (λ fault. HasFault text.now now fault) }
@@ -141,9 +141,11 @@ fn read_plain(alloc: Global, text: &str, now: u64) -> Result<Option<ExportUntil>
     let Some(parts) = gather_plain(alloc, text, now)? else {
         return Ok(None);
     };
-    let Parts { gathered, built } = parts;
-    let Some(gathered) = gathered else {
-        return Ok(None);
+    let Parts { entries, built } = parts;
+    let gathered = match entries {
+        Some(Entries::Whole(gathered)) => gathered,
+        Some(Entries::Broken(index, what)) => return Err(ExportFault::Entry(index, what)),
+        None => return Err(ExportFault::NoRoas),
     };
     match export_of(gathered, built) {
         Ok(export) => Ok(Some(export)),
@@ -156,7 +158,8 @@ fn read_plain(alloc: Global, text: &str, now: u64) -> Result<Option<ExportUntil>
 /// `maxLength`, and perhaps `expires`, in seconds since 1970: it counts at moments before that one. Other members are passed over. Of a
 /// key that stands twice in an object, `serde_json` reads the last.
 ///
-/// A text whose numbers are of digits alone is read token by token, and any other as a whole. The fault is the first of those that there
+/// An object is read token by token, and so is a payload list in which each key of an entry comes once and numbers are of digits alone; any
+/// other array is read as a whole. The fault is the first of those that there
 /// are, in the order of their numbers; where there is one, nothing was taken.
 pub fn read_export(alloc: Global, bytes: &[u8], now: u64) -> Result<Export, ExportFault>
     ensures ok { IfOk result (λ export. IsExport bytes.now now export) }
@@ -178,6 +181,9 @@ pub fn read_export_until(alloc: Global, bytes: &[u8], now: u64) -> Result<Export
     if let Ok(text) = str::from_utf8(bytes) {
         if let Some(export) = read_plain(alloc, text, now)? {
             return Ok(export);
+        }
+        if !is_json(alloc, text)? {
+            return Err(ExportFault::NotJson);
         }
     }
     read_any(alloc, bytes, now)

@@ -23,6 +23,7 @@ mod export;
 mod fault;
 mod gathered;
 pub mod laws;
+mod numbers;
 mod plain;
 
 pub use export::{Export, ExportUntil, read_export, read_export_until};

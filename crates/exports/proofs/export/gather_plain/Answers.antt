@@ -1,10 +1,10 @@
-use Rattle.std.proofs.Common.{◌≡◌, Some, sym, subst}
+use Rattle.std.proofs.Common.{◌≡◌, Err, Some, ap, sym, subst}
 use Rattle.std.specs.Prelude.{IfSome}
 use Rattle.serde_json.specs.Data.{Items, array}
 use Rattle.serde_json.specs.Read.{read}
 use Rattle.payload_lists.specs.PayloadList.{AreEntries}
 use Rattle.exports.proofs.PlainParts.{each_found}
-use Rattle.exports.proofs.PlainWhole.{tells_list, tells_parts}
+use Rattle.exports.proofs.PlainWhole.{tells_list, tells_parts, tells_refused}
 use Rattle.exports.proofs.export.gather_plain.Goals as goal
 
 pub returns-in-Ok-Some : goal.returns-in-Ok-Some
@@ -15,3 +15,6 @@ returns-in-Ok-Some c =
 
 pub returns-in-Ok-None : goal.returns-in-Ok-None
 returns-in-Ok-None c = each_found c.plain_export.result (λ parts. tells_parts c.args.text.now c.args.now parts) c.plain_export.ensures
+
+pub returns-in-Err-NoList : goal.returns-in-Err-NoList
+returns-in-Err-NoList c = each_found c.no_parts.result (λ parts h. tells_refused c.args.text.now c.args.now parts (c.in-Err-NoList.ensures.no_list (ap Err c.in-Err-NoList.field-0-is)) h) c.no_parts.ensures

@@ -4,13 +4,16 @@ use Rattle.exports.proofs.PlainSteps.{Begun, BegunItems}
 use Rattle.exports.proofs.plain.+passing.Given as goal
 
 abbrev pub decreases-see : goal.decreases-see
-decreases-see l = 2 * l.depth
+decreases-see l = 3 * l.depth + 1
+
+abbrev pub decreases-see_rest : goal.decreases-see_rest
+decreases-see_rest l = 3 * l.depth
 
 abbrev pub decreases-pass_items : goal.decreases-pass_items
-decreases-pass_items l = 2 * l.depth + 1
+decreases-pass_items l = 3 * l.depth + 2
 
 abbrev pub decreases-pass_members : goal.decreases-pass_members
-decreases-pass_members l = 2 * l.depth + 1
+decreases-pass_members l = 3 * l.depth + 2
 
 abbrev pub invariant-pass_items-loop-reader : goal.invariant-pass_items-loop-reader
 invariant-pass_items-loop-reader l = BegunItems l.depth (λ _. ⊤) l.initial.reader l.reader

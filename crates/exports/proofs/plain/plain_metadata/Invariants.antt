@@ -4,7 +4,7 @@ use Rattle.exports.proofs.PlainSteps.{Begun}
 use Rattle.exports.proofs.plain.plain_metadata.Given as goal
 
 abbrev pub invariant-loop-key : goal.invariant-loop-key
-invariant-loop-key l = Begun 16 (λ ms. IsMetadata ms l.metadata) l.initial.reader l.reader
+invariant-loop-key l = Begun 124 (λ ms. IsMetadata ms l.metadata) l.initial.reader l.reader
 
 abbrev pub decreases-loop-key : goal.decreases-loop-key
 decreases-loop-key l = length l.reader

@@ -5,7 +5,7 @@ use Rattle.exports.proofs.plain.plain_parts.Given as goal
 
 -- the members so far were read
 abbrev pub invariant-loop-key : goal.invariant-loop-key
-invariant-loop-key l = Begun 18 (λ ms. HasParts l.now ms l.parts) l.initial.reader l.reader
+invariant-loop-key l = Begun 126 (λ ms. HasParts l.now ms l.parts) l.initial.reader l.reader
 
 abbrev pub decreases-loop-key : goal.decreases-loop-key
 decreases-loop-key l = length l.reader

@@ -1,4 +1,4 @@
-use Rattle.std.proofs.Common.{Some, sym, subst}
+use Rattle.std.proofs.Common.{sym, subst}
 use Rattle.std.specs.Prelude.{IfSome}
 use Rattle.exports.specs.PlainForm.{ReadsPart, ReadsRoas}
 use Rattle.exports.proofs.PlainWhole.{part_metadata, part_other, part_roas}
@@ -6,9 +6,9 @@ use Rattle.exports.proofs.plain.with_part.Goals as goal
 
 pub returns-in-Some : goal.returns-in-Some
 returns-in-Some c =
-    let read = subst (λ o. IfSome o (λ g. ReadsRoas c.args.now c.args.reader.now c.plain_roas.new.reader g)) c.in-Some.is c.in_ok-gathered-in-roas.ensures in
-    subst (λ k. ReadsPart c.args.now k c.args.parts (record c.args.parts { gathered = Some c.in-Some.gathered }) c.args.reader.now c.plain_roas.new.reader) (sym c.in-roas.is)
-    (part_roas c.args.now c.args.parts c.in-Some.gathered c.args.reader.now c.plain_roas.new.reader read)
+    let read = subst (λ o. IfSome o (λ entries. ReadsRoas c.args.now c.args.reader.now c.plain_roas.new.reader entries)) c.in-Some.is c.in_ok-entries-in-roas.ensures in
+    subst (λ k. ReadsPart c.args.now k c.args.parts (record c.args.parts { entries = c.in-Some.entries }) c.args.reader.now c.plain_roas.new.reader) (sym c.in-roas.is)
+    (part_roas c.args.now c.args.parts c.in-Some.entries c.args.reader.now c.plain_roas.new.reader read)
 
 pub returns-in-Some-plain_built : goal.returns-in-Some-plain_built
 returns-in-Some-plain_built c =
