@@ -4,5 +4,10 @@ pub mod Chaining
 pub mod Arranging
 pub mod Walking
 pub mod Readings
+pub mod Ascending
+pub mod Chained
+pub mod Counted
+pub mod EntryRelations
+pub mod Exactly
 pub mod SlurmRows
 pub mod ExampleRows

@@ -4,5 +4,6 @@ pub mod Entries
 pub mod Exceptions
 pub mod Faults
 pub mod Members
+pub mod Relations
 pub mod SlurmFile
 pub mod Steps

@@ -1,5 +1,6 @@
 //! Laws of local exceptions. The functions do nothing: each states a law, which is proved.
 ghost use Rattle.slurm.specs.Exceptions.{AppliedTwice, AssertionsStay};
+ghost use Rattle.slurm.specs.Relations.{ReadsExactly};
 ghost use Rattle.slurm.specs.SlurmFile.{OneReading};
 
 /// Applying exceptions twice gives what applying them once gives.
@@ -15,4 +16,9 @@ pub fn assertions_stay()
 /// Bytes say one thing: the exceptions of a file, or its first fault.
 pub fn one_reading()
     ensures { OneReading }
+{}
+
+/// Exceptions are read of bytes exactly where these are a SLURM file of them.
+pub fn reads_exactly()
+    ensures { ReadsExactly }
 {}

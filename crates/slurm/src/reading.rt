@@ -1,11 +1,12 @@
 //! SLURM files, read.
-ghost use Rattle.std.specs.Prelude.{◌≡◌, ◌<◌, ◌≤◌, IfOk, IfErr, IsErrOf, OnErr, Err};
+ghost use Rattle.std.specs.Prelude.{◌≡◌, ◌<◌, ◌≤◌, IfOk, IfErr, IsErrOf, OnErr, Ok, Err};
 ghost use Rattle.std.specs.Str.{IsUtf8};
 ghost use Rattle.serde_json.specs.Data.{Data};
 ghost use Rattle.serde_json.specs.View.{view};
 ghost use Rattle.slurm.specs.SlurmFile.{ReadsArrays, ReadsJson, ReadsSlurm, limited};
 ghost use Rattle.slurm.specs.Chains.{UnlessMemory, seen};
-ghost use Rattle.slurm.specs.Exceptions.{exceptions_of};
+ghost use Rattle.slurm.specs.Exceptions.{Exceptions, exceptions_of};
+ghost use Rattle.slurm.specs.Relations.{IsSlurmFile};
 ghost use Rattle.slurm.specs.Steps.{arrays_view};
 
 use crate::arrays::{Arrays, arrays_of};
@@ -63,6 +64,15 @@ fn exceptions(alloc: Global, arrays: &Arrays<'_>) -> Result<Slurm, SlurmFault>
     exceptions_from(filters, records)
 }
 
+/// The exceptions that a file says, or its first fault.
+fn read(alloc: Global, bytes: &[u8]) -> Result<Slurm, SlurmFault>
+    ensures { UnlessMemory (ReadsSlurm bytes.now) (seen exceptions_of result) }
+{
+    let value = json(alloc, bytes)?;
+    let arrays = arrays_of(&value)?;
+    exceptions(alloc, &arrays)
+}
+
 /// The exceptions that a SLURM file says: an object with exactly the members `slurmVersion`, which is 1, `validationOutputFilters` and
 /// `locallyAddedAssertions`, which have exactly the arrays `prefixFilters` and `bgpsecFilters`, `prefixAssertions` and
 /// `bgpsecAssertions` (RFC 8416 section 3.2). What the two arrays on BGPsec have are objects without an effect. Of a key that stands twice
@@ -73,9 +83,9 @@ fn exceptions(alloc: Global, arrays: &Arrays<'_>) -> Result<Slurm, SlurmFault>
 /// with its array, its index from 0 on, and its own first fault; `TooMany` where over 16,777,215 different records are asserted. `Memory`:
 /// memory ran out.
 pub fn read_slurm(alloc: Global, bytes: &[u8]) -> Result<Slurm, SlurmFault>
-    ensures { UnlessMemory (ReadsSlurm bytes.now) (seen exceptions_of result) }
+    ensures reads { UnlessMemory (ReadsSlurm bytes.now) (seen exceptions_of result) }
+    ensures file { IfOk result (λ s. IsSlurmFile bytes.now (exceptions_of s)) }
+    ensures only { (e : Exceptions) → IsSlurmFile bytes.now e → UnlessMemory (λ r. r ≡ Ok e) (seen exceptions_of result) }
 {
-    let value = json(alloc, bytes)?;
-    let arrays = arrays_of(&value)?;
-    exceptions(alloc, &arrays)
+    read(alloc, bytes)
 }
