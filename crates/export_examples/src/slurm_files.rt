@@ -123,6 +123,9 @@ const FILES: &[(&str, SlurmFault)] = &[
     ("", SlurmFault::NotJson),
     ("{", SlurmFault::NotJson),
     ("{} {}", SlurmFault::NotJson),
+    (r#"{"a":1,"a":2"#, SlurmFault::NotJson),
+    (r#"{"a":1,"a":2}"#, SlurmFault::Repeated),
+    (r#"[{"a":1,"\u0061":1}]"#, SlurmFault::Repeated),
     ("[]", SlurmFault::Members(SlurmObject::File)),
     ("{}", SlurmFault::Members(SlurmObject::File)),
     (
@@ -168,6 +171,19 @@ const ENTRIES: &[([&str; 4], SlurmFault)] = &[
     (
         [r#"[{"asn":1},7]"#, "[7]", "[7]", "[7]"],
         SlurmFault::Entry(SlurmArray::PrefixFilters, 1, EntryFault::NoObject),
+    ),
+    (
+        [r#"[{"asn":1,"asn":1}]"#, "2", "3", "4"],
+        SlurmFault::Repeated,
+    ),
+    (
+        [
+            "[]",
+            "[]",
+            "[]",
+            r#"[{"SKI":"Zm9v","asn":1,"SKI":"Zm9v"}]"#,
+        ],
+        SlurmFault::Repeated,
     ),
     (
         [r#"[{"asn":1,"more":1}]"#, "[]", "[]", "[]"],
@@ -319,6 +335,7 @@ const KINDS: &[SlurmFault] = &[
     ENTRY,
     SlurmFault::TooMany,
     SlurmFault::Memory,
+    SlurmFault::Repeated,
 ];
 
 #[test]

@@ -1,15 +1,16 @@
 -- Steps that may fail, one after the other.
-use Rattle.std.proofs.Common.{◌≡◌, inl, inr, Result, Ok, Err, ap, sym, ◌∙◌, subst}
+use Rattle.std.proofs.Common.{◌≡◌, ℕ, Bool, true, false, inl, inr, Result, Ok, Err, MatchBool, refl, ap, sym, ◌∙◌, subst}
 use Rattle.std.specs.Prelude.{List, ⊤}
+use Rattle.serde_json.specs.Data.{Data}
 use Rattle.prefixes.specs.Payload.{Payload}
 use Rattle.slurm.specs.Chains.{Then, UnlessMemory}
 use Rattle.slurm.specs.Entries.{ReadsAssertion, ReadsEntries, ReadsFilter, ReadsObject}
 use Rattle.slurm.specs.Exceptions.{Exceptions}
-use Rattle.slurm.specs.SlurmFile.{Arrays, ReadsArrays, limited}
+use Rattle.slurm.specs.SlurmFile.{Arrays, NamesOnce, ReadsArrays, ReadsJson, ReadsOnce, ReadsSlurm, ReadsValue, limited}
 use Rattle.slurm.specs.declared.fault.SlurmArray.TheVariants as array
 use Rattle.slurm.specs.declared.filter.PrefixFilter.{PrefixFilter}
 use Rattle.slurm.specs.declared.fault.SlurmFault.{SlurmFault}
-use Rattle.slurm.specs.declared.fault.SlurmFault.TheVariants.{Memory}
+use Rattle.slurm.specs.declared.fault.SlurmFault.TheVariants.{Memory, Repeated}
 
 -- A value is read.
 pub is_read : {A : Type 0} (P : Result A SlurmFault → Type 0) (x : A) → UnlessMemory P (Ok x) → P (Ok x)
@@ -70,3 +71,20 @@ module _ (a : Arrays) where
   pub all_read : (fs : List PrefixFilter) (xs : List ⊤) (vs : List Payload) (ys : List ⊤) (q : Result Exceptions SlurmFault)
       → BeforeKeys fs xs vs → UnlessMemory KeysRead (Ok ys) → q ≡ limited fs vs → UnlessMemory (ReadsArrays a) q
   all_read fs xs vs ys q h k same = before_keys fs xs vs q h (goes_on KeysRead (λ _ s. s ≡ limited fs vs) ys q k (inl same))
+
+-- ---- names
+
+judged : (bytes : List ℕ) (d : Data) (r : Result Exceptions SlurmFault) → NamesOnce bytes → UnlessMemory (ReadsValue d) r → UnlessMemory (ReadsOnce bytes d) r
+judged bytes d r once (inl h) = inl (inl (once, h))
+judged bytes d r once (inr h) = inr h
+
+-- A name stands twice.
+pub repeated : (bytes : List ℕ) (d : Data) (once : Bool) → once ≡ false → MatchBool once (NamesOnce bytes) (¬ (NamesOnce bytes)) → UnlessMemory (ReadsJson bytes) (Ok d) → UnlessMemory (ReadsSlurm bytes) (Err Repeated)
+repeated bytes d true is twice h = let no : true ≡ false = is in absurd (cc)
+repeated bytes d false is twice h = inl (inr (d, is_read (ReadsJson bytes) d h, inr (twice, refl)))
+
+-- None does.
+pub read_on : (bytes : List ℕ) (d : Data) (r : Result Exceptions SlurmFault) (once : Bool) → once ≡ true → MatchBool once (NamesOnce bytes) (¬ (NamesOnce bytes)) → UnlessMemory (ReadsJson bytes) (Ok d) → UnlessMemory (ReadsValue d) r
+    → UnlessMemory (ReadsSlurm bytes) r
+read_on bytes d r true is once h k = goes_on (ReadsJson bytes) (ReadsOnce bytes) d r h (judged bytes d r once k)
+read_on bytes d r false is once h k = let no : false ≡ true = is in absurd (cc)

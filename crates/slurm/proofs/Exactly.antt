@@ -12,7 +12,7 @@ use Rattle.slurm.specs.Entries.{AreRead, ReadsAssertion, ReadsFilter, listed}
 use Rattle.slurm.specs.Exceptions.{Exceptions, exceptions_of}
 use Rattle.slurm.specs.Members.{one_for, total}
 use Rattle.slurm.specs.Relations.{AreAssertions, AreFilters, HasExactly, IsAssertion, IsFile, IsFilter, IsSlurmFile, ReadsExactly}
-use Rattle.slurm.specs.SlurmFile.{Arrays, ReadsArrays, ReadsSlurm, ReadsValue, array_at, arrays_of, is_file, is_pair, is_version_1, limited, pair_of}
+use Rattle.slurm.specs.SlurmFile.{Arrays, NamesOnce, ReadsArrays, ReadsOnce, ReadsSlurm, ReadsValue, array_at, arrays_of, is_file, is_pair, is_version_1, limited, pair_of}
 use Rattle.slurm.specs.declared.fault.SlurmArray.TheVariants as array
 use Rattle.slurm.specs.declared.fault.SlurmFault.{SlurmFault}
 use Rattle.slurm.specs.declared.fault.SlurmFault.TheVariants as fault
@@ -269,10 +269,14 @@ says_value d e up h =
       (nothings (listed fs.of_keys.0), say_keys (listed fs.of_keys.0) fs.of_keys.2, (h.payloads, assertions_read, (nothings (listed ss.of_keys.0), say_keys (listed ss.of_keys.0) ss.of_keys.2, limit))),
     )
 
+once_says : (bytes : List ℕ) (d : Data) (e : Exceptions) → ReadsOnce bytes d (Ok e) → NamesOnce bytes × ReadsValue d (Ok e)
+once_says bytes d e (inl h) = (h.0, h.1)
+once_says bytes d e (inr h) = let no : ◌≡◌ {A = Result Exceptions SlurmFault} (Ok e) (Err fault.Repeated) = h.1 in absurd (cc)
+
 pub reads_exactly : ReadsExactly
 reads_exactly bytes e = (
-  (λ h. record { value = h.0; is_json = h.1; is_file = value_says h.0 e (read_ascends bytes h.0 h.1.1) h.2 }),
-  (λ h. (h.value, h.is_json, says_value h.value e (read_ascends bytes h.value h.is_json.1) h.is_file)),
+  (λ h. let once = once_says bytes h.0 e h.2 in record { value = h.0; is_json = h.1; names_once = once.0; is_file = value_says h.0 e (read_ascends bytes h.0 h.1.1) once.1 }),
+  (λ h. (h.value, h.is_json, inl (h.names_once, says_value h.value e (read_ascends bytes h.value h.is_json.1) h.is_file))),
 )
 
 -- ---- the contract

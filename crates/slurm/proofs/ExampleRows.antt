@@ -1,11 +1,12 @@
 -- The full example of RFC 8416 section 3.5, and its effect.
-use Rattle.std.proofs.Common.{◌≡◌, ℕ, true, false, nat_lt, if◌then◌else◌, List, [], ◌∷◌, Some, None, Ok, Err, refl, sym, ap, ◌∙◌, ◌&&◌, ◌||◌, arith, codes, inr, lit<, lit≤, rules}
+use Rattle.std.proofs.Common.{◌≡◌, ℕ, true, false, nat_lt, if◌then◌else◌, List, [], ◌∷◌, Some, None, Ok, Err, refl, sym, ap, ◌∙◌, ◌&&◌, ◌||◌, arith, codes, inl, inr, lit<, lit≤, rules}
 use Rattle.std.specs.Fmt.{digits}
 use Rattle.std.specs.List.Sorted.{IsStrictlySortedBy}
 use Rattle.std.specs.Str.{IsUtf8, chars, is_utf8}
 use Rattle.std.proofs.lemmas.Str.{IsUtf8-from_is_utf8}
 use Rattle.serde_json.specs.Data.{Data, number, string, array, object, unsigned, Items, no_items, item, no_members, member}
 use Rattle.serde_json.specs.Read as json
+use Rattle.json.proofs.OnLiterals.{json_on_literals}
 use Rattle.serde_json.proofs.OnLiterals.{serde_json_on_literals}
 use Rattle.prefixes.specs.Payload.{Payload, vrp_cmp}
 use Rattle.prefixes.specs.Text.{PrefixText}
@@ -15,11 +16,14 @@ use Rattle.vrps.specs.VrpSet.{VrpSet, has, set_of}
 use Rattle.vrps.proofs.SetLaws.{has-set_of, size-set_of}
 use Rattle.slurm.specs.Entries.{ReadsAssertion, ReadsEntries, ReadsFilter, ReadsObject}
 use Rattle.slurm.specs.Exceptions.{Exceptions, excepted, is_filtered}
-use Rattle.slurm.specs.SlurmFile.{ReadsSlurm, limited}
+use Rattle.slurm.specs.Relations.{IsSlurmFile}
+use Rattle.slurm.specs.SlurmFile.{NamesOnce, ReadsSlurm, limited}
 use Rattle.slurm.specs.declared.fault.SlurmArray.TheVariants as arrays
 use Rattle.slurm.specs.declared.fault.SlurmFault.TheVariants as fault
 use Rattle.slurm.specs.declared.filter.PrefixFilter.{PrefixFilter}
+use Rattle.slurm.proofs.Exactly.{reads_exactly}
 use Rattle.slurm.proofs.ExceptionLaws.{assertions_stay, is_excepted}
+use Rattle.slurm.proofs.NamesOnce.{stand_once}
 use Rattle.std.proofs.Math.Bool.{and-false}
 use lib.Utf8.{encode}
 
@@ -154,8 +158,16 @@ full_utf8 : IsUtf8 full
 unfolding is_utf8 chars encode
 full_utf8 = IsUtf8-from_is_utf8 full refl
 
+full_once : NamesOnce full
+unfolding json_on_literals
+full_once = stand_once full refl
+
 full_row : ReadsSlurm full (Ok exceptions)
-full_row = (full_value, (full_utf8, full_read), (filters, filters_read, ((tt ∷ tt ∷ tt ∷ []), key_filters_read, ((route ∷ routes ∷ []), assertions_read, ((tt ∷ []), keys_read, within_limit)))))
+full_row = (full_value, (full_utf8, full_read), inl (full_once, (filters, filters_read, ((tt ∷ tt ∷ tt ∷ []), key_filters_read, ((route ∷ routes ∷ []), assertions_read, ((tt ∷ []), keys_read, within_limit))))))
+
+-- .. so it is a file of these.
+full_file : IsSlurmFile full exceptions
+full_file = (reads_exactly full exceptions).0 full_row
 
 -- ---- its effect (sections 3.3.1 and 3.4.1)
 

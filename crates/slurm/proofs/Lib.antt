@@ -6,6 +6,7 @@ pub mod Walking
 pub mod Readings
 pub mod Ascending
 pub mod Chained
+pub mod NamesOnce
 pub mod Counted
 pub mod EntryRelations
 pub mod Exactly

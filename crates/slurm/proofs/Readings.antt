@@ -13,7 +13,7 @@ use Rattle.payload_lists.specs.PayloadList.{text_at}
 use Rattle.payload_lists.proofs.Entries.{one_some}
 use Rattle.slurm.specs.Chains.{After, Then}
 use Rattle.slurm.specs.Entries.{AreRead, IsMaximum, ReadsAssertion, ReadsAssertionOf, ReadsEntries, ReadsFilter, ReadsFilterOf, ReadsObject, ReadsPrefix, SpellsPrefix, listed, max_len_of}
-use Rattle.slurm.specs.SlurmFile.{Arrays, OneReading, ReadsArrays, ReadsJson, ReadsValue, arrays_of, limited}
+use Rattle.slurm.specs.SlurmFile.{Arrays, OneReading, ReadsArrays, ReadsJson, ReadsOnce, arrays_of, limited}
 use Rattle.slurm.specs.declared.fault.EntryFault.{EntryFault}
 use Rattle.slurm.specs.declared.fault.EntryFault.TheVariants as why
 use Rattle.slurm.specs.declared.fault.SlurmArray.{SlurmArray}
@@ -200,5 +200,11 @@ json_one bytes (Ok d) (Err f) h k = absurd (k.1 d h)
 json_one bytes (Err e) (Ok d) h k = absurd (h.1 d k)
 json_one bytes (Err e) (Err f) h k = ap Err (h.0 ∙ sym k.0)
 
+once_one : (bytes : List ℕ) (d : Data) → IsOne (ReadsOnce bytes d)
+once_one bytes d r q (inl h) (inl k) = after_one (arrays_of d) ReadsArrays arrays_one r q h.1 k.1
+once_one bytes d r q (inl h) (inr k) = absurd (k.0 h.0)
+once_one bytes d r q (inr h) (inl k) = absurd (h.0 k.0)
+once_one bytes d r q (inr h) (inr k) = h.1 ∙ sym k.1
+
 pub says_one : OneReading
-says_one bytes r q h k = then_one (ReadsJson bytes) ReadsValue (json_one bytes) (λ d. after_one (arrays_of d) ReadsArrays arrays_one) r q h k
+says_one bytes r q h k = then_one (ReadsJson bytes) (ReadsOnce bytes) (json_one bytes) (once_one bytes) r q h k

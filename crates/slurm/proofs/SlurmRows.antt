@@ -1,7 +1,12 @@
 -- Worked rows: RFC 8416 sections 3.3.1 and 3.4.1, and each fault of an entry and of a file.
 use Rattle.std.specs.Prelude.{◌≡◌, ℕ, true, false, List, [], Option, Some, None, Ok, Err, codes, refl, negsuc}
 use Rattle.std.specs.Fmt.{digits}
+use Rattle.std.specs.Str.{chars, is_utf8}
 use Rattle.std.proofs.Common.{◌∷◌, subst, arith, inl, inr, lit<, lit≤}
+use Rattle.std.proofs.lemmas.Str.{IsUtf8-from_is_utf8}
+use Rattle.json.specs.Json as tree
+use Rattle.json.proofs.OnLiterals.{json_on_literals}
+use Rattle.serde_json.proofs.OnLiterals.{serde_json_on_literals}
 use Rattle.serde_json.specs.Data.{Data, null, number, string, array, object, unsigned, negative, Items, no_items, item, Members, no_members, member}
 use Rattle.prefixes.specs.Address.{IsPrefix}
 use Rattle.prefixes.specs.Payload.{Payload, block_of, width_of}
@@ -13,12 +18,14 @@ use Rattle.prefixes.specs.declared.prefix.IpPrefix.TheVariants.{V4, V6}
 use Rattle.slurm.specs.Entries.{ReadsAssertion, ReadsEntries, ReadsFilter, ReadsObject, assertion_asn, filter_asn, max_len_of}
 use Rattle.slurm.specs.Exceptions.{is_filtered, matches}
 use Rattle.slurm.specs.Faults.{slurm_fault_number}
-use Rattle.slurm.specs.SlurmFile.{Arrays, ReadsArrays, arrays_of}
+use Rattle.slurm.specs.SlurmFile.{Arrays, NamesOnce, ReadsArrays, ReadsSlurm, arrays_of}
 use Rattle.slurm.specs.declared.fault.EntryFault.TheVariants as why
 use Rattle.slurm.specs.declared.fault.SlurmArray.TheVariants as arrays
 use Rattle.slurm.specs.declared.fault.SlurmFault.TheVariants as fault
 use Rattle.slurm.specs.declared.fault.SlurmObject.TheVariants as objects
 use Rattle.slurm.specs.declared.filter.PrefixFilter.{PrefixFilter}
+use Rattle.slurm.proofs.NamesOnce.{stand_once, stand_twice}
+use lib.Utf8.{encode}
 
 -- ---- filters (section 3.3.1)
 
@@ -236,5 +243,35 @@ row_entries : ReadsArrays (arrays_with second_wrong one_item) (Err (fault.Entry 
 row_entries = (inl the_second, inr ([], tt, inl no_key))
 
 row_numbers : (slurm_fault_number fault.NotJson ≡ 1) × (slurm_fault_number (fault.Members objects.File) ≡ 2) × (slurm_fault_number fault.Version ≡ 3) × (slurm_fault_number (fault.NoArray arrays.PrefixFilters) ≡ 4)
-    × (slurm_fault_number (fault.Entry arrays.PrefixFilters 0 why.Asn) ≡ 5) × (slurm_fault_number fault.TooMany ≡ 6) × (slurm_fault_number fault.Memory ≡ 7)
-row_numbers = (refl, refl, refl, refl, refl, refl, refl)
+    × (slurm_fault_number (fault.Entry arrays.PrefixFilters 0 why.Asn) ≡ 5) × (slurm_fault_number fault.TooMany ≡ 6) × (slurm_fault_number fault.Memory ≡ 7) × (slurm_fault_number fault.Repeated ≡ 8)
+row_numbers = (refl, refl, refl, refl, refl, refl, refl, refl)
+
+-- ---- names that stand twice
+
+abbrev asn_twice : List ℕ
+asn_twice = codes "{\"asn\":1,\"asn\":1}"
+
+row_twice : ¬ (NamesOnce asn_twice)
+unfolding json_on_literals
+row_twice = stand_twice asn_twice (tree.object (tree.member (codes "asn") (tree.number (codes "1")) (tree.member (codes "asn") (tree.number (codes "1")) tree.no_members))) refl (λ h. h.0 0 1 [] (lit< tt) (lit< tt) refl)
+
+-- .. once by an escape, and within another object
+abbrev within_twice : List ℕ
+within_twice = codes "{\"a\":[{\"a\":1,\"\\u0061\":2}]}"
+
+row_within_twice : ¬ (NamesOnce within_twice)
+unfolding json_on_literals
+row_within_twice =
+    stand_twice within_twice
+    (tree.object (tree.member (codes "a") (tree.array (tree.item (tree.object (tree.member (codes "a") (tree.number (codes "1")) (tree.member (codes "a") (tree.number (codes "2")) tree.no_members))) tree.no_items)) tree.no_members))
+    refl (λ h. h.1.0.0.0 0 1 [] (lit< tt) (lit< tt) refl)
+
+-- one in each of two objects, of which one is in the other
+row_once : NamesOnce (codes "{\"a\":[{\"a\":1},{\"a\":2}],\"b\":{\"a\":3}}")
+unfolding json_on_literals
+row_once = stand_once (codes "{\"a\":[{\"a\":1},{\"a\":2}],\"b\":{\"a\":3}}") refl
+
+-- It is told before another version, and behind a text that is none.
+row_repeated : ReadsSlurm asn_twice (Err fault.Repeated)
+unfolding is_utf8 chars encode serde_json_on_literals
+row_repeated = inr (object (asn (number (unsigned 1)) no_members), (IsUtf8-from_is_utf8 asn_twice refl, refl), inr (row_twice, refl))

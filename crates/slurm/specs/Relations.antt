@@ -11,7 +11,7 @@ use Rattle.payload_lists.specs.PayloadList.{text_at, whole_at}
 use Rattle.vrps.specs.VrpSet.{set_of, size}
 use Rattle.slurm.specs.Entries.{SpellsPrefix, listed}
 use Rattle.slurm.specs.Exceptions.{Exceptions}
-use Rattle.slurm.specs.SlurmFile.{IsJson, ReadsSlurm}
+use Rattle.slurm.specs.SlurmFile.{IsJson, NamesOnce, ReadsSlurm}
 use Rattle.slurm.specs.declared.filter.PrefixFilter.{PrefixFilter}
 
 -- ---- members
@@ -126,6 +126,7 @@ pub record IsFile (d : Data) (e : Exceptions) : Type 0 where
 pub record IsSlurmFile (bytes : List ℕ) (e : Exceptions) : Type 0 where
   pub value : Data
   pub is_json : IsJson bytes value
+  pub names_once : NamesOnce bytes
   pub is_file : IsFile value e
 
 -- Exceptions are read of the bytes exactly where the bytes are a file of them.

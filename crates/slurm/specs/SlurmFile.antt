@@ -1,6 +1,8 @@
 -- SLURM files (RFC 8416 section 3): what a file says, and why bytes say nothing.
-use Rattle.std.specs.Prelude.{◌≡◌, ℕ, ◌+◌, Bool, false, ◌&&◌, ◌==◌, nat_lt, if◌then◌else◌, List, Option, Some, None, option_and_then, Result, Ok, Err, codes}
+use Rattle.std.specs.Prelude.{◌≡◌, ◌⊎◌, ℕ, ◌+◌, Bool, false, ◌&&◌, ◌==◌, nat_lt, if◌then◌else◌, List, Option, Some, None, option_and_then, Result, Ok, Err, codes}
 use Rattle.std.specs.Str.{IsUtf8}
+use Rattle.json.specs.Json.{Json, document}
+use Rattle.json.specs.Strict.{HasUniqueKeys}
 use Rattle.serde_json.specs.Data.{Data, Items}
 use Rattle.serde_json.specs.Find.{get, as_array}
 use Rattle.serde_json.specs.Read as json
@@ -83,9 +85,17 @@ abbrev pub ReadsJson : List ℕ → Result Data SlurmFault → Type 0
 ReadsJson bytes (Ok d) = IsJson bytes d
 ReadsJson bytes (Err e) = (e ≡ fault.NotJson) × ((d : Data) → ¬ (IsJson bytes d))
 
+-- No name stands twice in an object of the text, at any depth. (A value keeps the last of two members of a name, and the text has both.)
+abbrev pub NamesOnce : List ℕ → Type 0
+NamesOnce bytes = (j : Json) × (document bytes ≡ Some j) × HasUniqueKeys j
+
+-- A value is judged if no name stands twice.
+abbrev pub ReadsOnce : List ℕ → Data → Result Exceptions SlurmFault → Type 0
+ReadsOnce bytes d r = (NamesOnce bytes × ReadsValue d r) ⊎ ((¬ (NamesOnce bytes)) × (r ≡ Err fault.Repeated))
+
 -- What bytes say: exceptions, or why they say none, which is the first fault.
 abbrev pub ReadsSlurm : List ℕ → Result Exceptions SlurmFault → Type 0
-ReadsSlurm bytes r = Then (ReadsJson bytes) ReadsValue r
+ReadsSlurm bytes r = Then (ReadsJson bytes) (ReadsOnce bytes) r
 
 -- Bytes say one thing.
 abbrev pub OneReading : Type 0

@@ -104,6 +104,9 @@ pub enum SlurmFault {
     /// Out of memory.
     #[error("out of memory (fault 7)")]
     Memory,
+    /// A name stands twice in an object, at any depth.
+    #[error("a name stands twice in an object (fault 8)")]
+    Repeated,
 }
 
 impl SlurmFault {
@@ -121,6 +124,7 @@ impl SlurmFault {
             SlurmFault::Entry(_, _, _) => 5,
             SlurmFault::TooMany => 6,
             SlurmFault::Memory => 7,
+            SlurmFault::Repeated => 8,
         }
     }
 }

@@ -1,9 +1,10 @@
 //! SLURM files, read.
 ghost use Rattle.std.specs.Prelude.{◌≡◌, ◌<◌, ◌≤◌, IfOk, IfErr, IsErrOf, OnErr, Ok, Err};
+ghost use Rattle.std.specs.Bool.{MatchBool};
 ghost use Rattle.std.specs.Str.{IsUtf8};
 ghost use Rattle.serde_json.specs.Data.{Data};
 ghost use Rattle.serde_json.specs.View.{view};
-ghost use Rattle.slurm.specs.SlurmFile.{ReadsArrays, ReadsJson, ReadsSlurm, limited};
+ghost use Rattle.slurm.specs.SlurmFile.{NamesOnce, ReadsArrays, ReadsJson, ReadsSlurm, ReadsValue, limited};
 ghost use Rattle.slurm.specs.Chains.{UnlessMemory, seen};
 ghost use Rattle.slurm.specs.Exceptions.{Exceptions, exceptions_of};
 ghost use Rattle.slurm.specs.Relations.{IsSlurmFile};
@@ -13,19 +14,34 @@ use crate::arrays::{Arrays, arrays_of};
 use crate::entries::entries;
 use crate::fault::{SlurmArray, SlurmFault};
 use crate::filter::{PrefixFilter, Slurm};
+use json::{Error, Scratch, Value as Tree};
 use prefixes::Vrp;
 use serde_json::Value;
 use std::alloc::Global;
+use std::str;
 use vrps::VrpSet;
 
-/// The JSON value of the bytes.
-fn json(alloc: Global, bytes: &[u8]) -> Result<Value, SlurmFault>
-    ensures { UnlessMemory (ReadsJson bytes.now) (seen view result) }
+/// The JSON value of a text.
+fn value_of(alloc: Global, text: &str) -> Result<Value, SlurmFault>
+    ensures { UnlessMemory (ReadsJson text.now) (seen view result) }
 {
-    match Value::from_slice(alloc, bytes) {
+    match Value::from_str(alloc, text) {
         Ok(value) => Ok(value),
         Err(error) if error.is_memory() => Err(SlurmFault::Memory),
         Err(_) => Err(SlurmFault::NotJson),
+    }
+}
+
+/// Whether no name stands twice in an object of a JSON text, at any depth. `Memory`: out of memory.
+fn has_names_once(alloc: Global, text: &str) -> Result<bool, SlurmFault>
+    ensures ok { IfOk result (λ once. MatchBool once (NamesOnce text.now) (¬ (NamesOnce text.now))) }
+    ensures memory { OnErr result (result ≡ Err SlurmFault.Memory) }
+{
+    let mut scratch = Scratch::new(alloc);
+    match Tree::parse_strict(alloc, text, &mut scratch) {
+        Ok(_tree) => Ok(true),
+        Err(Error::DuplicateKey | Error::Invalid) => Ok(false),
+        Err(Error::OutOfMemory | Error::TooLong) => Err(SlurmFault::Memory),
     }
 }
 
@@ -64,23 +80,44 @@ fn exceptions(alloc: Global, arrays: &Arrays<'_>) -> Result<Slurm, SlurmFault>
     exceptions_from(filters, records)
 }
 
-/// The exceptions that a file says, or its first fault.
+/// The exceptions that a value says, or its first fault.
+fn said(alloc: Global, value: &Value) -> Result<Slurm, SlurmFault>
+    ensures { UnlessMemory (ReadsValue (view value.now)) (seen exceptions_of result) }
+{
+    let arrays = arrays_of(value)?;
+    exceptions(alloc, &arrays)
+}
+
+/// The exceptions that a text says, or its first fault.
+fn read_text(alloc: Global, text: &str) -> Result<Slurm, SlurmFault>
+    ensures { UnlessMemory (ReadsSlurm text.now) (seen exceptions_of result) }
+{
+    let names_once = has_names_once(alloc, text)?;
+    let value = value_of(alloc, text)?;
+    if !names_once {
+        return Err(SlurmFault::Repeated);
+    }
+    said(alloc, &value)
+}
+
+/// The exceptions that bytes say, or their first fault.
 fn read(alloc: Global, bytes: &[u8]) -> Result<Slurm, SlurmFault>
     ensures { UnlessMemory (ReadsSlurm bytes.now) (seen exceptions_of result) }
 {
-    let value = json(alloc, bytes)?;
-    let arrays = arrays_of(&value)?;
-    exceptions(alloc, &arrays)
+    match str::from_utf8(bytes) {
+        Ok(text) => read_text(alloc, text),
+        Err(_error) => Err(SlurmFault::NotJson),
+    }
 }
 
 /// The exceptions that a SLURM file says: an object with exactly the members `slurmVersion`, which is 1, `validationOutputFilters` and
 /// `locallyAddedAssertions`, which have exactly the arrays `prefixFilters` and `bgpsecFilters`, `prefixAssertions` and
-/// `bgpsecAssertions` (RFC 8416 section 3.2). What the two arrays on BGPsec have are objects without an effect. Of a key that stands twice
-/// in an object, `serde_json` reads the last.
+/// `bgpsecAssertions` (RFC 8416 section 3.2). What the two arrays on BGPsec have are objects without an effect. No name stands twice in an
+/// object.
 ///
-/// The first fault is reported: `NotJson`; `Members` of the file, and `Version`; `Members` of the filters' object and then of the
+/// The first fault is reported: `NotJson`; `Repeated`; `Members` of the file, and `Version`; `Members` of the filters' object and then of the
 /// assertions'; `NoArray` of the four arrays in this order; `Entry` of the first entry, in this order of the arrays, that cannot be read,
-/// with its array, its index from 0 on, and its own first fault; `TooMany` where over 16,777,215 different records are asserted. `Memory`:
+/// with its array, its index from 0 on, and its own first fault; `TooMany` if over 16,777,215 different records are asserted. `Memory`:
 /// memory ran out.
 pub fn read_slurm(alloc: Global, bytes: &[u8]) -> Result<Slurm, SlurmFault>
     ensures reads { UnlessMemory (ReadsSlurm bytes.now) (seen exceptions_of result) }
