@@ -34,14 +34,35 @@ def is_of(value, keys):
     return isinstance(value, dict) and sorted(value) == sorted(keys)
 
 
+class Members(dict):
+    """An object, and whether a name stands in it twice."""
+
+    doubled = False
+
+
+def members(pairs):
+    found = Members(pairs)
+    found.doubled = len(found) < len(pairs)
+    return found
+
+
+def objects_in(value):
+    """The objects of a value, at any depth."""
+    if isinstance(value, dict):
+        yield value
+    for it in value.values() if isinstance(value, dict) else value if isinstance(value, list) else ():
+        yield from objects_in(it)
+
+
 def arrays_of(text):
     """The four arrays of a file."""
     try:
-        file = json.loads(text.decode("utf-8"), parse_int=number, parse_constant=lambda it: int(it))
+        file = json.loads(text.decode("utf-8"), parse_int=number, parse_constant=lambda it: int(it), object_pairs_hook=members)
     except ValueError:
         file = None
         unless(False, 1, "not JSON")
     unless(deep(file) <= 127, 1, "not JSON")
+    unless(not any(it.doubled for it in objects_in(file)), 8, "a name stands twice in an object")
     unless(is_of(file, ["slurmVersion", *OBJECTS]), 2, "the file is no object of exactly its members")
     unless(is_whole(file["slurmVersion"]) and file["slurmVersion"] == 1, 3, "slurmVersion is not 1")
     for name, keys in zip(OBJECTS, (ARRAYS[:2], ARRAYS[2:])):
@@ -85,14 +106,35 @@ def assertion_of(entry):
     return why, record
 
 
-def bgpsec_of(entry):
-    return None if isinstance(entry, dict) else "no object", None
+def no_key(entry, keys, least):
+    """Why an entry on BGPsec of these keys is none; of those that it must have, one is enough for a filter."""
+    if not isinstance(entry, dict):
+        return "no object"
+    if set(entry) - set(keys):
+        return "a key that is not known"
+    if least == 1 and not {"SKI", "asn"} & set(entry):
+        return "neither SKI nor asn"
+    if ("asn" in entry or least > 1) and not (is_whole(entry.get("asn")) and entry["asn"] < 1 << 32):
+        return "asn is no AS number"
+    for key in ("comment", "SKI", "routerPublicKey"):
+        needed = least > 1 and key != "comment"
+        if (key in entry or needed) and type(entry.get(key)) is not str:
+            return f"{key} is no text"
+    return None
+
+
+def key_filter_of(entry):
+    return no_key(entry, ["SKI", "asn", "comment"], 1), None
+
+
+def key_assertion_of(entry):
+    return no_key(entry, ["asn", "SKI", "routerPublicKey", "comment"], 3), None
 
 
 def values_of(text):
     """The filters and the assertions of a file."""
     values = []
-    for name, array, read in zip(ARRAYS, arrays_of(text), (filter_of, bgpsec_of, assertion_of, bgpsec_of)):
+    for name, array, read in zip(ARRAYS, arrays_of(text), (filter_of, key_filter_of, assertion_of, key_assertion_of)):
         for index, entry in enumerate(array):
             why, value = read(entry)
             unless(not why, 5, f"{name}[{index}]: {why}")
@@ -144,7 +186,7 @@ class Maker(Chance):
     def entry(self, keys):
         """An entry of some of these keys, spoiled at times."""
         record, found = self.record(), {}
-        known = {"prefix": self.text(record), "asn": record[4], "comment": "x", "maxPrefixLength": record[3]}
+        known = {"prefix": self.text(record), "asn": record[4], "comment": "x", "maxPrefixLength": record[3], "SKI": "Zm9v", "routerPublicKey": "YmFy"}
         for key, share in keys.items():
             if self.chance.random() < share:
                 found[key] = known[key]
@@ -159,11 +201,12 @@ class Maker(Chance):
         chance = self.chance
         count = lambda: range(chance.choice([0, 1, 2, 5]))
         half = chance.choice([{"prefix": 1, "asn": 0.4, "comment": 0.3}, {"prefix": 0.3, "asn": 1, "comment": 0.3}])
+        key_half = chance.choice([{"SKI": 1, "asn": 0.4, "comment": 0.3}, {"SKI": 0.3, "asn": 1, "comment": 0.3}])
         arrays = {
             "prefixFilters": [self.entry(half) for _ in count()],
-            "bgpsecFilters": [{"asn": 1} if chance.random() < 0.98 else self.other() for _ in count()],
+            "bgpsecFilters": [self.entry(key_half) for _ in count()],
             "prefixAssertions": [self.entry({"asn": 1, "prefix": 1, "maxPrefixLength": 0.5, "comment": 0.3}) for _ in count()],
-            "bgpsecAssertions": [{} for _ in count()],
+            "bgpsecAssertions": [self.entry({"asn": 1, "SKI": 1, "routerPublicKey": 1, "comment": 0.3}) for _ in count()],
         }
         file = {"slurmVersion": 1, OBJECTS[0]: {it: arrays[it] for it in ARRAYS[:2]}, OBJECTS[1]: {it: arrays[it] for it in ARRAYS[2:]}}
         if self.rarely(0.1):
@@ -174,6 +217,9 @@ class Maker(Chance):
             else:
                 place[key] = self.other()
         text = json.dumps(file, indent=chance.choice([None, 1])).encode()
+        if self.rarely(0.02):
+            key = chance.choice([b'"asn"', b'"slurmVersion"', b'"prefixFilters"', b'"comment"'])
+            text = text.replace(key, key + b": 1, " + key, 1)
         if self.rarely(0.02):
             at = chance.randrange(len(text))
             text = chance.choice([text[:at], text[:at] + b"\xff" + text[at:], text + b"1"])

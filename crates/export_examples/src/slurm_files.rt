@@ -219,7 +219,7 @@ const ENTRIES: &[([&str; 4], SlurmFault)] = &[
         SlurmFault::Entry(SlurmArray::PrefixFilters, 0, EntryFault::Prefix),
     ),
     (
-        ["[]", "[{},{},[]]", "[7]", "[7]"],
+        ["[]", r#"[{"asn":1},{"SKI":"Zm9v"},[]]"#, "[7]", "[7]"],
         SlurmFault::Entry(SlurmArray::BgpsecFilters, 2, EntryFault::NoObject),
     ),
     (
@@ -272,6 +272,55 @@ const ENTRIES: &[([&str; 4], SlurmFault)] = &[
     ),
 ];
 
+/// Entries on BGPsec of the four arrays, and the fault of a file of them.
+const KEYS: &[([&str; 4], SlurmFault)] = &[
+    (
+        ["[]", r#"[{"asn":1},{"comment":"all"}]"#, "[7]", "[7]"],
+        SlurmFault::Entry(SlurmArray::BgpsecFilters, 1, EntryFault::NeitherSki),
+    ),
+    (
+        ["[]", r#"[{"asn":1,"prefix":"192.0.2.0/24"}]"#, "[7]", "[7]"],
+        SlurmFault::Entry(SlurmArray::BgpsecFilters, 0, EntryFault::OtherKey),
+    ),
+    (
+        ["[]", r#"[{"SKI":"Zm9v"},{"SKI":7}]"#, "[7]", "[7]"],
+        SlurmFault::Entry(SlurmArray::BgpsecFilters, 1, EntryFault::Ski),
+    ),
+    (
+        ["[]", r#"[{"SKI":7,"asn":1,"comment":2}]"#, "[7]", "[7]"],
+        SlurmFault::Entry(SlurmArray::BgpsecFilters, 0, EntryFault::Comment),
+    ),
+    (
+        ["[]", r#"[{"SKI":7,"asn":4294967296}]"#, "[7]", "[7]"],
+        SlurmFault::Entry(SlurmArray::BgpsecFilters, 0, EntryFault::Asn),
+    ),
+    (
+        ["[]", "[]", "[]", r#"[{"SKI":"Zm9v","routerPublicKey":"YmFy"}]"#],
+        SlurmFault::Entry(SlurmArray::BgpsecAssertions, 0, EntryFault::Asn),
+    ),
+    (
+        ["[]", "[]", "[]", r#"[{"asn":1,"routerPublicKey":"YmFy"}]"#],
+        SlurmFault::Entry(SlurmArray::BgpsecAssertions, 0, EntryFault::Ski),
+    ),
+    (
+        ["[]", "[]", "[]", r#"[{"asn":1,"SKI":"Zm9v"}]"#],
+        SlurmFault::Entry(
+            SlurmArray::BgpsecAssertions,
+            0,
+            EntryFault::RouterPublicKey,
+        ),
+    ),
+    (
+        [
+            "[]",
+            "[]",
+            "[]",
+            r#"[{"asn":1,"SKI":"Zm9v","routerPublicKey":"YmFy","comment":""},{"asn":1,"SKI":"Zm9v","routerPublicKey":"YmFy","prefix":1}]"#,
+        ],
+        SlurmFault::Entry(SlurmArray::BgpsecAssertions, 1, EntryFault::OtherKey),
+    ),
+];
+
 /// Whether each text has its fault.
 fn have_faults(alloc: Global, rows: &[(&str, SlurmFault)]) -> bool {
     rows.iter().all(|(text, fault)| fault_of(alloc, text.as_bytes()) == Some(*fault))
@@ -286,6 +335,12 @@ fn have_entry_faults(alloc: Global, rows: &[([&str; 4], SlurmFault)]) -> Result<
         }
     }
     Ok(true)
+}
+
+#[test]
+fn each_fault_of_a_key_is_told(rt: HostRuntime) -> Result<(), Fail> {
+    assert!(rt; have_entry_faults(rt.alloc(), KEYS)?);
+    Ok(())
 }
 
 #[test]

@@ -1,10 +1,11 @@
 -- Steps that may fail, one after the other.
 use Rattle.std.proofs.Common.{◌≡◌, ℕ, Bool, true, false, inl, inr, Result, Ok, Err, MatchBool, refl, ap, sym, ◌∙◌, subst}
-use Rattle.std.specs.Prelude.{List, ⊤}
+use Rattle.std.specs.Prelude.{List, Option}
 use Rattle.serde_json.specs.Data.{Data}
 use Rattle.prefixes.specs.Payload.{Payload}
+use Rattle.prefixes.specs.declared.asn.Asn.{Asn}
 use Rattle.slurm.specs.Chains.{Then, UnlessMemory}
-use Rattle.slurm.specs.Entries.{ReadsAssertion, ReadsEntries, ReadsFilter, ReadsObject}
+use Rattle.slurm.specs.Entries.{ReadsAssertion, ReadsEntries, ReadsFilter, ReadsKeyAssertion, ReadsKeyFilter}
 use Rattle.slurm.specs.Exceptions.{Exceptions}
 use Rattle.slurm.specs.SlurmFile.{Arrays, NamesOnce, ReadsArrays, ReadsJson, ReadsOnce, ReadsSlurm, ReadsValue, limited}
 use Rattle.slurm.specs.declared.fault.SlurmArray.TheVariants as array
@@ -38,14 +39,14 @@ module _ (a : Arrays) where
   abbrev FiltersRead : Result (List PrefixFilter) SlurmFault → Type 0
   FiltersRead = ReadsEntries ReadsFilter array.PrefixFilters a.prefix_filters
 
-  abbrev BgpsecRead : Result (List ⊤) SlurmFault → Type 0
-  BgpsecRead = ReadsEntries ReadsObject array.BgpsecFilters a.bgpsec_filters
+  abbrev BgpsecRead : Result (List (Option Asn)) SlurmFault → Type 0
+  BgpsecRead = ReadsEntries ReadsKeyFilter array.BgpsecFilters a.bgpsec_filters
 
   abbrev AssertionsRead : Result (List Payload) SlurmFault → Type 0
   AssertionsRead = ReadsEntries ReadsAssertion array.PrefixAssertions a.prefix_assertions
 
-  abbrev KeysRead : Result (List ⊤) SlurmFault → Type 0
-  KeysRead = ReadsEntries ReadsObject array.BgpsecAssertions a.bgpsec_assertions
+  abbrev KeysRead : Result (List Asn) SlurmFault → Type 0
+  KeysRead = ReadsEntries ReadsKeyAssertion array.BgpsecAssertions a.bgpsec_assertions
 
   abbrev AfterAssertions : List PrefixFilter → List Payload → Result Exceptions SlurmFault → Type 0
   AfterAssertions fs vs = Then KeysRead (λ _ s. s ≡ limited fs vs)
@@ -56,19 +57,19 @@ module _ (a : Arrays) where
   abbrev AfterFilters : List PrefixFilter → Result Exceptions SlurmFault → Type 0
   AfterFilters fs = Then BgpsecRead (λ _. AfterBgpsec fs)
 
-  abbrev BeforeKeys : List PrefixFilter → List ⊤ → List Payload → Type 0
+  abbrev BeforeKeys : List PrefixFilter → List (Option Asn) → List Payload → Type 0
   BeforeKeys fs xs vs = UnlessMemory FiltersRead (Ok fs) × UnlessMemory BgpsecRead (Ok xs) × UnlessMemory AssertionsRead (Ok vs)
 
-  before_keys : (fs : List PrefixFilter) (xs : List ⊤) (vs : List Payload) (q : Result Exceptions SlurmFault) → BeforeKeys fs xs vs → UnlessMemory (AfterAssertions fs vs) q → UnlessMemory (ReadsArrays a) q
+  before_keys : (fs : List PrefixFilter) (xs : List (Option Asn)) (vs : List Payload) (q : Result Exceptions SlurmFault) → BeforeKeys fs xs vs → UnlessMemory (AfterAssertions fs vs) q → UnlessMemory (ReadsArrays a) q
   before_keys fs xs vs q h k =
       goes_on FiltersRead AfterFilters fs q h.0 (goes_on BgpsecRead (λ _. AfterBgpsec fs) xs q h.1 (goes_on AssertionsRead (AfterAssertions fs) vs q h.2 k))
 
-  pub keys_stop : (fs : List PrefixFilter) (xs : List ⊤) (vs : List Payload) (q : Result Exceptions SlurmFault) (e : SlurmFault)
+  pub keys_stop : (fs : List PrefixFilter) (xs : List (Option Asn)) (vs : List Payload) (q : Result Exceptions SlurmFault) (e : SlurmFault)
       → BeforeKeys fs xs vs → UnlessMemory KeysRead (Err e) → q ≡ Err e → UnlessMemory (ReadsArrays a) q
   keys_stop fs xs vs q e h k same = before_keys fs xs vs q h (stops KeysRead (λ _ s. s ≡ limited fs vs) q e same k)
 
   -- All are read.
-  pub all_read : (fs : List PrefixFilter) (xs : List ⊤) (vs : List Payload) (ys : List ⊤) (q : Result Exceptions SlurmFault)
+  pub all_read : (fs : List PrefixFilter) (xs : List (Option Asn)) (vs : List Payload) (ys : List Asn) (q : Result Exceptions SlurmFault)
       → BeforeKeys fs xs vs → UnlessMemory KeysRead (Ok ys) → q ≡ limited fs vs → UnlessMemory (ReadsArrays a) q
   all_read fs xs vs ys q h k same = before_keys fs xs vs q h (goes_on KeysRead (λ _ s. s ≡ limited fs vs) ys q k (inl same))
 

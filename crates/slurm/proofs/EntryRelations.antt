@@ -4,20 +4,20 @@ use Rattle.std.specs.Prelude.{⊤}
 use Rattle.std.specs.List.{AllByRecursion}
 use Rattle.std.proofs.lemmas.Bool.Decides.{nat_tests}
 use Rattle.serde_json.specs.Data.{Data, object, Members}
-use Rattle.serde_json.specs.Find.{get, as_number, as_object, as_u64}
+use Rattle.serde_json.specs.Find.{get, as_number, as_u64}
 use Rattle.prefixes.specs.Payload.{Payload, block_of, width_of}
 use Rattle.prefixes.specs.declared.asn.Asn.{Asn}
 use Rattle.prefixes.specs.declared.prefix.IpPrefix.{IpPrefix}
 use Rattle.payload_lists.specs.PayloadList.{member_count, text_at, whole_at}
 use Rattle.slurm.specs.Chains.{◌>>=◌, given, unless}
-use Rattle.slurm.specs.Entries.{AreRead, ReadsAssertion, ReadsAssertionOf, ReadsFilter, ReadsFilterOf, ReadsObject, ReadsPrefix, asn_if_any, asn_of, assertion_asn, comment_of, filter_asn, max_len_of, members_known}
+use Rattle.slurm.specs.Entries.{AreRead, ReadsAssertion, ReadsAssertionOf, ReadsFilter, ReadsFilterOf, ReadsKeyAssertion, ReadsKeyFilter, ReadsPrefix, asn_if_any, asn_of, assertion_asn, comment_of, filter_asn, key_assertion, key_filter, max_len_of, members_known, text_if_any, text_of}
 use Rattle.slurm.specs.Members.{one_for, total}
-use Rattle.slurm.specs.Relations.{Each, Has, HasOnly, HasTextIfAny, IsAssertion, IsFilter, IsKeyEntry, SaysAsn, SaysMaximum, SaysPrefix}
+use Rattle.slurm.specs.Relations.{Each, Has, HasOnly, HasText, HasTextIfAny, IsAssertion, IsFilter, IsKeyAssertion, IsKeyFilter, SaysAsn, SaysMaximum, SaysPrefix}
 use Rattle.slurm.specs.declared.fault.EntryFault.{EntryFault}
 use Rattle.slurm.specs.declared.fault.EntryFault.TheVariants as why
 use Rattle.slurm.specs.declared.filter.PrefixFilter.{PrefixFilter}
 use Rattle.slurm.proofs.Ascending.{Ascends, some_is}
-use Rattle.slurm.proofs.Chained.{Through1, after_ok, either_true, first_ok, is_number, number_is, ok_after, ok_first, ok_is, ok_through1, ok_unless, through1_ok, true_either, unless_ok}
+use Rattle.slurm.proofs.Chained.{Through1, Through2, Through3, after_ok, either_true, first_ok, is_number, number_is, ok_after, ok_first, ok_is, ok_through1, ok_through2, ok_through3, ok_unless, through1_ok, through2_ok, through3_ok, true_either, unless_ok}
 use Rattle.slurm.proofs.Counted.{Apart, count_by_only, only_by_count}
 
 -- ---- members
@@ -131,21 +131,22 @@ says_if_any d None h = ap (λ o. any_by (is_none o) (asn_of d)) h
 says_if_any d (Some a) h =
     ap (λ b. any_by b (asn_of d)) (whole_there (get (codes "asn") d) a.0 h.0) ∙ ap (λ m. any_by false m) (says_asn d a h.0 h.1)
 
--- ---- a comment
+-- ---- texts
 
-pub text_if_any : (o : Option Data) (t : Bool) → (is_none o || t) ≡ true → (o ≡ None) ⊎ (t ≡ true)
-text_if_any None t h = inl refl
-text_if_any (Some d) t h = inr h
+is_or_is_not : (o : Option Data) (t : Bool) → (is_none o || t) ≡ true → (o ≡ None) ⊎ (t ≡ true)
+is_or_is_not None t h = inl refl
+is_or_is_not (Some d) t h = inr h
 
-pub if_any_text : (o : Option Data) (t : Bool) → (o ≡ None) ⊎ (t ≡ true) → (is_none o || t) ≡ true
-if_any_text o t (inl h) = ap (λ p. is_none p || t) h
-if_any_text o t (inr h) = true_either (is_none o) t (inr h)
+if_either : (o : Option Data) (t : Bool) → (o ≡ None) ⊎ (t ≡ true) → (is_none o || t) ≡ true
+if_either o t (inl h) = ap (λ p. is_none p || t) h
+if_either o t (inr h) = true_either (is_none o) t (inr h)
 
-comment_says : (d : Data) → IsOk (comment_of d) → HasTextIfAny (codes "comment") d
-comment_says d h = text_if_any (get (codes "comment") d) (is_some (text_at (codes "comment") d)) (unless_ok why.Comment _ h)
+module _ (e : EntryFault) (name : List ℕ) (d : Data) where
+  text_says : IsOk (text_if_any e name d) → HasTextIfAny name d
+  text_says h = is_or_is_not (get name d) (is_some (text_at name d)) (unless_ok e (is_none (get name d) || is_some (text_at name d)) h)
 
-says_comment : (d : Data) → HasTextIfAny (codes "comment") d → IsOk (comment_of d)
-says_comment d h = ok_unless why.Comment _ (if_any_text (get (codes "comment") d) (is_some (text_at (codes "comment") d)) h)
+  says_text : HasTextIfAny name d → IsOk (text_if_any e name d)
+  says_text h = ok_unless e (is_none (get name d) || is_some (text_at name d)) (if_either (get name d) (is_some (text_at name d)) h)
 
 -- ---- a prefix
 
@@ -179,7 +180,7 @@ filter_says d f up h =
       has_either = either_true (is_some (get (codes "prefix") d)) (is_some (get (codes "asn") d)) (unless_ok why.NeitherKey (has_either d) either.0);
       asn = if_any_says d f.asn (rest.0 ∙ ap Ok (sym a.2.0));
       prefix = prefix_says d f.prefix a.2.1;
-      comment = comment_says d rest.1;
+      comment = text_says why.Comment (codes "comment") d rest.1;
     }
 
 pub says_filter : (d : Data) (f : PrefixFilter) → Ascends d → IsFilter d f → ReadsFilter d (Ok f)
@@ -189,7 +190,7 @@ says_filter d f up h =
     ok_after (filter_asn d) (ReadsFilterOf d) f.asn f
     (ok_first (filter_known d) (unless why.NeitherKey (has_either d) >>= λ _. Through1 (asn_if_any d) (comment_of d)) f.asn known
     (ok_first (unless why.NeitherKey (has_either d)) (Through1 (asn_if_any d) (comment_of d)) f.asn (ok_unless why.NeitherKey (has_either d) either)
-    (ok_through1 (asn_if_any d) (comment_of d) f.asn (says_if_any d f.asn h.asn) (says_comment d h.comment))))
+    (ok_through1 (asn_if_any d) (comment_of d) f.asn (says_if_any d f.asn h.asn) (says_text why.Comment (codes "comment") d h.comment))))
     (refl, says_prefix d f.prefix h.prefix)
 
 -- ---- an assertion
@@ -224,7 +225,7 @@ assertion_says d v up h =
       max_len = maximum_says (get (codes "maxPrefixLength") d) d v refl a.2.2.0;
       not_shorter = a.2.2.1;
       in_family = a.2.2.2;
-      comment = comment_says d rest.1;
+      comment = text_says why.Comment (codes "comment") d rest.1;
     }
 
 pub says_assertion : (d : Data) (v : Payload) → Ascends d → IsAssertion d v → ReadsAssertion d (Ok v)
@@ -232,8 +233,74 @@ says_assertion d v up h =
     let a : Asn = record { 0 = v.asn } in
     let known = known_4 (codes "asn") (codes "prefix") (codes "maxPrefixLength") (codes "comment") assertion_apart d up h.members in
     ok_after (assertion_asn d) (ReadsAssertionOf d) a v
-    (ok_first (assertion_known d) (Through1 (asn_of d) (comment_of d)) a known (ok_through1 (asn_of d) (comment_of d) a (says_asn d a h.asn.0 h.asn.1) (says_comment d h.comment)))
+    (ok_first (assertion_known d) (Through1 (asn_of d) (comment_of d)) a known (ok_through1 (asn_of d) (comment_of d) a (says_asn d a h.asn.0 h.asn.1) (says_text why.Comment (codes "comment") d h.comment)))
     (refl, h.prefix, (says_maximum d v h.max_len, h.not_shorter, h.in_family))
+
+-- ---- a filter on BGPsec
+
+abbrev key_either : Data → Bool
+key_either d = is_some (get (codes "SKI") d) || is_some (get (codes "asn") d)
+
+abbrev key_apart : Apart (codes "SKI" ∷ codes "asn" ∷ codes "comment" ∷ [])
+key_apart = ((refl, (refl, tt)), ((refl, tt), (tt, tt)))
+
+abbrev key_known : Data → Result ⊤ EntryFault
+key_known d = members_known (one_for (codes "SKI") d + one_for (codes "asn") d + one_for (codes "comment") d) (total d)
+
+abbrev key_rest : Data → Result (Option Asn) EntryFault
+key_rest d = Through2 (asn_if_any d) (comment_of d) (text_if_any why.Ski (codes "SKI") d)
+
+pub key_filter_says : (d : Data) (a : Option Asn) → Ascends d → ReadsKeyFilter d (Ok a) → IsKeyFilter d a
+key_filter_says d a up h =
+    let known = first_ok (key_known d) (unless why.NeitherSki (key_either d) >>= λ _. key_rest d) a (sym h) in
+    let either = first_ok (unless why.NeitherSki (key_either d)) (key_rest d) a known.1 in
+    let rest = through2_ok (asn_if_any d) (comment_of d) (text_if_any why.Ski (codes "SKI") d) a either.1 in
+    record {
+      members = only_3 (codes "SKI") (codes "asn") (codes "comment") key_apart d up known.0;
+      has_either = either_true (is_some (get (codes "SKI") d)) (is_some (get (codes "asn") d)) (unless_ok why.NeitherSki (key_either d) either.0);
+      asn = if_any_says d a rest.0;
+      ski = text_says why.Ski (codes "SKI") d rest.2;
+      comment = text_says why.Comment (codes "comment") d rest.1;
+    }
+
+pub says_key_filter : (d : Data) (a : Option Asn) → Ascends d → IsKeyFilter d a → ReadsKeyFilter d (Ok a)
+says_key_filter d a up h =
+    let either = true_either (is_some (get (codes "SKI") d)) (is_some (get (codes "asn") d)) h.has_either in
+    let known = known_3 (codes "SKI") (codes "asn") (codes "comment") key_apart d up h.members in
+    sym (ok_first (key_known d) (unless why.NeitherSki (key_either d) >>= λ _. key_rest d) a known
+    (ok_first (unless why.NeitherSki (key_either d)) (key_rest d) a (ok_unless why.NeitherSki (key_either d) either)
+    (ok_through2 (asn_if_any d) (comment_of d) (text_if_any why.Ski (codes "SKI") d) a (says_if_any d a h.asn) (says_text why.Comment (codes "comment") d h.comment) (says_text why.Ski (codes "SKI") d h.ski))))
+
+-- ---- an assertion on BGPsec
+
+abbrev keys_apart : Apart (codes "asn" ∷ codes "SKI" ∷ codes "routerPublicKey" ∷ codes "comment" ∷ [])
+keys_apart = ((refl, (refl, (refl, tt))), ((refl, (refl, tt)), ((refl, tt), (tt, tt))))
+
+abbrev keys_known : Data → Result ⊤ EntryFault
+keys_known d = members_known (one_for (codes "asn") d + one_for (codes "SKI") d + one_for (codes "routerPublicKey") d + one_for (codes "comment") d) (total d)
+
+abbrev keys_rest : Data → Result Asn EntryFault
+keys_rest d = Through3 (asn_of d) (comment_of d) (text_of why.Ski (codes "SKI") d) (text_of why.RouterPublicKey (codes "routerPublicKey") d)
+
+pub key_assertion_says : (d : Data) (a : Asn) → Ascends d → ReadsKeyAssertion d (Ok a) → IsKeyAssertion d a
+key_assertion_says d a up h =
+    let known = first_ok (keys_known d) (keys_rest d) a (sym h) in
+    let rest = through3_ok (asn_of d) (comment_of d) (text_of why.Ski (codes "SKI") d) (text_of why.RouterPublicKey (codes "routerPublicKey") d) a known.1 in
+    record {
+      members = only_4 (codes "asn") (codes "SKI") (codes "routerPublicKey") (codes "comment") keys_apart d up known.0;
+      asn = asn_says d a rest.0;
+      ski = unless_ok why.Ski (is_some (text_at (codes "SKI") d)) rest.2;
+      router_public_key = unless_ok why.RouterPublicKey (is_some (text_at (codes "routerPublicKey") d)) rest.3;
+      comment = text_says why.Comment (codes "comment") d rest.1;
+    }
+
+pub says_key_assertion : (d : Data) (a : Asn) → Ascends d → IsKeyAssertion d a → ReadsKeyAssertion d (Ok a)
+says_key_assertion d a up h =
+    let known = known_4 (codes "asn") (codes "SKI") (codes "routerPublicKey") (codes "comment") keys_apart d up h.members in
+    sym (ok_first (keys_known d) (keys_rest d) a known
+    (ok_through3 (asn_of d) (comment_of d) (text_of why.Ski (codes "SKI") d) (text_of why.RouterPublicKey (codes "routerPublicKey") d) a (says_asn d a h.asn.0 h.asn.1)
+    (says_text why.Comment (codes "comment") d h.comment) (ok_unless why.Ski (is_some (text_at (codes "SKI") d)) h.ski)
+    (ok_unless why.RouterPublicKey (is_some (text_at (codes "routerPublicKey") d)) h.router_public_key)))
 
 -- ---- all entries of an array
 
@@ -249,21 +316,3 @@ module _ {A : Type 0} (Reads : Data → Result A EntryFault → Type 0) (Says : 
   each_read on [] (x ∷ xs) up h = absurd h
   each_read on (d ∷ ds) [] up h = absurd h
   each_read on (d ∷ ds) (x ∷ xs) up h = (on d x up.0 h.0, each_read on ds xs up.1 h.1)
-
-object_if : (x : ⊤) (b : Bool) → Ok x ≡ unless why.NoObject b → b ≡ true
-object_if x true h = refl
-object_if x false h = absurd (cc)
-
-pub keys_say : (ds : List Data) (xs : List ⊤) → AreRead ReadsObject ds xs → AllByRecursion IsKeyEntry ds
-keys_say [] [] h = tt
-keys_say [] (x ∷ xs) h = absurd h
-keys_say (d ∷ ds) [] h = absurd h
-keys_say (d ∷ ds) (x ∷ xs) h = (object_if x (is_some (as_object d)) h.0, keys_say ds xs h.1)
-
-abbrev pub nothings : List Data → List ⊤
-nothings [] = []
-nothings (d ∷ ds) = tt ∷ nothings ds
-
-pub say_keys : (ds : List Data) → AllByRecursion IsKeyEntry ds → AreRead ReadsObject ds (nothings ds)
-say_keys [] h = tt
-say_keys (d ∷ ds) h = (ap (unless why.NoObject) (sym h.0), say_keys ds h.1)

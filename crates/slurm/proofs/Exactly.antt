@@ -8,10 +8,10 @@ use Rattle.prefixes.specs.Payload.{Payload}
 use Rattle.payload_lists.specs.PayloadList.{member_count, whole_at}
 use Rattle.vrps.specs.VrpSet.{VrpSet, set_of, size}
 use Rattle.slurm.specs.Chains.{UnlessMemory, ◌>>=◌, given, seen, unless}
-use Rattle.slurm.specs.Entries.{AreRead, ReadsAssertion, ReadsFilter, listed}
+use Rattle.slurm.specs.Entries.{AreRead, ReadsAssertion, ReadsFilter, ReadsKeyAssertion, ReadsKeyFilter, listed}
 use Rattle.slurm.specs.Exceptions.{Exceptions, exceptions_of}
 use Rattle.slurm.specs.Members.{one_for, total}
-use Rattle.slurm.specs.Relations.{AreAssertions, AreFilters, HasExactly, IsAssertion, IsFile, IsFilter, IsSlurmFile, ReadsExactly}
+use Rattle.slurm.specs.Relations.{AreAssertions, AreFilters, HasExactly, IsAssertion, IsFile, IsFilter, IsKeyAssertion, IsKeyFilter, IsSlurmFile, ReadsExactly}
 use Rattle.slurm.specs.SlurmFile.{Arrays, NamesOnce, ReadsArrays, ReadsOnce, ReadsSlurm, ReadsValue, array_at, arrays_of, is_file, is_pair, is_version_1, limited, pair_of}
 use Rattle.slurm.specs.declared.fault.SlurmArray.TheVariants as array
 use Rattle.slurm.specs.declared.fault.SlurmFault.{SlurmFault}
@@ -23,7 +23,7 @@ use Rattle.slurm.specs.declared.filter.Slurm.{Slurm}
 use Rattle.slurm.proofs.Ascending.{Ascends, array_ascends, get_ascends, read_ascends}
 use Rattle.slurm.proofs.Chained.{after_ok, both_true, given_ok, is_number, number_is, ok_after, ok_is, ok_unless, true_both, unless_ok}
 use Rattle.slurm.proofs.Counted.{Apart, count_by_exactly, exactly_by_count}
-use Rattle.slurm.proofs.EntryRelations.{assertion_says, each_read, each_says, filter_says, keys_say, nothings, say_keys, says_assertion, says_filter}
+use Rattle.slurm.proofs.EntryRelations.{assertion_says, each_read, each_says, filter_says, key_assertion_says, key_filter_says, says_assertion, says_filter, says_key_assertion, says_key_filter}
 use Rattle.slurm.proofs.Readings.{says_one}
 
 -- ---- objects of exactly some members
@@ -218,7 +218,12 @@ value_says d e up h =
           each_says ReadsFilter IsFilter filter_says (listed a.0.prefix_filters) e.filters (array_ascends (codes "prefixFilters") s.filters a.0.prefix_filters up_fs has_1)
               (subst (λ gs. AreRead ReadsFilter (listed a.0.prefix_filters) gs) filters_is r.1),
         );
-        of_keys = (a.0.bgpsec_filters, has_2, keys_say (listed a.0.bgpsec_filters) r.2.0 r.2.1);
+        ases = r.2.0;
+        of_keys = (
+          a.0.bgpsec_filters,
+          has_2,
+          each_says ReadsKeyFilter IsKeyFilter key_filter_says (listed a.0.bgpsec_filters) r.2.0 (array_ascends (codes "bgpsecFilters") s.filters a.0.bgpsec_filters up_fs has_2) r.2.1,
+        );
       };
       assertions = s.assertions;
       assertions_stand = ss.0;
@@ -230,7 +235,12 @@ value_says d e up h =
           has_3,
           each_says ReadsAssertion IsAssertion assertion_says (listed a.0.prefix_assertions) vs (array_ascends (codes "prefixAssertions") s.assertions a.0.prefix_assertions up_ss has_3) r.2.2.1,
         );
-        of_keys = (a.0.bgpsec_assertions, has_4, keys_say (listed a.0.bgpsec_assertions) r.2.2.2.0 r.2.2.2.1);
+        ases = r.2.2.2.0;
+        of_keys = (
+          a.0.bgpsec_assertions,
+          has_4,
+          each_says ReadsKeyAssertion IsKeyAssertion key_assertion_says (listed a.0.bgpsec_assertions) r.2.2.2.0 (array_ascends (codes "bgpsecAssertions") s.assertions a.0.bgpsec_assertions up_ss has_4) r.2.2.2.1,
+        );
       };
       set_is = ap (λ x. x.assertions) limit.1;
       within_limit = within (size (set_of vs)) limit.0;
@@ -261,12 +271,16 @@ says_value d e up h =
     let filters_read = each_read ReadsFilter IsFilter says_filter (listed fs.of_prefixes.0) e.filters (array_ascends (codes "prefixFilters") h.filters fs.of_prefixes.0 up_fs fs.of_prefixes.1) fs.of_prefixes.2 in
     let assertions_read =
     each_read ReadsAssertion IsAssertion says_assertion (listed ss.of_prefixes.0) h.payloads (array_ascends (codes "prefixAssertions") h.assertions ss.of_prefixes.0 up_ss ss.of_prefixes.1) ss.of_prefixes.2 in
+    let key_filters_read =
+    each_read ReadsKeyFilter IsKeyFilter says_key_filter (listed fs.of_keys.0) fs.ases (array_ascends (codes "bgpsecFilters") h.filters fs.of_keys.0 up_fs fs.of_keys.1) fs.of_keys.2 in
+    let keys_read =
+    each_read ReadsKeyAssertion IsKeyAssertion says_key_assertion (listed ss.of_keys.0) ss.ases (array_ascends (codes "bgpsecAssertions") h.assertions ss.of_keys.0 up_ss ss.of_keys.1) ss.of_keys.2 in
     let limit : Ok e ≡ limited e.filters h.payloads =
     ap (read_as e.filters) h.set_is ∙ sym (ap (λ b. limited_by b e.filters h.payloads) (not_over (size (set_of h.payloads)) h.within_limit)) in
     ok_after (arrays_of d) ReadsArrays x e all (
       e.filters,
       filters_read,
-      (nothings (listed fs.of_keys.0), say_keys (listed fs.of_keys.0) fs.of_keys.2, (h.payloads, assertions_read, (nothings (listed ss.of_keys.0), say_keys (listed ss.of_keys.0) ss.of_keys.2, limit))),
+      (fs.ases, key_filters_read, (h.payloads, assertions_read, (ss.ases, keys_read, limit))),
     )
 
 once_says : (bytes : List ℕ) (d : Data) (e : Exceptions) → ReadsOnce bytes d (Ok e) → NamesOnce bytes × ReadsValue d (Ok e)

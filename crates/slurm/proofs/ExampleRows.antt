@@ -1,5 +1,5 @@
 -- The full example of RFC 8416 section 3.5, and its effect.
-use Rattle.std.proofs.Common.{◌≡◌, ℕ, true, false, nat_lt, if◌then◌else◌, List, [], ◌∷◌, Some, None, Ok, Err, refl, sym, ap, ◌∙◌, ◌&&◌, ◌||◌, arith, codes, inl, inr, lit<, lit≤, rules}
+use Rattle.std.proofs.Common.{◌≡◌, ℕ, true, false, nat_lt, if◌then◌else◌, List, [], ◌∷◌, Option, Some, None, Ok, Err, refl, sym, ap, ◌∙◌, ◌&&◌, ◌||◌, arith, codes, inl, inr, lit<, lit≤, rules}
 use Rattle.std.specs.Fmt.{digits}
 use Rattle.std.specs.List.Sorted.{IsStrictlySortedBy}
 use Rattle.std.specs.Str.{IsUtf8, chars, is_utf8}
@@ -10,11 +10,12 @@ use Rattle.json.proofs.OnLiterals.{json_on_literals}
 use Rattle.serde_json.proofs.OnLiterals.{serde_json_on_literals}
 use Rattle.prefixes.specs.Payload.{Payload, vrp_cmp}
 use Rattle.prefixes.specs.Text.{PrefixText}
+use Rattle.prefixes.specs.declared.asn.Asn.{Asn}
 use Rattle.prefixes.specs.declared.prefix.IpPrefix.{IpPrefix}
 use Rattle.prefixes.specs.declared.prefix.IpPrefix.TheVariants.{V4, V6}
 use Rattle.vrps.specs.VrpSet.{VrpSet, has, set_of}
 use Rattle.vrps.proofs.SetLaws.{has-set_of, size-set_of}
-use Rattle.slurm.specs.Entries.{ReadsAssertion, ReadsEntries, ReadsFilter, ReadsObject}
+use Rattle.slurm.specs.Entries.{ReadsAssertion, ReadsEntries, ReadsFilter, ReadsKeyAssertion, ReadsKeyFilter}
 use Rattle.slurm.specs.Exceptions.{Exceptions, excepted, is_filtered}
 use Rattle.slurm.specs.Relations.{IsSlurmFile}
 use Rattle.slurm.specs.SlurmFile.{NamesOnce, ReadsSlurm, limited}
@@ -140,11 +141,17 @@ filters_read = ((refl, (codes "192.0.2.0/24", refl, net_text)), ((refl, refl), (
 assertions_read : ReadsEntries ReadsAssertion arrays.PrefixAssertions assertion_items (Ok (route ∷ routes ∷ []))
 assertions_read = ((refl, (codes "198.51.100.0/24", refl, other_text), (refl, lit≤ tt, lit≤ tt)), ((refl, (codes "2001:DB8::/32", refl, six_text), (refl, lit≤ tt, lit≤ tt)), tt))
 
--- The entries on BGPsec are objects, and nothing comes of them.
-key_filters_read : ReadsEntries ReadsObject arrays.BgpsecFilters key_filter_items (Ok (tt ∷ tt ∷ tt ∷ []))
+-- Nothing comes of the entries on BGPsec.
+abbrev key_ases : List (Option Asn)
+key_ases = Some (record { 0 = 64496 }) ∷ None ∷ Some (record { 0 = 64497 }) ∷ []
+
+key_filters_read : ReadsEntries ReadsKeyFilter arrays.BgpsecFilters key_filter_items (Ok key_ases)
 key_filters_read = (refl, (refl, (refl, tt)))
 
-keys_read : ReadsEntries ReadsObject arrays.BgpsecAssertions key_items (Ok (tt ∷ []))
+abbrev keys_ases : List Asn
+keys_ases = record { 0 = 64496 } ∷ []
+
+keys_read : ReadsEntries ReadsKeyAssertion arrays.BgpsecAssertions key_items (Ok keys_ases)
 keys_read = (refl, tt)
 
 two_ascend : IsStrictlySortedBy vrp_cmp (route ∷ routes ∷ [])
@@ -163,7 +170,7 @@ unfolding json_on_literals
 full_once = stand_once full refl
 
 full_row : ReadsSlurm full (Ok exceptions)
-full_row = (full_value, (full_utf8, full_read), inl (full_once, (filters, filters_read, ((tt ∷ tt ∷ tt ∷ []), key_filters_read, ((route ∷ routes ∷ []), assertions_read, ((tt ∷ []), keys_read, within_limit))))))
+full_row = (full_value, (full_utf8, full_read), inl (full_once, (filters, filters_read, (key_ases, key_filters_read, ((route ∷ routes ∷ []), assertions_read, (keys_ases, keys_read, within_limit))))))
 
 -- .. so it is a file of these.
 full_file : IsSlurmFile full exceptions

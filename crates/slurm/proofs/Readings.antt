@@ -12,7 +12,7 @@ use Rattle.prefixes.proofs.Spelling.{one_reading}
 use Rattle.payload_lists.specs.PayloadList.{text_at}
 use Rattle.payload_lists.proofs.Entries.{one_some}
 use Rattle.slurm.specs.Chains.{After, Then}
-use Rattle.slurm.specs.Entries.{AreRead, IsMaximum, ReadsAssertion, ReadsAssertionOf, ReadsEntries, ReadsFilter, ReadsFilterOf, ReadsObject, ReadsPrefix, SpellsPrefix, listed, max_len_of}
+use Rattle.slurm.specs.Entries.{AreRead, IsMaximum, ReadsAssertion, ReadsAssertionOf, ReadsEntries, ReadsFilter, ReadsFilterOf, ReadsKeyAssertion, ReadsKeyFilter, ReadsPrefix, SpellsPrefix, listed, max_len_of}
 use Rattle.slurm.specs.SlurmFile.{Arrays, OneReading, ReadsArrays, ReadsJson, ReadsOnce, arrays_of, limited}
 use Rattle.slurm.specs.declared.fault.EntryFault.{EntryFault}
 use Rattle.slurm.specs.declared.fault.EntryFault.TheVariants as why
@@ -190,9 +190,9 @@ module _ (d : Data) (a : Asn) where
 arrays_one : (a : Arrays) → IsOne (ReadsArrays a)
 arrays_one a =
     then_one _ _ (entries_one ReadsFilter (λ d. after_one _ _ (filter_of_one d)) array.PrefixFilters a.prefix_filters) (λ fs.
-    then_one _ _ (entries_one ReadsObject (λ d r q h k. h ∙ sym k) array.BgpsecFilters a.bgpsec_filters) (λ _.
+    then_one _ _ (entries_one ReadsKeyFilter (λ d r q h k. h ∙ sym k) array.BgpsecFilters a.bgpsec_filters) (λ _.
     then_one _ _ (entries_one ReadsAssertion (λ d. after_one _ _ (assertion_of_one d)) array.PrefixAssertions a.prefix_assertions) (λ vs.
-    then_one _ (λ _ s. s ≡ limited fs vs) (entries_one ReadsObject (λ d r q h k. h ∙ sym k) array.BgpsecAssertions a.bgpsec_assertions) (λ _ r q h k. h ∙ sym k))))
+    then_one _ (λ _ s. s ≡ limited fs vs) (entries_one ReadsKeyAssertion (λ d r q h k. h ∙ sym k) array.BgpsecAssertions a.bgpsec_assertions) (λ _ r q h k. h ∙ sym k))))
 
 json_one : (bytes : List ℕ) → IsOne (ReadsJson bytes)
 json_one bytes (Ok d) (Ok e) h k = ap Ok (one_some d e (json.read bytes) h.1 k.1)

@@ -15,7 +15,7 @@ use Rattle.prefixes.proofs.Spelling.{one_reading}
 use Rattle.payload_lists.proofs.Entries.{one_some}
 use Rattle.prefixes.specs.declared.prefix.IpPrefix.{IpPrefix}
 use Rattle.prefixes.specs.declared.prefix.IpPrefix.TheVariants.{V4, V6}
-use Rattle.slurm.specs.Entries.{ReadsAssertion, ReadsEntries, ReadsFilter, ReadsObject, assertion_asn, filter_asn, max_len_of}
+use Rattle.slurm.specs.Entries.{ReadsAssertion, ReadsEntries, ReadsFilter, ReadsKeyFilter, assertion_asn, filter_asn, key_assertion, key_filter, max_len_of}
 use Rattle.slurm.specs.Exceptions.{is_filtered, matches}
 use Rattle.slurm.specs.Faults.{slurm_fault_number}
 use Rattle.slurm.specs.SlurmFile.{Arrays, NamesOnce, ReadsArrays, ReadsSlurm, arrays_of}
@@ -172,9 +172,51 @@ row_no_maximum = (
 row_own_maximum : ReadsAssertion (up_to (number (unsigned 32))) (Ok (record { prefix = net; max_len = 32; asn = 1 })) × ReadsAssertion (of_text text no_members) (Ok (record { prefix = net; max_len = 24; asn = 1 }))
 row_own_maximum = ((refl, (codes "192.0.2.0/24", refl, net_text), (refl, lit≤ tt, lit≤ tt)), (refl, (codes "192.0.2.0/24", refl, net_text), (refl, lit≤ tt, lit≤ tt)))
 
--- on BGPsec any object, and nothing else
-row_object : ReadsObject (object (member (codes "SKI") (number (unsigned 7)) no_members)) (Ok tt) × ReadsObject (string (codes "SKI")) (Err why.NoObject)
-row_object = (refl, refl)
+-- ---- on BGPsec (sections 3.3.2 and 3.4.2)
+
+abbrev ski : Data → Members → Members
+ski d ms = member (codes "SKI") d ms
+
+abbrev router_key : Data → Members → Members
+router_key d ms = member (codes "routerPublicKey") d ms
+
+abbrev an_ski : Data
+an_ski = string (codes "Zm9v")
+
+-- "All keys for ASN", "Key matching Router SKI", "Key for ASN 64497 matching Router SKI"
+row_key_filter : (key_filter (object (asn (number (unsigned 64496)) (comment (string (codes "All keys for ASN")) no_members))) ≡ Ok (Some (record { 0 = 64496 })))
+    × (key_filter (object (ski an_ski no_members)) ≡ Ok None) × (key_filter (object (ski an_ski (asn (number (unsigned 64497)) no_members))) ≡ Ok (Some (record { 0 = 64497 })))
+row_key_filter = (refl, refl, refl)
+
+row_no_key_filter : (key_filter (array no_items) ≡ Err why.NoObject) × (key_filter (object no_members) ≡ Err why.NeitherSki) × (key_filter (object (comment an_ski no_members)) ≡ Err why.NeitherSki)
+    × (key_filter (object (asn (number (unsigned 1)) (router_key an_ski no_members))) ≡ Err why.OtherKey) × (key_filter (object (prefix text no_members)) ≡ Err why.OtherKey)
+row_no_key_filter = (refl, refl, refl, refl, refl)
+
+-- The AS is judged before the comment, and the comment before the SKI.
+row_key_filter_order : (key_filter (object (ski null (asn (number (unsigned 4294967296)) (comment null no_members)))) ≡ Err why.Asn)
+    × (key_filter (object (ski null (asn (number (unsigned 4294967295)) (comment null no_members)))) ≡ Err why.Comment)
+    × (key_filter (object (ski null (asn (number (unsigned 4294967295)) no_members))) ≡ Err why.Ski)
+row_key_filter_order = (refl, refl, refl)
+
+-- an assertion of an AS, an SKI and a key
+abbrev of_key : Data → Data → Data → Members → Data
+of_key n s k ms = object (ski s (asn n (router_key k ms)))
+
+row_key_assertion : (key_assertion (of_key (number (unsigned 64496)) an_ski an_ski no_members) ≡ Ok (record { 0 = 64496 }))
+    × (key_assertion (of_key (number (unsigned 64496)) an_ski an_ski (comment an_ski no_members)) ≡ Ok (record { 0 = 64496 }))
+row_key_assertion = (refl, refl)
+
+-- Each of the three is needed, and no other may be there.
+row_no_key_assertion : (key_assertion null ≡ Err why.NoObject) × (key_assertion (object (ski an_ski (router_key an_ski no_members))) ≡ Err why.Asn)
+    × (key_assertion (object (asn (number (unsigned 1)) (router_key an_ski no_members))) ≡ Err why.Ski) × (key_assertion (object (ski an_ski (asn (number (unsigned 1)) no_members))) ≡ Err why.RouterPublicKey)
+    × (key_assertion (of_key null null null (prefix null no_members)) ≡ Err why.OtherKey)
+row_no_key_assertion = (refl, refl, refl, refl, refl)
+
+-- the AS, the comment, the SKI, the key
+row_key_assertion_order : (key_assertion (of_key null null null (comment null no_members)) ≡ Err why.Asn)
+    × (key_assertion (of_key (number (unsigned 1)) null null (comment null no_members)) ≡ Err why.Comment)
+    × (key_assertion (of_key (number (unsigned 1)) null null no_members) ≡ Err why.Ski) × (key_assertion (of_key (number (unsigned 1)) an_ski null no_members) ≡ Err why.RouterPublicKey)
+row_key_assertion_order = (refl, refl, refl, refl)
 
 -- ---- files (section 3.2)
 
@@ -236,7 +278,7 @@ second_wrong = item of_as_1 (item null no_items)
 the_second : ReadsEntries ReadsFilter arrays.PrefixFilters second_wrong (Err (fault.Entry arrays.PrefixFilters 1 why.NoObject))
 the_second = (refl, record { before = of_as_1 ∷ []; entry = null; after = []; parts = refl; index_is = refl; values = filter None (Some 1) ∷ []; are_read = ((refl, refl), tt); fault = refl })
 
-no_key : ReadsEntries ReadsObject arrays.BgpsecFilters one_item (Err (fault.Entry arrays.BgpsecFilters 0 why.NoObject))
+no_key : ReadsEntries ReadsKeyFilter arrays.BgpsecFilters one_item (Err (fault.Entry arrays.BgpsecFilters 0 why.NoObject))
 no_key = (refl, record { before = []; entry = null; after = []; parts = refl; index_is = refl; values = []; are_read = tt; fault = refl })
 
 row_entries : ReadsArrays (arrays_with second_wrong one_item) (Err (fault.Entry arrays.PrefixFilters 1 why.NoObject)) × ReadsArrays (arrays_with no_items one_item) (Err (fault.Entry arrays.BgpsecFilters 0 why.NoObject))

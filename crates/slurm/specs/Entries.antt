@@ -1,7 +1,7 @@
 -- The entries of a SLURM file's arrays: what is read of them, and the first fault of each (RFC 8416 sections 3.3 and 3.4).
 use Rattle.std.specs.Prelude.{◌≡◌, ℕ, ◌+◌, ◌≤◌, ◌^◌, true, ◌||◌, ◌==◌, nat_lt, if◌then◌else◌, List, [], ◌∷◌, ◌++◌, length, Option, Some, None, is_some, is_none, Result, Ok, Err, codes, ⊤}
 use Rattle.serde_json.specs.Data.{Data, Items, no_items, item}
-use Rattle.serde_json.specs.Find.{get, as_object}
+use Rattle.serde_json.specs.Find.{get}
 use Rattle.prefixes.specs.Payload.{Payload, block_of, width_of}
 use Rattle.prefixes.specs.Text.{PrefixText}
 use Rattle.prefixes.specs.declared.asn.Asn.{Asn}
@@ -28,9 +28,16 @@ asn_of d = given why.Asn (whole_at (codes "asn") d) >>= λ n. if nat_lt n (2 ^ 3
 abbrev pub asn_if_any : Data → Result (Option Asn) EntryFault
 asn_if_any d = if is_none (get (codes "asn") d) then Ok None else (asn_of d >>= λ a. Ok (Some a))
 
--- a comment is a text, if there is one
+-- what stands under a name is a text
+abbrev pub text_of : EntryFault → List ℕ → Data → Result ⊤ EntryFault
+text_of e name d = unless e (is_some (text_at name d))
+
+-- .. if anything does
+abbrev pub text_if_any : EntryFault → List ℕ → Data → Result ⊤ EntryFault
+text_if_any e name d = unless e (is_none (get name d) || is_some (text_at name d))
+
 abbrev pub comment_of : Data → Result ⊤ EntryFault
-comment_of d = unless why.Comment (is_none (get (codes "comment") d) || is_some (text_at (codes "comment") d))
+comment_of d = text_if_any why.Comment (codes "comment") d
 
 -- The text under "prefix" spells a prefix.
 abbrev pub SpellsPrefix : Data → IpPrefix → Type 0
@@ -85,9 +92,33 @@ ReadsAssertionOf d a (Err e) = ⊥
 abbrev pub ReadsAssertion : Data → Result Payload EntryFault → Type 0
 ReadsAssertion d r = After (assertion_asn d) (ReadsAssertionOf d) r
 
--- An entry of the arrays on BGPsec is an object, and has no effect.
-abbrev pub ReadsObject : Data → Result ⊤ EntryFault → Type 0
-ReadsObject d r = r ≡ unless why.NoObject (is_some (as_object d))
+-- What is read of a filter on BGPsec (RFC 8416 section 3.3.2), which has no effect: its AS, if it has one. It has an SKI, an AS or both, and
+-- perhaps a comment.
+abbrev pub key_filter : Data → Result (Option Asn) EntryFault
+key_filter d = do
+  _ ← members_known (one_for (codes "SKI") d + one_for (codes "asn") d + one_for (codes "comment") d) (total d)
+  _ ← unless why.NeitherSki (is_some (get (codes "SKI") d) || is_some (get (codes "asn") d))
+  a ← asn_if_any d
+  _ ← comment_of d
+  _ ← text_if_any why.Ski (codes "SKI") d
+  Ok a
+
+abbrev pub ReadsKeyFilter : Data → Result (Option Asn) EntryFault → Type 0
+ReadsKeyFilter d r = r ≡ key_filter d
+
+-- What is read of an assertion on BGPsec (RFC 8416 section 3.4.2), which has no effect: its AS. It has an AS, an SKI and a router's public key,
+-- and perhaps a comment.
+abbrev pub key_assertion : Data → Result Asn EntryFault
+key_assertion d = do
+  _ ← members_known (one_for (codes "asn") d + one_for (codes "SKI") d + one_for (codes "routerPublicKey") d + one_for (codes "comment") d) (total d)
+  a ← asn_of d
+  _ ← comment_of d
+  _ ← text_of why.Ski (codes "SKI") d
+  _ ← text_of why.RouterPublicKey (codes "routerPublicKey") d
+  Ok a
+
+abbrev pub ReadsKeyAssertion : Data → Result Asn EntryFault → Type 0
+ReadsKeyAssertion d r = r ≡ key_assertion d
 
 abbrev pub listed : Items → List Data
 listed no_items = []

@@ -79,9 +79,21 @@ pub record IsAssertion (d : Data) (v : Payload) : Type 0 where
   pub in_family : v.max_len ≤ width_of v.prefix
   pub comment : HasTextIfAny (codes "comment") d
 
--- An entry on BGPsec is an object, and has no effect.
-abbrev pub IsKeyEntry : Data → Type 0
-IsKeyEntry d = IsSome (as_object d)
+-- A filter on BGPsec (section 3.3.2): an SKI, an AS or both, and perhaps a comment
+pub record IsKeyFilter (d : Data) (a : Option Asn) : Type 0 where
+  pub members : HasOnly (codes "SKI" ∷ codes "asn" ∷ codes "comment" ∷ []) d
+  pub has_either : Has d (codes "SKI") ⊎ Has d (codes "asn")
+  pub asn : SaysAsn d a
+  pub ski : HasTextIfAny (codes "SKI") d
+  pub comment : HasTextIfAny (codes "comment") d
+
+-- An assertion on BGPsec (section 3.4.2): an AS, an SKI and a router's public key, and perhaps a comment
+pub record IsKeyAssertion (d : Data) (a : Asn) : Type 0 where
+  pub members : HasOnly (codes "asn" ∷ codes "SKI" ∷ codes "routerPublicKey" ∷ codes "comment" ∷ []) d
+  pub asn : (whole_at (codes "asn") d ≡ Some a.0) × (a.0 < 2 ^ 32)
+  pub ski : HasText (codes "SKI") d
+  pub router_public_key : HasText (codes "routerPublicKey") d
+  pub comment : HasTextIfAny (codes "comment") d
 
 -- ---- the file
 
@@ -96,17 +108,19 @@ Each Says (d ∷ ds) [] = ⊥
 abbrev pub Lists : List ℕ → (List Data → Type 0) → Data → Type 0
 Lists name Are d = (ds : Items) × (option_and_then as_array (get name d) ≡ Some ds) × Are (listed ds)
 
--- The filters (section 3.3)
+-- The filters (section 3.3), of which those on BGPsec have no effect
 pub record AreFilters (d : Data) (fs : List PrefixFilter) : Type 0 where
   pub members : HasExactly (codes "prefixFilters" ∷ codes "bgpsecFilters" ∷ []) d
   pub of_prefixes : Lists (codes "prefixFilters") (λ ds. Each IsFilter ds fs) d
-  pub of_keys : Lists (codes "bgpsecFilters") (AllByRecursion IsKeyEntry) d
+  pub ases : List (Option Asn)
+  pub of_keys : Lists (codes "bgpsecFilters") (λ ds. Each IsKeyFilter ds ases) d
 
--- The assertions (section 3.4)
+-- The assertions (section 3.4), of which those on BGPsec have no effect
 pub record AreAssertions (d : Data) (vs : List Payload) : Type 0 where
   pub members : HasExactly (codes "prefixAssertions" ∷ codes "bgpsecAssertions" ∷ []) d
   pub of_prefixes : Lists (codes "prefixAssertions") (λ ds. Each IsAssertion ds vs) d
-  pub of_keys : Lists (codes "bgpsecAssertions") (AllByRecursion IsKeyEntry) d
+  pub ases : List Asn
+  pub of_keys : Lists (codes "bgpsecAssertions") (λ ds. Each IsKeyAssertion ds ases) d
 
 -- The value of a file of these exceptions (section 3.2)
 pub record IsFile (d : Data) (e : Exceptions) : Type 0 where

@@ -10,7 +10,7 @@ use Rattle.prefixes.specs.Payload.{Payload}
 use Rattle.vrps.specs.VrpSet.{set_of, size}
 use Rattle.payload_lists.specs.PayloadList.{whole_at}
 use Rattle.slurm.specs.Chains.{After, Then, ◌>>=◌, given, unless}
-use Rattle.slurm.specs.Entries.{ReadsAssertion, ReadsEntries, ReadsFilter, ReadsObject}
+use Rattle.slurm.specs.Entries.{ReadsAssertion, ReadsEntries, ReadsFilter, ReadsKeyAssertion, ReadsKeyFilter}
 use Rattle.slurm.specs.Exceptions.{Exceptions}
 use Rattle.slurm.specs.Members.{is_of_members, one_for, total}
 use Rattle.slurm.specs.declared.fault.SlurmArray.{SlurmArray}
@@ -70,9 +70,9 @@ limited fs vs = if nat_lt 16777215 (size (set_of vs)) then Err fault.TooMany els
 abbrev pub ReadsArrays : Arrays → Result Exceptions SlurmFault → Type 0
 ReadsArrays a r =
     Then (ReadsEntries ReadsFilter array.PrefixFilters a.prefix_filters) (λ fs.
-    Then (ReadsEntries ReadsObject array.BgpsecFilters a.bgpsec_filters) (λ _.
+    Then (ReadsEntries ReadsKeyFilter array.BgpsecFilters a.bgpsec_filters) (λ _.
     Then (ReadsEntries ReadsAssertion array.PrefixAssertions a.prefix_assertions) (λ vs.
-    Then (ReadsEntries ReadsObject array.BgpsecAssertions a.bgpsec_assertions) (λ _ s. s ≡ limited fs vs)))) r
+    Then (ReadsEntries ReadsKeyAssertion array.BgpsecAssertions a.bgpsec_assertions) (λ _ s. s ≡ limited fs vs)))) r
 
 abbrev pub ReadsValue : Data → Result Exceptions SlurmFault → Type 0
 ReadsValue d r = After (arrays_of d) ReadsArrays r

@@ -6,7 +6,7 @@ ghost use Rattle.serde_json.specs.View.{items_view, view};
 ghost use Rattle.prefixes.specs.Payload.{block_of};
 ghost use Rattle.slurm.specs.Members.{total};
 ghost use Rattle.slurm.specs.Chains.{UnlessMemory, seen};
-ghost use Rattle.slurm.specs.Entries.{IsMaximum, ReadsEntries, ReadsPrefix, SpellsPrefix, asn_if_any, asn_of, assertion_asn, comment_of, filter_asn, max_len_of, members_known};
+ghost use Rattle.slurm.specs.Entries.{IsMaximum, ReadsEntries, ReadsPrefix, SpellsPrefix, asn_if_any, asn_of, assertion_asn, comment_of, filter_asn, key_assertion, key_filter, max_len_of, members_known, text_if_any, text_of};
 
 use crate::fault::{EntryFault, SlurmArray, SlurmFault};
 use crate::filter::PrefixFilter;
@@ -84,14 +84,31 @@ fn asn_if_any(value: &Value) -> Result<Option<Asn>, EntryFault>
     Ok(Some(asn))
 }
 
+/// Judges what stands under a key of an entry, which is a text.
+fn know_text(value: &Value, key: &str, fault: EntryFault) -> Result<(), EntryFault>
+    ensures { result ≡ text_of fault key.now (view value.now) }
+{
+    if text(value, key).is_some() {
+        return Ok(());
+    }
+    Err(fault)
+}
+
+/// Judges what stands under a key of an entry, if anything does.
+fn know_text_if_any(value: &Value, key: &str, fault: EntryFault) -> Result<(), EntryFault>
+    ensures { result ≡ text_if_any fault key.now (view value.now) }
+{
+    if !has(value, key) || text(value, key).is_some() {
+        return Ok(());
+    }
+    Err(fault)
+}
+
 /// Judges the comment of an entry.
 fn know_comment(value: &Value) -> Result<(), EntryFault>
     ensures { result ≡ comment_of (view value.now) }
 {
-    if !has(value, "comment") || text(value, "comment").is_some() {
-        return Ok(());
-    }
-    Err(EntryFault::Comment)
+    know_text_if_any(value, "comment", EntryFault::Comment)
 }
 
 /// The prefix that an entry spells.
@@ -204,16 +221,55 @@ impl Entry for Vrp {
     }
 }
 
-/// An entry of the arrays on BGPsec, which has no effect (RFC 8416 sections 3.3.2 and 3.4.2).
-impl Entry for () {
-    ghost use Rattle.slurm.specs.Entries.{ReadsObject};
+/// The AS of a filter on BGPsec, if it has one.
+fn key_filter(value: &Value) -> Result<Option<Asn>, EntryFault>
+    ensures { result ≡ key_filter (view value.now) }
+{
+    let known = one_for(value, "SKI") + one_for(value, "asn") + one_for(value, "comment");
+    know_members(value, known)?;
+    if !has(value, "SKI") && !has(value, "asn") {
+        return Err(EntryFault::NeitherSki);
+    }
+    let asn = asn_if_any(value)?;
+    know_comment(value)?;
+    know_text_if_any(value, "SKI", EntryFault::Ski)?;
+    Ok(asn)
+}
 
-    ghost reads = { ReadsObject };
+/// A filter on BGPsec, which has no effect (RFC 8416 section 3.3.2), as its AS.
+impl Entry for Option<Asn> {
+    ghost use Rattle.slurm.specs.Entries.{ReadsKeyFilter};
 
-    fn read(value: &Value) -> Result<(), EntryFault> {
-        match value.as_object() {
-            Some(_) => Ok(()),
-            None => Err(EntryFault::NoObject),
-        }
+    ghost reads = { ReadsKeyFilter };
+
+    fn read(value: &Value) -> Result<Option<Asn>, EntryFault> {
+        key_filter(value)
+    }
+}
+
+/// The AS of an assertion on BGPsec.
+fn key_assertion(value: &Value) -> Result<Asn, EntryFault>
+    ensures { result ≡ key_assertion (view value.now) }
+{
+    let known = one_for(value, "asn")
+        + one_for(value, "SKI")
+        + one_for(value, "routerPublicKey")
+        + one_for(value, "comment");
+    know_members(value, known)?;
+    let asn = asn(value)?;
+    know_comment(value)?;
+    know_text(value, "SKI", EntryFault::Ski)?;
+    know_text(value, "routerPublicKey", EntryFault::RouterPublicKey)?;
+    Ok(asn)
+}
+
+/// An assertion on BGPsec, which has no effect (RFC 8416 section 3.4.2), as its AS.
+impl Entry for Asn {
+    ghost use Rattle.slurm.specs.Entries.{ReadsKeyAssertion};
+
+    ghost reads = { ReadsKeyAssertion };
+
+    fn read(value: &Value) -> Result<Asn, EntryFault> {
+        key_assertion(value)
     }
 }

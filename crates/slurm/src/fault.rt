@@ -66,12 +66,21 @@ pub enum EntryFault {
     /// A filter has neither a prefix nor an AS.
     #[error("neither prefix nor asn")]
     NeitherKey,
+    /// A filter on BGPsec has neither an SKI nor an AS.
+    #[error("neither SKI nor asn")]
+    NeitherSki,
     /// `asn` is no whole number below 2^32, or an assertion has none.
     #[error("asn is no AS number")]
     Asn,
     /// `comment` is no text.
     #[error("comment is no text")]
     Comment,
+    /// `SKI` is no text, or an assertion on BGPsec has none.
+    #[error("SKI is no text")]
+    Ski,
+    /// `routerPublicKey` is no text, or an assertion on BGPsec has none.
+    #[error("routerPublicKey is no text")]
+    RouterPublicKey,
     /// `prefix` is no text of a prefix, or an assertion has none.
     #[error("prefix is no prefix")]
     Prefix,

@@ -15,7 +15,7 @@ use crate::entries::entries;
 use crate::fault::{SlurmArray, SlurmFault};
 use crate::filter::{PrefixFilter, Slurm};
 use json::{Error, Scratch, Value as Tree};
-use prefixes::Vrp;
+use prefixes::{Asn, Vrp};
 use serde_json::Value;
 use std::alloc::Global;
 use std::str;
@@ -66,13 +66,13 @@ fn exceptions(alloc: Global, arrays: &Arrays<'_>) -> Result<Slurm, SlurmFault>
     ensures { UnlessMemory (ReadsArrays (arrays_view arrays.now)) (seen exceptions_of result) }
 {
     let filters = entries::<PrefixFilter>(alloc, arrays.prefix_filters, SlurmArray::PrefixFilters)?;
-    let _bgpsec = entries::<()>(alloc, arrays.bgpsec_filters, SlurmArray::BgpsecFilters)?;
+    let _bgpsec = entries::<Option<Asn>>(alloc, arrays.bgpsec_filters, SlurmArray::BgpsecFilters)?;
     let records = entries::<Vrp>(
         alloc,
         arrays.prefix_assertions,
         SlurmArray::PrefixAssertions,
     )?;
-    let _keys = entries::<()>(
+    let _keys = entries::<Asn>(
         alloc,
         arrays.bgpsec_assertions,
         SlurmArray::BgpsecAssertions,
@@ -112,8 +112,8 @@ fn read(alloc: Global, bytes: &[u8]) -> Result<Slurm, SlurmFault>
 
 /// The exceptions that a SLURM file says: an object with exactly the members `slurmVersion`, which is 1, `validationOutputFilters` and
 /// `locallyAddedAssertions`, which have exactly the arrays `prefixFilters` and `bgpsecFilters`, `prefixAssertions` and
-/// `bgpsecAssertions` (RFC 8416 section 3.2). What the two arrays on BGPsec have are objects without an effect. No name stands twice in an
-/// object.
+/// `bgpsecAssertions` (RFC 8416 section 3.2). The entries of each have exactly their members (sections 3.3 and 3.4); those of the two arrays on
+/// BGPsec have no effect, and whether an `SKI` or a `routerPublicKey` is Base64 is not judged. No name stands twice in an object.
 ///
 /// The first fault is reported: `NotJson`; `Repeated`; `Members` of the file, and `Version`; `Members` of the filters' object and then of the
 /// assertions'; `NoArray` of the four arrays in this order; `Entry` of the first entry, in this order of the arrays, that cannot be read,
