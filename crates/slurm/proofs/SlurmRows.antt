@@ -116,6 +116,14 @@ row_comment = (refl, refl)
 row_assertion : (assertion_asn (object (prefix text no_members)) ≡ Err why.Asn) × (assertion_asn (object (asn (number (unsigned 64496)) (prefix text no_members))) ≡ Ok (record { 0 = 64496 }))
 row_assertion = (refl, refl)
 
+-- Its comment is a text, and judged behind its AS.
+row_assertion_comment : (assertion_asn (object (asn (number (unsigned 1)) (comment null (prefix text no_members)))) ≡ Err why.Comment) × (assertion_asn (object (asn null (comment null (prefix text no_members)))) ≡ Err why.Asn)
+row_assertion_comment = (refl, refl)
+
+-- .. and before its prefix.
+row_assertion_comment_first : assertion_asn (object (asn (number (unsigned 1)) (comment null (prefix null no_members)))) ≡ Err why.Comment
+row_assertion_comment_first = refl
+
 -- An absent maximum is the length; a text is none.
 row_maximum : (max_len_of (object (prefix text no_members)) 24 ≡ Some 24) × (max_len_of (object (member (codes "maxPrefixLength") (number (unsigned 48)) no_members)) 32 ≡ Some 48)
     × (max_len_of (object (member (codes "maxPrefixLength") (string (codes "24")) no_members)) 24 ≡ None)
@@ -244,6 +252,18 @@ row_file = refl
 
 row_version : (arrays_of (file (number (unsigned 2)) null null) ≡ Err fault.Version) × (arrays_of (file (string (codes "1")) null null) ≡ Err fault.Version)
 row_version = (refl, refl)
+
+-- The versions beside 1
+row_version_0 : arrays_of (file (number (unsigned 0)) null null) ≡ Err fault.Version
+row_version_0 = refl
+
+-- three members, of which one is no member of a file; and two, of which one is none of that object
+row_another_three : arrays_of (object (member (codes "slurmVersion") (number (unsigned 1)) (member (codes "validationOutputFilters") (filters none none) (member (codes "more") null no_members)))) ≡ Err (fault.Members objects.File)
+row_another_three = refl
+
+row_another_two : (arrays_of (file (number (unsigned 1)) (pair (codes "prefixFilters") none (codes "more") none) null) ≡ Err (fault.Members objects.Filters))
+    × (arrays_of (file (number (unsigned 1)) (filters none none) (pair (codes "more") none (codes "bgpsecAssertions") none)) ≡ Err (fault.Members objects.Assertions))
+row_another_two = (refl, refl)
 
 row_members : (arrays_of none ≡ Err (fault.Members objects.File)) × (arrays_of (object (member (codes "slurmVersion") (number (unsigned 1)) no_members)) ≡ Err (fault.Members objects.File))
     × (arrays_of (file (number (unsigned 1)) (object no_members) null) ≡ Err (fault.Members objects.Filters)) × (arrays_of (file (number (unsigned 1)) (filters null null) null) ≡ Err (fault.Members objects.Assertions))

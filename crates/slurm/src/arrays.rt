@@ -9,7 +9,8 @@ ghost use Rattle.slurm.specs.Chains.{seen};
 ghost use Rattle.payload_lists.specs.PayloadList.{whole_at};
 
 use crate::fault::{SlurmArray, SlurmFault, SlurmObject};
-use crate::members::{is_of_members, one_for, whole};
+use crate::members::{is_of_members, one_for};
+use payload_lists::parts::whole;
 use serde_json::Value;
 
 /// The four arrays of a file (RFC 8416 section 3.2).

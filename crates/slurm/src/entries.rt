@@ -10,7 +10,8 @@ ghost use Rattle.slurm.specs.Entries.{IsMaximum, ReadsEntries, ReadsPrefix, Spel
 
 use crate::fault::{EntryFault, SlurmArray, SlurmFault};
 use crate::filter::PrefixFilter;
-use crate::members::{has, one_for, text, total, whole};
+use crate::members::{has, one_for, total};
+use payload_lists::parts::{text, whole};
 use prefixes::{Asn, IpPrefix, Vrp};
 use serde_json::Value;
 use std::alloc::Global;

@@ -1,8 +1,7 @@
 //! Members of objects.
-ghost use Rattle.std.specs.Prelude.{◌≡◌, ◌≤◌, option_map, is_some};
+ghost use Rattle.std.specs.Prelude.{◌≡◌, ◌≤◌, is_some};
 ghost use Rattle.serde_json.specs.Find.{get};
 ghost use Rattle.serde_json.specs.View.{view};
-ghost use Rattle.payload_lists.specs.PayloadList.{text_at, whole_at};
 ghost use Rattle.slurm.specs.Members.{is_of_members, one_for, total};
 
 use serde_json::Value;
@@ -40,18 +39,4 @@ pub(crate) fn is_of_members(value: &Value, count: usize) -> bool
         Some(members) => members == count,
         None => false,
     }
-}
-
-/// The whole number under a key.
-pub(crate) fn whole(value: &Value, key: &str) -> Option<u64>
-    ensures { result ≡ whole_at key.now (view value.now) }
-{
-    value.get(key).and_then(Value::as_u64)
-}
-
-/// The text under a key.
-pub(crate) fn text<'a>(value: &'a Value, key: &str) -> Option<&'a str>
-    ensures { option_map (λ s. s.now) result ≡ text_at key.now (view value.now) }
-{
-    value.get(key).and_then(Value::as_str)
 }
