@@ -219,6 +219,10 @@ const ENTRIES: &[([&str; 4], SlurmFault)] = &[
         SlurmFault::Entry(SlurmArray::PrefixFilters, 0, EntryFault::Prefix),
     ),
     (
+        [r#"[{"prefix":"::ffff:192.0.2.1/120"}]"#, "[]", "[]", "[]"],
+        SlurmFault::Entry(SlurmArray::PrefixFilters, 0, EntryFault::Prefix),
+    ),
+    (
         ["[]", r#"[{"asn":1},{"SKI":"Zm9v"},[]]"#, "[7]", "[7]"],
         SlurmFault::Entry(SlurmArray::BgpsecFilters, 2, EntryFault::NoObject),
     ),

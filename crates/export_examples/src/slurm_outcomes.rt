@@ -42,6 +42,13 @@ const CASES: &[Case] = &[
     ),
     (r#"[{"prefix":"::/0"}]"#, "[]", &[A, B, C, D], &[A, B, C]),
     (r#"[{"prefix":"0.0.0.0/0"}]"#, "[]", &[A, B, C, D], &[D]),
+    // a dotted tail
+    (
+        r#"[{"prefix":"::ffff:0.0.0.0/96"}]"#,
+        r#"[{"asn":64496,"prefix":"64:ff9b::192.0.2.0/120"}]"#,
+        &[A, ("::ffff:c000:200/120", 128, 64496)],
+        &[A, ("64:ff9b::c000:200/120", 120, 64496)],
+    ),
     // an AS in both families
     (r#"[{"asn":64497}]"#, "[]", &[A, B, C, D], &[A]),
     // both, of which one alone matches nothing

@@ -9,7 +9,7 @@ use Rattle.serde_json.specs.Read as json
 use Rattle.json.proofs.OnLiterals.{json_on_literals}
 use Rattle.serde_json.proofs.OnLiterals.{serde_json_on_literals}
 use Rattle.prefixes.specs.Payload.{Payload, vrp_cmp}
-use Rattle.prefixes.specs.Text.{PrefixText}
+use Rattle.prefix_texts.specs.MixedText.{SpellsPrefix}
 use Rattle.prefixes.specs.declared.asn.Asn.{Asn}
 use Rattle.prefixes.specs.declared.prefix.IpPrefix.{IpPrefix}
 use Rattle.prefixes.specs.declared.prefix.IpPrefix.TheVariants.{V4, V6}
@@ -39,25 +39,25 @@ other = V4 (record { addr = 0xc6336400; len = 24 })
 abbrev six : IpPrefix
 six = V6 (record { addr = 0x20010db8000000000000000000000000; len = 32 })
 
-net_text : PrefixText net (codes "192.0.2.0/24")
+net_text : SpellsPrefix net (codes "192.0.2.0/24")
 unfolding digits
 net_text = record {
   is_prefix = record { in_family = lit≤ tt; address = lit< tt; no_host_bits = omega arith };
   says = record { address = codes "192.0.2.0"; is_address = (lit< tt, refl); three_digits = lit< tt; text_is = refl };
 }
 
-other_text : PrefixText other (codes "198.51.100.0/24")
+other_text : SpellsPrefix other (codes "198.51.100.0/24")
 unfolding digits
 other_text = record {
   is_prefix = record { in_family = lit≤ tt; address = lit< tt; no_host_bits = omega arith };
   says = record { address = codes "198.51.100.0"; is_address = (lit< tt, refl); three_digits = lit< tt; text_is = refl };
 }
 
-six_text : PrefixText six (codes "2001:DB8::/32")
+six_text : SpellsPrefix six (codes "2001:DB8::/32")
 unfolding digits
 six_text = record {
   is_prefix = record { in_family = lit≤ tt; address = lit< tt; no_host_bits = omega arith };
-  says = record {
+  says = inl (record {
     address = codes "2001:DB8::";
     is_address = (
       lit< tt,
@@ -76,7 +76,7 @@ six_text = record {
     );
     three_digits = lit< tt;
     text_is = refl;
-  };
+  });
 }
 
 -- ---- the file

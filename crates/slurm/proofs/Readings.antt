@@ -7,8 +7,8 @@ use Rattle.serde_json.specs.Read as json
 use Rattle.prefixes.specs.Payload.{Payload, block_of}
 use Rattle.prefixes.specs.declared.asn.Asn.{Asn}
 use Rattle.prefixes.specs.declared.prefix.IpPrefix.{IpPrefix}
-use Rattle.prefixes.specs.Text.{Says}
-use Rattle.prefixes.proofs.Spelling.{one_reading}
+use Rattle.prefix_texts.specs.MixedText.{SaysText}
+use Rattle.prefix_texts.proofs.Sayings.{one_saying}
 use Rattle.payload_lists.specs.PayloadList.{text_at}
 use Rattle.payload_lists.proofs.Entries.{one_some}
 use Rattle.slurm.specs.Chains.{After, Then}
@@ -128,7 +128,7 @@ module _ {A : Type 0} (Reads : Data → Result A EntryFault → Type 0) (one : (
 
 spells_one : (d : Data) (p q : IpPrefix) → SpellsPrefix d p → SpellsPrefix d q → p ≡ q
 spells_one d p q h k =
-    let same : h.0 ≡ k.0 = one_some h.0 k.0 (text_at (codes "prefix") d) h.1 k.1 in one_reading k.0 p q (subst (λ t. Says p t) same h.2.says) k.2.says
+    let same : h.0 ≡ k.0 = one_some h.0 k.0 (text_at (codes "prefix") d) h.1 k.1 in one_saying k.0 p q (subst (λ t. SaysText p t) same h.2.says) k.2.says
 
 no_text : (d : Data) (text : List ℕ) → get (codes "prefix") d ≡ None → text_at (codes "prefix") d ≡ Some text → ⊥
 no_text d text h k = let e : None ≡ Some text = sym (ap (option_and_then as_str) h) ∙ k in cc

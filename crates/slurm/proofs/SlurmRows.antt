@@ -10,8 +10,10 @@ use Rattle.serde_json.proofs.OnLiterals.{serde_json_on_literals}
 use Rattle.serde_json.specs.Data.{Data, null, number, string, array, object, unsigned, negative, Items, no_items, item, Members, no_members, member}
 use Rattle.prefixes.specs.Address.{IsPrefix}
 use Rattle.prefixes.specs.Payload.{Payload, block_of, width_of}
-use Rattle.prefixes.specs.Text.{PrefixText, Says}
-use Rattle.prefixes.proofs.Spelling.{one_reading}
+use Rattle.prefixes.specs.Text.{Says}
+use Rattle.prefix_texts.specs.MixedText.{SpellsPrefix}
+use Rattle.prefix_texts.proofs.MixedRows.{mapped}
+use Rattle.prefix_texts.proofs.Sayings.{one_saying}
 use Rattle.payload_lists.proofs.Entries.{one_some}
 use Rattle.prefixes.specs.declared.prefix.IpPrefix.{IpPrefix}
 use Rattle.prefixes.specs.declared.prefix.IpPrefix.TheVariants.{V4, V6}
@@ -134,9 +136,9 @@ abbrev of_text : Data → Members → Data
 of_text d ms = object (asn (number (unsigned 1)) (prefix d ms))
 
 -- A host bit: no text of a prefix, in a filter or an assertion
-host_bit : (p : IpPrefix) → ¬ (PrefixText p (codes "192.0.2.1/24"))
+host_bit : (p : IpPrefix) → ¬ (SpellsPrefix p (codes "192.0.2.1/24"))
 unfolding digits
-host_bit p h = let same = one_reading (codes "192.0.2.1/24") p (V4 (record { addr = 3221225985; len = 24 })) h.says says in bits (subst (λ q. IsPrefix (width_of q) (block_of q)) same h.is_prefix)
+host_bit p h = let same = one_saying (codes "192.0.2.1/24") p (V4 (record { addr = 3221225985; len = 24 })) h.says says in bits (subst (λ q. IsPrefix (width_of q) (block_of q)) same h.is_prefix)
   where
     says : Says (V4 (record { addr = 3221225985; len = 24 })) (codes "192.0.2.1/24")
     says = record { address = codes "192.0.2.1"; is_address = (lit< tt, refl); three_digits = lit< tt; text_is = refl }
@@ -146,8 +148,8 @@ host_bit p h = let same = one_reading (codes "192.0.2.1/24") p (V4 (record { add
 
 row_host_bit : ReadsFilter (object (prefix (string (codes "192.0.2.1/24")) no_members)) (Err why.Prefix) × ReadsAssertion (of_text (string (codes "192.0.2.1/24")) no_members) (Err why.Prefix)
 row_host_bit = (
-  (refl, refl, λ p h. host_bit p (subst (λ t. PrefixText p t) (one_some h.0 (codes "192.0.2.1/24") (Some (codes "192.0.2.1/24")) h.1 refl) h.2)),
-  λ p h. host_bit p (subst (λ t. PrefixText p t) (one_some h.0 (codes "192.0.2.1/24") (Some (codes "192.0.2.1/24")) h.1 refl) h.2),
+  (refl, refl, λ p h. host_bit p (subst (λ t. SpellsPrefix p t) (one_some h.0 (codes "192.0.2.1/24") (Some (codes "192.0.2.1/24")) h.1 refl) h.2)),
+  λ p h. host_bit p (subst (λ t. SpellsPrefix p t) (one_some h.0 (codes "192.0.2.1/24") (Some (codes "192.0.2.1/24")) h.1 refl) h.2),
 )
 
 -- no text, and no prefix at all
@@ -158,12 +160,23 @@ row_no_text = ((refl, refl, λ p h. absurd (cc)), λ p h. absurd (cc))
 row_comment_first : filter_asn (of_text (number (unsigned 3)) (comment (number (unsigned 2)) no_members)) ≡ Err why.Comment
 row_comment_first = refl
 
-net_text : PrefixText net (codes "192.0.2.0/24")
+net_text : SpellsPrefix net (codes "192.0.2.0/24")
 unfolding digits
 net_text = record {
   is_prefix = record { in_family = lit≤ tt; address = lit< tt; no_host_bits = omega arith };
   says = record { address = codes "192.0.2.0"; is_address = (lit< tt, refl); three_digits = lit< tt; text_is = refl };
 }
+
+-- an IPv6 address with a dotted tail
+abbrev mapped_net : IpPrefix
+mapped_net = V6 (record { addr = 0xffff00000000; len = 96 })
+
+mapped_text : SpellsPrefix mapped_net (codes "::ffff:0.0.0.0/96")
+mapped_text = record { is_prefix = record { in_family = lit≤ tt; address = lit< tt; no_host_bits = omega arith }; says = inr mapped }
+
+row_mapped : ReadsFilter (object (prefix (string (codes "::ffff:0.0.0.0/96")) no_members)) (Ok (filter (Some mapped_net) None))
+    × ReadsAssertion (of_text (string (codes "::ffff:0.0.0.0/96")) no_members) (Ok (record { prefix = mapped_net; max_len = 96; asn = 1 }))
+row_mapped = ((refl, (codes "::ffff:0.0.0.0/96", refl, mapped_text)), (refl, (codes "::ffff:0.0.0.0/96", refl, mapped_text), (refl, lit≤ tt, lit≤ tt)))
 
 abbrev up_to : Data → Data
 up_to d = of_text text (member (codes "maxPrefixLength") d no_members)

@@ -3,10 +3,10 @@ use Rattle.std.specs.Prelude.{◌≡◌, ℕ, ◌+◌, ◌≤◌, ◌^◌, true,
 use Rattle.serde_json.specs.Data.{Data, Items, no_items, item}
 use Rattle.serde_json.specs.Find.{get}
 use Rattle.prefixes.specs.Payload.{Payload, block_of, width_of}
-use Rattle.prefixes.specs.Text.{PrefixText}
 use Rattle.prefixes.specs.declared.asn.Asn.{Asn}
 use Rattle.prefixes.specs.declared.prefix.IpPrefix.{IpPrefix}
 use Rattle.payload_lists.specs.PayloadList.{text_at, whole_at}
+use Rattle.prefix_texts.specs.MixedText as texts
 use Rattle.slurm.specs.Chains.{After, ◌>>=◌, given, unless}
 use Rattle.slurm.specs.Members.{one_for, total}
 use Rattle.slurm.specs.declared.fault.EntryFault.{EntryFault}
@@ -39,9 +39,9 @@ text_if_any e name d = unless e (is_none (get name d) || is_some (text_at name d
 abbrev pub comment_of : Data → Result ⊤ EntryFault
 comment_of d = text_if_any why.Comment (codes "comment") d
 
--- The text under "prefix" spells a prefix.
+-- The text under "prefix" spells a prefix, of which an IPv6 address may have a dotted tail.
 abbrev pub SpellsPrefix : Data → IpPrefix → Type 0
-SpellsPrefix d p = (text : List ℕ) × (text_at (codes "prefix") d ≡ Some text) × PrefixText p text
+SpellsPrefix d p = (text : List ℕ) × (text_at (codes "prefix") d ≡ Some text) × texts.SpellsPrefix p text
 
 -- What a prefix filter says before its prefix (RFC 8416 section 3.3.1): it has a prefix, an AS or both, and perhaps a comment.
 abbrev pub filter_asn : Data → Result (Option Asn) EntryFault

@@ -12,6 +12,7 @@ use crate::fault::{EntryFault, SlurmArray, SlurmFault};
 use crate::filter::PrefixFilter;
 use crate::members::{has, one_for, total};
 use payload_lists::parts::{text, whole};
+use prefix_texts::parse_prefix;
 use prefixes::{Asn, IpPrefix, Vrp};
 use serde_json::Value;
 use std::alloc::Global;
@@ -119,7 +120,7 @@ fn prefix(value: &Value) -> Option<IpPrefix>
     ensures none { IfNone result ((p : IpPrefix) → ¬ (SpellsPrefix (view value.now) p)) }
 {
     let text = text(value, "prefix")?;
-    match IpPrefix::parse(text) {
+    match parse_prefix(text) {
         Ok(prefix) => Some(prefix),
         Err(_) => None,
     }
