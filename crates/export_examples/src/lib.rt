@@ -19,3 +19,5 @@ mod slurm_cases;
 mod slurm_files;
 #[cfg(test)]
 mod slurm_outcomes;
+#[cfg(test)]
+mod slurm_texts;

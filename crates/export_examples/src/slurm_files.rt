@@ -177,12 +177,7 @@ const ENTRIES: &[([&str; 4], SlurmFault)] = &[
         SlurmFault::Repeated,
     ),
     (
-        [
-            "[]",
-            "[]",
-            "[]",
-            r#"[{"SKI":"Zm9v","asn":1,"SKI":"Zm9v"}]"#,
-        ],
+        ["[]", "[]", "[]", r#"[{"SKI":"Zm9v","asn":1,"SKI":"Zm9v"}]"#],
         SlurmFault::Repeated,
     ),
     (
@@ -299,7 +294,12 @@ const KEYS: &[([&str; 4], SlurmFault)] = &[
         SlurmFault::Entry(SlurmArray::BgpsecFilters, 0, EntryFault::Asn),
     ),
     (
-        ["[]", "[]", "[]", r#"[{"SKI":"Zm9v","routerPublicKey":"YmFy"}]"#],
+        [
+            "[]",
+            "[]",
+            "[]",
+            r#"[{"SKI":"Zm9v","routerPublicKey":"YmFy"}]"#,
+        ],
         SlurmFault::Entry(SlurmArray::BgpsecAssertions, 0, EntryFault::Asn),
     ),
     (
@@ -308,11 +308,7 @@ const KEYS: &[([&str; 4], SlurmFault)] = &[
     ),
     (
         ["[]", "[]", "[]", r#"[{"asn":1,"SKI":"Zm9v"}]"#],
-        SlurmFault::Entry(
-            SlurmArray::BgpsecAssertions,
-            0,
-            EntryFault::RouterPublicKey,
-        ),
+        SlurmFault::Entry(SlurmArray::BgpsecAssertions, 0, EntryFault::RouterPublicKey),
     ),
     (
         [

@@ -10,5 +10,6 @@ pub mod NamesOnce
 pub mod Counted
 pub mod EntryRelations
 pub mod Exactly
+pub mod Tellings
 pub mod SlurmRows
 pub mod ExampleRows

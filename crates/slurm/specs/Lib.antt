@@ -7,3 +7,4 @@ pub mod Members
 pub mod Relations
 pub mod SlurmFile
 pub mod Steps
+pub mod Telling

@@ -18,16 +18,36 @@ pub enum SlurmArray {
     BgpsecAssertions,
 }
 
-/// The key under which it stands.
-impl Display for SlurmArray {
-    fn fmt<W: fmt::Write>(&self, f: &mut fmt::Formatter<W>) -> fmt::Result {
-        let key = match self {
+impl SlurmArray {
+    ghost use Rattle.slurm.specs.Telling.{array_key, object_of};
+
+    /// The key under which it stands.
+    pub fn key(self) -> &'static str
+        ensures { result.now ≡ array_key self }
+    {
+        match self {
             SlurmArray::PrefixFilters => "prefixFilters",
             SlurmArray::BgpsecFilters => "bgpsecFilters",
             SlurmArray::PrefixAssertions => "prefixAssertions",
             SlurmArray::BgpsecAssertions => "bgpsecAssertions",
-        };
-        write!(f, "{key}")
+        }
+    }
+
+    /// The object in which it stands.
+    pub(crate) fn object(self) -> SlurmObject
+        ensures { result ≡ object_of self }
+    {
+        match self {
+            SlurmArray::PrefixFilters | SlurmArray::BgpsecFilters => SlurmObject::Filters,
+            SlurmArray::PrefixAssertions | SlurmArray::BgpsecAssertions => SlurmObject::Assertions,
+        }
+    }
+}
+
+/// The key under which it stands.
+impl Display for SlurmArray {
+    fn fmt<W: fmt::Write>(&self, f: &mut fmt::Formatter<W>) -> fmt::Result {
+        write!(f, "{}", self.key())
     }
 }
 
@@ -42,15 +62,25 @@ pub enum SlurmObject {
     Assertions,
 }
 
-/// The key under which it stands, or that it is the file.
-impl Display for SlurmObject {
-    fn fmt<W: fmt::Write>(&self, f: &mut fmt::Formatter<W>) -> fmt::Result {
-        let name = match self {
+impl SlurmObject {
+    ghost use Rattle.slurm.specs.Telling.{object_name};
+
+    /// The key under which it stands, or that it is the file.
+    pub fn name(self) -> &'static str
+        ensures { result.now ≡ object_name self }
+    {
+        match self {
             SlurmObject::File => "the file",
             SlurmObject::Filters => "validationOutputFilters",
             SlurmObject::Assertions => "locallyAddedAssertions",
-        };
-        write!(f, "{name}")
+        }
+    }
+}
+
+/// The key under which it stands, or that it is the file.
+impl Display for SlurmObject {
+    fn fmt<W: fmt::Write>(&self, f: &mut fmt::Formatter<W>) -> fmt::Result {
+        write!(f, "{}", self.name())
     }
 }
 

@@ -1,5 +1,5 @@
 //! Local exceptions to a set of validated ROA payloads (SLURM, RFC 8416): records that are filtered out, and records that are added.
-//! [`read_slurm`] reads a file of them, and [`apply`] applies them to a set.
+//! [`read_slurm`] reads a file of them, [`fault_text`] tells why it is none, and [`apply`] applies them to a set.
 //!
 //! For example, where `rt` is the runtime that `main` is handed:
 //!
@@ -25,8 +25,12 @@ mod index;
 pub mod laws;
 mod members;
 mod reading;
+mod repeated;
+mod telling;
+mod told;
 
 pub use applying::apply;
 pub use fault::{EntryFault, SlurmArray, SlurmFault, SlurmObject};
 pub use filter::{PrefixFilter, Slurm};
 pub use reading::read_slurm;
+pub use telling::fault_text;

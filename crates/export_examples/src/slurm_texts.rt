@@ -1,0 +1,132 @@
+use crate::slurm_files::file;
+use slurm::{fault_text, read_slurm};
+use std::alloc::Global;
+use std::test::Fail;
+
+/// Whether these bytes have a fault of this text.
+fn is_told(alloc: Global, bytes: &[u8], text: &str) -> Result<bool, Fail> {
+    match read_slurm(alloc, bytes) {
+        Ok(_) => Ok(false),
+        Err(fault) => Ok(fault_text(alloc, bytes, fault)?.as_str() == text),
+    }
+}
+
+/// Texts that are no file, and what is told of them.
+const FILES: &[(&str, &str)] = &[
+    (
+        "{\n  \"slurmVersion\": 1,\n  }",
+        "not JSON at line 3, column 3 (fault 1)",
+    ),
+    ("7", "the file is 7, and no object (fault 2)"),
+    (
+        r#"{"slurmVersion":1,"validationOutputFilters":{}}"#,
+        "the file has no member locallyAddedAssertions (fault 2)",
+    ),
+    (
+        r#"{"slurmVersion":1,"validationOutputFilters":{},"locallyAddedAssertions":{},"mo\u0007re":1}"#,
+        r#"the file has the unknown member "mo\u0007re" (fault 2)"#,
+    ),
+    (
+        r#"{"slurmVersion":2,"validationOutputFilters":{},"locallyAddedAssertions":{}}"#,
+        "slurmVersion is 2, and not 1 (fault 3)",
+    ),
+    (
+        r#"{"slurmVersion":1,"validationOutputFilters":{"prefixFilters":[]},"locallyAddedAssertions":{}}"#,
+        "validationOutputFilters has no member bgpsecFilters (fault 2)",
+    ),
+    (
+        r#"{"slurmVersion":1,"slurmVersion":1}"#,
+        r#""slurmVersion" stands twice in the file (fault 8)"#,
+    ),
+    (
+        r#"{"validationOutputFilters":{"prefixFilters":[{"asn":64496}],"prefixFilters":[]}}"#,
+        r#""prefixFilters" stands twice in validationOutputFilters (fault 8)"#,
+    ),
+];
+
+/// Entries of the four arrays, and what is told of a file of them.
+const ENTRIES: &[([&str; 4], &str)] = &[
+    (
+        [r#"{"asn":1}"#, "[]", "[]", "[]"],
+        r#"prefixFilters is {"asn":1}, and no array (fault 4)"#,
+    ),
+    (
+        [r#"[{"asn":1},7]"#, "[]", "[]", "[]"],
+        "prefixFilters[1]: 7 is no object (fault 5)",
+    ),
+    (
+        [r#"[{"asn":1,"more":1}]"#, "[]", "[]", "[]"],
+        r#"prefixFilters[0]: unknown member "more" (fault 5)"#,
+    ),
+    (
+        ["[]", r#"[{"comment":"all"}]"#, "[]", "[]"],
+        "bgpsecFilters[0]: neither SKI nor asn (fault 5)",
+    ),
+    (
+        [r#"[{"asn":"64496"}]"#, "[]", "[]", "[]"],
+        r#"prefixFilters[0]: asn "64496" is no AS number (fault 5)"#,
+    ),
+    (
+        ["[]", "[]", r#"[{"asn":1,"prefix":"::ffff:0:0/96x"}]"#, "[]"],
+        r#"prefixAssertions[0]: prefix "::ffff:0:0/96x" is no prefix (fault 5)"#,
+    ),
+    (
+        ["[]", "[]", r#"[{"asn":1}]"#, "[]"],
+        "prefixAssertions[0]: prefix is missing (fault 5)",
+    ),
+    (
+        [
+            "[]",
+            "[]",
+            r#"[{"asn":1,"prefix":"012345678901234567890123456789012345678901234567890123456789012345678901234567\u00e9"}]"#,
+            "[]",
+        ],
+        r#"prefixAssertions[0]: prefix "012345678901234567890123456789012345678901234567890123456789012345678901234567... is no prefix (fault 5)"#,
+    ),
+    (
+        ["[]", "[]", "[]", r#"[{"asn":1,"SKI":"Zm9v"}]"#],
+        "bgpsecAssertions[0]: routerPublicKey is missing (fault 5)",
+    ),
+    (
+        [
+            "[]",
+            "[]",
+            r#"[{"asn":1,"prefix":"192.0.2.0/24"},{"asn":1,"prefix":"192.0.2.0/24","asn":2}]"#,
+            "[]",
+        ],
+        r#""asn" stands twice in prefixAssertions[1] (fault 8)"#,
+    ),
+];
+
+/// Whether what is told of each text is this.
+fn are_told(alloc: Global, rows: &[(&str, &str)]) -> Result<bool, Fail> {
+    for &(bytes, text) in rows {
+        if !is_told(alloc, bytes.as_bytes(), text)? {
+            return Ok(false);
+        }
+    }
+    Ok(true)
+}
+
+/// The same of each file of entries.
+fn entries_are_told(alloc: Global, rows: &[([&str; 4], &str)]) -> Result<bool, Fail> {
+    for (arrays, text) in rows {
+        let file = file(alloc, arrays)?;
+        if !is_told(alloc, file.as_bytes(), text)? {
+            return Ok(false);
+        }
+    }
+    Ok(true)
+}
+
+#[test]
+fn faults_are_told_with_what_stands_in_the_file(rt: HostRuntime) -> Result<(), Fail> {
+    assert!(rt; are_told(rt.alloc(), FILES)?);
+    Ok(())
+}
+
+#[test]
+fn faults_of_entries_are_told_with_their_values(rt: HostRuntime) -> Result<(), Fail> {
+    assert!(rt; entries_are_told(rt.alloc(), ENTRIES)?);
+    Ok(())
+}

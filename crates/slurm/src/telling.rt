@@ -1,0 +1,290 @@
+//! Faults, told with what stands in the file.
+ghost use Rattle.std.specs.Prelude.{◌≡◌, ◌++◌, List, ℕ, IfOk, string_bytes, codes};
+ghost use Rattle.std.specs.Fmt.{decimal};
+ghost use Rattle.slurm.specs.Telling.{number_text, place};
+
+use crate::fault::{EntryFault, SlurmArray, SlurmFault, SlurmObject};
+use crate::repeated::repeated_text;
+use crate::told::{told, told_name};
+use serde_json::Value;
+use std::alloc::{AllocError, Global};
+
+/// The members of a file, and of its two objects (RFC 8416 section 3.2).
+const FILE: &[&str] = &[
+    "slurmVersion",
+    "validationOutputFilters",
+    "locallyAddedAssertions",
+];
+
+const FILTERS: &[&str] = &["prefixFilters", "bgpsecFilters"];
+
+const ASSERTIONS: &[&str] = &["prefixAssertions", "bgpsecAssertions"];
+
+/// The members of the entries (RFC 8416 sections 3.3 and 3.4).
+const PREFIX_FILTER: &[&str] = &["prefix", "asn", "comment"];
+
+const BGPSEC_FILTER: &[&str] = &["SKI", "asn", "comment"];
+
+const PREFIX_ASSERTION: &[&str] = &["asn", "prefix", "maxPrefixLength", "comment"];
+
+const BGPSEC_ASSERTION: &[&str] = &["asn", "SKI", "routerPublicKey", "comment"];
+
+/// The members of an object.
+fn object_members(object: SlurmObject) -> &'static [&'static str] {
+    match object {
+        SlurmObject::File => FILE,
+        SlurmObject::Filters => FILTERS,
+        SlurmObject::Assertions => ASSERTIONS,
+    }
+}
+
+/// The members of an entry.
+fn entry_members(array: SlurmArray) -> &'static [&'static str] {
+    match array {
+        SlurmArray::PrefixFilters => PREFIX_FILTER,
+        SlurmArray::BgpsecFilters => BGPSEC_FILTER,
+        SlurmArray::PrefixAssertions => PREFIX_ASSERTION,
+        SlurmArray::BgpsecAssertions => BGPSEC_ASSERTION,
+    }
+}
+
+/// Where a fault lies.
+fn place(alloc: Global, fault: SlurmFault) -> Result<String, AllocError>
+    ensures { IfOk result (λ text. string_bytes text ≡ place fault) }
+{
+    match fault {
+        SlurmFault::Members(object) => format!(in alloc; "{} ", object.name()),
+        SlurmFault::NoArray(array) => format!(in alloc; "{} ", array.key()),
+        SlurmFault::Entry(array, index, _) => format!(in alloc; "{}[{index}]: ", array.key()),
+        SlurmFault::Version => String::from_str(alloc, "slurmVersion "),
+        _ => Ok(String::new(alloc)),
+    }
+}
+
+/// Whether it is one of these names.
+fn is_among(names: &[&str], name: &str) -> bool {
+    for known in names {
+        if *known == name {
+            return true;
+        }
+    }
+    false
+}
+
+/// The first member of an object that has none of these names.
+fn unknown<'a>(value: &'a Value, names: &[&str]) -> Option<&'a str> {
+    let members = value.as_object()?;
+    for name in members.keys() {
+        if !is_among(names, name.as_str()) {
+            return Some(name.as_str());
+        }
+    }
+    None
+}
+
+/// The first of these names of which there is no member.
+fn missing<'a>(value: &Value, names: &[&'a str]) -> Option<&'a str> {
+    for name in names {
+        if value.get(*name).is_none() {
+            return Some(*name);
+        }
+    }
+    None
+}
+
+/// The member of an entry that is not known.
+fn unknown_text(alloc: Global, entry: &Value, names: &[&str]) -> Result<String, AllocError> {
+    match unknown(entry, names) {
+        Some(name) => {
+            let told = told_name(alloc, name)?;
+            format!(in alloc; "unknown member {told}")
+        }
+        None => String::from_str(alloc, "unknown member"),
+    }
+}
+
+/// What is wrong with the members of an object.
+fn members_text(alloc: Global, value: &Value, names: &[&str]) -> Result<String, AllocError> {
+    if value.as_object().is_none() {
+        let told = told(alloc, value)?;
+        return format!(in alloc; "is {told}, and no object");
+    }
+    if let Some(name) = unknown(value, names) {
+        let told = told_name(alloc, name)?;
+        return format!(in alloc; "has the unknown member {told}");
+    }
+    match missing(value, names) {
+        Some(name) => format!(in alloc; "has no member {name}"),
+        None => String::from_str(alloc, "has all its members"),
+    }
+}
+
+/// The member of an entry that a fault is of, and what is wrong with it.
+fn member_of(why: EntryFault) -> Option<(&'static str, &'static str)> {
+    match why {
+        EntryFault::Asn => Some(("asn", "is no AS number")),
+        EntryFault::Comment => Some(("comment", "is no text")),
+        EntryFault::Ski => Some(("SKI", "is no text")),
+        EntryFault::RouterPublicKey => Some(("routerPublicKey", "is no text")),
+        EntryFault::Prefix => Some(("prefix", "is no prefix")),
+        EntryFault::MaxLength => Some((
+            "maxPrefixLength",
+            "is no length from the prefix's up to the width of its family",
+        )),
+        _ => None,
+    }
+}
+
+/// What is wrong with a member of an entry.
+fn member_text(
+    alloc: Global,
+    entry: &Value,
+    name: &str,
+    wrong: &str,
+) -> Result<String, AllocError> {
+    match entry.get(name) {
+        Some(value) => {
+            let told = told(alloc, value)?;
+            format!(in alloc; "{name} {told} {wrong}")
+        }
+        None => format!(in alloc; "{name} is missing"),
+    }
+}
+
+/// What is wrong with an entry as a whole.
+fn whole_text(
+    alloc: Global,
+    entry: &Value,
+    array: SlurmArray,
+    why: EntryFault,
+) -> Result<String, AllocError> {
+    match why {
+        EntryFault::NoObject => {
+            let told = told(alloc, entry)?;
+            format!(in alloc; "{told} is no object")
+        }
+        EntryFault::OtherKey => unknown_text(alloc, entry, entry_members(array)),
+        EntryFault::NeitherSki => String::from_str(alloc, "neither SKI nor asn"),
+        _ => String::from_str(alloc, "neither prefix nor asn"),
+    }
+}
+
+/// What is wrong with an entry.
+fn entry_text(
+    alloc: Global,
+    entry: &Value,
+    array: SlurmArray,
+    why: EntryFault,
+) -> Result<String, AllocError> {
+    match member_of(why) {
+        Some((name, wrong)) => member_text(alloc, entry, name, wrong),
+        None => whole_text(alloc, entry, array, why),
+    }
+}
+
+/// The value of an object of a file.
+fn object_in(file: &Value, object: SlurmObject) -> Option<&Value> {
+    match object {
+        SlurmObject::File => Some(file),
+        _ => file.get(object.name()),
+    }
+}
+
+/// The value of an array of a file.
+fn array_in(file: &Value, array: SlurmArray) -> Option<&Value> {
+    let object = file.get(array.object().name())?;
+    object.get(array.key())
+}
+
+/// The value of an entry of a file.
+fn entry_in(file: &Value, array: SlurmArray, index: usize) -> Option<&Value> {
+    let array = array_in(file, array)?;
+    array.get(index)
+}
+
+/// What is wrong with a value, if it is there.
+fn value_text(alloc: Global, value: Option<&Value>, wrong: &str) -> Result<String, AllocError> {
+    match value {
+        Some(value) => {
+            let told = told(alloc, value)?;
+            format!(in alloc; "is {told}, {wrong}")
+        }
+        None => String::from_str(alloc, "is missing"),
+    }
+}
+
+/// What is wrong with an entry of a file.
+fn at_entry(
+    alloc: Global,
+    file: &Value,
+    array: SlurmArray,
+    index: usize,
+    why: EntryFault,
+) -> Result<String, AllocError> {
+    match entry_in(file, array, index) {
+        Some(entry) => entry_text(alloc, entry, array, why),
+        None => format!(in alloc; "{why}"),
+    }
+}
+
+/// What is wrong with a file, if no entry is.
+fn at_file(alloc: Global, file: &Value, fault: SlurmFault) -> Result<String, AllocError> {
+    match fault {
+        SlurmFault::Members(object) => match object_in(file, object) {
+            Some(value) => members_text(alloc, value, object_members(object)),
+            None => String::from_str(alloc, "is missing"),
+        },
+        SlurmFault::Version => value_text(alloc, file.get("slurmVersion"), "and not 1"),
+        SlurmFault::NoArray(array) => value_text(alloc, array_in(file, array), "and no array"),
+        SlurmFault::TooMany => String::from_str(alloc, "more than 16777215 different assertions"),
+        _ => String::from_str(alloc, "out of memory"),
+    }
+}
+
+/// What is wrong with a JSON value, if it has this fault.
+fn why_in(alloc: Global, file: &Value, fault: SlurmFault) -> Result<String, AllocError> {
+    match fault {
+        SlurmFault::Entry(array, index, why) => at_entry(alloc, file, array, index, why),
+        _ => at_file(alloc, file, fault),
+    }
+}
+
+/// What is wrong with bytes that have this fault and are JSON, or where they are none.
+fn json_why(alloc: Global, bytes: &[u8], fault: SlurmFault) -> Result<String, AllocError> {
+    match Value::from_slice(alloc, bytes) {
+        Ok(file) => why_in(alloc, &file, fault),
+        Err(error) if error.is_memory() => Err(AllocError),
+        Err(error) => {
+            format!(in alloc;
+                "not JSON at line {}, column {}",
+                error.line(),
+                error.column()
+            )
+        }
+    }
+}
+
+/// What is wrong with bytes that have this fault.
+fn why(alloc: Global, bytes: &[u8], fault: SlurmFault) -> Result<String, AllocError> {
+    match fault {
+        SlurmFault::Repeated => repeated_text(alloc, bytes),
+        _ => json_why(alloc, bytes, fault),
+    }
+}
+
+/// The place, what is wrong and the number.
+fn joined(alloc: Global, place: &str, why: &str, fault: SlurmFault) -> Result<String, AllocError>
+    ensures { IfOk result (λ text. string_bytes text ≡ place.now ++ why.now ++ number_text fault) }
+{
+    format!(in alloc; "{place}{why} (fault {})", fault.number())
+}
+
+/// The text of a fault of these bytes, with what stands in them: the member that is missing, unknown or repeated; the array, the index, the
+/// member and its value. A value is told as JSON, as far as its first 80 bytes. Of bytes that are no JSON it says the line and the column.
+pub fn fault_text(alloc: Global, bytes: &[u8], fault: SlurmFault) -> Result<String, AllocError>
+    ensures { IfOk result (λ text. (why : List ℕ) × (string_bytes text ≡ place fault ++ why ++ number_text fault)) }
+{
+    let place = place(alloc, fault)?;
+    let why = why(alloc, bytes, fault)?;
+    joined(alloc, place.as_str(), why.as_str(), fault)
+}
