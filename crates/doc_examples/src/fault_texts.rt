@@ -158,6 +158,7 @@ fn faults_of_exports_and_exceptions(rt: HostRuntime) {
         SlurmFault::NoArray(SlurmArray::BgpsecFilters),
         SlurmFault::TooMany,
         SlurmFault::Memory,
+        SlurmFault::Repeated,
     ];
     assert!(rt; all_tell(rt.alloc(), "fault", &faults));
     let fault = SlurmFault::Entry(SlurmArray::PrefixFilters, 7, ExceptionFault::NeitherKey);

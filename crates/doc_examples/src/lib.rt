@@ -26,6 +26,8 @@ mod payloads_example;
 #[cfg(test)]
 mod points_example;
 #[cfg(test)]
+mod prefix_texts_example;
+#[cfg(test)]
 mod prefixes_example;
 #[cfg(test)]
 mod rtr_commands_example;

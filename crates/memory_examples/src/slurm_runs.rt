@@ -11,7 +11,7 @@ const FILE: &str = r#"{
     },
     "locallyAddedAssertions": {
         "prefixAssertions": [{"asn": 64497, "prefix": "198.51.100.0/24", "comment": "ours"}],
-        "bgpsecAssertions": [{}]
+        "bgpsecAssertions": [{"asn": 1, "SKI": "Zm9v", "routerPublicKey": "Zm9v"}]
     }
 }"#;
 

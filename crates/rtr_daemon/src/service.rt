@@ -1,6 +1,6 @@
 //! A server, what it serves from, and whether a version is owed.
 ghost use Rattle.std.specs.Prelude.{◌≡◌, false, true, IfErr, IfOk, Option};
-ghost use Rattle.rtr_server.specs.Clients.{AdmitsTo, KeepsOthers, Past, Serves, ShowsServer, slot_at};
+ghost use Rattle.rtr_server.specs.Clients.{AdmitsTo, KeepsOthers, Past, Serves, ShowsServer, is_gone, slot_at};
 ghost use Rattle.sources.specs.Served.{ExportTaken, SlurmTaken};
 ghost use Rattle.rtr_daemon.specs.Serving.{GoesOn, IsServedAt, Issues, KeepsSources, ShowsService, TakesSo};
 
@@ -61,7 +61,8 @@ impl<S: VersionStore, T: Stream + Drop> Service<S, T> {
     pub fn serve(&mut self, client: Client, budget: u32) -> Option<Turn>
         ensures goes { GoesOn S.holds T.remaining T.contents self.old self.new }
         ensures others { KeepsOthers client.0.0 self.old.server.slots.items self.new.server.slots.items }
-        ensures serves { Serves S.holds T.remaining T.contents T.answers budget client.0.0 (slot_at self.old.server.slots.items client.0.0) self.old.server.cache result (slot_at self.new.server.slots.items client.0.0) self.new.server.cache }
+        ensures serves { Serves S.holds T.remaining T.contents T.answers budget client.0.0 (slot_at self.old.server.slots.items client.0.0) self.old.server.cache result (slot_at self.new.server.slots.items client.0.0) self.new.server.cache self.new.server.parted }
+        ensures stays { is_gone result ≡ false → self.new.server.parted ≡ self.old.server.parted }
         ensures rest { KeepsSources self.old self.new }
     {
         self.server.serve(client, budget)

@@ -6,7 +6,7 @@ use crate::daemon::Daemon;
 use crate::surroundings::{Journal, Ports, Ready, Time};
 use crate::telling::with_seen;
 use daemon_parts::{Departure, Event};
-use rtr_pdu::{Kind, Version};
+use rtr_pdu::Version;
 use rtr_server::{Carried, Client, Gone, Pdus, Stream, Turn};
 use vrps::VersionStore;
 
@@ -60,20 +60,6 @@ impl<S: VersionStore, T: Stream + Drop> Daemon<S, T> {
         }
     }
 
-    /// A turn of a client, call by call, and what was known of it before the last one, which moves no byte where the client has gone by it.
-    fn turn_of(&mut self, client: Client) -> (Option<Turn>, Seen)
-        ensures { GoesOn S.holds T.remaining T.contents self.old.service self.new.service }
-    {
-        let mut seen = self.seen(client);
-        for _call in 0..BUDGET {
-            match self.service.serve(client, 1) {
-                Some(Turn::Busy) => seen = self.seen(client),
-                turn => return (turn, seen),
-            }
-        }
-        (Some(Turn::Busy), seen)
-    }
-
     /// What is known of a client.
     pub(crate) fn seen(&self, client: Client) -> Seen {
         let server = self.service.server();
@@ -85,14 +71,34 @@ impl<S: VersionStore, T: Stream + Drop> Daemon<S, T> {
         }
     }
 
+    /// What was counted of the client that left last.
+    fn seen_last(&self) -> Seen {
+        match self.service.server().parted() {
+            None => Seen {
+                carried: None,
+                received: None,
+                sent: None,
+                version: None,
+            },
+            Some(parted) => Seen {
+                carried: Some(parted.carried),
+                received: Some(parted.received),
+                sent: Some(parted.sent),
+                version: parted.version,
+            },
+        }
+    }
+
     /// One turn of a client.
     fn serve<W: Time + Journal>(&mut self, line: usize, client: Client, world: &mut W)
         ensures { GoesOn S.holds T.remaining T.contents self.old.service self.new.service }
     {
-        let (turn, seen) = self.turn_of(client);
-        match turn {
+        match self.service.serve(client, BUDGET) {
             None => {}
-            Some(Turn::Gone(how)) => self.part(line, why(how), seen, world),
+            Some(Turn::Gone(how)) => {
+                let seen = self.seen_last();
+                self.part(line, why(how), seen, world);
+            }
             Some(turn) => {
                 if let Some(carried) = self.seen(client).carried {
                     self.guests.note(line, turn, carried, world.millis());
@@ -146,17 +152,9 @@ impl<S: VersionStore, T: Stream + Drop> Daemon<S, T> {
         ensures { GoesOn S.holds T.remaining T.contents self.old.service self.new.service }
     {
         if let Some((client, _address)) = self.guests.at(line) {
-            if !self.has_asked(client) {
+            if !self.service.server().has_asked(client) {
                 self.drop_line(line, "no-query", world);
             }
-        }
-    }
-
-    /// Whether a client has sent a whole query.
-    fn has_asked(&self, client: Client) -> bool {
-        match self.service.server().received(client) {
-            Some(pdus) => 0 < pdus.of(Kind::SerialQuery) || 0 < pdus.of(Kind::ResetQuery),
-            None => false,
         }
     }
 
