@@ -591,6 +591,48 @@ def narrowed():
             differs(f"what is left out with {words}", metrics_of(port)["rpkirtrd_left_out_vrps"], left_out)
 
 
+def asked_first():
+    """A router is not notified before it has sent a whole query; behind it, it is."""
+    put("list.json", text_of(FIRST))
+    with running("--vrps", "list.json", "--listen", "127.0.0.1:0", "--check", "1") as daemon:
+        port = daemon.listens()
+        silent, half, router = Router(port), Router(port), Router(port)
+        half.socket.sendall(bytes.fromhex("0102000000"))
+        router.catch_up()
+        put("list.json", text_of(SECOND))
+        router.wait_notify()
+        for what, other in ("silent", silent), ("that sent half a query", half):
+            other.socket.settimeout(2)
+            try:
+                found = other.socket.recv(100)
+            except TimeoutError:
+                found = None
+            differs(f"what a router {what} is sent", found, None)
+            other.socket.settimeout(PATIENCE)
+        half.socket.sendall(bytes.fromhex("000008"))
+        differs("the answer to the whole query", half.answer(), RESPONSE)
+        differs("the table of a router that asked late", half.table, set(SECOND))
+        put("list.json", text_of(FIRST))
+        half.wait_notify()
+        differs("the next table", half.catch_up(), set(FIRST))
+
+
+def last_words():
+    """An Error Report of a router is counted, though its connection ends by it."""
+    put("list.json", text_of(FIRST))
+    with running("--vrps", "list.json", "--listen", "127.0.0.1:0", "--status", "127.0.0.1:0") as daemon:
+        at = int(daemon.wait("listening")["address"].rpartition(":")[2])
+        port = int(daemon.wait("status")["address"].rpartition(":")[2])
+        daemon.wait("ready")
+        router = Router(at)
+        router.catch_up()
+        router.send(ERROR, 3, struct.pack("!II", 0, 0))
+        daemon.wait("client-gone")
+        told = metrics_of(port)
+        differs("the Error Reports that are counted", told['rpkirtrd_pdus_total{type="error_report",direction="received"}'], 1)
+        differs("the bytes that are counted", told['rpkirtrd_bytes_total{direction="received"}'], 8 + 16)
+
+
 def reasons():
     """Why a route is invalid: its length if a record of its own AS covers it, and else its AS."""
     put("list.json", text_of([("192.0.2.0/24", 24, 64496), ("10.0.0.0/16", 16, 1), ("10.0.0.0/16", 24, 2)]))
@@ -1038,7 +1080,7 @@ def main():
     given = words.parse_args()
     program, shim = os.path.abspath(given.program), given.shim and os.path.abspath(given.shim)
     parts = [soak, silent_visitor, words_and_starts, tables, refused_files, sources, points, two_points, point_gone, pipe_for_a_file, large_file, no_streams, pages, restarts, limits, full_descriptors]
-    parts += [silent_router, one_address, kept_alive, old_by_its_file, warnings_and_names, early_visitors, reasons, narrowed]
+    parts += [silent_router, one_address, kept_alive, old_by_its_file, warnings_and_names, early_visitors, reasons, narrowed, asked_first, last_words]
     parts += ([routes] if given.rpkirtr else []) + ([refused_memory] if shim else [])
     with multiprocessing.get_context("fork").Pool(len(parts)) as pool:
         found = sum(pool.map(played, [it.__name__ for it in parts], chunksize=1))
