@@ -34,10 +34,10 @@ if command -v rpki-client >/dev/null; then
     fi
     run=(timeout 60 rpki-client -n -j -t "$folder/test.tal" -d "$folder/cache" "$folder/client")
     if [ "$(id -u)" -eq 0 ] && unshare -u true 2>/dev/null; then
-        unshare -u sh -c 'hostname validator.example.net && exec "$@"' sh "${run[@]}" || exit 1
+        unshare -u sh -c 'hostname validator.example.net && exec "$@"' sh "${run[@]}"
     else
-        "${run[@]}" || exit 1
-    fi
+        "${run[@]}"
+    fi >client.log 2>&1 || { cat client.log >&2; exit 1; }
     cp client/json written/rpki-client.json || exit 1
 else
     missing rpki-client
@@ -108,6 +108,7 @@ rpkirtrd=$(bash "$top/tools/start.sh" --path rpkirtrd) || exit 1
 for file in written/*.json; do
     pages=$(free_port)
     timeout 60 "$rpkirtrd" --vrps "$file" --listen 127.0.0.1:0 --status "127.0.0.1:$pages" 2>daemon.log &
+    daemon=$!
     for _ in $(seq 100); do
         grep -q ' ready' daemon.log && break
         sleep 0.1
@@ -118,7 +119,7 @@ found = json.load(urllib.request.urlopen(sys.argv[1], timeout=10))
 with open(sys.argv[2]) as it:
     sys.exit(found != json.load(it))
 END
-    kill %% 2>/dev/null
-    wait %% 2>/dev/null
+    kill "$daemon"
+    wait "$daemon"
 done
 exit 0
