@@ -35,7 +35,7 @@ const PAYLOADS: [(&str, u8, Asn); 3] = [
 ];
 
 fn main(rt: HostRuntime) -> Result<()> {
-    let words = env::args(&rt)?.skip(1).collect(rt.alloc())?;
+    let words: Vec<String> = env::args(&rt)?.skip(1).collect(rt.alloc())?;
     let mut cache = published(rt.alloc(), names(words.as_slice())?)?;
     let mut frames = FrameReader::new(rt.alloc(), rt.stdin());
     let conn = cache.open()?;
