@@ -36,7 +36,7 @@ const PAYLOADS: [(&str, u8, Asn); 3] = [
 
 fn main(rt: HostRuntime) -> Result<()> {
     let words: Vec<String> = env::args(&rt)?.skip(1).collect(rt.alloc())?;
-    let mut cache = published(rt.alloc(), names(words.as_slice())?)?;
+    let mut cache = published(rt.alloc(), read_names(words.as_slice())?)?;
     let mut frames = FrameReader::new(rt.alloc(), rt.stdin());
     let conn = cache.open()?;
     let served = serve(&mut cache, conn, &mut frames, &mut rt.stdout());
@@ -45,7 +45,7 @@ fn main(rt: HostRuntime) -> Result<()> {
 }
 
 /// The names that two words write.
-fn names(words: &[String]) -> Result<Names> {
+fn read_names(words: &[String]) -> Result<Names> {
     match words {
         [session, serial] => Ok(Names {
             session: session.parse()?,
