@@ -138,7 +138,7 @@ impl Disk for Stage {
         Ok(Stamp {
             len: self.list.len() as u64,
             inode: self.times,
-            modified: (self.modified as i64, 0),
+            modified: (i64::try_from(self.modified).unwrap_or(i64::MAX), 0),
             changed: (0, 0),
         })
     }
