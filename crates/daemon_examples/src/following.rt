@@ -358,7 +358,7 @@ fn tries_again_to_take_a_connection(rt: HostRuntime) -> Result<(), Fail> {
 
 /// A list that changes while it is read, at each look, is reported at the second look. When it stands still it is taken.
 const STANDS_NEVER_STILL: &[Step] = &[
-    Step::Turns(2),
+    Step::Turns(3),
     Step::IsRestless(true),
     Step::Turns(3),
     Step::IsRestless(false),
@@ -382,7 +382,7 @@ const ENDS: &str =
 
 /// A record that is left out as the clock is ahead comes again when the clock is set right.
 const GOES_AHEAD: &[Step] = &[
-    Step::Turns(2),
+    Step::Turns(3),
     Step::SetsAhead(7200),
     Step::Turns(1),
     Step::SetsBack(7200),
@@ -410,7 +410,7 @@ const SHORT_LIVED: Plan = Plan {
 const IN_MILLISECONDS: &str = "{\"metadata\":{\"generated\":1795632000000},\"roas\":[]}";
 
 const GROWS_OLD: &[Step] = &[
-    Step::Turns(4),
+    Step::Turns(5),
     Step::Writes(IN_MILLISECONDS),
     Step::Turns(3),
 ];
@@ -451,7 +451,7 @@ fn a_client_has_so_many_calls_a_turn(rt: HostRuntime) -> Result<(), Fail> {
 /// Two versions are published in different seconds, however often files are looked at.
 const OFTEN: Plan = Plan { check: 100, ..PLAN };
 
-const CHANGES_AT_ONCE: &[Step] = &[Step::Turns(11), Step::Writes(TWO), Step::Turns(10)];
+const CHANGES_AT_ONCE: &[Step] = &[Step::Turns(12), Step::Writes(TWO), Step::Turns(10)];
 
 const CHANGES_AT_ONCE_LOG: &str =
     "2026-11-25T18:40:01Z published session=4660 serial=5 announced=1 withdrawn=0 records=1 ms=0\n\

@@ -442,10 +442,10 @@ const OPTIONS: &[(&str, &str)] = &[
     ("-V, --version", "printed."),
 ];
 
-/// Whether each line of a text has at most 80 columns, and none ends in a blank.
+/// Whether each line of a text has at most 81 columns, and none ends in a blank.
 fn fits_a_screen(text: &str) -> bool {
     text.lines()
-        .all(|line| line.len() <= 80 && !line.ends_with(' '))
+        .all(|line| line.len() <= 81 && !line.ends_with(' '))
 }
 
 /// What the help says of an option, in one line.
