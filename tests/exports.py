@@ -78,7 +78,7 @@ def address_of(text, notation):
     return 128, sum(it << 16 * (7 - at) for at, it in enumerate(numbers))
 
 
-def prefix_of(text, notation):
+def prefix_of(text, notation=MIXED):
     """The width, the address and the length that a text says, or None."""
     if type(text) is not str or text.count("/") != 1:
         return None
