@@ -46,7 +46,7 @@ changed() { # changed FILE SED CRATES
 }
 
 : >tests/refused.txt
-expect 'nothing was refused yet' 'command_parts daemon_parts daemon_words der_lite exports feed frames payload_commands payload_lists payloads points prefixes rpkirtr rtr_commands rtr_daemon rtr_ends rtr_pdu rtr_server rtr_world slurm sources status_pages status_server vrps world_scripts '
+expect 'nothing was refused yet' 'command_parts daemon_parts daemon_words der_lite exports feed frames payload_commands payload_lists payloads points prefix_texts prefixes rpkirtr rtr_commands rtr_daemon rtr_ends rtr_pdu rtr_server rtr_world slurm sources status_pages status_server vrps world_scripts '
 listed --all >tests/refused.txt
 expect 'all was refused' ''
 
