@@ -1,0 +1,44 @@
+//! Where a byte stands in a text.
+ghost use Rattle.std.specs.Prelude.{◌≡◌, take};
+ghost use Rattle.json_texts.specs.Position.{StandsAt};
+
+use std::fmt;
+
+/// A place in a text: its line, and its byte in the line, both counted from 1. A line ends with a line feed.
+#[derive(Clone, Copy, Debug, PartialEq, Eq)]
+pub struct Position {
+    /// The line.
+    pub line: usize,
+    /// The byte in the line.
+    pub column: usize,
+}
+
+impl Position {
+    /// The place of the byte behind so many others. Behind the end of the text it is that of the end.
+    pub fn at(text: &[u8], offset: usize) -> Position
+        ensures { StandsAt (take offset text.now) result.line result.column }
+    {
+        let mut line = 1usize;
+        let mut column = 1usize;
+        for byte in &text[..offset.min(text.len())] {
+            if *byte == b'\n' {
+                line += 1;
+                column = 1;
+            } else {
+                column += 1;
+            }
+        }
+        Position { line, column }
+    }
+}
+
+impl fmt::Display for Position {
+    ghost use Rattle.std.specs.Prelude.{Some};
+    ghost use Rattle.json_texts.specs.Position.{position_text};
+
+    ghost output = { λ p. Some (position_text p.line p.column) };
+
+    fn fmt<W: fmt::Write>(&self, f: &mut fmt::Formatter<W>) -> fmt::Result {
+        write!(f, "line {}, column {}", self.line, self.column)
+    }
+}
