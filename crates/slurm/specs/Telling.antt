@@ -1,4 +1,4 @@
--- What is told of a fault beside what stands in the file
+-- A fault in words, beside what stands in the file
 use Rattle.std.specs.Prelude.{◌≡◌, ◌⊎◌, ℕ, ◌≤◌, false, List, [], ◌++◌, length, take, codes}
 use Rattle.std.specs.Fmt.{decimal}
 use Rattle.serde_json.specs.Data.{Data}
@@ -43,11 +43,3 @@ object_of PrefixFilters = Filters
 object_of BgpsecFilters = Filters
 object_of PrefixAssertions = Assertions
 object_of BgpsecAssertions = Assertions
-
--- A text, or its beginning of at most 80 bytes
-abbrev pub IsTold : List ℕ → List ℕ → Type 0
-IsTold whole told = ((told ≡ whole) × (length whole ≤ 80)) ⊎ ((n : ℕ) × (n ≤ 80) × (told ≡ take n whole ++ codes "..."))
-
--- A value is told by its JSON text. (Which digits a number with a fraction has is not said.)
-abbrev pub Tells : Data → List ℕ → Type 0
-Tells d told = (whole : List ℕ) × (has_float d ≡ false → whole ≡ compact_text d) × IsTold whole told

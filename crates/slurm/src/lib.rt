@@ -1,5 +1,5 @@
 //! Local exceptions to a set of validated ROA payloads (SLURM, RFC 8416): records that are filtered out, and records that are added.
-//! [`read_slurm`] reads a file of them, [`fault_text`] tells why it is none, and [`apply`] applies them to a set.
+//! [`read_slurm`] reads a file of them, [`fault_text`] says why it is none, and [`apply`] applies them to a set.
 //!
 //! For example, where `rt` is the runtime that `main` is handed:
 //!
@@ -27,7 +27,6 @@ mod members;
 mod reading;
 mod repeated;
 mod telling;
-mod told;
 
 pub use applying::apply;
 pub use fault::{EntryFault, SlurmArray, SlurmFault, SlurmObject};

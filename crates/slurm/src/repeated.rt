@@ -1,8 +1,8 @@
 //! Names that stand twice in an object, found.
 
 use crate::fault::{SlurmArray, SlurmObject};
-use crate::told::told_name;
 use json::{Scratch, Value as Tree};
+use json_texts::name_text;
 use std::alloc::{AllocError, Global};
 use std::str;
 
@@ -16,52 +16,52 @@ const ARRAYS: &[SlurmArray] = &[
     SlurmArray::BgpsecAssertions,
 ];
 
-/// Whether one of the members has this name.
-fn has_name(members: &[(&str, Tree<'_>)], name: &str) -> bool {
-    for member in members {
-        if member.0 == name {
-            return true;
-        }
-    }
-    false
+/// The least name that stands twice in an object.
+fn repeated<'a>(alloc: Global, tree: &Tree<'a>) -> Result<Option<&'a str>, AllocError> {
+    let Tree::Object(members) = tree else {
+        return Ok(None);
+    };
+    let mut names: Vec<&'a str> = members.iter().map(|member| member.0).collect(alloc)?;
+    names.sort()?;
+    Ok(twice(names.as_slice()))
 }
 
-/// The first name that stands twice in an object.
-fn repeated<'a>(tree: &Tree<'a>) -> Option<&'a str> {
-    let Tree::Object(members) = tree else {
-        return None;
-    };
-    for (index, member) in members.iter().enumerate() {
-        if has_name(&members.as_slice()[..index], member.0) {
-            return Some(member.0);
+/// The first of these names that equals the next one.
+fn twice<'a>(names: &[&'a str]) -> Option<&'a str> {
+    for pair in names.windows(2) {
+        if pair[0] == pair[1] {
+            return Some(pair[0]);
         }
     }
     None
 }
 
 /// The first of the two objects in which a name stands twice.
-fn in_object<'a>(file: &Tree<'a>) -> Option<(SlurmObject, &'a str)> {
+fn in_object<'a>(
+    alloc: Global,
+    file: &Tree<'a>,
+) -> Result<Option<(SlurmObject, &'a str)>, AllocError> {
     for object in OBJECTS {
         if let Some(part) = file.get(object.name()) {
-            if let Some(name) = repeated(part) {
-                return Some((*object, name));
+            if let Some(name) = repeated(alloc, part)? {
+                return Ok(Some((*object, name)));
             }
         }
     }
-    None
+    Ok(None)
 }
 
 /// The first entry of an array in which a name stands twice.
-fn in_entry<'a>(array: &Tree<'a>) -> Option<(usize, &'a str)> {
+fn in_entry<'a>(alloc: Global, array: &Tree<'a>) -> Result<Option<(usize, &'a str)>, AllocError> {
     let Tree::Array(items) = array else {
-        return None;
+        return Ok(None);
     };
     for (index, item) in items.iter().enumerate() {
-        if let Some(name) = repeated(item) {
-            return Some((index, name));
+        if let Some(name) = repeated(alloc, item)? {
+            return Ok(Some((index, name)));
         }
     }
-    None
+    Ok(None)
 }
 
 /// An array of a file.
@@ -71,31 +71,34 @@ fn array_in<'t, 'a>(file: &'t Tree<'a>, array: SlurmArray) -> Option<&'t Tree<'a
 }
 
 /// The first array with such an entry, and that entry.
-fn in_array<'a>(file: &Tree<'a>) -> Option<(SlurmArray, usize, &'a str)> {
+fn in_array<'a>(
+    alloc: Global,
+    file: &Tree<'a>,
+) -> Result<Option<(SlurmArray, usize, &'a str)>, AllocError> {
     for array in ARRAYS {
         if let Some(found) = array_in(file, *array) {
-            if let Some((index, name)) = in_entry(found) {
-                return Some((*array, index, name));
+            if let Some((index, name)) = in_entry(alloc, found)? {
+                return Ok(Some((*array, index, name)));
             }
         }
     }
-    None
+    Ok(None)
 }
 
 /// Which name stands twice, and where.
 fn found_text(alloc: Global, file: &Tree<'_>) -> Result<String, AllocError> {
-    if let Some(name) = repeated(file) {
-        let told = told_name(alloc, name)?;
-        return format!(in alloc; "{told} stands twice in the file");
+    if let Some(name) = repeated(alloc, file)? {
+        let shown = name_text(alloc, name)?;
+        return format!(in alloc; "{shown} stands twice in the file");
     }
-    if let Some((object, name)) = in_object(file) {
-        let told = told_name(alloc, name)?;
-        return format!(in alloc; "{told} stands twice in {}", object.name());
+    if let Some((object, name)) = in_object(alloc, file)? {
+        let shown = name_text(alloc, name)?;
+        return format!(in alloc; "{shown} stands twice in {}", object.name());
     }
-    match in_array(file) {
+    match in_array(alloc, file)? {
         Some((array, index, name)) => {
-            let told = told_name(alloc, name)?;
-            format!(in alloc; "{told} stands twice in {}[{index}]", array.key())
+            let shown = name_text(alloc, name)?;
+            format!(in alloc; "{shown} stands twice in {}[{index}]", array.key())
         }
         None => String::from_str(alloc, "a name stands twice in an object"),
     }

@@ -1,11 +1,11 @@
-//! Faults, told with what stands in the file.
+//! Faults in words, with what stands in the file.
 ghost use Rattle.std.specs.Prelude.{◌≡◌, ◌++◌, List, ℕ, IfOk, string_bytes, codes};
 ghost use Rattle.std.specs.Fmt.{decimal};
 ghost use Rattle.slurm.specs.Telling.{number_text, place};
 
 use crate::fault::{EntryFault, SlurmArray, SlurmFault, SlurmObject};
 use crate::repeated::repeated_text;
-use crate::told::{told, told_name};
+use json_texts::{name_text, value_text};
 use serde_json::Value;
 use std::alloc::{AllocError, Global};
 
@@ -96,8 +96,8 @@ fn missing<'a>(value: &Value, names: &[&'a str]) -> Option<&'a str> {
 fn unknown_text(alloc: Global, entry: &Value, names: &[&str]) -> Result<String, AllocError> {
     match unknown(entry, names) {
         Some(name) => {
-            let told = told_name(alloc, name)?;
-            format!(in alloc; "unknown member {told}")
+            let shown = name_text(alloc, name)?;
+            format!(in alloc; "unknown member {shown}")
         }
         None => String::from_str(alloc, "unknown member"),
     }
@@ -106,12 +106,12 @@ fn unknown_text(alloc: Global, entry: &Value, names: &[&str]) -> Result<String, 
 /// What is wrong with the members of an object.
 fn members_text(alloc: Global, value: &Value, names: &[&str]) -> Result<String, AllocError> {
     if value.as_object().is_none() {
-        let told = told(alloc, value)?;
-        return format!(in alloc; "is {told}, and no object");
+        let shown = value_text(alloc, value)?;
+        return format!(in alloc; "is {shown}, and no object");
     }
     if let Some(name) = unknown(value, names) {
-        let told = told_name(alloc, name)?;
-        return format!(in alloc; "has the unknown member {told}");
+        let shown = name_text(alloc, name)?;
+        return format!(in alloc; "has the unknown member {shown}");
     }
     match missing(value, names) {
         Some(name) => format!(in alloc; "has no member {name}"),
@@ -129,7 +129,7 @@ fn member_of(why: EntryFault) -> Option<(&'static str, &'static str)> {
         EntryFault::Prefix => Some(("prefix", "is no prefix")),
         EntryFault::MaxLength => Some((
             "maxPrefixLength",
-            "is no length from the prefix's up to the width of its family",
+            "is not from the prefix length to 32 (IPv4) or 128 (IPv6)",
         )),
         _ => None,
     }
@@ -144,8 +144,8 @@ fn member_text(
 ) -> Result<String, AllocError> {
     match entry.get(name) {
         Some(value) => {
-            let told = told(alloc, value)?;
-            format!(in alloc; "{name} {told} {wrong}")
+            let shown = value_text(alloc, value)?;
+            format!(in alloc; "{name} {shown} {wrong}")
         }
         None => format!(in alloc; "{name} is missing"),
     }
@@ -160,8 +160,8 @@ fn whole_text(
 ) -> Result<String, AllocError> {
     match why {
         EntryFault::NoObject => {
-            let told = told(alloc, entry)?;
-            format!(in alloc; "{told} is no object")
+            let shown = value_text(alloc, entry)?;
+            format!(in alloc; "{shown} is no object")
         }
         EntryFault::OtherKey => unknown_text(alloc, entry, entry_members(array)),
         EntryFault::NeitherSki => String::from_str(alloc, "neither SKI nor asn"),
@@ -203,11 +203,11 @@ fn entry_in(file: &Value, array: SlurmArray, index: usize) -> Option<&Value> {
 }
 
 /// What is wrong with a value, if it is there.
-fn value_text(alloc: Global, value: Option<&Value>, wrong: &str) -> Result<String, AllocError> {
+fn wrong_value(alloc: Global, value: Option<&Value>, wrong: &str) -> Result<String, AllocError> {
     match value {
         Some(value) => {
-            let told = told(alloc, value)?;
-            format!(in alloc; "is {told}, {wrong}")
+            let shown = value_text(alloc, value)?;
+            format!(in alloc; "is {shown}, {wrong}")
         }
         None => String::from_str(alloc, "is missing"),
     }
@@ -234,8 +234,8 @@ fn at_file(alloc: Global, file: &Value, fault: SlurmFault) -> Result<String, All
             Some(value) => members_text(alloc, value, object_members(object)),
             None => String::from_str(alloc, "is missing"),
         },
-        SlurmFault::Version => value_text(alloc, file.get("slurmVersion"), "and not 1"),
-        SlurmFault::NoArray(array) => value_text(alloc, array_in(file, array), "and no array"),
+        SlurmFault::Version => wrong_value(alloc, file.get("slurmVersion"), "and not 1"),
+        SlurmFault::NoArray(array) => wrong_value(alloc, array_in(file, array), "and no array"),
         SlurmFault::TooMany => String::from_str(alloc, "more than 16777215 different assertions"),
         _ => String::from_str(alloc, "out of memory"),
     }
@@ -279,8 +279,9 @@ fn joined(alloc: Global, place: &str, why: &str, fault: SlurmFault) -> Result<St
     format!(in alloc; "{place}{why} (fault {})", fault.number())
 }
 
-/// The text of a fault of these bytes, with what stands in them: the member that is missing, unknown or repeated; the array, the index, the
-/// member and its value. A value is told as JSON, as far as its first 80 bytes. Of bytes that are no JSON it says the line and the column.
+/// A fault of these bytes in words. It names the member that is missing, unknown or repeated, or else the array, the index from 0, the member
+/// and its value. The value is shown as JSON; if that has over 80 bytes, only its first 80. If the bytes are not JSON, it gives the line and the
+/// column.
 pub fn fault_text(alloc: Global, bytes: &[u8], fault: SlurmFault) -> Result<String, AllocError>
     ensures { IfOk result (λ text. (why : List ℕ) × (string_bytes text ≡ place fault ++ why ++ number_text fault)) }
 {
