@@ -1,30 +1,32 @@
 -- The first second at which an entry that counts ends, and that nothing changes before it.
 use Rattle.std.proofs.Common.{◌≡◌, ℕ, ◌+◌, ◌<◌, ◌≤◌, ◌++◌, cond, Bool, true, false, nat_lt, List, [], ◌∷◌, Option, Some, None, Result, Ok, Err, refl, sym, ap, ap₂, subst, ◌∙◌, arith}
-use Rattle.std.specs.Prelude.{All, IfOk, IfSome, filter, filter_map, map, min, not}
+use Rattle.std.specs.Prelude.{All, IfErr, IfOk, MatchBool, ◌^◌, filter, filter_map, map, min, not}
 use Rattle.std.specs.List.{cons_option}
 use Rattle.std.proofs.lemmas.Bool.Decides.{nat_tests}
 use Rattle.std.proofs.lemmas.List.Elements.{All-append, All-cons, All-nil, All-tail, All-weaker, Contains-append_left, Contains-append_right}
 use Rattle.std.proofs.lemmas.List.Sums.{sum_by-cons}
 use Rattle.prefixes.proofs.Basics.{lt_true}
-use Rattle.serde_json.specs.Data.{Data}
-use Rattle.serde_json.specs.Read.{read}
+use Rattle.serde_json.specs.Data.{Data, null, boolean, number, string, array, object, Items}
+use Rattle.serde_json.specs.Find.{as_array}
 use Rattle.std.specs.Str.{IsUtf8}
-use Rattle.exports.specs.PlainForm.{TellsEntries, TellsParts}
-use Rattle.exports.specs.declared.fault.EntryFault.{EntryFault}
-use Rattle.exports.specs.declared.fault.ExportFault.TheVariants.{NoRoas, Entry, TooMany}
+use Rattle.exports.specs.PlainForm.{ReadsParts, TellsEntries}
+use Rattle.exports.specs.declared.fault.ExportFault.TheVariants.{NotJson, NoRoas, Entry, TooMany, Memory, Repeated}
 use Rattle.exports.specs.declared.plain.Entries.{Entries}
-use Rattle.exports.specs.declared.plain.Entries.TheVariants.{Whole, Broken}
 use Rattle.exports.specs.declared.plain.Parts.{Parts}
 use Rattle.vrps.specs.VrpSet.{set_of, size}
 use Rattle.exports.specs.Built.{IsBuilt, buildtime, generated}
-use Rattle.exports.specs.Entry.{counts_at, expired, is_after}
-use Rattle.exports.specs.Export.{HasFault, IsExport, Lists, Reads}
-use Rattle.exports.specs.Found.{Gathers}
+use Rattle.exports.specs.Entry.{counts_at, current, expired, is_after}
+use Rattle.exports.specs.Export.{HasFault, IsExport, Lists, ReadsOnce}
+use Rattle.exports.specs.Repeats.{Repeats}
+use Rattle.exports.specs.Found.{Gathers, SetFails}
+use Rattle.exports.specs.Lasting.{AreLasts, IsExportLasting, counting}
 use Rattle.exports.specs.Until.{IsBefore, IsExportUntil, IsFirst, endings}
 use Rattle.exports.specs.declared.entry.Listed.{Listed}
+use Rattle.exports.specs.declared.export.ExportLasting.{ExportLasting}
 use Rattle.exports.specs.declared.export.ExportUntil.{ExportUntil}
 use Rattle.exports.specs.declared.fault.ExportFault.{ExportFault}
 use Rattle.exports.specs.declared.gathered.Gathered.{Gathered}
+use Rattle.exports.proofs.Lasts.{counting_current}
 
 -- ---- the first of two lists of seconds
 
@@ -91,6 +93,7 @@ lasts bytes now x is t later before =
     record {
       value = is.export.value;
       reads = is.export.reads;
+      names_once = is.export.names_once;
       entries = is.export.entries;
       lists = is.export.lists;
       set_is = is.export.set_is ∙ ap (λ es. set_of (map (λ e. e.payload) es)) (sym same.0);
@@ -106,15 +109,21 @@ if_lasts bytes now (Err e) h = tt
 
 -- ---- an export of what was gathered
 
-pub record Made (g : Gathered) (built : Option ℕ) (x : ExportUntil) : Type 0 where
+pub record Made (g : Gathered) (built : Option ℕ) (x : ExportLasting) : Type 0 where
   pub set : (x.export.set ≡ set_of g.records.items) × (size x.export.set ≤ 16777215)
+  pub lasts : AreLasts g.records.items g.lasts.items x.export.set x.lasts.items
   pub rest : (x.export.expired ≡ g.expired) × (x.export.built ≡ built) × (x.until ≡ g.until)
 
-pub is_made : (bytes : List ℕ) (now : ℕ) (d : Data) (g : Gathered) (built : Option ℕ) (x : ExportUntil) → Reads bytes d → (es : List Listed) × Lists d es × Gathers now es g → IsBuilt (generated d) (buildtime d) built → Made g built x → IsExportUntil bytes now x
+-- By its last seconds that counts then of what was gathered that the entries list then.
+later_counts : (now t : ℕ) (es : List Listed) (g : Gathered) → Gathers now es g → now ≤ t → t < 2 ^ 64 → counting t g.records.items g.lasts.items ≡ current t es
+later_counts now t es g is later small = (λ i. counting t (is.records i) (is.lasts i)) ∙ counting_current now t es later small
+
+pub is_made : (bytes : List ℕ) (now : ℕ) (d : Data) (g : Gathered) (built : Option ℕ) (x : ExportLasting) → ReadsOnce bytes d → (es : List Listed) × Lists d es × Gathers now es g → IsBuilt (generated d) (buildtime d) built → Made g built x → IsExportLasting bytes now x
 is_made bytes now d g built x reads found is made = record {
   export = record {
     value = d;
-    reads = reads;
+    reads = reads.0;
+    names_once = reads.1;
     entries = found.0;
     lists = found.1;
     set_is = made.set.0 ∙ ap set_of found.2.records;
@@ -123,34 +132,47 @@ is_made bytes now d g built x reads found is made = record {
     built_is = subst (λ b. IsBuilt (generated d) (buildtime d) b) (sym made.rest.1) is;
   };
   until = subst (λ end. IsFirst (endings now found.0) end) (sym made.rest.2) found.2.until;
+  one_each = made.lasts.one_each;
+  later = λ t later small. made.lasts.same t small ∙ ap set_of (later_counts now t found.0 g found.2 later small);
 }
 
--- What was gathered of a text in its plain form
-pub of_parts : (text : List ℕ) (now : ℕ) (o : Option Parts) (p : Parts) (g : Gathered) (x : ExportUntil) → IsUtf8 text → IfSome o (λ parts. (d : Data) × (read text ≡ Some d) × TellsParts now d parts) → o ≡ Some p → p.entries ≡ Some (Whole g) → Made g p.built x → IsExportUntil text now x
-of_parts text now o p g x utf8 told is has made =
-    let parts = subst (λ o. IfSome o (λ parts. (d : Data) × (read text ≡ Some d) × TellsParts now d parts)) is told in
-    is_made text now parts.0 g p.built x (utf8, parts.1) (subst (λ x. TellsEntries now parts.0 x) has parts.2.entries) parts.2.built made
+-- If there is no set of what was gathered, the bytes have that fault.
+pub set_fails : (bytes : List ℕ) (now : ℕ) (d : Data) (g : Gathered) (f : ExportFault) → ReadsOnce bytes d → (es : List Listed) × Lists d es × Gathers now es g → SetFails g.records.items f → HasFault bytes now f
+set_fails bytes now d g NotJson reads found fails = absurd fails
+set_fails bytes now d g NoRoas reads found fails = absurd fails
+set_fails bytes now d g (Entry i w) reads found fails = absurd fails
+set_fails bytes now d g TooMany reads found fails = (d, reads, (found.0, found.1, subst (λ vs. 16777215 < size (set_of vs)) found.2.records fails))
+set_fails bytes now d g Memory reads found fails = tt
+set_fails bytes now d g Repeated reads found fails = absurd fails
 
--- and what is wrong with it
-told_of : (text : List ℕ) (now : ℕ) (o : Option Parts) (p : Parts) (e : Option Entries) → IfSome o (λ parts. (d : Data) × (read text ≡ Some d) × TellsParts now d parts) → o ≡ Some p → p.entries ≡ e → (d : Data) × (read text ≡ Some d) × TellsEntries now d e
-told_of text now o p e told is has =
-    let parts = subst (λ o. IfSome o (λ parts. (d : Data) × (read text ≡ Some d) × TellsParts now d parts)) is told in
-    (parts.0, parts.1, subst (λ x. TellsEntries now parts.0 x) has parts.2.entries)
+-- What was read of a text in its plain form, and what is wrong with it
+pub entries_of : (text : List ℕ) (now : ℕ) (p : Parts) (e : Option Entries) → IsUtf8 text → ReadsParts now text p → p.repeats ≡ false → p.entries ≡ e → (d : Data) × ReadsOnce text d × TellsEntries now d e × IsBuilt (generated d) (buildtime d) p.built
+entries_of text now p e utf8 told once has = (
+  told.value,
+  ((utf8, told.reads), subst (λ b. MatchBool b (Repeats text) (¬ (Repeats text))) once told.repeats),
+  subst (λ x. TellsEntries now told.value x) has told.parts.entries,
+  told.parts.built,
+)
 
-pub broken_parts : (text : List ℕ) (now : ℕ) (o : Option Parts) (p : Parts) (i : ℕ) (w : EntryFault) → IsUtf8 text → IfSome o (λ parts. (d : Data) × (read text ≡ Some d) × TellsParts now d parts) → o ≡ Some p → p.entries ≡ Some (Broken i w) → HasFault text now (Entry i w)
-broken_parts text now o p i w utf8 told is has = let d = told_of text now o p (Some (Broken i w)) told is has in (d.0, (utf8, d.1), d.2)
+pub if_made : (bytes : List ℕ) (now : ℕ) (d : Data) (g : Gathered) (built : Option ℕ) (r : Result ExportLasting ExportFault) → ReadsOnce bytes d → (es : List Listed) × Lists d es × Gathers now es g → IsBuilt (generated d) (buildtime d) built
+    → IfOk r (λ x. (x.export.set ≡ set_of g.records.items) × (size x.export.set ≤ 16777215)) → IfOk r (λ x. AreLasts g.records.items g.lasts.items x.export.set x.lasts.items)
+    → IfOk r (λ x. (x.export.expired ≡ g.expired) × (x.export.built ≡ built) × (x.until ≡ g.until)) → IfOk r (λ x. IsExportLasting bytes now x)
+if_made bytes now d g built (Ok x) reads found is set lasts rest = is_made bytes now d g built x reads found is (record { set = set; lasts = lasts; rest = rest })
+if_made bytes now d g built (Err e) reads found is set lasts rest = tt
 
-pub no_entries : (text : List ℕ) (now : ℕ) (o : Option Parts) (p : Parts) → IsUtf8 text → IfSome o (λ parts. (d : Data) × (read text ≡ Some d) × TellsParts now d parts) → o ≡ Some p → p.entries ≡ None → HasFault text now NoRoas
-no_entries text now o p utf8 told is has = let d = told_of text now o p None told is has in (d.0, (utf8, d.1), d.2.0, d.2.1)
+pub if_fails : (bytes : List ℕ) (now : ℕ) (d : Data) (g : Gathered) (r : Result ExportLasting ExportFault) → ReadsOnce bytes d → (es : List Listed) × Lists d es × Gathers now es g → IfErr r (λ f. SetFails g.records.items f) → IfErr r (λ f. HasFault bytes now f)
+if_fails bytes now d g (Ok x) reads found fails = tt
+if_fails bytes now d g (Err f) reads found fails = set_fails bytes now d g f reads found fails
 
-pub too_many : (text : List ℕ) (now : ℕ) (o : Option Parts) (p : Parts) (g : Gathered) (f : ExportFault) → IsUtf8 text → IfSome o (λ parts. (d : Data) × (read text ≡ Some d) × TellsParts now d parts) → o ≡ Some p → p.entries ≡ Some (Whole g)
-    → ◌≡◌ {A = Result ExportUntil ExportFault} (Err f) (Err TooMany) → 16777215 < size (set_of g.records.items) → HasFault text now f
-too_many text now o p g f utf8 told is has fault many =
-    let d = told_of text now o p (Some (Whole g)) told is has in
-    let same : f ≡ TooMany = cc in
-    subst (λ x. HasFault text now x) (sym same) (d.0, (utf8, d.1), (d.2.0, d.2.1, subst (λ vs. 16777215 < size (set_of vs)) d.2.2.records many))
+-- With its last seconds forgotten
+pub forgotten : (bytes : List ℕ) (now : ℕ) (x : ExportLasting) → IsExportLasting bytes now x → IsExportUntil bytes now (record { export = x.export; until = x.until })
+forgotten bytes now x is = record { export = is.export; until = is.until }
 
-pub if_made : (bytes : List ℕ) (now : ℕ) (d : Data) (g : Gathered) (built : Option ℕ) (r : Result ExportUntil ExportFault) → Reads bytes d → (es : List Listed) × Lists d es × Gathers now es g → IsBuilt (generated d) (buildtime d) built
-    → IfOk r (λ x. (x.export.set ≡ set_of g.records.items) × (size x.export.set ≤ 16777215)) → IfOk r (λ x. (x.export.expired ≡ g.expired) × (x.export.built ≡ built) × (x.until ≡ g.until)) → IfOk r (λ x. IsExportUntil bytes now x)
-if_made bytes now d g built (Ok x) reads found is set rest = is_made bytes now d g built x reads found is (record { set = set; rest = rest })
-if_made bytes now d g built (Err e) reads found is set rest = tt
+-- An array does not say when it was made.
+pub no_time : (d : Data) (ds : Items) → Some ds ≡ as_array d → IsBuilt (generated d) (buildtime d) None
+no_time null ds e = λ t f m says. absurd (cc)
+no_time (boolean b) ds e = λ t f m says. absurd (cc)
+no_time (number n) ds e = λ t f m says. absurd (cc)
+no_time (string s) ds e = λ t f m says. absurd (cc)
+no_time (array xs) ds e = λ t f m says. absurd (cc)
+no_time (object ms) ds e = absurd (cc)

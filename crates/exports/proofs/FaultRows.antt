@@ -5,6 +5,7 @@ use Rattle.std.specs.Prelude.{negsuc}
 use Rattle.std.proofs.lemmas.Fmt.{decimal_injective}
 use Rattle.serde_json.specs.Data.{Data, null, number, string, array, object, unsigned, negative, Items, no_items, item, Members, no_members, member}
 use Rattle.serde_json.specs.Read as json
+use Rattle.json.proofs.OnLiterals.{json_on_literals}
 use Rattle.serde_json.proofs.OnLiterals.{serde_json_on_literals}
 use Rattle.prefixes.proofs.Decimals.{begins, decimal_lacks}
 use Rattle.prefixes.proofs.Lacks.{Lacks}
@@ -20,12 +21,14 @@ use Rattle.payload_lists.proofs.Entries.{one_some}
 use Rattle.payload_lists.specs.PayloadList as lists
 use Rattle.vrps.specs.VrpSet.{set_of, size}
 use Rattle.exports.specs.Entry.{AsnText, IsEntry, Said, SaysAsn, SaysExpiry, SaysFault, SaysMaxLen, SaysPrefix, current, said}
-use Rattle.exports.specs.Export.{HasFault, Lists, Reads}
+use Rattle.exports.specs.Export.{HasFault, Lists, ReadsOnce}
 use Rattle.exports.specs.declared.entry.Listed.{Listed}
 use Rattle.exports.specs.Faults.{export_fault_number}
 use Rattle.exports.specs.declared.fault.EntryFault.TheVariants as faults
-use Rattle.exports.specs.declared.fault.ExportFault.TheVariants.{NotJson, NoRoas, Entry, TooMany, Memory}
+use Rattle.exports.specs.declared.fault.ExportFault.TheVariants.{NotJson, NoRoas, Entry, TooMany, Memory, Repeated}
+use Rattle.exports.specs.Repeats.{Repeats}
 use Rattle.exports.proofs.Ascii.{utf8}
+use Rattle.exports.proofs.Deciding.{stand_once, stand_twice}
 use Rattle.exports.proofs.Once.{OneMeaning}
 use Rattle.exports.proofs.Outcomes.{one_lists, one_value}
 use Rattle.exports.proofs.Texts.{none_after}
@@ -217,20 +220,63 @@ two_values : HasFault (codes "{\"roas\":[]} {}") 0 NotJson
 unfolding serde_json_on_literals
 two_values = no_value (codes "{\"roas\":[]} {}") refl
 
+-- Of a text that is no JSON a name that stands twice is not reported,
+twice_and_more : HasFault (codes "{\"roas\":[],\"roas\":[]} x") 0 NotJson
+unfolding serde_json_on_literals
+twice_and_more = no_value (codes "{\"roas\":[],\"roas\":[]} x") refl
+
+-- but before an entry that cannot be read, also one that stands in front,
+abbrev behind_seven : List ℕ
+behind_seven = codes "{\"roas\":[7,{\"asn\":1,\"asn\":2}]}"
+
+read_behind_seven : json.read behind_seven ≡ Some (object (member (codes "roas") (array (item (number (unsigned 7)) (item (object (member (codes "asn") (number (unsigned 2)) no_members)) no_items))) no_members))
+unfolding serde_json_on_literals
+read_behind_seven = refl
+
+repeats_behind_seven : Repeats behind_seven
+unfolding json_on_literals
+repeats_behind_seven = stand_twice behind_seven refl
+
+before_an_entry : HasFault behind_seven 0 Repeated
+before_an_entry = (_, (utf8 behind_seven refl, read_behind_seven), repeats_behind_seven)
+
+-- and before `roas` that are not there.
+abbrev no_roas_but : List ℕ
+no_roas_but = codes "{\"metadata\":{},\"metadata\":{}}"
+
+read_no_roas_but : json.read no_roas_but ≡ Some (object (member (codes "metadata") (object no_members) no_members))
+unfolding serde_json_on_literals
+read_no_roas_but = refl
+
+repeats_no_roas_but : Repeats no_roas_but
+unfolding json_on_literals
+repeats_no_roas_but = stand_twice no_roas_but refl
+
+before_no_roas : HasFault no_roas_but 0 Repeated
+before_no_roas = (_, (utf8 no_roas_but refl, read_no_roas_but), repeats_no_roas_but)
+
 -- JSON of neither form: a number, an object without roas, one whose roas are no array, and an array that is no payload list
 read_seven : json.read (codes "7") ≡ Some (number (unsigned 7))
 unfolding serde_json_on_literals
 read_seven = refl
 
+seven_once : ¬ (Repeats (codes "7"))
+unfolding json_on_literals
+seven_once = stand_once (codes "7") refl
+
 seven : HasFault (codes "7") 0 NoRoas
-seven = (number (unsigned 7), (utf8 (codes "7") refl, read_seven), refl, λ es h. let no : None ≡ Some h.items = h.is_array in absurd (cc))
+seven = (number (unsigned 7), ((utf8 (codes "7") refl, read_seven), seven_once), refl, λ es h. let no : None ≡ Some h.items = h.is_array in absurd (cc))
 
 read_nothing : json.read (codes "{}") ≡ Some (object no_members)
 unfolding serde_json_on_literals
 read_nothing = refl
 
+nothing_once : ¬ (Repeats (codes "{}"))
+unfolding json_on_literals
+nothing_once = stand_once (codes "{}") refl
+
 without_roas : HasFault (codes "{}") 0 NoRoas
-without_roas = (object no_members, (utf8 (codes "{}") refl, read_nothing), refl, λ es h. let no : None ≡ Some h.items = h.is_array in absurd (cc))
+without_roas = (object no_members, ((utf8 (codes "{}") refl, read_nothing), nothing_once), refl, λ es h. let no : None ≡ Some h.items = h.is_array in absurd (cc))
 
 abbrev object_roas : Data
 object_roas = object (member (codes "roas") (object no_members) no_members)
@@ -239,8 +285,12 @@ read_object_roas : json.read (codes "{\"roas\":{}}") ≡ Some object_roas
 unfolding serde_json_on_literals
 read_object_roas = refl
 
+object_roas_once : ¬ (Repeats (codes "{\"roas\":{}}"))
+unfolding json_on_literals
+object_roas_once = stand_once (codes "{\"roas\":{}}") refl
+
 roas_no_array : HasFault (codes "{\"roas\":{}}") 0 NoRoas
-roas_no_array = (object_roas, (utf8 (codes "{\"roas\":{}}") refl, read_object_roas), refl, λ es h. let no : None ≡ Some h.items = h.is_array in absurd (cc))
+roas_no_array = (object_roas, ((utf8 (codes "{\"roas\":{}}") refl, read_object_roas), object_roas_once), refl, λ es h. let no : None ≡ Some h.items = h.is_array in absurd (cc))
 
 abbrev one_seven : Items
 one_seven = item (number (unsigned 7)) no_items
@@ -253,8 +303,12 @@ no_list : (vs : List Payload) → ¬ (lists.AreEntries one_seven vs)
 no_list [] h = h
 no_list (v ∷ vs) h = let no : None ≡ Some h.0.members = h.0.is_object in absurd (cc)
 
+one_seven_once : ¬ (Repeats (codes "[7]"))
+unfolding json_on_literals
+one_seven_once = stand_once (codes "[7]") refl
+
 no_payload_list : HasFault (codes "[7]") 0 NoRoas
-no_payload_list = (array one_seven, (utf8 (codes "[7]") refl, read_one_seven), refl, λ es h. no_list h.payloads (subst (λ ds. lists.AreEntries ds h.payloads) (one_some h.items one_seven (Some one_seven) h.is_array refl) h.listed))
+no_payload_list = (array one_seven, ((utf8 (codes "[7]") refl, read_one_seven), one_seven_once), refl, λ es h. no_list h.payloads (subst (λ ds. lists.AreEntries ds h.payloads) (one_some h.items one_seven (Some one_seven) h.is_array refl) h.listed))
 
 -- an entry of a payload list with a fourth key
 abbrev four_members : Members
@@ -274,9 +328,13 @@ no_fourth : (vs : List Payload) → ¬ (lists.AreEntries (item four_keys no_item
 no_fourth [] h = h
 no_fourth (v ∷ vs) h = let count : lists.member_count h.0.members ≡ 4 = ap lists.member_count (one_some h.0.members four_members (Some four_members) h.0.is_object refl) in absurd (omega (arith, count, h.0.three))
 
+four_once : ¬ (Repeats list_of_four)
+unfolding json_on_literals
+four_once = stand_once list_of_four refl
+
 a_fourth_key : HasFault list_of_four 0 NoRoas
 a_fourth_key =
-    (array (item four_keys no_items), (utf8 list_of_four refl, read_four), refl, λ es h. no_fourth h.payloads (subst (λ ds. lists.AreEntries ds h.payloads) (one_some h.items (item four_keys no_items) (Some (item four_keys no_items)) h.is_array refl) h.listed))
+    (array (item four_keys no_items), ((utf8 list_of_four refl, read_four), four_once), refl, λ es h. no_fourth h.payloads (subst (λ ds. lists.AreEntries ds h.payloads) (one_some h.items (item four_keys no_items) (Some (item four_keys no_items)) h.is_array refl) h.listed))
 
 -- An entry that cannot be read refuses the whole, and it is the first one that is told: of three the second, whose AS is none.
 abbrev well : Data
@@ -295,22 +353,27 @@ read_three = refl
 well_is : IsEntry well (record { payload = record { prefix = ten; max_len = 8; asn = 1 }; expires = None })
 well_is = (refl, record { asn = (lit< tt, refl); prefix = (codes "10.0.0.0/8", refl, ten_text); max_len = (refl, lit≤ tt, lit≤ tt); expires = refl })
 
+three_once : ¬ (Repeats three)
+unfolding json_on_literals
+three_once = stand_once three refl
+
 the_second_of_three : HasFault three 0 (Entry 1 faults.Asn)
-the_second_of_three = (object (member (codes "roas") (array three_items) no_members), (utf8 three refl, read_three), (three_items, refl, ((record { payload = record { prefix = ten; max_len = 8; asn = 1 }; expires = None }, well_is), inr (refl, as_minus_one))))
+the_second_of_three = (object (member (codes "roas") (array three_items) no_members), ((utf8 three refl, read_three), three_once), (three_items, refl, ((record { payload = record { prefix = ten; max_len = 8; asn = 1 }; expires = None }, well_is), inr (refl, as_minus_one))))
 
 -- Of 16,777,216 different payloads there are too many, and of one less not.
-one_too_many : (bytes : List ℕ) (d : Data) (es : List Listed) → Reads bytes d → Lists d es → size (set_of (current 0 es)) ≡ 16777216 → HasFault bytes 0 TooMany
+one_too_many : (bytes : List ℕ) (d : Data) (es : List Listed) → ReadsOnce bytes d → Lists d es → size (set_of (current 0 es)) ≡ 16777216 → HasFault bytes 0 TooMany
 one_too_many bytes d es reads lists_it is = (d, reads, (es, lists_it, omega (arith, is)))
 
 meaning : OneMeaning
 meaning = record { of_lists = one_reading; of_entries = one_saying }
 
-not_too_many : (bytes : List ℕ) (d : Data) (es : List Listed) → Reads bytes d → Lists d es → size (set_of (current 0 es)) ≡ 16777215 → ¬ (HasFault bytes 0 TooMany)
+not_too_many : (bytes : List ℕ) (d : Data) (es : List Listed) → ReadsOnce bytes d → Lists d es → size (set_of (current 0 es)) ≡ 16777215 → ¬ (HasFault bytes 0 TooMany)
 not_too_many bytes d es reads lists_it is h =
-    let value = one_value bytes h.0 d h.1 reads in
+    let value = one_value bytes h.0 d h.1.0 reads.0 in
     let same = one_lists meaning d h.2.0 es (subst (λ x. Lists x h.2.0) value h.2.1) lists_it in
     let sizes : size (set_of (current 0 h.2.0)) ≡ 16777215 = ap (λ l. size (set_of (current 0 l))) same ∙ is in
     omega (arith, sizes, h.2.2)
 
 numbers : (export_fault_number NotJson ≡ 1) × (export_fault_number NoRoas ≡ 2) × (export_fault_number (Entry 7 faults.Asn) ≡ 3) × (export_fault_number TooMany ≡ 4) × (export_fault_number Memory ≡ 5)
-numbers = (refl, refl, refl, refl, refl)
+    × (export_fault_number Repeated ≡ 6)
+numbers = (refl, refl, refl, refl, refl, refl)

@@ -1,10 +1,13 @@
 -- Files as validators and RTR tools write them, worked out at a moment.
-use Rattle.std.proofs.Common.{◌≡◌, ℕ, ◌≤◌, List, [], ◌∷◌, map, Option, Some, None, refl, arith, codes, inl, inr, lit<, lit≤, rules}
+use Rattle.std.proofs.Common.{◌≡◌, ℕ, ◌≤◌, List, [], ◌∷◌, Vec, Global, cond, Bool, true, false, length, map, Option, Some, None, refl, sym, ap, ◌∙◌, arith, codes, inl, inr, lit<, lit≤, rules}
+use Rattle.std.specs.Prelude.{nat_le, ◌||◌}
 use Rattle.std.specs.Fmt.{digits}
+use Rattle.std.proofs.lemmas.Bool.Decides.{nat_tests}
 use Rattle.std.proofs.lemmas.List.Elements.{All-cons, All-nil}
 use Rattle.std.specs.List.Sorted.{IsStrictlySortedBy}
 use Rattle.serde_json.specs.Data.{Data, null, number, string, array, object, unsigned, Items, no_items, item, no_members, member}
 use Rattle.serde_json.specs.Read as json
+use Rattle.json.proofs.OnLiterals.{json_on_literals}
 use Rattle.serde_json.proofs.OnLiterals.{serde_json_on_literals}
 use Rattle.der_lite.specs.Moments.{is_moment, told_moment}
 use Rattle.der_lite.specs.Seconds.{days_of_months, days_of_years}
@@ -14,15 +17,19 @@ use Rattle.prefixes.specs.declared.prefix.IpPrefix.TheVariants.{V4, V6}
 use Rattle.prefix_texts.proofs.Sayings.{plain_spells}
 use Rattle.prefix_texts.specs.MixedText.{SpellsPrefix}
 use Rattle.vrps.specs.VrpSet.{VrpSet, set_of, size}
-use Rattle.vrps.proofs.SetLaws.{size-set_of}
+use Rattle.vrps.proofs.SetLaws.{has-set_of, listing-set_of, same_set, same_vrp, size-set_of}
 use Rattle.payload_lists.specs.PayloadList as lists
 use Rattle.exports.specs.Built.{IsTimeOf}
 use Rattle.exports.specs.Entry.{AreEntries}
 use Rattle.exports.specs.Export.{IsExport, lasting}
+use Rattle.exports.specs.Lasting.{AreLasts, IsExportLasting, counting}
+use Rattle.exports.specs.Repeats.{Repeats}
 use Rattle.exports.specs.Until.{IsExportUntil}
 use Rattle.exports.specs.declared.entry.Listed.{Listed}
 use Rattle.exports.proofs.Ascii.{utf8}
+use Rattle.exports.proofs.Deciding.{stand_once}
 use Rattle.exports.proofs.Ends.{lasts}
+use Rattle.exports.proofs.Lasts.{counting_current}
 
 -- ---- records
 
@@ -132,6 +139,10 @@ rpki_client_read : json.read rpki_client ≡ Some rpki_client_value
 unfolding serde_json_on_literals
 rpki_client_read = refl
 
+rpki_client_once : ¬ (Repeats rpki_client)
+unfolding json_on_literals
+rpki_client_once = stand_once rpki_client refl
+
 abbrev rpki_client_listed : List Listed
 rpki_client_listed = listed v (Some 1700050000) ∷ listed gone (Some 1700000000) ∷ listed w (Some 1700040000) ∷ []
 
@@ -149,6 +160,7 @@ rpki_client_row : IsExport rpki_client 1700000000 (record { set = both; expired 
 rpki_client_row = record {
   value = rpki_client_value;
   reads = (utf8 rpki_client refl, rpki_client_read);
+  names_once = rpki_client_once;
   entries = rpki_client_listed;
   lists = inr (record { items = rpki_client_items; roas_are = refl; entries = rpki_client_entries });
   set_is = refl;
@@ -173,6 +185,10 @@ routinator_read : json.read routinator ≡ Some routinator_value
 unfolding serde_json_on_literals
 routinator_read = refl
 
+routinator_once : ¬ (Repeats routinator)
+unfolding json_on_literals
+routinator_once = stand_once routinator refl
+
 abbrev routinator_listed : List Listed
 routinator_listed = listed v None ∷ listed w None ∷ []
 
@@ -187,6 +203,7 @@ routinator_row : IsExport routinator 1700000000 (record { set = both; expired = 
 routinator_row = record {
   value = routinator_value;
   reads = (utf8 routinator refl, routinator_read);
+  names_once = routinator_once;
   entries = routinator_listed;
   lists = inr (record { items = routinator_items; roas_are = refl; entries = routinator_entries });
   set_is = refl;
@@ -211,6 +228,10 @@ fort_read : json.read fort ≡ Some fort_value
 unfolding serde_json_on_literals
 fort_read = refl
 
+fort_once : ¬ (Repeats fort)
+unfolding json_on_literals
+fort_once = stand_once fort refl
+
 abbrev fort_listed : List Listed
 fort_listed = listed v None ∷ listed w None ∷ []
 
@@ -225,6 +246,7 @@ fort_row : IsExport fort 1700000000 (record { set = both; expired = 0; built = N
 fort_row = record {
   value = fort_value;
   reads = (utf8 fort refl, fort_read);
+  names_once = fort_once;
   entries = fort_listed;
   lists = inr (record { items = fort_items; roas_are = refl; entries = fort_entries });
   set_is = refl;
@@ -249,6 +271,10 @@ stayrtr_read : json.read stayrtr ≡ Some stayrtr_value
 unfolding serde_json_on_literals
 stayrtr_read = refl
 
+stayrtr_once : ¬ (Repeats stayrtr)
+unfolding json_on_literals
+stayrtr_once = stand_once stayrtr refl
+
 abbrev stayrtr_listed : List Listed
 stayrtr_listed = listed v (Some 1700050000) ∷ listed w None ∷ []
 
@@ -263,6 +289,7 @@ stayrtr_row : IsExport stayrtr 1700000000 (record { set = both; expired = 0; bui
 stayrtr_row = record {
   value = stayrtr_value;
   reads = (utf8 stayrtr refl, stayrtr_read);
+  names_once = stayrtr_once;
   entries = stayrtr_listed;
   lists = inr (record { items = stayrtr_items; roas_are = refl; entries = stayrtr_entries });
   set_is = refl;
@@ -287,6 +314,10 @@ rtrdump_read : json.read rtrdump ≡ Some rtrdump_value
 unfolding serde_json_on_literals
 rtrdump_read = refl
 
+rtrdump_once : ¬ (Repeats rtrdump)
+unfolding json_on_literals
+rtrdump_once = stand_once rtrdump refl
+
 abbrev rtrdump_listed : List Listed
 rtrdump_listed = listed v None ∷ listed w None ∷ []
 
@@ -301,6 +332,7 @@ rtrdump_row : IsExport rtrdump 1700000000 (record { set = both; expired = 0; bui
 rtrdump_row = record {
   value = rtrdump_value;
   reads = (utf8 rtrdump refl, rtrdump_read);
+  names_once = rtrdump_once;
   entries = rtrdump_listed;
   lists = inr (record { items = rtrdump_items; roas_are = refl; entries = rtrdump_entries });
   set_is = refl;
@@ -322,6 +354,10 @@ list_read : json.read list ≡ Some (array list_items)
 unfolding serde_json_on_literals
 list_read = refl
 
+list_once : ¬ (Repeats list)
+unfolding json_on_literals
+list_once = stand_once list refl
+
 list_entries : lists.AreEntries list_items (v ∷ w ∷ [])
 list_entries = (
   record { members = _; is_object = refl; three = refl; asn = refl; max_len = refl; text = codes "192.0.2.0/24"; has_text = refl; prefix = v_text; payload = v_payload },
@@ -333,6 +369,7 @@ list_row = record {
   export = record {
     value = array list_items;
     reads = (utf8 list refl, list_read);
+    names_once = list_once;
     entries = map lasting (v ∷ w ∷ []);
     lists = inl (record { items = list_items; is_array = refl; payloads = v ∷ w ∷ []; listed = list_entries; entries_are = refl });
     set_is = refl;
@@ -354,6 +391,10 @@ empty_read : json.read empty ≡ Some empty_value
 unfolding serde_json_on_literals
 empty_read = refl
 
+empty_once : ¬ (Repeats empty)
+unfolding json_on_literals
+empty_once = stand_once empty refl
+
 none_within : size (set_of []) ≤ 16777215
 unfolding IsStrictlySortedBy
 none_within = omega (arith, size-set_of [] tt)
@@ -363,6 +404,7 @@ empty_row = record {
   export = record {
     value = empty_value;
     reads = (utf8 empty refl, empty_read);
+    names_once = empty_once;
     entries = [];
     lists = inr (record { items = no_items; roas_are = refl; entries = tt });
     set_is = refl;
@@ -371,6 +413,77 @@ empty_row = record {
     built_is = λ t e m says. absurd (cc);
   };
   until = refl;
+}
+
+-- A name that is not read may stand twice, here `ta` in an entry and `x` in the export,
+abbrev ta_twice : List ℕ
+ta_twice = codes "{\"x\":1,\"roas\":[{\"asn\":64496,\"prefix\":\"192.0.2.0/24\",\"maxLength\":24,\"ta\":\"a\",\"ta\":\"b\"}],\"x\":2}"
+
+abbrev ta_twice_items : Items
+ta_twice_items =
+    item (object (member (codes "asn") (number (unsigned 64496)) (member (codes "maxLength") (number (unsigned 24)) (member (codes "prefix") (string (codes "192.0.2.0/24")) (member (codes "ta") (string (codes "b")) no_members))))) no_items
+
+abbrev ta_twice_value : Data
+ta_twice_value = object (member (codes "roas") (array ta_twice_items) (member (codes "x") (number (unsigned 2)) no_members))
+
+ta_twice_read : json.read ta_twice ≡ Some ta_twice_value
+unfolding serde_json_on_literals
+ta_twice_read = refl
+
+ta_twice_once : ¬ (Repeats ta_twice)
+unfolding json_on_literals
+ta_twice_once = stand_once ta_twice refl
+
+one_within : size (set_of (v ∷ [])) ≤ 16777215
+unfolding IsStrictlySortedBy
+one_within = omega (arith, size-set_of (v ∷ []) (tt, tt))
+
+ta_twice_row : IsExport ta_twice 1700000000 (record { set = set_of (v ∷ []); expired = 0; built = None })
+unfolding digits
+ta_twice_row = record {
+  value = ta_twice_value;
+  reads = (utf8 ta_twice refl, ta_twice_read);
+  names_once = ta_twice_once;
+  entries = listed v None ∷ [];
+  lists = inr (record { items = ta_twice_items; roas_are = refl; entries = ((refl, record { asn = (lit< tt, refl); prefix = (codes "192.0.2.0/24", refl, v_spelled); max_len = (refl, lit≤ tt, lit≤ tt); expires = refl }), tt) });
+  set_is = refl;
+  within_limit = one_within;
+  expired_is = refl;
+  built_is = λ t e m says. absurd (cc);
+}
+
+-- and in a payload list so may each: the last counts.
+abbrev list_twice : List ℕ
+list_twice = codes "[{\"asn\":1,\"asn\":64496,\"prefix\":\"192.0.2.0/24\",\"maxLength\":24}]"
+
+abbrev list_twice_items : Items
+list_twice_items = item (object (member (codes "asn") (number (unsigned 64496)) (member (codes "maxLength") (number (unsigned 24)) (member (codes "prefix") (string (codes "192.0.2.0/24")) no_members)))) no_items
+
+list_twice_read : json.read list_twice ≡ Some (array list_twice_items)
+unfolding serde_json_on_literals
+list_twice_read = refl
+
+list_twice_once : ¬ (Repeats list_twice)
+unfolding json_on_literals
+list_twice_once = stand_once list_twice refl
+
+list_twice_row : IsExport list_twice 1700000000 (record { set = set_of (v ∷ []); expired = 0; built = None })
+list_twice_row = record {
+  value = array list_twice_items;
+  reads = (utf8 list_twice refl, list_twice_read);
+  names_once = list_twice_once;
+  entries = map lasting (v ∷ []);
+  lists = inl (record {
+    items = list_twice_items;
+    is_array = refl;
+    payloads = v ∷ [];
+    listed = (record { members = _; is_object = refl; three = refl; asn = refl; max_len = refl; text = codes "192.0.2.0/24"; has_text = refl; prefix = v_text; payload = v_payload }, tt);
+    entries_are = refl;
+  });
+  set_is = refl;
+  within_limit = one_within;
+  expired_is = refl;
+  built_is = λ t e m says. absurd (cc);
 }
 
 -- ---- until when they stay so
@@ -389,3 +502,34 @@ rpki_client_until = record {
 -- A second before it the bytes are the same export.
 rpki_client_then : IsExport rpki_client 1700039999 (record { set = both; expired = 1; built = Some 1699999800 })
 rpki_client_then = lasts rpki_client 1700000000 (record { export = record { set = both; expired = 1; built = Some 1699999800 }; until = Some 1700040000 }) rpki_client_until 1700039999 (lit≤ tt) (lit< tt)
+
+-- ---- how long each of its payloads counts
+
+-- The first entry ends at 1700050000, and the second at 1700040000.
+rpki_client_lasting : (lasts : Vec ℕ Global) → lasts.items ≡ 1700049999 ∷ 1700039999 ∷ [] → IsExportLasting rpki_client 1700000000 (record { export = record { set = both; expired = 1; built = Some 1699999800 }; until = Some 1700040000; lasts = lasts })
+unfolding rpki_client_row rpki_client_until
+rpki_client_lasting lasts are = record {
+  export = rpki_client_until.export;
+  until = rpki_client_until.until;
+  one_each = ap length are ∙ sym (size-set_of (v ∷ w ∷ []) both_ascend);
+  later = λ t later small.
+      (λ i. set_of (counting t (listing-set_of (v ∷ w ∷ []) both_ascend i) (are i)))
+      ∙ ap set_of (counting_current 1700000000 t rpki_client_until.export.entries later small);
+}
+
+-- Of two entries with the same payload that ends later counts.
+later_of_two : AreLasts (v ∷ v ∷ []) (99 ∷ 199 ∷ []) (set_of (v ∷ [])) (199 ∷ [])
+unfolding IsStrictlySortedBy
+later_of_two = record {
+  one_each = sym (size-set_of (v ∷ []) (tt, tt));
+  same = λ t small. ap (λ vs. set_of (counting t vs (199 ∷ []))) (listing-set_of (v ∷ []) (tt, tt)) ∙ by_tests (nat_le t 99) (nat_le t 199) (λ early. let yes : nat_le t 199 ≡ true = grind (arith, nat_tests) in yes);
+}
+  where
+    twice : (s : Bool) → (s || false) ≡ (s || (s || false))
+    twice true = refl
+    twice false = refl
+
+    by_tests : (a b : Bool) → (a ≡ true → b ≡ true) → set_of (cond b (v ∷ []) []) ≡ set_of (cond a (v ∷ cond b (v ∷ []) []) (cond b (v ∷ []) []))
+    by_tests true true h = same_set (set_of (v ∷ [])) (set_of (v ∷ v ∷ [])) (λ q. has-set_of (v ∷ []) q ∙ twice (same_vrp q v) ∙ sym (has-set_of (v ∷ v ∷ []) q))
+    by_tests true false h = absurd (let no : false ≡ true = h refl in cc)
+    by_tests false b h = refl

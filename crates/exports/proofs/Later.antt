@@ -1,15 +1,24 @@
 -- From the first end on more entries do not count, so the bytes are another export; and an export with its end is one thing.
 use Rattle.std.proofs.Common.{◌≡◌, ℕ, zero, suc, ◌+◌, ◌<◌, ◌≤◌, cond, Bool, true, false, nat_lt, List, [], ◌∷◌, Option, Some, None, refl, sym, ap, subst, ◌∙◌, inl, inr, arith}
-use Rattle.std.specs.Prelude.{◌⊎◌, ◌↔◌, Contains, not}
-use Rattle.std.specs.List.{cons_option}
+use Rattle.std.specs.Prelude.{◌⊎◌, ◌↔◌, ◌||◌, Contains, filter, map, not}
+use Rattle.std.specs.List.{cons_option, list_any}
+use Rattle.std.proofs.Math.Bool.{or-true}
 use Rattle.std.proofs.lemmas.Bool.Decides.{nat_tests}
 use Rattle.std.proofs.lemmas.List.Sums.{sum_by-cons}
-use Rattle.exports.specs.Entry.{counts_at, expired, is_after}
+use Rattle.prefixes.specs.Payload.{Payload}
+use Rattle.vrps.specs.VrpSet.{listing, set_of, size}
+use Rattle.vrps.proofs.SetLaws.{has-set_of, same_vrp}
+use Rattle.vrps.proofs.Sizes.{size_le}
+use Rattle.exports.specs.Entry.{counts_at, current, expired, is_after}
 use Rattle.exports.specs.Export.{IsExport, Lists}
+use Rattle.exports.specs.ExportLaws.{LaterExports}
+use Rattle.exports.specs.Lasting.{counting}
 use Rattle.exports.specs.Until.{IsBefore, IsExportUntil, IsFirst, endings}
 use Rattle.exports.specs.declared.entry.Listed.{Listed}
+use Rattle.exports.specs.declared.export.Export.{Export}
 use Rattle.exports.specs.declared.export.ExportUntil.{ExportUntil}
 use Rattle.exports.proofs.Ends.{endings-cons, lasts}
+use Rattle.exports.proofs.Lasts.{never_again}
 use Rattle.exports.proofs.Once.{OneMeaning}
 use Rattle.exports.proofs.Outcomes.{one_lists, one_value}
 
@@ -84,3 +93,53 @@ then_before one bytes now x is t later then =
 
 pub same_until : OneMeaning → (bytes : List ℕ) (now : ℕ) (x : ExportUntil) → IsExportUntil bytes now x → (t : ℕ) → now ≤ t → (IsExport bytes t x.export ↔ IsBefore t x.until)
 same_until one bytes now x is t later = (then_before one bytes now x is t later, lasts bytes now x is t later)
+
+-- ---- what counts later
+
+-- What counts later counts now.
+counts_now : (now t : ℕ) (q : Payload) (es : List Listed) → now ≤ t → list_any (same_vrp q) (current t es) ≡ true → list_any (same_vrp q) (current now es) ≡ true
+counts_now now t q [] later h = h
+counts_now now t q (e ∷ es) later h = by_tests (counts_at now e) (counts_at t e) (λ no. never_again now t e.expires later no) (counts_now now t q es later) h
+  where
+    by_tests : (a b : Bool) → (a ≡ false → b ≡ false) → (list_any (same_vrp q) (current t es) ≡ true → list_any (same_vrp q) (current now es) ≡ true)
+        → list_any (same_vrp q) (map (λ x. x.payload) (cond b (e ∷ filter (counts_at t) es) (filter (counts_at t) es))) ≡ true
+        → list_any (same_vrp q) (map (λ x. x.payload) (cond a (e ∷ filter (counts_at now) es) (filter (counts_at now) es))) ≡ true
+    by_tests true true never rest h = by_same (same_vrp q e.payload) h
+      where
+        by_same : (s : Bool) → (s || list_any (same_vrp q) (current t es)) ≡ true → (s || list_any (same_vrp q) (current now es)) ≡ true
+        by_same true h = refl
+        by_same false h = rest h
+    by_tests true false never rest h = ap (λ b. same_vrp q e.payload || b) (rest h) ∙ or-true (same_vrp q e.payload)
+    by_tests false true never rest h = absurd (let no : true ≡ false = never refl in cc)
+    by_tests false false never rest h = rest h
+
+no_more : (now t : ℕ) (es : List Listed) → now ≤ t → size (set_of (current t es)) ≤ size (set_of (current now es))
+no_more now t es later = size_le (set_of (current t es)) (set_of (current now es)) (λ q one. has-set_of (current now es) q ∙ counts_now now t q es later (sym (has-set_of (current t es) q) ∙ one))
+
+pub later_exports : OneMeaning → LaterExports
+later_exports one bytes now x is t later small = (stays, same)
+  where
+    es : List Listed
+    es = is.export.entries
+
+    stays : (y : Export) × IsExport bytes t y
+    stays = (
+      record { set = set_of (current t es); expired = expired t es; built = x.export.built },
+      record {
+        value = is.export.value;
+        reads = is.export.reads;
+        names_once = is.export.names_once;
+        entries = es;
+        lists = is.export.lists;
+        set_is = refl;
+        within_limit = let fewer = no_more now t es later in let sizes : size x.export.set ≡ size (set_of (current now es)) = ap (λ s. size s) is.export.set_is in omega (arith, fewer, sizes, is.export.within_limit);
+        expired_is = refl;
+        built_is = is.export.built_is;
+      },
+    )
+
+    same : (y : Export) → IsExport bytes t y → y.set ≡ set_of (counting t (listing x.export.set) x.lasts.items)
+    same y then =
+        let value = one_value bytes then.value is.export.value then.reads is.export.reads in
+        let entries = one_lists one is.export.value then.entries es (subst (λ d. Lists d then.entries) value then.lists) is.export.lists in
+        then.set_is ∙ ap (λ l. set_of (current t l)) entries ∙ sym (is.later t later small)

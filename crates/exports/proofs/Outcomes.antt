@@ -17,7 +17,7 @@ use Rattle.exports.specs.declared.entry.Listed.{Listed}
 use Rattle.exports.specs.declared.export.Export.{Export}
 use Rattle.exports.specs.declared.fault.EntryFault.{EntryFault}
 use Rattle.exports.specs.declared.fault.ExportFault.{ExportFault}
-use Rattle.exports.specs.declared.fault.ExportFault.TheVariants.{NotJson, NoRoas, Entry, TooMany, Memory}
+use Rattle.exports.specs.declared.fault.ExportFault.TheVariants.{NotJson, NoRoas, Entry, TooMany, Memory, Repeated}
 use Rattle.exports.proofs.Once.{OneMeaning, none_fails, one_entries, one_fails}
 use Rattle.exports.proofs.Times.{plain_time}
 
@@ -90,12 +90,13 @@ not_failing one d es ds i w (inr h) are fails =
 
 pub no_fault : OneMeaning → (bytes : List ℕ) (now : ℕ) (x : Export) (f : ExportFault) → IsExport bytes now x → HasFault bytes now f → f ≡ Memory
 no_fault one bytes now x NotJson h k = absurd (k h.value h.reads)
+no_fault one bytes now x Repeated h k = absurd (h.names_once k.2)
 no_fault one bytes now x NoRoas h k =
-    let lists_it = subst (λ d. Lists d h.entries) (one_value bytes h.value k.0 h.reads k.1) h.lists in not_neither k.0 h.entries lists_it k.2 k.3
+    let lists_it = subst (λ d. Lists d h.entries) (one_value bytes h.value k.0 h.reads k.1.0) h.lists in not_neither k.0 h.entries lists_it k.2 k.3
 no_fault one bytes now x (Entry i w) h k =
-    let lists_it = subst (λ d. Lists d h.entries) (one_value bytes h.value k.0 h.reads k.1) h.lists in not_failing one k.0 h.entries k.2.0 i w lists_it k.2.1 k.2.2
+    let lists_it = subst (λ d. Lists d h.entries) (one_value bytes h.value k.0 h.reads k.1.0) h.lists in not_failing one k.0 h.entries k.2.0 i w lists_it k.2.1 k.2.2
 no_fault one bytes now x TooMany h k =
-    let lists_it = subst (λ d. Lists d h.entries) (one_value bytes h.value k.0 h.reads k.1) h.lists in
+    let lists_it = subst (λ d. Lists d h.entries) (one_value bytes h.value k.0 h.reads k.1.0) h.lists in
     let same = one_lists one k.0 h.entries k.2.0 lists_it k.2.1 in
     let sizes : size x.set ≡ size (set_of (current now k.2.0)) = ap (λ s. size s) (h.set_is ∙ ap (λ es. set_of (current now es)) same) in
     absurd (omega (arith, sizes, h.within_limit, k.2.2))
@@ -105,38 +106,48 @@ no_fault one bytes now x Memory h k = refl
 
 entries_differ : {P : Type 0} → OneMeaning → (bytes : List ℕ) (now i : ℕ) (w : EntryFault) → HasFault bytes now (Entry i w) → HasFault bytes now NoRoas → P
 entries_differ one bytes now i w h k =
-    let same = one_value bytes h.0 k.0 h.1 k.1 in
+    let same = one_value bytes h.0 k.0 h.1.0 k.1.0 in
     let no : Some h.2.0 ≡ None = sym h.2.1 ∙ ap roas same ∙ k.2 in absurd (cc)
 
 entry_and_many : {P : Type 0} → OneMeaning → (bytes : List ℕ) (now i : ℕ) (w : EntryFault) → HasFault bytes now (Entry i w) → HasFault bytes now TooMany → P
 entry_and_many one bytes now i w h k =
-    let lists_it = subst (λ d. Lists d k.2.0) (one_value bytes k.0 h.0 k.1 h.1) k.2.1 in not_failing one h.0 k.2.0 h.2.0 i w lists_it h.2.1 h.2.2
+    let lists_it = subst (λ d. Lists d k.2.0) (one_value bytes k.0 h.0 k.1.0 h.1.0) k.2.1 in not_failing one h.0 k.2.0 h.2.0 i w lists_it h.2.1 h.2.2
 
 neither_and_many : {P : Type 0} (bytes : List ℕ) (now : ℕ) → HasFault bytes now NoRoas → HasFault bytes now TooMany → P
 neither_and_many bytes now h k =
-    let lists_it = subst (λ d. Lists d k.2.0) (one_value bytes k.0 h.0 k.1 h.1) k.2.1 in not_neither h.0 k.2.0 lists_it h.2 h.3
+    let lists_it = subst (λ d. Lists d k.2.0) (one_value bytes k.0 h.0 k.1.0 h.1.0) k.2.1 in not_neither h.0 k.2.0 lists_it h.2 h.3
 
 pub one_fault : OneMeaning → (bytes : List ℕ) (now : ℕ) (f g : ExportFault) → HasFault bytes now f → HasFault bytes now g → ¬ (f ≡ Memory) → ¬ (g ≡ Memory) → f ≡ g
 one_fault one bytes now Memory g h k a b = absurd (a refl)
 one_fault one bytes now NotJson Memory h k a b = absurd (b refl)
 one_fault one bytes now NotJson NotJson h k a b = refl
-one_fault one bytes now NotJson NoRoas h k a b = absurd (h k.0 k.1)
-one_fault one bytes now NotJson (Entry i w) h k a b = absurd (h k.0 k.1)
-one_fault one bytes now NotJson TooMany h k a b = absurd (h k.0 k.1)
+one_fault one bytes now NotJson Repeated h k a b = absurd (h k.0 k.1)
+one_fault one bytes now NotJson NoRoas h k a b = absurd (h k.0 k.1.0)
+one_fault one bytes now NotJson (Entry i w) h k a b = absurd (h k.0 k.1.0)
+one_fault one bytes now NotJson TooMany h k a b = absurd (h k.0 k.1.0)
+one_fault one bytes now Repeated Memory h k a b = absurd (b refl)
+one_fault one bytes now Repeated NotJson h k a b = absurd (k h.0 h.1)
+one_fault one bytes now Repeated Repeated h k a b = refl
+one_fault one bytes now Repeated NoRoas h k a b = absurd (k.1.1 h.2)
+one_fault one bytes now Repeated (Entry i w) h k a b = absurd (k.1.1 h.2)
+one_fault one bytes now Repeated TooMany h k a b = absurd (k.1.1 h.2)
 one_fault one bytes now NoRoas Memory h k a b = absurd (b refl)
-one_fault one bytes now NoRoas NotJson h k a b = absurd (k h.0 h.1)
+one_fault one bytes now NoRoas NotJson h k a b = absurd (k h.0 h.1.0)
+one_fault one bytes now NoRoas Repeated h k a b = absurd (h.1.1 k.2)
 one_fault one bytes now NoRoas NoRoas h k a b = refl
 one_fault one bytes now NoRoas (Entry i w) h k a b = entries_differ one bytes now i w k h
 one_fault one bytes now NoRoas TooMany h k a b = neither_and_many bytes now h k
 one_fault one bytes now (Entry i w) Memory h k a b = absurd (b refl)
-one_fault one bytes now (Entry i w) NotJson h k a b = absurd (k h.0 h.1)
+one_fault one bytes now (Entry i w) NotJson h k a b = absurd (k h.0 h.1.0)
+one_fault one bytes now (Entry i w) Repeated h k a b = absurd (h.1.1 k.2)
 one_fault one bytes now (Entry i w) NoRoas h k a b = entries_differ one bytes now i w h k
 one_fault one bytes now (Entry i w) (Entry j v) h k a b =
-    let items = one_some k.2.0 h.2.0 (roas h.0) (ap roas (one_value bytes h.0 k.0 h.1 k.1) ∙ k.2.1) h.2.1 in
+    let items = one_some k.2.0 h.2.0 (roas h.0) (ap roas (one_value bytes h.0 k.0 h.1.0 k.1.0) ∙ k.2.1) h.2.1 in
     let both = one_fails one.of_entries h.2.0 i j w v h.2.2 (subst (λ ds. FailsAt ds j v) items k.2.2) in ap₂ (λ n x. Entry n x) both.0 both.1
 one_fault one bytes now (Entry i w) TooMany h k a b = entry_and_many one bytes now i w h k
 one_fault one bytes now TooMany Memory h k a b = absurd (b refl)
-one_fault one bytes now TooMany NotJson h k a b = absurd (k h.0 h.1)
+one_fault one bytes now TooMany NotJson h k a b = absurd (k h.0 h.1.0)
+one_fault one bytes now TooMany Repeated h k a b = absurd (h.1.1 k.2)
 one_fault one bytes now TooMany NoRoas h k a b = neither_and_many bytes now k h
 one_fault one bytes now TooMany (Entry i w) h k a b = entry_and_many one bytes now i w k h
 one_fault one bytes now TooMany TooMany h k a b = refl

@@ -1,15 +1,20 @@
 -- What is found in the members of an object while they are read.
-use Rattle.std.proofs.Common.{◌≡◌, ℕ, zero, suc, ◌++◌, ◌∷◌, [], true, false, List, length, Option, Some, None, Result, Ok, Err, option_map, get_or, refl, sym, ap, subst, ◌∙◌, arith, inr}
-use Rattle.std.specs.Prelude.{IfErr, IfOk, IfSome, codes, is_some, option_and_then}
+use Rattle.std.proofs.Common.{◌≡◌, ◌≢◌, ◌||◌, ℕ, zero, suc, ◌++◌, ◌∷◌, [], true, false, List, length, Option, Some, None, Result, Ok, Err, option_map, get_or, refl, sym, ap, subst, ◌∙◌, arith, inr}
+use Rattle.std.specs.Prelude.{Bool, IfErr, IfOk, MatchOption, codes, is_some, option_and_then}
 use Rattle.json.specs.Token.{Token}
 use Rattle.serde_json.specs.Data.{Num, Data, null, boolean, number, string, array, object, Items, no_items, Members, no_members, put}
 use Rattle.serde_json.specs.Find.{as_array, as_number, as_object, as_str, as_u64, get_member}
-use Rattle.serde_json.specs.Read.{number_of}
+use Rattle.json.specs.Json as json
+use Rattle.json.specs.Json.{Json, Parse, parse_map, value, value_with}
+use Rattle.json.proofs.Grammar.{value_is}
+use Rattle.payload_lists.proofs.PlainTurns.{number_read}
+use Rattle.exports.specs.Repeating.{entry_repeats, items_repeat, metadata_repeat, roas_repeat}
+use Rattle.serde_json.specs.Read.{converted, number_of, of_items, of_json, of_members}
 use Rattle.serde_json.proofs.Views.{get_member-put, get_member-put_other}
 use Rattle.payload_lists.specs.PayloadList.{text_at, whole_at}
 use Rattle.exports.specs.Built.{IsBuilt}
 use Rattle.exports.specs.Entry.{AreEntries, FailsAt, IsEntry, IsNoEntry, Said, SaysEntry, SaysFault, said, whole}
-use Rattle.exports.specs.PlainForm.{AreListed, FailsIn, IsFound, IsJudged, IsMetadata, IsSeen, ReadsEntries, ReadsRoas, ReadsSome, TellsBuilt, TellsItems, TellsListed, TellsRoas, before}
+use Rattle.exports.specs.PlainForm.{AreListed, FailsIn, IsFound, IsJudged, IsMetadata, IsSeen, ReadsEntries, ReadsNone, ReadsRoas, ReadsSome, TellsBuilt, TellsItems, TellsListed, TellsRoas, before}
 use Rattle.exports.proofs.PlainSteps.{array_read}
 use Rattle.exports.specs.declared.entry.Listed.{Listed}
 use Rattle.exports.specs.declared.fault.EntryFault.{EntryFault}
@@ -142,23 +147,33 @@ pub told_all : (now : ℕ) (ds : List Data) (entries : Entries) → TellsListed 
 told_all now ds (Whole g) h = (h.0, are_all ds h.0 h.1, h.2)
 told_all now ds (Broken i w) h = fails_all ds i w h
 
-pub roas_read : (now : ℕ) (old ts new : List Token) (entries : Entries) → old ≡ Token.begin_array ∷ ts → ReadsEntries now ts new entries → ReadsRoas now old new (Some entries)
-roas_read now old ts new entries first read =
-    array_read 125 (λ ds. TellsListed now ds entries) (λ d. TellsRoas now d (Some entries)) old ts new first read (λ ds h. (before ds no_items, refl, told_all now ds entries h))
+-- the entries so far
+abbrev pub EntriesSoFar : ℕ → ℕ → Entries → Bool → (json.Items → json.Items) → List Data → Type 0
+EntriesSoFar now index entries repeat f ds = (length ds ≡ index) × TellsListed now ds entries × ((rest : json.Items) → items_repeat (f rest) ≡ (repeat || items_repeat rest))
 
-pub each_found : {A E : Type 0} {P Q : A → Type 0} (r : Result (Option A) E) → ((x : A) → P x → Q x) → IfOk r (λ o. IfSome o P) → IfOk r (λ o. IfSome o Q)
-each_found (Err e) f h = tt
-each_found (Ok None) f h = tt
-each_found (Ok (Some x)) f h = f x h
+-- One more of which a name stands twice, or does not
+pub or_more : (a b c : Bool) → (a || (b || c)) ≡ ((a || b) || c)
+or_more true b c = refl
+or_more false b c = refl
+
+pub or_false : (a : Bool) → (a || false) ≡ a
+or_false true = refl
+or_false false = refl
+
+pub roas_read : (now : ℕ) (old ts new : List Token) (r : Entries × Bool) → old ≡ Token.begin_array ∷ ts → ReadsEntries now ts new r → ReadsRoas now old new (Some r.0, r.1)
+roas_read now old ts new r first read =
+    array_read 125 (λ js ds. TellsListed now ds r.0 × (r.1 ≡ items_repeat js)) (λ j d. TellsRoas now d (Some r.0) × (r.1 ≡ roas_repeat j)) old ts new first read
+    (λ js ds h. ((before ds no_items, refl, told_all now ds r.0 h.0), h.1))
+
+pub there_is : {A : Type 0} (o : Option A) (P : Type 0) (Q : A → Type 0) → true ≡ is_some o → MatchOption o P Q → (a : A) × Q a
+there_is None P Q e h = absurd (cc)
+there_is (Some a) P Q e h = (a, h)
 
 -- What was read of the rest of a value was read of the value.
-pub read_at : {A : Type 0} (k : ℕ) (Is : A → Data → Type 0) (old rest new : List Token) (o : Option A) → old ≡ rest → IfSome o (λ a. ReadsSome k (Is a) rest new) → IfSome o (λ a. ReadsSome k (Is a) old new)
-read_at k Is old rest new None same h = tt
+pub read_at : {A : Type 0} (k : ℕ) (Is : A → Json → Data → Type 0) (old rest new : List Token) (o : Option A) → old ≡ rest → MatchOption o (ReadsNone k rest) (λ a. ReadsSome k (Is a) rest new)
+    → MatchOption o (ReadsNone k old) (λ a. ReadsSome k (Is a) old new)
+read_at k Is old rest new None same h = subst (λ ts. ReadsNone k ts) (sym same) h
 read_at k Is old rest new (Some a) same h = subst (λ ts. ReadsSome k (Is a) ts new) (sym same) h
-
-pub at_now : (now : ℕ) (old new : List Token) (o : Option (Option Entries)) → IfSome o (λ e. (n : ℕ) → ReadsRoas n old new e) → IfSome o (λ e. ReadsRoas now old new e)
-at_now now old new None h = tt
-at_now now old new (Some e) h = h now
 
 -- ---- values
 
@@ -169,9 +184,95 @@ number_some s n e = of (number_of s) e
     of None e = absurd (cc)
     of (Some x) e = (x, refl, cc)
 
+-- A number that is too large for a float is not read.
+pub number_none : (k : ℕ) (s : List ℕ) (old new : List Token) → old ≡ Token.number s ∷ new → None ≡ option_map as_u64 (number_of s) → ReadsNone k old
+number_none k s old new first e = ap (converted of_json) (ap (value k) first ∙ number_read s new k) ∙ by (number_of s) e
+  where
+    by : (o : Option Num) → None ≡ option_map as_u64 o → option_map {U = Data × List Token} (λ b. (b, new)) (option_map number o) ≡ None
+    by None e = refl
+    by (Some x) e = absurd (cc)
+
 pub none_of : {A : Type 0} (o : Option A) → is_some o ≡ false → o ≡ None
 none_of None h = refl
 none_of (Some a) h = absurd (let no : true ≡ false = h in cc)
+
+-- Only the brace of an object begins one, and only the bracket of an array an array.
+abbrev shape_of : Json → ℕ
+shape_of json.null = 3
+shape_of (json.boolean b) = 3
+shape_of (json.number s) = 3
+shape_of (json.string s) = 3
+shape_of (json.array js) = 2
+shape_of (json.object ms) = 1
+
+abbrev shape : Option (Json × List Token) → ℕ
+shape None = 0
+shape (Some p) = shape_of p.0
+
+arrays_only : (o : Option (json.Items × List Token)) (ms : json.Members) (new : List Token) → parse_map json.array o ≡ Some (json.object ms, new) → ⊥
+arrays_only None ms new e = let no : 0 ≡ 1 = ap shape e in omega (arith, no)
+arrays_only (Some p) ms new e = let no : 2 ≡ 1 = ap shape e in omega (arith, no)
+
+objects_only : (o : Option (json.Members × List Token)) (js : json.Items) (new : List Token) → parse_map json.object o ≡ Some (json.array js, new) → ⊥
+objects_only None js new e = let no : 0 ≡ 2 = ap shape e in omega (arith, no)
+objects_only (Some p) js new e = let no : 1 ≡ 2 = ap shape e in omega (arith, no)
+
+object_with : (a : Parse json.Items) (o : Parse json.Members) (t : Token) (ts new : List Token) (ms : json.Members) → value_with a o (t ∷ ts) ≡ Some (json.object ms, new) → t ≡ Token.begin_object
+object_with a o Token.begin_object ts new ms e = refl
+object_with a o Token.end_object ts new ms e = let no : 0 ≡ 1 = ap shape e in absurd (omega (arith, no))
+object_with a o Token.begin_array ts new ms e = absurd (arrays_only (a ts) ms new e)
+object_with a o Token.end_array ts new ms e = let no : 0 ≡ 1 = ap shape e in absurd (omega (arith, no))
+object_with a o (Token.key s) ts new ms e = let no : 0 ≡ 1 = ap shape e in absurd (omega (arith, no))
+object_with a o (Token.string s) ts new ms e = let no : 3 ≡ 1 = ap shape e in absurd (omega (arith, no))
+object_with a o (Token.number s) ts new ms e = let no : 3 ≡ 1 = ap shape e in absurd (omega (arith, no))
+object_with a o (Token.boolean b) ts new ms e = let no : 3 ≡ 1 = ap shape e in absurd (omega (arith, no))
+object_with a o Token.null ts new ms e = let no : 3 ≡ 1 = ap shape e in absurd (omega (arith, no))
+object_with a o Token.bad ts new ms e = let no : 0 ≡ 1 = ap shape e in absurd (omega (arith, no))
+
+array_with : (a : Parse json.Items) (o : Parse json.Members) (t : Token) (ts new : List Token) (js : json.Items) → value_with a o (t ∷ ts) ≡ Some (json.array js, new) → t ≡ Token.begin_array
+array_with a o Token.begin_object ts new js e = absurd (objects_only (o ts) js new e)
+array_with a o Token.end_object ts new js e = let no : 0 ≡ 2 = ap shape e in absurd (omega (arith, no))
+array_with a o Token.begin_array ts new js e = refl
+array_with a o Token.end_array ts new js e = let no : 0 ≡ 2 = ap shape e in absurd (omega (arith, no))
+array_with a o (Token.key s) ts new js e = let no : 0 ≡ 2 = ap shape e in absurd (omega (arith, no))
+array_with a o (Token.string s) ts new js e = let no : 3 ≡ 2 = ap shape e in absurd (omega (arith, no))
+array_with a o (Token.number s) ts new js e = let no : 3 ≡ 2 = ap shape e in absurd (omega (arith, no))
+array_with a o (Token.boolean b) ts new js e = let no : 3 ≡ 2 = ap shape e in absurd (omega (arith, no))
+array_with a o Token.null ts new js e = let no : 3 ≡ 2 = ap shape e in absurd (omega (arith, no))
+array_with a o Token.bad ts new js e = let no : 0 ≡ 2 = ap shape e in absurd (omega (arith, no))
+
+pub object_first : (k : ℕ) (t : Token) (ts new : List Token) (ms : json.Members) → value k (t ∷ ts) ≡ Some (json.object ms, new) → t ≡ Token.begin_object
+object_first k t ts new ms e = object_with _ _ t ts new ms (sym (value_is k (t ∷ ts)) ∙ e)
+
+pub array_first : (k : ℕ) (t : Token) (ts new : List Token) (js : json.Items) → value k (t ∷ ts) ≡ Some (json.array js, new) → t ≡ Token.begin_array
+array_first k t ts new js e = array_with _ _ t ts new js (sym (value_is k (t ∷ ts)) ∙ e)
+
+-- Made of a tree under a constructor
+pub made_by : {A : Type 0} (f : A → Data) (o : Option A) (d : Data) → option_map f o ≡ Some d → (a : A) × (d ≡ f a)
+made_by f None d e = absurd (cc)
+made_by f (Some a) d e = (a, cc)
+
+pub no_object_value : (j : Json) (d : Data) → ((ms : json.Members) → j ≡ json.object ms → ⊥) → of_json j ≡ Some d → (is_some (as_object d) ≡ false) × (false ≡ entry_repeats j) × (false ≡ metadata_repeat j)
+no_object_value json.null d other e = (ap (λ o. is_some (option_and_then as_object o)) (sym e), refl, refl)
+no_object_value (json.boolean b) d other e = (ap (λ o. is_some (option_and_then as_object o)) (sym e), refl, refl)
+no_object_value (json.number s) d other e = let x = made_by number (number_of s) d e in (ap (λ y. is_some (as_object y)) x.1, refl, refl)
+no_object_value (json.string s) d other e = (ap (λ o. is_some (option_and_then as_object o)) (sym e), refl, refl)
+no_object_value (json.array js) d other e = let x = made_by array (of_items js) d e in (ap (λ y. is_some (as_object y)) x.1, refl, refl)
+no_object_value (json.object ms) d other e = absurd (other ms refl)
+
+pub no_array_value : (j : Json) (d : Data) → ((js : json.Items) → j ≡ json.array js → ⊥) → of_json j ≡ Some d → (as_array d ≡ None) × (false ≡ roas_repeat j)
+no_array_value json.null d other e = (ap (λ o. option_and_then as_array o) (sym e), refl)
+no_array_value (json.boolean b) d other e = (ap (λ o. option_and_then as_array o) (sym e), refl)
+no_array_value (json.number s) d other e = let x = made_by number (number_of s) d e in (ap as_array x.1, refl)
+no_array_value (json.string s) d other e = (ap (λ o. option_and_then as_array o) (sym e), refl)
+no_array_value (json.array js) d other e = absurd (other js refl)
+no_array_value (json.object ms) d other e = let x = made_by object (of_members ms no_members) d e in (ap as_array x.1, refl)
+
+pub no_object_here : (k : ℕ) (t : Token) (ts new : List Token) (j : Json) (d : Data) → t ≢ Token.begin_object → of_json j ≡ Some d → value k (t ∷ ts) ≡ Some (j, new) → (is_some (as_object d) ≡ false) × (false ≡ entry_repeats j) × (false ≡ metadata_repeat j)
+no_object_here k t ts new j d other made read = no_object_value j d (λ ms is. other (object_first k t ts new ms (read ∙ ap (λ x. Some (x, new)) is))) made
+
+pub no_array_here : (k : ℕ) (t : Token) (ts new : List Token) (j : Json) (d : Data) → t ≢ Token.begin_array → of_json j ≡ Some d → value k (t ∷ ts) ≡ Some (j, new) → (as_array d ≡ None) × (false ≡ roas_repeat j)
+no_array_here k t ts new j d other made read = no_array_value j d (λ js is. other (array_first k t ts new js (read ∙ ap (λ x. Some (x, new)) is))) made
 
 pub not_built : (d : Data) → is_some (as_object d) ≡ false → TellsBuilt d None
 not_built null h = λ t e m says. absurd (cc)

@@ -9,10 +9,11 @@ use Rattle.vrps.specs.VrpSet.{set_of, size}
 use Rattle.payload_lists.specs.PayloadList as lists
 use Rattle.exports.specs.Built.{IsBuilt, buildtime, generated}
 use Rattle.exports.specs.Entry.{AreEntries, FailsAt, current, expired}
+use Rattle.exports.specs.Repeats.{Repeats}
 use Rattle.exports.specs.declared.entry.Listed.{Listed}
 use Rattle.exports.specs.declared.export.Export.{Export}
 use Rattle.exports.specs.declared.fault.ExportFault.{ExportFault}
-use Rattle.exports.specs.declared.fault.ExportFault.TheVariants.{NotJson, NoRoas, Entry, TooMany, Memory}
+use Rattle.exports.specs.declared.fault.ExportFault.TheVariants.{NotJson, NoRoas, Entry, TooMany, Memory, Repeated}
 
 -- ---- the two forms
 
@@ -45,10 +46,12 @@ Lists d es = IsList d es ⊎ HasRoas d es
 abbrev pub Reads : List ℕ → Data → Type 0
 Reads bytes d = IsUtf8 bytes × (json.read bytes ≡ Some d)
 
--- These bytes are an export: at a moment, the set of the entries that count, how many do not, and when it was made.
+-- These bytes are an export, in which each name that is read stands once in its object: at a moment, the set of the entries that count, how many
+-- do not, and when it was made.
 pub record IsExport (bytes : List ℕ) (now : ℕ) (x : Export) : Type 0 where
   pub value : Data
   pub reads : Reads bytes value
+  pub names_once : ¬ (Repeats bytes)
   pub entries : List Listed
   pub lists : Lists value entries
   pub set_is : x.set ≡ set_of (current now entries)
@@ -56,10 +59,16 @@ pub record IsExport (bytes : List ℕ) (now : ℕ) (x : Export) : Type 0 where
   pub expired_is : x.expired ≡ expired now entries
   pub built_is : IsBuilt (generated value) (buildtime value) x.built
 
--- What is wrong first: they are no JSON; they are of neither form; an entry cannot be read; too many different payloads count.
+-- These bytes are JSON of this value, and of an object each name that is read stands once in its object.
+abbrev pub ReadsOnce : List ℕ → Data → Type 0
+ReadsOnce bytes d = Reads bytes d × ¬ (Repeats bytes)
+
+-- What is wrong first: they are no JSON; a name that is read stands twice in its object; they are of neither form; an entry cannot be
+-- read; too many different payloads count.
 abbrev pub HasFault : List ℕ → ℕ → ExportFault → Type 0
 HasFault bytes now NotJson = (d : Data) → ¬ (Reads bytes d)
-HasFault bytes now NoRoas = (d : Data) × Reads bytes d × (roas d ≡ None) × ((es : List Listed) → ¬ (IsList d es))
-HasFault bytes now (Entry i w) = (d : Data) × Reads bytes d × ((ds : Items) × (roas d ≡ Some ds) × FailsAt ds i w)
-HasFault bytes now TooMany = (d : Data) × Reads bytes d × ((es : List Listed) × Lists d es × (16777215 < size (set_of (current now es))))
+HasFault bytes now Repeated = (d : Data) × Reads bytes d × Repeats bytes
+HasFault bytes now NoRoas = (d : Data) × ReadsOnce bytes d × (roas d ≡ None) × ((es : List Listed) → ¬ (IsList d es))
+HasFault bytes now (Entry i w) = (d : Data) × ReadsOnce bytes d × ((ds : Items) × (roas d ≡ Some ds) × FailsAt ds i w)
+HasFault bytes now TooMany = (d : Data) × ReadsOnce bytes d × ((es : List Listed) × Lists d es × (16777215 < size (set_of (current now es))))
 HasFault bytes now Memory = ⊤

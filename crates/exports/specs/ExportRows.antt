@@ -5,6 +5,8 @@ use Rattle.std.proofs.Common.{inl, inr, lit<, lit≤}
 use Rattle.std.proofs.lemmas.List.Elements.{All-cons, All-nil}
 use Rattle.serde_json.specs.Data.{Data, null, number, string, object, unsigned, no_items, item, no_members, member}
 use Rattle.serde_json.specs.Read as json
+use Rattle.json.proofs.OnLiterals.{json_on_literals}
+use Rattle.json.specs.Json as tree
 use Rattle.serde_json.proofs.OnLiterals.{serde_json_on_literals}
 use Rattle.der_lite.specs.Moments.{told_moment, is_moment}
 use Rattle.prefixes.specs.Payload.{Payload}
@@ -12,6 +14,7 @@ use Rattle.prefixes.specs.declared.prefix.IpPrefix.TheVariants.{V4}
 use Rattle.exports.specs.Built.{IsBuilt, SaysTime, buildtime, generated, time_text}
 use Rattle.exports.specs.Entry.{FailsAt, IsNoEntry, SaysAsn, current, expired, is_after, said}
 use Rattle.exports.specs.Export.{roas}
+use Rattle.exports.specs.Repeats.{Repeats}
 use Rattle.exports.specs.Until.{IsBefore, IsFirst, endings}
 use Rattle.exports.specs.declared.entry.Listed.{Listed}
 use Rattle.exports.specs.declared.fault.EntryFault.TheVariants as faults
@@ -76,7 +79,7 @@ no_entries : in_text roas (codes "{\"roas\":[]}") ≡ Some no_items
 unfolding serde_json_on_literals
 no_entries = refl
 
--- of a key that stands twice the last
+-- Of a name that stands twice a value has the last. (Such a text is refused: `twice_roas`, below.)
 last_roas : in_text roas (codes "{\"roas\":7,\"roas\":[7]}") ≡ Some (item (number (unsigned 7)) no_items)
 unfolding serde_json_on_literals
 last_roas = refl
@@ -161,7 +164,7 @@ as_zero : SaysAsn (said (only_as (string (codes "AS0")))) 0
 unfolding digits
 as_zero = (lit< tt, (codes "AS0", refl, inr refl))
 
--- of a key that stands twice the last, whether a number or a text
+-- Of a name that stands twice a value has the last, whether a number or a text. (Such a text is refused too.)
 number_last : in_text (λ d. (said d).asn_number) (codes "{\"asn\":\"AS1\",\"asn\":2}") ≡ Some 2
 unfolding serde_json_on_literals
 number_last = refl
@@ -181,3 +184,57 @@ not_an_object = inl (refl, refl)
 -- the first entry of two that are none
 the_first_of_two : FailsAt (item null (item null no_items)) 0 faults.NoObject
 the_first_of_two = not_an_object
+
+-- ---- names that stand twice
+
+-- in the export: `roas`, once by an escape, and `metadata`
+abbrev no_roas : tree.Json
+no_roas = tree.array tree.no_items
+
+twice_roas : Repeats (codes "{\"roas\":[],\"ro\\u0061s\":[]}")
+unfolding json_on_literals
+twice_roas = (tree.object (tree.member (codes "roas") no_roas (tree.member (codes "roas") no_roas tree.no_members)), refl, inl (inl (refl, inl refl)))
+
+twice_metadata : Repeats (codes "{\"metadata\":{},\"roas\":[],\"metadata\":7}")
+unfolding json_on_literals
+twice_metadata = (
+  tree.object (tree.member (codes "metadata") (tree.object tree.no_members) (tree.member (codes "roas") no_roas (tree.member (codes "metadata") (tree.number (codes "7")) tree.no_members))),
+  refl,
+  inr (inl (inl (refl, inr (inl refl)))),
+)
+
+-- a member that has this name twice, of the value 1
+abbrev both : List ℕ → tree.Members
+both name = tree.member name (tree.number (codes "1")) (tree.member name (tree.number (codes "1")) tree.no_members)
+
+-- in the metadata: `generated` and `buildtime`
+abbrev with_metadata : tree.Json → tree.Json
+with_metadata j = tree.object (tree.member (codes "metadata") j tree.no_members)
+
+twice_generated : Repeats (codes "{\"metadata\":{\"generated\":1,\"generated\":1}}")
+unfolding json_on_literals
+twice_generated = (with_metadata (tree.object (both (codes "generated"))), refl, inr (inr (inr (inl (refl, inl (inl (refl, inl refl)))))))
+
+twice_buildtime : Repeats (codes "{\"metadata\":{\"buildtime\":1,\"buildtime\":1}}")
+unfolding json_on_literals
+twice_buildtime = (with_metadata (tree.object (both (codes "buildtime"))), refl, inr (inr (inr (inl (refl, inr (inl (refl, inl refl)))))))
+
+-- in an entry: `asn`, `prefix`, `maxLength` and `expires`
+abbrev with_second : tree.Json → tree.Json
+with_second j = tree.object (tree.member (codes "roas") (tree.array (tree.item (tree.object tree.no_members) (tree.item j tree.no_items))) tree.no_members)
+
+twice_asn : Repeats (codes "{\"roas\":[{},{\"asn\":1,\"asn\":1}]}")
+unfolding json_on_literals
+twice_asn = (with_second (tree.object (both (codes "asn"))), refl, inr (inr (inl (refl, inr (inl (inl (inl (refl, inl refl))))))))
+
+twice_prefix : Repeats (codes "{\"roas\":[{},{\"prefix\":1,\"prefix\":1}]}")
+unfolding json_on_literals
+twice_prefix = (with_second (tree.object (both (codes "prefix"))), refl, inr (inr (inl (refl, inr (inl (inr (inl (inl (refl, inl refl)))))))))
+
+twice_max_length : Repeats (codes "{\"roas\":[{},{\"maxLength\":1,\"maxLength\":1}]}")
+unfolding json_on_literals
+twice_max_length = (with_second (tree.object (both (codes "maxLength"))), refl, inr (inr (inl (refl, inr (inl (inr (inr (inl (inl (refl, inl refl))))))))))
+
+twice_expires : Repeats (codes "{\"roas\":[{},{\"expires\":1,\"expires\":1}]}")
+unfolding json_on_literals
+twice_expires = (with_second (tree.object (both (codes "expires"))), refl, inr (inr (inl (refl, inr (inl (inr (inr (inr (inl (refl, inl refl))))))))))

@@ -1,16 +1,17 @@
 -- Steps of reading entries.
-use Rattle.std.specs.Prelude.{◌≡◌, ℕ, List, Some, None, option_map, ⊤}
-use Rattle.serde_json.specs.Data.{Data, Items}
+use Rattle.std.specs.Prelude.{◌≡◌, ℕ, ◌<◌, List, length, replicate, None, option_map, ⊤}
+use Rattle.serde_json.specs.Data.{Items}
 use Rattle.prefixes.specs.Payload.{Payload}
+use Rattle.vrps.specs.VrpSet.{set_of, size}
 use Rattle.payload_lists.specs.PayloadList as lists
-use Rattle.exports.specs.Entry.{FailsAt, Said, current, expired}
-use Rattle.exports.specs.Export.{IsList, roas}
+use Rattle.exports.specs.Entry.{Said, current, expired}
+use Rattle.exports.specs.Lasting.{last_seconds}
 use Rattle.exports.specs.Until.{IsFirst, endings}
 use Rattle.exports.specs.declared.entry.Found.{Found}
 use Rattle.exports.specs.declared.entry.Listed.{Listed}
 use Rattle.exports.specs.declared.gathered.Gathered.{Gathered}
 use Rattle.exports.specs.declared.fault.ExportFault.{ExportFault}
-use Rattle.exports.specs.declared.fault.ExportFault.TheVariants.{NotJson, NoRoas, Entry, TooMany, Memory}
+use Rattle.exports.specs.declared.fault.ExportFault.TheVariants.{NotJson, NoRoas, Entry, TooMany, Memory, Repeated}
 
 -- what was found in an entry
 abbrev pub said_by : Found → Said
@@ -25,16 +26,15 @@ said_by f = record {
 -- This was gathered of these entries.
 pub record Gathers (now : ℕ) (es : List Listed) (g : Gathered) : Type 0 where
   pub records : g.records.items ≡ current now es
+  pub lasts : g.lasts.items ≡ last_seconds now es
   pub expired : g.expired ≡ expired now es
   pub until : IsFirst (endings now es) g.until
 
--- What is wrong with the items, where they are no entries
-abbrev pub ItemsFail : Items → ExportFault → Type 0
-ItemsFail ds (Entry i w) = FailsAt ds i w
-ItemsFail ds Memory = ⊤
-ItemsFail ds NotJson = ⊥
-ItemsFail ds NoRoas = ⊥
-ItemsFail ds TooMany = ⊥
+-- This was gathered of entries that have no expiry.
+pub record IsLasting (g : Gathered) : Type 0 where
+  pub lasts : g.lasts.items ≡ replicate (length g.records.items) 18446744073709551615
+  pub expired : g.expired ≡ 0
+  pub until : g.until ≡ None
 
 -- What is wrong with the items of an array, where they are no payload list
 abbrev pub ListFails : Items → ExportFault → Type 0
@@ -43,11 +43,13 @@ ListFails ds Memory = ⊤
 ListFails ds NotJson = ⊥
 ListFails ds (Entry i w) = ⊥
 ListFails ds TooMany = ⊥
+ListFails ds Repeated = ⊥
 
--- What is wrong with a value, where it has entries in neither form
-abbrev pub ValueFails : Data → ExportFault → Type 0
-ValueFails d NoRoas = (roas d ≡ None) × ((es : List Listed) → ¬ (IsList d es))
-ValueFails d (Entry i w) = (ds : Items) × (roas d ≡ Some ds) × FailsAt ds i w
-ValueFails d Memory = ⊤
-ValueFails d NotJson = ⊥
-ValueFails d TooMany = ⊥
+-- Why there is no set of some payloads
+abbrev pub SetFails : List Payload → ExportFault → Type 0
+SetFails vs TooMany = 16777215 < size (set_of vs)
+SetFails vs Memory = ⊤
+SetFails vs NotJson = ⊥
+SetFails vs NoRoas = ⊥
+SetFails vs (Entry i w) = ⊥
+SetFails vs Repeated = ⊥

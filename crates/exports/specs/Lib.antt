@@ -1,9 +1,14 @@
 pub mod Faults
+pub mod FaultText
 pub mod Built
 pub mod Entry
+pub mod Repeats
 pub mod Export
 pub mod Until
+pub mod Lasting
 pub mod Found
+pub mod Repeating
 pub mod PlainForm
 pub mod ExportRows
+pub mod LastingRows
 pub mod ExportLaws

@@ -1,51 +1,65 @@
--- Steps of reading an export token by token. What is passed over nests 124 deep at most (`NESTING`), so metadata and entries 125 deep,
--- and `roas` 126.
-use Rattle.std.specs.Prelude.{◌≡◌, ℕ, zero, suc, ◌≤◌, ◌<◌, List, [], ◌∷◌, length, Option, Some, None, Result, Ok, Err, is_some, option_map, codes, ⊤}
+-- Steps of reading an export token by token. A text nests 127 deep at most, so the members of an export 126, entries 125, and their
+-- members 124.
+use Rattle.std.specs.Prelude.{◌≡◌, ◌||◌, Bool, MatchBool, ℕ, zero, suc, ◌<◌, List, [], ◌∷◌, length, Option, Some, None, Result, Ok, Err, is_some, option_map, codes, ⊤}
 use Rattle.json.specs.Token.{Token}
-use Rattle.json.specs.Json.{items, members, value}
+use Rattle.json.specs.Json as json
+use Rattle.json.specs.Json.{Json, items, members, value}
 use Rattle.serde_json.specs.Data.{Data, object, Items, no_items, item, Members, no_members, put}
 use Rattle.serde_json.specs.Find.{as_array, as_object, as_str}
-use Rattle.serde_json.specs.Read.{of_items, of_json, of_members, converted}
+use Rattle.serde_json.specs.Read.{of_items, of_json, of_members, converted, read}
 use Rattle.payload_lists.specs.PayloadList.{text_at, whole_at}
 use Rattle.exports.specs.Built.{IsBuilt, buildtime, generated}
 use Rattle.exports.specs.Entry.{AreEntries, FailsAt, IsEntry, IsNoEntry, said, whole}
 use Rattle.exports.specs.Export.{IsList, Lists, roas}
 use Rattle.exports.specs.Found.{Gathers, said_by}
+use Rattle.exports.specs.Repeating.{entry_repeats, export_twice, items_repeat, member_repeats, metadata_repeat, roas_repeat}
+use Rattle.exports.specs.Repeats.{Repeats, tree}
 use Rattle.exports.specs.declared.entry.Found.{Found}
 use Rattle.exports.specs.declared.entry.Listed.{Listed}
 use Rattle.exports.specs.declared.fault.EntryFault.{EntryFault}
+use Rattle.exports.specs.declared.fault.ExportFault.{ExportFault}
+use Rattle.exports.specs.declared.fault.ExportFault.TheVariants.{NotJson, NoRoas, Entry, TooMany, Memory, Repeated}
 use Rattle.exports.specs.declared.plain.Entries.{Entries}
 use Rattle.exports.specs.declared.plain.Entries.TheVariants.{Whole, Broken}
 use Rattle.exports.specs.declared.plain.Metadata.{Metadata}
 use Rattle.exports.specs.declared.plain.Parts.{Parts}
 use Rattle.exports.specs.declared.plain.Seen.{Seen}
 
--- A value of this kind was read, that nests no deeper than k.
-abbrev pub ReadsSome : ℕ → (Data → Type 0) → List Token → List Token → Type 0
-ReadsSome k Is old new =
-    (length new < length old) × ((depth : ℕ) → k ≤ depth → (d : Data) × Is d × (converted of_json (value depth old) ≡ Some (d, new)))
+-- A value was read, of whose tree and value this holds. It nests no deeper than k.
+abbrev pub ReadsSome : ℕ → (Json → Data → Type 0) → List Token → List Token → Type 0
+ReadsSome k Is old new = (length new < length old) × ((j : Json) × (d : Data) × Is j d × (value k old ≡ Some (j, new)) × (of_json j ≡ Some d))
 
--- The members of such an object were read to its end.
-abbrev pub ReadsMembers : ℕ → (Members → Type 0) → List Token → List Token → Type 0
+-- No value that nests no deeper is read.
+abbrev pub ReadsNone : ℕ → List Token → Type 0
+ReadsNone k old = converted of_json (value k old) ≡ None
+
+-- The members of such an object were read to its end,
+abbrev pub ReadsMembers : ℕ → (json.Members → Members → Type 0) → List Token → List Token → Type 0
 ReadsMembers k Are old new =
-    (length new < length old)
-    × ((depth : ℕ) → k ≤ depth → (ms : Members) × Are ms × (converted (λ x. of_members x no_members) (members (value depth) (length old) old) ≡ Some (ms, new)))
+    (length new < length old) × ((js : json.Members) × (ms : Members) × Are js ms × (members (value k) (length old) old ≡ Some (js, new)) × (of_members js no_members ≡ Some ms))
+
+-- or are not to be read.
+abbrev pub ReadsNoMembers : ℕ → List Token → Type 0
+ReadsNoMembers k old = converted (λ x. of_members x no_members) (members (value k) (length old) old) ≡ None
 
 abbrev pub before : List Data → Items → Items
 before [] rest = rest
 before (d ∷ ds) rest = item d (before ds rest)
 
--- The items of such an array were read to its end.
-abbrev pub ReadsItems : ℕ → (List Data → Type 0) → List Token → List Token → Type 0
+-- The items of such an array were read to its end,
+abbrev pub ReadsItems : ℕ → (json.Items → List Data → Type 0) → List Token → List Token → Type 0
 ReadsItems k Are old new =
-    (length new < length old)
-    × ((depth : ℕ) → k ≤ depth → (ds : List Data) × Are ds × (converted of_items (items (value depth) (length old) old) ≡ Some (before ds no_items, new)))
+    (length new < length old) × ((js : json.Items) × (ds : List Data) × Are js ds × (items (value k) (length old) old ≡ Some (js, new)) × (of_items js ≡ Some (before ds no_items)))
+
+-- or are not to be read.
+abbrev pub ReadsNoItems : ℕ → List Token → Type 0
+ReadsNoItems k old = converted of_items (items (value k) (length old) old) ≡ None
 
 abbrev pub PassesItems : ℕ → List Token → List Token → Type 0
-PassesItems k = ReadsItems k (λ _. ⊤)
+PassesItems k = ReadsItems k (λ js ds. ⊤)
 
 abbrev pub PassesMembers : ℕ → List Token → List Token → Type 0
-PassesMembers k = ReadsMembers k (λ _. ⊤)
+PassesMembers k = ReadsMembers k (λ js ms. ⊤)
 
 -- what was seen of a value
 abbrev pub IsSeen : Data → Seen → Type 0
@@ -92,18 +106,26 @@ abbrev pub TellsItems : ℕ → Items → Entries → Type 0
 TellsItems now ds (Whole g) = (es : List Listed) × AreEntries ds es × Gathers now es g
 TellsItems now ds (Broken i w) = FailsAt ds i w
 
--- The entries of which this is told were read to the end of their array.
-abbrev pub ReadsEntries : ℕ → List Token → List Token → Entries → Type 0
-ReadsEntries now old new entries = ReadsItems 125 (λ ds. TellsListed now ds entries) old new
+-- An entry was read, and whether a name stands twice in it.
+abbrev pub ReadsEntry : List Token → List Token → Result Listed EntryFault × Bool → Type 0
+ReadsEntry old new r = ReadsSome 125 (λ j d. IsJudged d r.0 × (r.1 ≡ entry_repeats j)) old new
+
+-- The entries of which this is told were read to the end of their array, and whether a name stands twice in one of them.
+abbrev pub ReadsEntries : ℕ → List Token → List Token → Entries × Bool → Type 0
+ReadsEntries now old new r = ReadsItems 125 (λ js ds. TellsListed now ds r.0 × (r.1 ≡ items_repeat js)) old new
 
 -- This is told of the value roas.
 abbrev pub TellsRoas : ℕ → Data → Option Entries → Type 0
 TellsRoas now d None = as_array d ≡ None
 TellsRoas now d (Some entries) = (ds : Items) × (as_array d ≡ Some ds) × TellsItems now ds entries
 
--- The value roas was read, of which this is told.
-abbrev pub ReadsRoas : ℕ → List Token → List Token → Option Entries → Type 0
-ReadsRoas now old new entries = ReadsSome 126 (λ d. TellsRoas now d entries) old new
+-- The value roas was read, of which this is told, and whether a name stands twice in an entry.
+abbrev pub ReadsRoas : ℕ → List Token → List Token → Option Entries × Bool → Type 0
+ReadsRoas now old new r = ReadsSome 126 (λ j d. TellsRoas now d r.0 × (r.1 ≡ roas_repeat j)) old new
+
+-- The metadata were read: when the export was made, and whether a name stands twice in them.
+abbrev pub ReadsBuilt : List Token → List Token → Option ℕ × Bool → Type 0
+ReadsBuilt old new r = ReadsSome 126 (λ j d. TellsBuilt d r.0 × (r.1 ≡ metadata_repeat j)) old new
 
 -- This is told of the member roas, where it is an array.
 abbrev pub HasEntries : ℕ → Data → Option Entries → Type 0
@@ -117,7 +139,8 @@ pub record HasParts (now : ℕ) (ms : Members) (p : Parts) : Type 0 where
 
 -- The value of a member of this name was read.
 abbrev pub ReadsPart : ℕ → List ℕ → Parts → Parts → List Token → List Token → Type 0
-ReadsPart now name before after old new = ReadsSome 126 (λ d. (ms : Members) → HasParts now ms before → HasParts now (put name d ms) after) old new
+ReadsPart now name before after old new =
+    ReadsSome 126 (λ j d. ((ms : Members) → HasParts now ms before → HasParts now (put name d ms) after) × (after.repeats ≡ (before.repeats || member_repeats name j))) old new
 
 -- What is told of the entries of a value in either form
 abbrev pub TellsEntries : ℕ → Data → Option Entries → Type 0
@@ -129,3 +152,32 @@ TellsEntries now d (Some (Broken i w)) = (ds : Items) × (roas d ≡ Some ds) ×
 pub record TellsParts (now : ℕ) (d : Data) (p : Parts) : Type 0 where
   pub entries : TellsEntries now d p.entries
   pub built : IsBuilt (generated d) (buildtime d) p.built
+
+-- What was read of a text in either form
+pub record ReadsParts (now : ℕ) (text : List ℕ) (p : Parts) : Type 0 where
+  pub value : Data
+  pub reads : read text ≡ Some value
+  pub parts : TellsParts now value p
+  pub repeats : MatchBool p.repeats (Repeats text) (¬ (Repeats text))
+
+-- The text of an object was read.
+pub record ReadsExport (now : ℕ) (text : List ℕ) (p : Parts) : Type 0 where
+  pub js : json.Members
+  pub ms : Members
+  pub tree_is : tree text ≡ Some (json.object js)
+  pub reads : read text ≡ Some (object ms)
+  pub parts : HasParts now ms p
+  pub repeats : p.repeats ≡ export_twice js
+
+-- A text is no object.
+abbrev pub IsNoObject : List ℕ → Type 0
+IsNoObject text = (ms : Members) → ¬ (read text ≡ Some (object ms))
+
+-- Why a text gives no parts
+abbrev pub TextFails : List ℕ → ExportFault → Type 0
+TextFails text NotJson = read text ≡ None
+TextFails text Memory = ⊤
+TextFails text NoRoas = ⊥
+TextFails text (Entry i w) = ⊥
+TextFails text TooMany = ⊥
+TextFails text Repeated = ⊥

@@ -1,11 +1,8 @@
 //! When an export was made.
 ghost use Rattle.std.specs.Prelude.{◌≡◌, option_map, Some};
-ghost use Rattle.serde_json.specs.View.{view};
-ghost use Rattle.exports.specs.Built.{IsBuilt, IsTimeOf, buildtime, generated};
+ghost use Rattle.exports.specs.Built.{IsBuilt, IsTimeOf};
 
 use der_lite::Moment;
-use payload_lists::parts::{text, whole};
-use serde_json::Value;
 
 /// The seconds from the beginning of 1970 to the moment that a text says: `YYYY-MM-DDTHH:MM:SSZ` (RFC 3339 section 5.6), of the years
 /// 1970 to 9999.
@@ -40,12 +37,4 @@ pub(crate) fn built(generated: Option<u64>, buildtime: Option<&str>) -> Option<u
         return generated;
     }
     time_in(buildtime?)
-}
-
-/// When an export says that it was made.
-pub(crate) fn built_of(value: &Value) -> Option<u64>
-    ensures { IsBuilt (generated (view value.now)) (buildtime (view value.now)) result }
-{
-    let metadata = value.get("metadata")?;
-    built(whole(metadata, "generated"), text(metadata, "buildtime"))
 }

@@ -1,18 +1,14 @@
 //! The entries of an export.
-ghost use Rattle.std.specs.Prelude.{◌≡◌, ℕ, ◌<◌, ◌≤◌, ◌^◌, ◌++◌, option_map, Some, codes, IfSome, IfNone, IfOk, IfErr};
+ghost use Rattle.std.specs.Prelude.{◌≡◌, ℕ, ◌<◌, ◌≤◌, ◌^◌, ◌++◌, Some, IfSome, IfNone, IfOk, IfErr};
 ghost use Rattle.std.specs.Fmt.{decimal};
-ghost use Rattle.serde_json.specs.View.{view};
-ghost use Rattle.serde_json.specs.Find.{get};
 ghost use Rattle.prefixes.specs.Payload.{block_of, width_of};
 ghost use Rattle.prefixes.specs.declared.prefix.IpPrefix.{IpPrefix as Prefix};
-ghost use Rattle.exports.specs.Entry.{AsnText, IsEntry, IsNoEntry, Said, SaysAsn, SaysEntry, SaysFault, SaysPrefix, whole};
+ghost use Rattle.exports.specs.Entry.{AsnText, SaysAsn, SaysEntry, SaysFault, SaysPrefix};
 ghost use Rattle.exports.specs.Found.{said_by};
 
 use crate::fault::EntryFault;
-use payload_lists::parts::{text, whole};
 use prefix_texts::parse_prefix;
 use prefixes::{Asn, IpPrefix, Vrp};
-use serde_json::Value;
 
 /// What an entry lists: a payload, and the second since 1970 from which on it does not count, where the entry has one.
 #[derive(Clone, Copy, Debug)]
@@ -118,31 +114,4 @@ pub(crate) fn judged(found: &Found<'_>) -> Result<Listed, EntryFault>
         }),
         Some(None) => Err(EntryFault::Expires),
     }
-}
-
-/// What stands under `expires`: nothing, a whole number, or something else.
-fn expiry(value: &Value) -> Option<Option<u64>>
-    ensures { result ≡ option_map whole (get (codes "expires") (view value.now)) }
-{
-    match value.get("expires") {
-        Some(expires) => Some(expires.as_u64()),
-        None => None,
-    }
-}
-
-/// What an entry lists, or what is wrong first with it.
-pub(crate) fn entry(value: &Value) -> Result<Listed, EntryFault>
-    ensures ok { IfOk result (λ e. IsEntry (view value.now) e) }
-    ensures fault { IfErr result (λ w. IsNoEntry (view value.now) w) }
-{
-    if !value.is_object() {
-        return Err(EntryFault::NoObject);
-    }
-    judged(&Found {
-        asn_number: whole(value, "asn"),
-        asn_text: text(value, "asn"),
-        prefix: text(value, "prefix"),
-        max_len: whole(value, "maxLength"),
-        expires: expiry(value),
-    })
 }

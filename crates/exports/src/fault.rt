@@ -17,7 +17,7 @@ pub enum EntryFault {
     #[error("prefix is no prefix")]
     Prefix,
     /// `maxLength` is no whole number from the prefix's length to its family's width.
-    #[error("maxLength is no length of the prefix's parts")]
+    #[error("maxLength is not from the prefix length to 32 (IPv4) or 128 (IPv6)")]
     MaxLength,
     /// `expires` is there and is no whole number.
     #[error("expires is no whole number")]
@@ -42,6 +42,10 @@ pub enum ExportFault {
     /// Out of memory.
     #[error("out of memory (fault 5)")]
     Memory,
+    /// A name that is read stands twice in its object: `roas` or `metadata` in the export, `generated` or `buildtime` in the metadata,
+    /// `asn`, `prefix`, `maxLength` or `expires` in an entry. It is reported before all other faults but `NotJson`.
+    #[error("a name that is read stands twice in an object (fault 6)")]
+    Repeated,
 }
 
 impl ExportFault {
@@ -57,6 +61,7 @@ impl ExportFault {
             ExportFault::Entry(_, _) => 3,
             ExportFault::TooMany => 4,
             ExportFault::Memory => 5,
+            ExportFault::Repeated => 6,
         }
     }
 }

@@ -1,23 +1,21 @@
 //! What is gathered of the entries of an export.
-ghost use Rattle.std.specs.Prelude.{◌≡◌, ◌+◌, ◌^◌, ◌<◌, ◌++◌, ◌∷◌, [], ℕ, List, None, IfOk, IfErr, OnOk};
+ghost use Rattle.std.specs.Prelude.{◌≡◌, ◌+◌, ◌^◌, ◌<◌, ◌++◌, ◌∷◌, [], ℕ, List, IfOk, OnOk};
 ghost use Rattle.std.specs.Bool.{OnFalse, OnTrue};
-ghost use Rattle.serde_json.specs.View.{items_view};
-ghost use Rattle.exports.specs.Entry.{AreEntries, counts_at, current, expired};
-ghost use Rattle.exports.specs.Found.{Gathers, ItemsFail};
+ghost use Rattle.exports.specs.Entry.{counts_at, current, expired};
+ghost use Rattle.exports.specs.Found.{Gathers, IsLasting};
+ghost use Rattle.exports.specs.Lasting.{last_second, last_seconds};
 ghost use Rattle.exports.specs.Until.{IsFirst, endings};
-ghost use Rattle.exports.specs.declared.entry.Listed.{Listed as Entry};
 
-use crate::entry::{Listed, entry};
-use crate::fault::ExportFault;
+use crate::entry::Listed;
 use prefixes::Vrp;
-use serde_json::Value;
 use std::alloc::{AllocError, Global};
 
-/// What was gathered of entries: the payloads of those that count, how many do not, and the first second at which one that counts does
-/// not, where there is one.
+/// What was gathered of entries: the payloads of those that count and for each the last second at which it does, how many entries do not
+/// count, and the first second at which one that counts does not, where there is one.
 #[derive(Debug, Drop)]
 pub struct Gathered {
     pub(crate) records: Vec<Vrp>,
+    pub(crate) lasts: Vec<u64>,
     pub(crate) expired: u64,
     pub(crate) until: Option<u64>,
 }
@@ -29,6 +27,16 @@ fn counts(entry: &Listed, now: u64) -> bool
     match entry.expires {
         Some(second) => now < second,
         None => true,
+    }
+}
+
+/// The last second at which an entry with this expiry counts; `u64::MAX` if it has none.
+fn last_second(expires: Option<u64>) -> u64
+    ensures { result ≡ last_second expires }
+{
+    match expires {
+        Some(second) => second.saturating_sub(1),
+        None => u64::MAX,
     }
 }
 
@@ -50,20 +58,23 @@ impl Gathered {
     {
         Gathered {
             records: Vec::new(alloc),
+            lasts: Vec::new(alloc),
             expired: 0,
             until: None,
         }
     }
 
     /// These payloads, which all count and do so for ever.
-    pub(crate) fn lasting(records: Vec<Vrp>) -> Gathered
-        ensures { (result.records ≡ records) × (result.expired ≡ 0) × (result.until ≡ None) }
+    pub(crate) fn lasting(alloc: Global, records: Vec<Vrp>) -> Result<Gathered, AllocError>
+        ensures { IfOk result (λ g. (g.records ≡ records) × IsLasting g) }
     {
-        Gathered {
+        let lasts = vec![in alloc; u64::MAX; records.len()]?;
+        Ok(Gathered {
             records,
+            lasts,
             expired: 0,
             until: None,
-        }
+        })
     }
 
     /// Whether the count of those that do not count can grow no more.
@@ -78,31 +89,17 @@ impl Gathered {
     pub(crate) fn add(&mut self, entry: &Listed, now: u64) -> Result<(), AllocError>
         requires { self.old.expired + 1 < 2 ^ 64 }
         ensures records { OnOk result (self.new.records.items ≡ self.old.records.items ++ current now (entry.now ∷ [])) }
+        ensures lasts { OnOk result (self.new.lasts.items ≡ self.old.lasts.items ++ last_seconds now (entry.now ∷ [])) }
         ensures expired { OnOk result (self.new.expired ≡ self.old.expired + expired now (entry.now ∷ [])) }
         ensures until { OnOk result ((ts : List ℕ) → IsFirst ts self.old.until → IsFirst (ts ++ endings now (entry.now ∷ [])) self.new.until) }
     {
         if counts(entry, now) {
             self.records.push(entry.payload)?;
+            self.lasts.push(last_second(entry.expires))?;
             self.until = sooner(self.until, entry.expires);
         } else {
             self.expired += 1;
         }
         Ok(())
     }
-}
-
-/// Gathers the entries of an array, or reports which is the first that cannot be read, and what of it.
-pub(crate) fn gather(alloc: Global, list: &[Value], now: u64) -> Result<Gathered, ExportFault>
-    ensures ok { IfOk result (λ g. (es : List Entry) × AreEntries (items_view list.now) es × Gathers now es g) }
-    ensures fault { IfErr result (λ f. ItemsFail (items_view list.now) f) }
-{
-    let mut gathered = Gathered::new(alloc);
-    for (index, item) in list.iter().enumerate() {
-        let listed = match entry(item) {
-            Ok(listed) => listed,
-            Err(what) => return Err(ExportFault::Entry(index, what)),
-        };
-        gathered.add(&listed, now)?;
-    }
-    Ok(gathered)
 }

@@ -1,5 +1,5 @@
 //! Laws of exports. The functions do nothing: each states a law, which is proved.
-ghost use Rattle.exports.specs.ExportLaws.{NoFaultOfExports, OneExport, OneFault, SameUntil};
+ghost use Rattle.exports.specs.ExportLaws.{LaterExports, NoFaultOfExports, OneExport, OneFault, SameUntil};
 
 use prefix_texts::laws::one_saying;
 use prefixes::laws::one_reading;
@@ -31,6 +31,14 @@ pub fn one_fault()
 /// What bytes are an export of at a moment they are at each later one before its end, and at none from then on.
 pub fn same_until()
     ensures { SameUntil }
+{
+    one_reading();
+    one_saying();
+}
+
+/// Bytes that are an export stay one. At each later second below 2^64 its set is what counts then, by the last seconds, of the first.
+pub fn later_exports()
+    ensures { LaterExports }
 {
     one_reading();
     one_saying();

@@ -1,6 +1,6 @@
 //! Exports: the JSON in which validators write what they validated. [`read_export`] reads a payload list, or an object with an array
 //! `roas`, as rpki-client, Routinator, FORT, StayRTR and rtrdump write it; [`read_export_until`] says besides until when it is the same
-//! export.
+//! export, and [`read_export_lasting`] how long each record counts.
 //!
 //! For example, where `rt` is the runtime that `main` is handed:
 //!
@@ -21,10 +21,20 @@ mod built;
 mod entry;
 mod export;
 mod fault;
+mod forms;
 mod gathered;
+mod json_fault;
+mod lasting;
 pub mod laws;
+mod names;
 mod numbers;
 mod plain;
+mod repeated;
+mod walk;
+mod words;
 
-pub use export::{Export, ExportUntil, read_export, read_export_until};
+pub use export::{
+    Export, ExportLasting, ExportUntil, read_export, read_export_lasting, read_export_until,
+};
 pub use fault::{EntryFault, ExportFault};
+pub use words::fault_text;

@@ -1,22 +1,26 @@
 //! Exports read token by token.
-ghost use Rattle.std.specs.Prelude.{◌≡◌, ◌+◌, ◌++◌, ◌∷◌, [], length, List, None, Some, ℕ, IfOk, IfSome, option_map};
-ghost use Rattle.std.specs.Bool.{OnFalse, OnTrue};
-ghost use Rattle.json.specs.Json.{read_key};
+ghost use Rattle.std.specs.Prelude.{◌≡◌, ◌≢◌, ◌+◌, ◌++◌, ◌||◌, ◌∷◌, [], length, codes, List, MatchBool, MatchOption, None, Some, ℕ, IfOk, IfErr, option_map};
+ghost use Rattle.json.specs.Json.{Json, member, read_key};
 ghost use Rattle.json.specs.Reads.{token_of};
-ghost use Rattle.serde_json.specs.Data.{Data, Items, Members, array, object, put};
+ghost use Rattle.json.specs.Token.{Token as SpecToken};
+ghost use Rattle.serde_json.specs.Data.{Data, Members, put};
+ghost use Rattle.serde_json.specs.Find.{as_array};
 ghost use Rattle.serde_json.specs.Read.{read};
-ghost use Rattle.exports.specs.PlainForm.{HasParts, IsFound, IsJudged, IsMetadata, IsSeen, PassesItems, PassesMembers, ReadsEntries, ReadsMembers, ReadsPart, ReadsRoas, ReadsSome, TellsBuilt, TellsListed};
+ghost use Rattle.std.specs.Option.{is_some};
+ghost use Rattle.exports.specs.Repeating.{entry_twice, export_twice, two_twice};
+ghost use Rattle.exports.specs.PlainForm.{HasParts, IsFound, IsJudged, IsMetadata, IsNoObject, IsSeen, PassesItems, PassesMembers, ReadsBuilt, ReadsEntries, ReadsEntry, ReadsExport, ReadsMembers, ReadsNoItems, ReadsNoMembers, ReadsNone, ReadsPart, ReadsRoas, ReadsSome, TellsListed, TextFails};
 
 use crate::built::built;
 use crate::entry::{Found, Listed, judged};
-use crate::fault::EntryFault;
+use crate::fault::{EntryFault, ExportFault};
 use crate::gathered::Gathered;
+use crate::names::{EntryNames, Names};
 use crate::numbers::seen_number;
 use json::{Reader, Scratch, Token};
 use std::alloc::{AllocError, Global};
 
-/// How deep values may nest that are passed over. They stand up to three deep in a text, which may nest 127 deep.
-const NESTING: usize = 124;
+/// How deep a text may nest.
+const NESTING: usize = 127;
 
 /// What was seen of a value: the whole number or the text that it is, if it is one, and whether it is an array or an object.
 #[derive(Clone, Copy, Debug, Drop)]
@@ -53,7 +57,7 @@ const OBJECT: Seen<'static> = Seen {
 
 /// The name of the next member, or none at the end of the object.
 fn next_name<'a>(reader: &mut Reader<'a>) -> Option<Option<&'a str>>
-    ensures { IfSome result (λ k. read_key reader.old ≡ Some (option_map (λ s. s.now) k, reader.new)) }
+    ensures { MatchOption result (read_key reader.old ≡ None) (λ k. read_key reader.old ≡ Some (option_map (λ s. s.now) k, reader.new)) }
 {
     match reader.next_key() {
         Ok(name) => Some(name),
@@ -64,7 +68,7 @@ fn next_name<'a>(reader: &mut Reader<'a>) -> Option<Option<&'a str>>
 /// Reads a value, in which arrays and objects nest no deeper than this.
 #[cycle(passing)]
 fn see<'a>(reader: &mut Reader<'a>, depth: usize) -> Option<Seen<'a>>
-    ensures { IfSome result (λ s. ReadsSome depth (λ d. IsSeen d s) reader.old reader.new) }
+    ensures { MatchOption result (ReadsNone depth reader.old) (λ s. ReadsSome depth (λ j d. IsSeen d s) reader.old reader.new) }
 {
     let token = reader.next()?;
     see_rest(reader, token, depth)
@@ -73,7 +77,7 @@ fn see<'a>(reader: &mut Reader<'a>, depth: usize) -> Option<Seen<'a>>
 /// Reads the rest of a value of which this is the first token.
 #[cycle(passing)]
 fn see_rest<'a>(reader: &mut Reader<'a>, token: Token<'a>, depth: usize) -> Option<Seen<'a>>
-    ensures { IfSome result (λ s. ReadsSome depth (λ d. IsSeen d s) (token_of token.entry ∷ reader.old) reader.new) }
+    ensures { MatchOption result (ReadsNone depth (token_of token.entry ∷ reader.old)) (λ s. ReadsSome depth (λ j d. IsSeen d s) (token_of token.entry ∷ reader.old) reader.new) }
 {
     match token {
         Token::Number(text) => Some(Seen {
@@ -90,16 +94,44 @@ fn see_rest<'a>(reader: &mut Reader<'a>, token: Token<'a>, depth: usize) -> Opti
         }),
         Token::Bool(_bit) => Some(NEITHER),
         Token::Null => Some(NEITHER),
-        Token::BeginArray if 0 < depth && pass_items(reader, depth - 1) => Some(ARRAY),
-        Token::BeginObject if 0 < depth && pass_members(reader, depth - 1) => Some(OBJECT),
-        _ => None,
+        Token::BeginArray => see_array(reader, depth),
+        Token::BeginObject => see_object(reader, depth),
+        Token::EndArray | Token::EndObject | Token::Key(_) | Token::Bad => None,
     }
+}
+
+/// Reads the rest of an array.
+#[cycle(passing)]
+fn see_array<'a>(reader: &mut Reader<'a>, depth: usize) -> Option<Seen<'a>>
+    ensures { MatchOption result (ReadsNone depth (SpecToken.begin_array ∷ reader.old)) (λ s. ReadsSome depth (λ j d. IsSeen d s) (SpecToken.begin_array ∷ reader.old) reader.new) }
+{
+    if depth == 0 {
+        return None;
+    }
+    if !pass_items(reader, depth - 1) {
+        return None;
+    }
+    Some(ARRAY)
+}
+
+/// Reads the rest of an object.
+#[cycle(passing)]
+fn see_object<'a>(reader: &mut Reader<'a>, depth: usize) -> Option<Seen<'a>>
+    ensures { MatchOption result (ReadsNone depth (SpecToken.begin_object ∷ reader.old)) (λ s. ReadsSome depth (λ j d. IsSeen d s) (SpecToken.begin_object ∷ reader.old) reader.new) }
+{
+    if depth == 0 {
+        return None;
+    }
+    if !pass_members(reader, depth - 1) {
+        return None;
+    }
+    Some(OBJECT)
 }
 
 /// Passes over the items of an array, to its end.
 #[cycle(passing)]
 fn pass_items(reader: &mut Reader<'_>, depth: usize) -> bool
-    ensures { OnTrue result (PassesItems depth reader.old reader.new) }
+    ensures { MatchBool result (PassesItems depth reader.old reader.new) (ReadsNoItems depth reader.old) }
 {
     while !reader.take_end_array() {
         let Some(_passed) = see(reader, depth) else {
@@ -112,7 +144,7 @@ fn pass_items(reader: &mut Reader<'_>, depth: usize) -> bool
 /// Passes over the members of an object, to its end.
 #[cycle(passing)]
 fn pass_members(reader: &mut Reader<'_>, depth: usize) -> bool
-    ensures { OnTrue result (PassesMembers depth reader.old reader.new) }
+    ensures { MatchBool result (PassesMembers depth reader.old reader.new) (ReadsNoMembers depth reader.old) }
 {
     loop {
         match next_name(reader) {
@@ -152,9 +184,9 @@ fn with_member<'a>(found: Found<'a>, name: &str, seen: Seen<'a>) -> Found<'a>
     }
 }
 
-/// Reads the members of an entry, to its end.
-fn plain_members<'a>(reader: &mut Reader<'a>) -> Option<Found<'a>>
-    ensures { IfSome result (λ found. ReadsMembers NESTING (λ ms. IsFound ms found) reader.old reader.new) }
+/// Reads the members of an entry, to its end: what was found, and whether a name that is read stands there twice.
+fn plain_members<'a>(reader: &mut Reader<'a>) -> Option<(Found<'a>, bool)>
+    ensures { MatchOption result (ReadsNoMembers 124 reader.old) (λ r. ReadsMembers 124 (λ js ms. IsFound ms r.0 × (r.1 ≡ entry_twice js)) reader.old reader.new) }
 {
     let mut found = Found {
         asn_number: None,
@@ -163,38 +195,36 @@ fn plain_members<'a>(reader: &mut Reader<'a>) -> Option<Found<'a>>
         max_len: None,
         expires: None,
     };
+    let mut names = EntryNames::NONE;
     loop {
         let key = next_name(reader)?;
         let Some(name) = key else {
-            return Some(found);
+            return Some((found, names.repeat()));
         };
-        let value = see(reader, NESTING)?;
+        let value = see(reader, NESTING - 3)?;
         found = with_member(found, name, value);
+        names = names.with(name);
     }
 }
 
-/// Passes over a value that begins with this token and is no object, and so no entry.
-fn no_entry<'a>(reader: &mut Reader<'a>, token: Token<'a>) -> Option<Result<Listed, EntryFault>>
-    ensures { IfSome result (λ r. ReadsSome (NESTING + 1) (λ d. IsJudged d r) (token_of token.entry ∷ reader.old) reader.new) }
+/// Whether a token begins an object.
+fn begins_object(token: &Token<'_>) -> bool
+    ensures { MatchBool result (token_of token.now ≡ SpecToken.begin_object) (token_of token.now ≢ SpecToken.begin_object) }
 {
-    let seen = see_rest(reader, token, NESTING)?;
-    if seen.object {
-        return None;
-    }
-    Some(Err(EntryFault::NoObject))
+    matches!(token, Token::BeginObject)
 }
 
-/// Reads an entry: what it lists, or what of it cannot be read.
-fn plain_entry(reader: &mut Reader<'_>) -> Option<Result<Listed, EntryFault>>
-    ensures { IfSome result (λ r. ReadsSome (NESTING + 1) (λ d. IsJudged d r) reader.old reader.new) }
+/// Reads an entry: what it lists, or what of it cannot be read, and whether a name that is read stands there twice.
+fn plain_entry(reader: &mut Reader<'_>) -> Option<(Result<Listed, EntryFault>, bool)>
+    ensures { MatchOption result (ReadsNone 125 reader.old) (λ r. ReadsEntry reader.old reader.new r) }
 {
     let token = reader.next()?;
-    match token {
-        Token::BeginObject => {}
-        other => return no_entry(reader, other),
+    if !begins_object(&token) {
+        let _passed = see_rest(reader, token, NESTING - 2)?;
+        return Some((Err(EntryFault::NoObject), false));
     }
-    let found = plain_members(reader)?;
-    Some(judged(&found))
+    let (found, repeat) = plain_members(reader)?;
+    Some((judged(&found), repeat))
 }
 
 /// When an export says that it was made.
@@ -221,46 +251,37 @@ fn with_detail<'a>(metadata: Metadata<'a>, name: &str, seen: Seen<'a>) -> Metada
     }
 }
 
-/// Reads the members of the metadata, to their end.
-fn plain_metadata<'a>(reader: &mut Reader<'a>) -> Option<Metadata<'a>>
-    ensures { IfSome result (λ metadata. ReadsMembers NESTING (λ ms. IsMetadata ms metadata) reader.old reader.new) }
+/// Reads the members of the metadata, to their end: what was found, and whether a name that is read stands there twice.
+fn plain_metadata<'a>(reader: &mut Reader<'a>) -> Option<(Metadata<'a>, bool)>
+    ensures { MatchOption result (ReadsNoMembers 125 reader.old) (λ r. ReadsMembers 125 (λ js ms. IsMetadata ms r.0 × (r.1 ≡ two_twice (codes "generated") (codes "buildtime") js)) reader.old reader.new) }
 {
     let mut metadata = Metadata {
         generated: None,
         buildtime: None,
     };
+    let mut names = Names::NONE;
     loop {
         let key = next_name(reader)?;
         let Some(name) = key else {
-            return Some(metadata);
+            return Some((metadata, names.repeat()));
         };
-        let value = see(reader, NESTING)?;
+        let value = see(reader, NESTING - 2)?;
         metadata = with_detail(metadata, name, value);
+        names = names.with("generated", "buildtime", name);
     }
 }
 
-/// Passes over a value that begins with this token and is no object, and so does not say when the export was made.
-fn no_built<'a>(reader: &mut Reader<'a>, token: Token<'a>) -> Option<Option<u64>>
-    ensures { IfSome result (λ built. ReadsSome (NESTING + 1) (λ d. TellsBuilt d built) (token_of token.entry ∷ reader.old) reader.new) }
-{
-    let seen = see_rest(reader, token, NESTING)?;
-    if seen.object {
-        return None;
-    }
-    Some(None)
-}
-
-/// Reads the metadata, for when the export was made.
-fn plain_built(reader: &mut Reader<'_>) -> Option<Option<u64>>
-    ensures { IfSome result (λ built. ReadsSome (NESTING + 1) (λ d. TellsBuilt d built) reader.old reader.new) }
+/// Reads the metadata: when the export was made, if they are an object and say so, and whether a name that is read stands there twice.
+fn plain_built(reader: &mut Reader<'_>) -> Option<(Option<u64>, bool)>
+    ensures { MatchOption result (ReadsNone 126 reader.old) (λ r. ReadsBuilt reader.old reader.new r) }
 {
     let token = reader.next()?;
-    match token {
-        Token::BeginObject => {}
-        other => return no_built(reader, other),
+    if !begins_object(&token) {
+        let _passed = see_rest(reader, token, NESTING - 1)?;
+        return Some((None, false));
     }
-    let metadata = plain_metadata(reader)?;
-    Some(built(metadata.generated, metadata.buildtime))
+    let (metadata, repeat) = plain_metadata(reader)?;
+    Some((built(metadata.generated, metadata.buildtime), repeat))
 }
 
 /// What was read of an array of entries: what was gathered of them, or which is the first that cannot be read, counted from 0, and what
@@ -271,93 +292,92 @@ pub enum Entries {
     Broken(usize, EntryFault),
 }
 
-/// The same with one entry more, which has this index.
+/// The same with one entry more, which has this index. `AllocError`: 2^64 entries do not count, which no memory holds.
 fn with_entry(
     entries: Entries,
     entry: Result<Listed, EntryFault>,
     index: usize,
     now: u64,
-) -> Result<Option<Entries>, AllocError>
-    ensures { IfOk result (λ found. IfSome found (λ after. (ds : List Data) (d : Data) → length ds ≡ index → TellsListed now ds entries → IsJudged d entry → TellsListed now (ds ++ d ∷ []) after)) }
+) -> Result<Entries, AllocError>
+    ensures { IfOk result (λ after. (ds : List Data) (d : Data) → length ds ≡ index → TellsListed now ds entries → IsJudged d entry → TellsListed now (ds ++ d ∷ []) after) }
 {
     let mut gathered = match entries {
         Entries::Whole(gathered) => gathered,
-        Entries::Broken(first, what) => return Ok(Some(Entries::Broken(first, what))),
+        Entries::Broken(first, what) => return Ok(Entries::Broken(first, what)),
     };
     let listed = match entry {
         Ok(listed) => listed,
-        Err(what) => return Ok(Some(Entries::Broken(index, what))),
+        Err(what) => return Ok(Entries::Broken(index, what)),
     };
     if gathered.is_full() {
-        return Ok(None);
+        return Err(AllocError);
     }
     gathered.add(&listed, now)?;
-    Ok(Some(Entries::Whole(gathered)))
+    Ok(Entries::Whole(gathered))
 }
 
-/// Reads the entries of an array, to its end.
+/// Reads the entries of an array, to its end, and whether in one of them a name that is read stands twice.
 fn gather_entries(
     alloc: Global,
     reader: &mut Reader<'_>,
     now: u64,
-) -> Result<Option<Entries>, AllocError>
-    ensures { IfOk result (λ found. IfSome found (λ entries. ReadsEntries now reader.old reader.new entries)) }
+) -> Result<Option<(Entries, bool)>, AllocError>
+    ensures { IfOk result (λ found. MatchOption found (ReadsNoItems 125 reader.old) (λ r. ReadsEntries now reader.old reader.new r)) }
 {
     let mut entries = Entries::Whole(Gathered::new(alloc));
+    let mut repeat = false;
     let mut index = 0usize;
     while !reader.take_end_array() {
         if index == usize::MAX {
-            return Ok(None);
+            return Err(AllocError);
         }
-        let Some(entry) = plain_entry(reader) else {
+        let Some((entry, twice)) = plain_entry(reader) else {
             return Ok(None);
         };
-        let Some(more) = with_entry(entries, entry, index, now)? else {
-            return Ok(None);
-        };
-        entries = more;
+        entries = with_entry(entries, entry, index, now)?;
+        repeat |= twice;
         index += 1;
     }
-    Ok(Some(entries))
+    Ok(Some((entries, repeat)))
 }
 
-/// Passes over a value that begins with this token and is no array, and so has no entries.
-fn no_roas<'a>(reader: &mut Reader<'a>, token: Token<'a>) -> Option<Option<Entries>>
-    ensures { IfSome result (λ entries. (now : ℕ) → ReadsRoas now (token_of token.entry ∷ reader.old) reader.new entries) }
+/// Whether a token begins an array.
+fn begins_array(token: &Token<'_>) -> bool
+    ensures { MatchBool result (token_of token.now ≡ SpecToken.begin_array) (token_of token.now ≢ SpecToken.begin_array) }
 {
-    let seen = see_rest(reader, token, NESTING)?;
-    if seen.array {
-        return None;
-    }
-    Some(None)
+    matches!(token, Token::BeginArray)
 }
 
-/// Reads the value `roas`: its entries, if it is an array.
+/// Reads the value `roas`: its entries, if it is an array, and whether in one of them a name that is read stands twice.
 fn plain_roas(
     alloc: Global,
     reader: &mut Reader<'_>,
     now: u64,
-) -> Result<Option<Option<Entries>>, AllocError>
-    ensures { IfOk result (λ found. IfSome found (λ entries. ReadsRoas now reader.old reader.new entries)) }
+) -> Result<Option<(Option<Entries>, bool)>, AllocError>
+    ensures { IfOk result (λ found. MatchOption found (ReadsNone 126 reader.old) (λ r. ReadsRoas now reader.old reader.new r)) }
 {
     let Some(token) = reader.next() else {
         return Ok(None);
     };
-    match token {
-        Token::BeginArray => {}
-        other => return Ok(no_roas(reader, other)),
+    if !begins_array(&token) {
+        let Some(_passed) = see_rest(reader, token, NESTING - 1) else {
+            return Ok(None);
+        };
+        return Ok(Some((None, false)));
     }
-    let Some(entries) = gather_entries(alloc, reader, now)? else {
+    let Some((entries, repeat)) = gather_entries(alloc, reader, now)? else {
         return Ok(None);
     };
-    Ok(Some(Some(entries)))
+    Ok(Some((Some(entries), repeat)))
 }
 
-/// What was read of the members of an export: the entries of `roas`, where it is an array, and when the export was made.
+/// What was read of the members of an export: the entries of `roas`, where it is an array, when the export was made, and whether a name
+/// that is read stands twice in its object.
 #[derive(Debug, Drop)]
 pub struct Parts {
     pub(crate) entries: Option<Entries>,
     pub(crate) built: Option<u64>,
+    pub(crate) repeats: bool,
 }
 
 /// Reads the value of a member, which takes the place of one of its name.
@@ -368,24 +388,26 @@ fn with_part(
     parts: Parts,
     name: &str,
 ) -> Result<Option<Parts>, AllocError>
-    ensures { IfOk result (λ found. IfSome found (λ after. ReadsPart now name.now parts after reader.old reader.new)) }
+    ensures { IfOk result (λ found. MatchOption found (ReadsNone 126 reader.old) (λ after. ReadsPart now name.now parts after reader.old reader.new)) }
 {
     match name {
         "roas" => match plain_roas(alloc, reader, now)? {
-            Some(entries) => Ok(Some(Parts {
+            Some((entries, repeat)) => Ok(Some(Parts {
                 entries,
                 built: parts.built,
+                repeats: parts.repeats | repeat,
             })),
             None => Ok(None),
         },
         "metadata" => match plain_built(reader) {
-            Some(built) => Ok(Some(Parts {
+            Some((built, repeat)) => Ok(Some(Parts {
                 entries: parts.entries,
                 built,
+                repeats: parts.repeats | repeat,
             })),
             None => Ok(None),
         },
-        _ => match see(reader, NESTING) {
+        _ => match see(reader, NESTING - 1) {
             Some(_passed) => Ok(Some(parts)),
             None => Ok(None),
         },
@@ -398,78 +420,67 @@ fn plain_parts(
     reader: &mut Reader<'_>,
     now: u64,
 ) -> Result<Option<Parts>, AllocError>
-    ensures { IfOk result (λ found. IfSome found (λ parts. ReadsMembers (NESTING + 2) (λ ms. HasParts now ms parts) reader.old reader.new)) }
+    ensures { IfOk result (λ found. MatchOption found (ReadsNoMembers 126 reader.old) (λ parts. ReadsMembers 126 (λ js ms. HasParts now ms parts × (parts.repeats ≡ export_twice js)) reader.old reader.new)) }
 {
     let mut parts = Parts {
         entries: None,
         built: None,
+        repeats: false,
     };
+    let mut names = Names::NONE;
     loop {
         let Some(key) = next_name(reader) else {
             return Ok(None);
         };
         let Some(name) = key else {
-            return Ok(Some(parts));
+            let repeats = names.repeat() | parts.repeats;
+            return Ok(Some(Parts { repeats, ..parts }));
         };
         let Some(more) = with_part(alloc, reader, now, parts, name)? else {
             return Ok(None);
         };
         parts = more;
+        names = names.with("roas", "metadata", name);
     }
 }
 
-/// The parts of an export that is an object, if its text has the plain form.
-pub(crate) fn plain_export(alloc: Global, text: &str, now: u64) -> Result<Option<Parts>, AllocError>
-    ensures { IfOk result (λ found. IfSome found (λ parts. (ms : Members) × (read text.now ≡ Some (object ms)) × HasParts now ms parts)) }
+/// Reads an export that is an object, and its names. `None`: the text is no object. `NotJson`: it is no JSON.
+pub(crate) fn plain_export(
+    alloc: Global,
+    text: &str,
+    now: u64,
+) -> Result<Option<Parts>, ExportFault>
+    ensures ok { IfOk result (λ found. MatchOption found (IsNoObject text.now) (λ parts. ReadsExport now text.now parts)) }
+    ensures fault { IfErr result (λ fault. TextFails text.now fault) }
 {
     let mut scratch = Scratch::new(alloc);
     let mut reader = Reader::new(text, &mut scratch)?;
-    match reader.next() {
-        Some(Token::BeginObject) => {}
-        _ => return Ok(None),
-    }
-    let Some(parts) = plain_parts(alloc, &mut reader, now)? else {
+    let Some(token) = reader.next() else {
         return Ok(None);
     };
-    if reader.next().is_some() {
+    if !begins_object(&token) {
         return Ok(None);
+    }
+    let Some(parts) = plain_parts(alloc, &mut reader, now)? else {
+        return Err(ExportFault::NotJson);
+    };
+    if reader.next().is_some() {
+        return Err(ExportFault::NotJson);
     }
     Ok(Some(parts))
 }
 
-/// The parts of a text that is an array: none.
-pub(crate) fn no_parts(alloc: Global, text: &str) -> Result<Option<Parts>, AllocError>
-    ensures { IfOk result (λ found. IfSome found (λ parts. (parts.entries ≡ None) × (parts.built ≡ None) × ((ds : Items) × (read text.now ≡ Some (array ds))))) }
+/// Whether a text is an array. `None`: it is no JSON.
+pub(crate) fn is_array(alloc: Global, text: &str) -> Result<Option<bool>, AllocError>
+    ensures { IfOk result (λ found. MatchOption found (read text.now ≡ None) (λ yes. (d : Data) × (read text.now ≡ Some d) × (is_some (as_array d) ≡ yes))) }
 {
     let mut scratch = Scratch::new(alloc);
     let mut reader = Reader::new(text, &mut scratch)?;
-    let Some(seen) = see(&mut reader, NESTING + 3) else {
+    let Some(seen) = see(&mut reader, NESTING) else {
         return Ok(None);
     };
-    if !seen.array {
-        return Ok(None);
-    }
-    if reader.next().is_some() {
-        return Ok(None);
-    }
-    Ok(Some(Parts {
-        entries: None,
-        built: None,
-    }))
-}
-
-/// Whether a text is JSON, as far as numbers too large for a float are not looked at.
-pub(crate) fn is_json(alloc: Global, text: &str) -> Result<bool, AllocError>
-    ensures { IfOk result (λ yes. OnFalse yes (read text.now ≡ None)) }
-{
-    let mut scratch = Scratch::new(alloc);
-    let mut reader = Reader::new(text, &mut scratch)?;
-    match reader.skip_value(NESTING + 3) {
-        Ok(()) => {}
-        Err(_) => return Ok(false),
-    }
     match reader.next() {
-        None => Ok(true),
-        Some(_) => Ok(false),
+        None => Ok(Some(seen.array)),
+        Some(_) => Ok(None),
     }
 }

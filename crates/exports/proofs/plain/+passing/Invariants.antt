@@ -4,25 +4,31 @@ use Rattle.exports.proofs.PlainSteps.{Begun, BegunItems}
 use Rattle.exports.proofs.plain.+passing.Given as goal
 
 abbrev pub decreases-see : goal.decreases-see
-decreases-see l = 3 * l.depth + 1
+decreases-see l = 4 * l.depth + 2
 
 abbrev pub decreases-see_rest : goal.decreases-see_rest
-decreases-see_rest l = 3 * l.depth
+decreases-see_rest l = 4 * l.depth + 1
+
+abbrev pub decreases-see_array : goal.decreases-see_array
+decreases-see_array l = 4 * l.depth
+
+abbrev pub decreases-see_object : goal.decreases-see_object
+decreases-see_object l = 4 * l.depth
 
 abbrev pub decreases-pass_items : goal.decreases-pass_items
-decreases-pass_items l = 3 * l.depth + 2
+decreases-pass_items l = 4 * l.depth + 3
 
 abbrev pub decreases-pass_members : goal.decreases-pass_members
-decreases-pass_members l = 3 * l.depth + 2
+decreases-pass_members l = 4 * l.depth + 3
 
 abbrev pub invariant-pass_items-loop-reader : goal.invariant-pass_items-loop-reader
-invariant-pass_items-loop-reader l = BegunItems l.depth (λ _. ⊤) l.initial.reader l.reader
+invariant-pass_items-loop-reader l = BegunItems l.depth (λ f ds. ⊤) l.initial.reader l.reader
 
 abbrev pub decreases-pass_items-loop-reader : goal.decreases-pass_items-loop-reader
 decreases-pass_items-loop-reader l = length l.reader
 
 abbrev pub invariant-pass_members-loop-reader : goal.invariant-pass_members-loop-reader
-invariant-pass_members-loop-reader l = Begun l.depth (λ _. ⊤) l.initial.reader l.reader
+invariant-pass_members-loop-reader l = Begun l.depth (λ f ms. ⊤) l.initial.reader l.reader
 
 abbrev pub decreases-pass_members-loop-reader : goal.decreases-pass_members-loop-reader
 decreases-pass_members-loop-reader l = length l.reader

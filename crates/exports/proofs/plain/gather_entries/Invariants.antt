@@ -1,11 +1,11 @@
-use Rattle.std.proofs.Common.{◌≡◌, length}
-use Rattle.exports.specs.PlainForm.{TellsListed}
+use Rattle.std.proofs.Common.{length}
+use Rattle.exports.proofs.PlainParts.{EntriesSoFar}
 use Rattle.exports.proofs.PlainSteps.{BegunItems}
 use Rattle.exports.proofs.plain.gather_entries.Given as goal
 
 -- what was read of the entries so far, and how many they are
 abbrev pub invariant-loop-entries : goal.invariant-loop-entries
-invariant-loop-entries l = BegunItems 125 (λ ds. (length ds ≡ l.index) × TellsListed l.now ds l.entries) l.initial.reader l.reader
+invariant-loop-entries l = BegunItems 125 (EntriesSoFar l.now l.index l.entries l.repeat) l.initial.reader l.reader
 
 abbrev pub decreases-loop-entries : goal.decreases-loop-entries
 decreases-loop-entries l = length l.reader

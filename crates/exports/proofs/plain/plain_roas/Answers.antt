@@ -1,17 +1,28 @@
-use Rattle.std.proofs.Common.{◌∷◌, ◌∙◌, ap, subst}
-use Rattle.std.specs.Prelude.{IfSome}
+use Rattle.std.proofs.Common.{◌≡◌, ◌∷◌, ◌∙◌, None, false, sym, ap, subst}
+use Rattle.std.specs.Prelude.{MatchOption}
 use Rattle.json.specs.Reads.{token_of}
-use Rattle.exports.specs.PlainForm.{ReadsEntries, TellsRoas}
-use Rattle.exports.proofs.PlainParts.{at_now, read_at, roas_read}
+use Rattle.exports.specs.PlainForm.{IsSeen, ReadsEntries, ReadsNoItems, ReadsSome, TellsRoas}
+use Rattle.exports.specs.Repeating.{roas_repeat}
+use Rattle.exports.proofs.PlainParts.{no_array_here, roas_read}
+use Rattle.exports.proofs.PlainSteps.{no_array, none_at_end, other}
 use Rattle.exports.proofs.plain.plain_roas.Goals as goal
 
-pub returns-in_default-token : goal.returns-in_default-token
-returns-in_default-token c =
-    read_at 126 (λ o d. TellsRoas c.args.now d o) c.args.reader.now (token_of c.in-Some.token ∷ c.next.new.self) c.no_roas.new.reader c.no_roas.result
-    c.in-Some.ensures.value (at_now c.args.now (token_of c.in-Some.token ∷ c.next.new.self) c.no_roas.new.reader c.no_roas.result c.no_roas.ensures)
+pub returns-in_default : goal.returns-in_default
+returns-in_default c = none_at_end 126 c.args.reader.now c.in_default.ensures.value.0
+
+pub returns-then-not-begins_array : goal.returns-then-not-begins_array
+returns-then-not-begins_array c =
+    let t = token_of c.in-Some.token in
+    subst (λ ts. ReadsSome 126 (λ j d. TellsRoas c.args.now d None × (false ≡ roas_repeat j)) ts c.see_rest.new.reader) (sym c.in-Some.ensures.value)
+    (other 126 (λ j d. IsSeen d c.in-Some-see_rest._passed) (λ j d. TellsRoas c.args.now d None × (false ≡ roas_repeat j)) (t ∷ c.next.new.self) c.see_rest.new.reader
+    (λ j d made at is. no_array_here 126 t c.next.new.self c.see_rest.new.reader j d c.if-not-begins_array.ensures made at) c.in-Some-see_rest.ensures)
+
+pub returns-in_default-2 : goal.returns-in_default-2
+returns-in_default-2 c =
+    no_array 125 c.args.reader.now c.next.new.self (c.in-Some.ensures.value ∙ ap (λ t. t ∷ c.next.new.self) c.if-not-begins_array.ensures)
+    (subst (λ o. MatchOption o (ReadsNoItems 125 c.next.new.self) (λ r. ReadsEntries c.args.now c.next.new.self c.gather_entries.new.reader r)) c.in_default-2.is c.in_ok-entries.ensures)
 
 pub returns : goal.returns
 returns c =
-    roas_read c.args.now c.args.reader.now c.next.new.self c.gather_entries.new.reader c.in-Some-2.entries
-    (c.in-Some.ensures.value ∙ ap (λ t. token_of t ∷ c.next.new.self) c.in-BeginArray.is)
-    (subst (λ o. IfSome o (λ entries. ReadsEntries c.args.now c.next.new.self c.gather_entries.new.reader entries)) c.in-Some-2.is c.in_ok-entries.ensures)
+    roas_read c.args.now c.args.reader.now c.next.new.self c.gather_entries.new.reader (c.in-Some-2.entries, c.in-Some-2.repeat) (c.in-Some.ensures.value ∙ ap (λ t. t ∷ c.next.new.self) c.if-not-begins_array.ensures)
+    (subst (λ o. MatchOption o (ReadsNoItems 125 c.next.new.self) (λ r. ReadsEntries c.args.now c.next.new.self c.gather_entries.new.reader r)) c.in-Some-2.is c.in_ok-entries.ensures)

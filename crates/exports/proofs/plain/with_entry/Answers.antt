@@ -18,5 +18,5 @@ returns c ds d long told is =
     let entry = subst (λ r. IsJudged d r) c.in-Ok.is is in (
       so_far.0 ++ c.in-Ok.listed ∷ [],
       are_more ds so_far.0 d c.in-Ok.listed so_far.1 entry,
-      gather_more c.args.now so_far.0 c.in-Ok.listed c.in-Whole.gathered c.add.new.self so_far.2 c.in_ok-add.ensures.records c.in_ok-add.ensures.expired c.in_ok-add.ensures.until,
+      gather_more c.args.now so_far.0 c.in-Ok.listed c.in-Whole.gathered c.add.new.self so_far.2 c.in_ok-add.ensures.records c.in_ok-add.ensures.lasts c.in_ok-add.ensures.expired c.in_ok-add.ensures.until,
     )

@@ -1,19 +1,20 @@
-use Rattle.std.proofs.Common.{sym, subst}
-use Rattle.std.specs.Prelude.{IfSome}
-use Rattle.exports.specs.PlainForm.{ReadsPart, ReadsRoas}
+use Rattle.std.proofs.Common.{◌||◌, sym, subst}
+use Rattle.std.specs.Prelude.{MatchOption}
+use Rattle.exports.specs.PlainForm.{ReadsNone, ReadsPart, ReadsRoas}
 use Rattle.exports.proofs.PlainWhole.{part_metadata, part_other, part_roas}
 use Rattle.exports.proofs.plain.with_part.Goals as goal
 
 pub returns-in-Some : goal.returns-in-Some
 returns-in-Some c =
-    let read = subst (λ o. IfSome o (λ entries. ReadsRoas c.args.now c.args.reader.now c.plain_roas.new.reader entries)) c.in-Some.is c.in_ok-entries-in-roas.ensures in
-    subst (λ k. ReadsPart c.args.now k c.args.parts (record c.args.parts { entries = c.in-Some.entries }) c.args.reader.now c.plain_roas.new.reader) (sym c.in-roas.is)
-    (part_roas c.args.now c.args.parts c.in-Some.entries c.args.reader.now c.plain_roas.new.reader read)
+    let read = subst (λ o. MatchOption o (ReadsNone 126 c.args.reader.now) (λ r. ReadsRoas c.args.now c.args.reader.now c.plain_roas.new.reader r)) c.in-Some.is c.in_ok-entries-in-roas.ensures in
+    subst (λ k. ReadsPart c.args.now k c.args.parts (record { entries = c.in-Some.entries; built = c.args.parts.built; repeats = c.args.parts.repeats || c.in-Some.repeat }) c.args.reader.now c.plain_roas.new.reader) (sym c.in-roas.is)
+    (part_roas c.args.now c.args.parts (c.in-Some.entries, c.in-Some.repeat) c.args.reader.now c.plain_roas.new.reader read)
 
 pub returns-in-Some-plain_built : goal.returns-in-Some-plain_built
 returns-in-Some-plain_built c =
-    subst (λ k. ReadsPart c.args.now k c.args.parts (record c.args.parts { built = c.in-Some-plain_built.built }) c.args.reader.now c.plain_built.new.reader) (sym c.in-metadata.is)
-    (part_metadata c.args.now c.args.parts c.in-Some-plain_built.built c.args.reader.now c.plain_built.new.reader c.in-Some-plain_built.ensures)
+    subst (λ k. ReadsPart c.args.now k c.args.parts (record { entries = c.args.parts.entries; built = c.in-Some-plain_built.built; repeats = c.args.parts.repeats || c.in-Some-plain_built.repeat }) c.args.reader.now c.plain_built.new.reader)
+    (sym c.in-metadata.is)
+    (part_metadata c.args.now c.args.parts (c.in-Some-plain_built.built, c.in-Some-plain_built.repeat) c.args.reader.now c.plain_built.new.reader c.in-Some-plain_built.ensures)
 
 pub returns-in-Some-see : goal.returns-in-Some-see
 returns-in-Some-see c =

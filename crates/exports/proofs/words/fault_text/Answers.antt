@@ -1,0 +1,8 @@
+use Rattle.std.proofs.Common.{◌∙◌}
+use Rattle.exports.specs.FaultText.{number_text, place}
+use Rattle.exports.proofs.ThreeParts.{with_place}
+use Rattle.exports.proofs.words.fault_text.Goals as goal
+
+pub returns : goal.returns
+returns c =
+    with_place (place c.args.fault) c.as_str.result.now c.as_str-2.result.now (number_text c.args.fault) c.joined.result (c.as_str.ensures.value ∙ c.in_ok-place.ensures) c.joined.ensures

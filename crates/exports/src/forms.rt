@@ -1,0 +1,120 @@
+//! Why a text is an export of neither form.
+ghost use Rattle.std.specs.Prelude.{◌<◌, length, IfOk, IfNone};
+
+use crate::walk::{NESTING, find_member};
+use crate::words::{member_text, shown};
+use json::{Error, Reader, Scratch, Token, Value as Tree};
+use json_texts::name_text;
+use prefixes::{Asn, IpPrefix, Vrp};
+use std::alloc::{AllocError, Global};
+
+/// The members of an entry of a payload list.
+const MEMBERS: &[&str] = &["asn", "prefix", "maxLength"];
+
+/// The first member of an entry that a payload list does not have.
+fn other_member<'a>(members: &[(&'a str, Tree<'a>)]) -> Option<&'a str> {
+    for (name, _value) in members {
+        if !MEMBERS.contains(name) {
+            return Some(*name);
+        }
+    }
+    None
+}
+
+/// The AS number of an entry.
+fn asn_of(entry: &Tree<'_>) -> Option<u32> {
+    let number = entry.get("asn")?.as_u64()?;
+    u32::try_from(number).ok()
+}
+
+/// The prefix of an entry.
+fn prefix_of(entry: &Tree<'_>) -> Option<IpPrefix> {
+    let text = entry.get("prefix")?.as_str()?;
+    IpPrefix::parse(text).ok()
+}
+
+/// The payload of an entry with this prefix.
+fn payload_of(entry: &Tree<'_>, prefix: IpPrefix) -> Option<Vrp> {
+    let number = entry.get("maxLength")?.as_u64()?;
+    let max_len = u8::try_from(number).ok()?;
+    Vrp::new(prefix, max_len, Asn(0)).ok()
+}
+
+/// What is wrong with the values of an entry of a payload list, if something is.
+fn values_text(alloc: Global, entry: &Tree<'_>) -> Result<Option<String>, AllocError> {
+    if asn_of(entry).is_none() {
+        return Ok(Some(member_text(alloc, entry, "asn", "is no AS number")?));
+    }
+    let Some(prefix) = prefix_of(entry) else {
+        return Ok(Some(member_text(alloc, entry, "prefix", "is no prefix")?));
+    };
+    if payload_of(entry, prefix).is_none() {
+        let wrong = "is not from the prefix length to 32 (IPv4) or 128 (IPv6)";
+        return Ok(Some(member_text(alloc, entry, "maxLength", wrong)?));
+    }
+    Ok(None)
+}
+
+/// What is wrong with an item of a payload list, if something is.
+fn item_text(alloc: Global, item: &Tree<'_>) -> Result<Option<String>, AllocError> {
+    let Tree::Object(members) = item else {
+        let shown = shown(alloc, item)?;
+        return Ok(Some(format!(in alloc; "{shown} is no object")?));
+    };
+    match other_member(members.as_slice()) {
+        Some(name) => {
+            let shown = name_text(alloc, name)?;
+            Ok(Some(format!(in alloc; "unknown member {shown}")?))
+        }
+        None => values_text(alloc, item),
+    }
+}
+
+/// What is wrong with the item that comes next, if something is.
+fn next_item_text(alloc: Global, reader: &mut Reader<'_>) -> Result<Option<String>, AllocError>
+    ensures { IfOk result (λ found. IfNone found (length reader.new < length reader.old)) }
+{
+    match Tree::read(alloc, reader, NESTING) {
+        Ok(item) => item_text(alloc, &item),
+        Err(Error::OutOfMemory) => Err(AllocError),
+        Err(_) => Ok(Some(String::from_str(alloc, "it cannot be read")?)),
+    }
+}
+
+/// Which item of an array is no entry of a payload list, and why. The items come next.
+fn list_text(alloc: Global, reader: &mut Reader<'_>) -> Result<String, AllocError> {
+    let mut index = 0usize;
+    while !reader.take_end_array() {
+        if let Some(why) = next_item_text(alloc, reader)? {
+            return format!(in alloc; "entry {index}: {why}");
+        }
+        index = index.saturating_add(1);
+    }
+    String::from_str(alloc, "a name stands twice in an entry")
+}
+
+/// Why an object has no array `roas`. Its members come next.
+fn object_text(alloc: Global, reader: &mut Reader<'_>) -> Result<String, AllocError> {
+    if !find_member(reader, "roas") {
+        return String::from_str(alloc, "roas is missing");
+    }
+    match Tree::read(alloc, reader, NESTING) {
+        Ok(value) => {
+            let shown = shown(alloc, &value)?;
+            format!(in alloc; "roas is {shown}")
+        }
+        Err(Error::OutOfMemory) => Err(AllocError),
+        Err(_) => String::from_str(alloc, "roas cannot be read"),
+    }
+}
+
+/// Why a text is an export of neither form.
+pub(crate) fn form_text(alloc: Global, text: &str) -> Result<String, AllocError> {
+    let mut scratch = Scratch::new(alloc);
+    let mut reader = Reader::new(text, &mut scratch)?;
+    match reader.next() {
+        Some(Token::BeginArray) => list_text(alloc, &mut reader),
+        Some(Token::BeginObject) => object_text(alloc, &mut reader),
+        _ => String::from_str(alloc, "it is neither an array nor an object"),
+    }
+}

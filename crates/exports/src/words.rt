@@ -1,0 +1,149 @@
+//! Faults of exports in words, with what stands in the file.
+ghost use Rattle.std.specs.Prelude.{◌≡◌, ◌++◌, List, ℕ, IfOk, string_bytes};
+ghost use Rattle.exports.specs.FaultText.{number_text, place};
+
+use crate::fault::{EntryFault, ExportFault};
+use crate::forms::form_text;
+use crate::json_fault::json_fault_text;
+use crate::repeated::repeated_text;
+use crate::walk::{NESTING, begins_array, begins_object, find_item, find_member};
+use json::{Error, Reader, Scratch, Value as Tree};
+use json_texts::{Position, cut_text, name_text};
+use std::alloc::{AllocError, Global};
+use std::str;
+
+/// The entry of `roas` in which a fault is, counted from 0, or what else stands first.
+fn place(alloc: Global, fault: ExportFault) -> Result<String, AllocError>
+    ensures { IfOk result (λ text. string_bytes text ≡ place fault) }
+{
+    match fault {
+        ExportFault::Entry(index, _) => format!(in alloc; "entry {index} of roas: "),
+        ExportFault::NoRoas => String::from_str(
+            alloc,
+            "neither a payload list nor an object with an array roas: ",
+        ),
+        _ => Ok(String::new(alloc)),
+    }
+}
+
+/// A value, as a message shows it.
+pub(crate) fn shown(alloc: Global, value: &Tree<'_>) -> Result<String, AllocError> {
+    match value {
+        Tree::String(text) => name_text(alloc, text),
+        Tree::Number(text) => cut_text(alloc, text),
+        Tree::Bool(true) => String::from_str(alloc, "true"),
+        Tree::Bool(false) => String::from_str(alloc, "false"),
+        Tree::Null => String::from_str(alloc, "null"),
+        Tree::Array(_) => String::from_str(alloc, "an array"),
+        Tree::Object(_) => String::from_str(alloc, "an object"),
+    }
+}
+
+/// The member of an entry that a fault is of, and what is wrong with it.
+fn member_of(what: EntryFault) -> Option<(&'static str, &'static str)> {
+    match what {
+        EntryFault::NoObject => None,
+        EntryFault::Asn => Some(("asn", "is no AS number")),
+        EntryFault::Prefix => Some(("prefix", "is no prefix")),
+        EntryFault::MaxLength => Some((
+            "maxLength",
+            "is not from the prefix length to 32 (IPv4) or 128 (IPv6)",
+        )),
+        EntryFault::Expires => Some(("expires", "is no whole number of seconds")),
+    }
+}
+
+/// What is wrong with a member of an entry.
+pub(crate) fn member_text(
+    alloc: Global,
+    entry: &Tree<'_>,
+    name: &str,
+    wrong: &str,
+) -> Result<String, AllocError> {
+    match entry.get(name) {
+        Some(value) => {
+            let shown = shown(alloc, value)?;
+            format!(in alloc; "{name} {shown} {wrong}")
+        }
+        None => format!(in alloc; "{name} is missing"),
+    }
+}
+
+/// What is wrong with an entry.
+fn entry_text(alloc: Global, entry: &Tree<'_>, what: EntryFault) -> Result<String, AllocError> {
+    match member_of(what) {
+        Some((name, wrong)) => member_text(alloc, entry, name, wrong),
+        None => {
+            let shown = shown(alloc, entry)?;
+            format!(in alloc; "{shown} is no object")
+        }
+    }
+}
+
+/// Whether the entry of this index of `roas` comes next, in a text that was not read yet.
+fn find_entry(reader: &mut Reader<'_>, index: usize) -> bool {
+    begins_object(reader)
+        && find_member(reader, "roas")
+        && begins_array(reader)
+        && find_item(reader, index)
+}
+
+/// What is wrong with the entry of this index of `roas`.
+fn entry_why(
+    alloc: Global,
+    text: &str,
+    index: usize,
+    what: EntryFault,
+) -> Result<String, AllocError> {
+    let mut scratch = Scratch::new(alloc);
+    let mut reader = Reader::new(text, &mut scratch)?;
+    if !find_entry(&mut reader, index) {
+        return format!(in alloc; "{what}");
+    }
+    match Tree::read(alloc, &mut reader, NESTING) {
+        Ok(entry) => entry_text(alloc, &entry, what),
+        Err(Error::OutOfMemory) => Err(AllocError),
+        Err(_) => format!(in alloc; "{what}"),
+    }
+}
+
+/// What is wrong with a text that has this fault.
+fn text_why(alloc: Global, text: &str, fault: ExportFault) -> Result<String, AllocError> {
+    match fault {
+        ExportFault::NotJson => json_fault_text(alloc, text),
+        ExportFault::NoRoas => form_text(alloc, text),
+        ExportFault::Entry(index, what) => entry_why(alloc, text, index, what),
+        ExportFault::TooMany => String::from_str(alloc, "more than 16777215 different payloads"),
+        ExportFault::Memory => String::from_str(alloc, "out of memory"),
+        ExportFault::Repeated => repeated_text(alloc, text),
+    }
+}
+
+/// What is wrong with bytes that have this fault.
+fn why(alloc: Global, bytes: &[u8], fault: ExportFault) -> Result<String, AllocError> {
+    match str::from_utf8(bytes) {
+        Ok(text) => text_why(alloc, text, fault),
+        Err(error) => {
+            let position = Position::at(bytes, error.valid_up_to());
+            format!(in alloc; "not UTF-8 at {position}")
+        }
+    }
+}
+
+/// The place, what is wrong and the number.
+fn joined(alloc: Global, place: &str, why: &str, fault: ExportFault) -> Result<String, AllocError>
+    ensures { IfOk result (λ text. string_bytes text ≡ place.now ++ why.now ++ number_text fault) }
+{
+    format!(in alloc; "{place}{why} (fault {})", fault.number())
+}
+
+/// A fault of these bytes in words. It names the entry, counted from 0, the member and its value; or the name that stands twice; or, if the bytes
+/// are not JSON, the line and the column. A value is shown as JSON; if that has over 80 bytes, only its first 80. The bytes are read again, but no
+/// tree is built of more than one entry.
+pub fn fault_text(alloc: Global, bytes: &[u8], fault: ExportFault) -> Result<String, AllocError>
+    ensures { IfOk result (λ text. (why : List ℕ) × (string_bytes text ≡ place fault ++ why ++ number_text fault)) }
+{
+    let place = place(alloc, fault)?;
+    let why = why(alloc, bytes, fault)?;
+    joined(alloc, place.as_str(), why.as_str(), fault)
+}
