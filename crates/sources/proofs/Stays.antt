@@ -1,32 +1,20 @@
--- What was taken stays what the bytes export until it is over.
-use Rattle.std.proofs.Common.{◌≡◌, ℕ, ◌<◌, ◌≤◌, Bool, true, false, nat_lt, List, Option, Some, None, refl, sym, ap, subst, ◌∙◌, arith}
-use Rattle.std.specs.Prelude.{◌↔◌, not}
-use Rattle.std.proofs.lemmas.Bool.Decides.{nat_tests}
-use Rattle.exports.specs.Export.{IsExport}
-use Rattle.exports.specs.ExportLaws.{SameUntil}
-use Rattle.exports.specs.Until.{IsBefore}
-use Rattle.exports.specs.declared.export.Export.{Export}
-use Rattle.sources.specs.Served.{IsTaken, has_come, is_over}
-use Rattle.sources.specs.TakenLaws.{StaysTaken}
-use Rattle.sources.specs.declared.listed.Listed.{Listed}
+-- What was taken of a file is known at later moments too.
+use Rattle.std.proofs.Common.{◌≡◌, length, ap, ◌∙◌, sym}
+use Rattle.vrps.specs.VrpSet.{listing, set_of, size}
+use Rattle.exports.specs.ExportLaws.{LaterExports}
+use Rattle.exports.specs.Lasting.{counting}
+use Rattle.sources.specs.Served.{counting_at}
+use Rattle.sources.specs.TakenLaws.{CountsExpired, StaysTaken}
+use Rattle.sources.proofs.Counts.{counted_all, over_if}
 
-not_come : (t : ℕ) (u : Option ℕ) → has_come t u ≡ false → IsBefore t u
-not_come t None h = tt
-not_come t (Some e) h = by_test (nat_lt t e) refl
-  where
-    by_test : (b : Bool) → nat_lt t e ≡ b → t < e
-    by_test true is = grind (arith, nat_tests)
-    by_test false is = let no : true ≡ false = sym (ap not is) ∙ h in absurd (cc)
+pub stays_taken : LaterExports → StaysTaken
+stays_taken later bytes now expired l taken at not_before small =
+    let law = later bytes now taken.read taken.is at not_before small in
+    let same : set_of (counting at (listing taken.read.export.set) taken.read.lasts.items) ≡ counting_at at l = λ i. set_of (counting at (listing (sym taken.set_is i)) (sym taken.lasts_are i)) in
+    (law.0, λ y is. law.1 y is ∙ same)
 
-before_it : (t : ℕ) (u : Option ℕ) → IsBefore t u → has_come t u ≡ false
-before_it t None h = refl
-before_it t (Some e) h = let is : nat_lt t e ≡ true = grind (arith, nat_tests) in ap not is
-
-pub stays_taken : SameUntil → StaysTaken
-stays_taken same bytes now expired l taken t later =
-    let law = same bytes now taken.read taken.is t later in
-    let x : Export = record { set = l.set; expired = expired; built = l.built } in
-    let is : x ≡ taken.read.export = λ i. record { set = taken.set_is i; expired = taken.expired_is i; built = taken.built_is i } in (
-      (λ h. subst (λ y. IsExport bytes t y) (sym is) (law.1 (subst (λ u. IsBefore t u) taken.until_is (not_come t l.until h)))),
-      (λ h. before_it t l.until (subst (λ u. IsBefore t u) (sym taken.until_is) (law.0 (subst (λ y. IsExport bytes t y) is h)))),
-    )
+pub counts_expired : CountsExpired
+counts_expired bytes now expired l taken at small = (
+  counted_all at l (ap length taken.lasts_are ∙ taken.is.one_each ∙ ap (λ s. size s) (sym taken.set_is)),
+  over_if at l.lasts.items _ (taken.until_is at small),
+)

@@ -4,6 +4,7 @@ use Rattle.std.proofs.Common.{arith, inl, inr, ap, subst, sym, ◌∙◌, IfOk, 
 use Rattle.std.proofs.Math.Bool.{or-true}
 use Rattle.std.specs.List.{list_any}
 use Rattle.der_lite.specs.Moments.{CivilMoment}
+use Rattle.der_lite.specs.Seconds.{seconds_of}
 use Rattle.prefixes.specs.Payload.{Payload}
 use Rattle.points.specs.InUse.{Points, Lists}
 use Rattle.vrps.specs.VrpSet.{VrpSet, empty, has, listing, set_of, size, union, without}
@@ -17,7 +18,7 @@ use Rattle.slurm.specs.Exceptions.{exceptions_of}
 use Rattle.slurm.specs.SlurmFile.{ReadsSlurm}
 use Rattle.slurm.specs.declared.filter.Slurm.{Slurm}
 use Rattle.slurm.proofs.ExceptionLaws.{is_excepted}
-use Rattle.sources.specs.Served.{HasServed, IsServed, LeavesOut, excepted_by, has_length_0, is_asserted, is_left_out, is_listed, left_out_of, narrowed, with_lists}
+use Rattle.sources.specs.Served.{HasServed, IsServed, LeavesOut, counting_at, excepted_by, has_length_0, is_asserted, is_left_out, is_listed, left_out_of, narrowed, with_lists}
 use Rattle.sources.specs.declared.listed.Listed.{Listed}
 use Rattle.sources.specs.declared.sources.Served.{Served}
 
@@ -50,65 +51,65 @@ or_both true b c = refl
 or_both false b c = refl
 
 -- the members of a set and of those of files
-has-lists : (s : VrpSet) (ls : List Listed) (v : Payload) → has (with_lists s ls) v ≡ (has s v || is_listed ls v)
-has-lists s [] v = or_none (has s v)
-has-lists s (l ∷ ls) v =
-    has-lists (union s l.set) ls v ∙ ap (λ b. b || is_listed ls v) (has-union s l.set v) ∙ or_both (has s v) (has l.set v) (is_listed ls v)
+has-lists : (at : ℕ) (s : VrpSet) (ls : List Listed) (v : Payload) → has (with_lists at s ls) v ≡ (has s v || is_listed at ls v)
+has-lists at s [] v = or_none (has s v)
+has-lists at s (l ∷ ls) v =
+    has-lists at (union s (counting_at at l)) ls v ∙ ap (λ b. b || is_listed at ls v) (has-union s (counting_at at l) v) ∙ or_both (has s v) (has (counting_at at l) v) (is_listed at ls v)
 
 -- What files add makes a set no smaller.
-grows : (s : VrpSet) (ls : List Listed) → size s ≤ size (with_lists s ls)
-grows s ls = size_le s (with_lists s ls) (λ q one. has-lists s ls q ∙ ap (λ b. b || is_listed ls q) one)
+grows : (at : ℕ) (s : VrpSet) (ls : List Listed) → size s ≤ size (with_lists at s ls)
+grows at s ls = size_le s (with_lists at s ls) (λ q one. has-lists at s ls q ∙ ap (λ b. b || is_listed at ls q) one)
 
 -- A set that is over the limit is over it still with what files add.
-pub beyond : (s : VrpSet) (ls : List Listed) (t : VrpSet) → with_lists s ls ≡ t → 16777215 < size s → 16777215 < size t
-beyond s ls t is over = subst (λ x. 16777215 < size x) is (let more = grows s ls in omega (arith, more, over))
+pub beyond : (at : ℕ) (s : VrpSet) (ls : List Listed) (t : VrpSet) → with_lists at s ls ≡ t → 16777215 < size s → 16777215 < size t
+beyond at s ls t is over = subst (λ x. 16777215 < size x) is (let more = grows at s ls in omega (arith, more, over))
 
 -- A fault that is handed on is the one that was told.
 pub same_fault : {T S : Type 0} (r : Result T SetFault) (q : Result S SetFault) (x y t : SetFault) → r ≡ Err x → x ≡ y → q ≡ Err y → r ≡ Err t → q ≡ Err t
 same_fault r q x y t a b d e = cc (a, b, d, e)
 
 -- the members of files alone
-has-all : (ls : List Listed) (v : Payload) → has (with_lists empty ls) v ≡ is_listed ls v
-has-all ls v = has-lists empty ls v ∙ ap (λ b. b || is_listed ls v) (has-empty v)
+has-all : (at : ℕ) (ls : List Listed) (v : Payload) → has (with_lists at empty ls) v ≡ is_listed at ls v
+has-all at ls v = has-lists at empty ls v ∙ ap (λ b. b || is_listed at ls v) (has-empty v)
 
-listed_both : (a b : List Listed) (v : Payload) → is_listed (a ++ b) v ≡ (is_listed a v || is_listed b v)
-listed_both [] b v = refl
-listed_both (l ∷ a) b v = ap (λ x. has l.set v || x) (listed_both a b v) ∙ sym (or_both (has l.set v) (is_listed a v) (is_listed b v))
+listed_both : (at : ℕ) (a b : List Listed) (v : Payload) → is_listed at (a ++ b) v ≡ (is_listed at a v || is_listed at b v)
+listed_both at [] b v = refl
+listed_both at (l ∷ a) b v = ap (λ x. has (counting_at at l) v || x) (listed_both at a b v) ∙ sym (or_both (has (counting_at at l) v) (is_listed at a v) (is_listed at b v))
 
 -- A set and the payloads of files
-pub with_all_lists : (s : VrpSet) (ls : List Listed) → union s (with_lists empty ls) ≡ with_lists s ls
-with_all_lists s ls = same_set _ _ (λ q. has-union s (with_lists empty ls) q ∙ ap (λ b. has s q || b) (has-all ls q) ∙ sym (has-lists s ls q))
+pub with_all_lists : (at : ℕ) (s : VrpSet) (ls : List Listed) → union s (with_lists at empty ls) ≡ with_lists at s ls
+with_all_lists at s ls = same_set _ _ (λ q. has-union s (with_lists at empty ls) q ∙ ap (λ b. has s q || b) (has-all at ls q) ∙ sym (has-lists at s ls q))
 
 -- one file
-pub one_list : (ls : List Listed) (x : Listed) → length ls ≡ 1 → (get_or ls 0 x).set ≡ with_lists empty ls
-one_list [] x e = absurd (omega (arith, e))
-one_list (l ∷ []) x e = same_set l.set (union empty l.set) (λ q. sym (has-union empty l.set q ∙ ap (λ b. b || has l.set q) (has-empty q)))
-one_list (l ∷ m ∷ ls) x e = absurd (omega (arith, e))
+pub one_list : (at : ℕ) (ls : List Listed) (x : Listed) → length ls ≡ 1 → counting_at at (get_or ls 0 x) ≡ with_lists at empty ls
+one_list at [] x e = absurd (omega (arith, e))
+one_list at (l ∷ []) x e = same_set (counting_at at l) (union empty (counting_at at l)) (λ q. sym (has-union empty (counting_at at l) q ∙ ap (λ b. b || has (counting_at at l) q) (has-empty q)))
+one_list at (l ∷ m ∷ ls) x e = absurd (omega (arith, e))
 
 -- files in two parts
-pub both_parts : (ls a b : List Listed) → ls ≡ a ++ b → union (with_lists empty a) (with_lists empty b) ≡ with_lists empty ls
-both_parts ls a b is = same_set _ _ (λ q.
-    has-union (with_lists empty a) (with_lists empty b) q
-    ∙ (λ i. has-all a q i || has-all b q i)
-    ∙ sym (listed_both a b q) ∙ ap (λ l. is_listed l q) (sym is) ∙ sym (has-all ls q))
+pub both_parts : (at : ℕ) (ls a b : List Listed) → ls ≡ a ++ b → union (with_lists at empty a) (with_lists at empty b) ≡ with_lists at empty ls
+both_parts at ls a b is = same_set _ _ (λ q.
+    has-union (with_lists at empty a) (with_lists at empty b) q
+    ∙ (λ i. has-all at a q i || has-all at b q i)
+    ∙ sym (listed_both at a b q) ∙ ap (λ l. is_listed at l q) (sym is) ∙ sym (has-all at ls q))
 
 -- A part that is over the limit takes the whole over it.
-pub beyond_first : (ls a b : List Listed) → ls ≡ a ++ b → 16777215 < size (with_lists empty a) → 16777215 < size (with_lists empty ls)
-beyond_first ls a b is over =
-    let more = size_le (with_lists empty a) (with_lists empty ls) (λ q one.
-    has-all ls q ∙ ap (λ l. is_listed l q) is ∙ listed_both a b q ∙ ap (λ x. x || is_listed b q) (sym (has-all a q) ∙ one)) in
+pub beyond_first : (at : ℕ) (ls a b : List Listed) → ls ≡ a ++ b → 16777215 < size (with_lists at empty a) → 16777215 < size (with_lists at empty ls)
+beyond_first at ls a b is over =
+    let more = size_le (with_lists at empty a) (with_lists at empty ls) (λ q one.
+    has-all at ls q ∙ ap (λ l. is_listed at l q) is ∙ listed_both at a b q ∙ ap (λ x. x || is_listed at b q) (sym (has-all at a q) ∙ one)) in
     omega (arith, more, over)
 
-pub beyond_second : (ls a b : List Listed) → ls ≡ a ++ b → 16777215 < size (with_lists empty b) → 16777215 < size (with_lists empty ls)
-beyond_second ls a b is over =
-    let more = size_le (with_lists empty b) (with_lists empty ls) (λ q one.
-    has-all ls q ∙ ap (λ l. is_listed l q) is ∙ listed_both a b q ∙ ap (λ x. is_listed a q || x) (sym (has-all b q) ∙ one) ∙ or-true (is_listed a q)) in
+pub beyond_second : (at : ℕ) (ls a b : List Listed) → ls ≡ a ++ b → 16777215 < size (with_lists at empty b) → 16777215 < size (with_lists at empty ls)
+beyond_second at ls a b is over =
+    let more = size_le (with_lists at empty b) (with_lists at empty ls) (λ q one.
+    has-all at ls q ∙ ap (λ l. is_listed at l q) is ∙ listed_both at a b q ∙ ap (λ x. is_listed at a q || x) (sym (has-all at b q) ∙ one) ∙ or-true (is_listed at a q)) in
     omega (arith, more, over)
 
-pub beyond_lists : (s : VrpSet) (ls : List Listed) → 16777215 < size (with_lists empty ls) → 16777215 < size (with_lists s ls)
-beyond_lists s ls over =
-    let more = size_le (with_lists empty ls) (with_lists s ls) (λ q one.
-    has-lists s ls q ∙ ap (λ x. has s q || x) (sym (has-all ls q) ∙ one) ∙ or-true (has s q)) in
+pub beyond_lists : (at : ℕ) (s : VrpSet) (ls : List Listed) → 16777215 < size (with_lists at empty ls) → 16777215 < size (with_lists at s ls)
+beyond_lists at s ls over =
+    let more = size_le (with_lists at empty ls) (with_lists at s ls) (λ q one.
+    has-lists at s ls q ∙ ap (λ x. has s q || x) (sym (has-all at ls q) ∙ one) ∙ or-true (has s q)) in
     omega (arith, more, over)
 
 not_excepted : (b : Bool) → b ≡ ((b && not false) || false)
@@ -171,9 +172,9 @@ has_served {points} {lists} {e} {leaves} {now} {t} h = record {
   in_use = h.in_use;
   those = λ v.
       ap (λ x. has x v) h.is
-      ∙ has-narrowed leaves (excepted_by e (with_lists (set_of h.used) lists)) v
+      ∙ has-narrowed leaves (excepted_by e (with_lists (seconds_of now) (set_of h.used) lists)) v
       ∙ ap (λ b. b && not (leaves && has_length_0 v)) (
-      has-left e (with_lists (set_of h.used) lists) v ∙ ap (λ b. (b && not (is_left_out e v)) || is_asserted e v) (has-lists (set_of h.used) lists v));
+      has-left e (with_lists (seconds_of now) (set_of h.used) lists) v ∙ ap (λ b. (b && not (is_left_out e v)) || is_asserted e v) (has-lists (seconds_of now) (set_of h.used) lists v));
 }
 
 pub all_served : (points : Points) (lists : List Listed) (e : Option Slurm) (leaves : Bool) (now : CivilMoment) (r : Result Served SetFault) → IfOk r (λ t. IsServed points lists e leaves now t.set) → IfOk r (λ t. HasServed points lists e leaves now t.set)
@@ -190,13 +191,13 @@ over_so t u e over = subst (λ s. 16777215 < size s) e over
 
 -- What is made of what was left of all, and how much is left out of it
 pub is_made : (points : Points) (lists : List Listed) (e : Option Slurm) (leaves : Bool) (now : CivilMoment) (used : List Payload) (left : VrpSet) (r : Result Served SetFault) → Lists used points now
-    → left ≡ excepted_by e (with_lists (set_of used) lists) → IfOk r (λ t. (t.set ≡ narrowed leaves left) × (t.left_out ≡ length (left_out_of leaves left)))
+    → left ≡ excepted_by e (with_lists (seconds_of now) (set_of used) lists) → IfOk r (λ t. (t.set ≡ narrowed leaves left) × (t.left_out ≡ length (left_out_of leaves left)))
     → IfOk r (λ t. IsServed points lists e leaves now t.set)
 is_made points lists e leaves now used left (Ok t) in_use is h = record { used = used; in_use = in_use; is = h.0 ∙ ap (narrowed leaves) is }
 is_made points lists e leaves now used left (Err f) in_use is h = tt
 
 pub is_counted : (points : Points) (lists : List Listed) (e : Option Slurm) (leaves : Bool) (now : CivilMoment) (used : List Payload) (left : VrpSet) (r : Result Served SetFault) → Lists used points now
-    → left ≡ excepted_by e (with_lists (set_of used) lists) → IfOk r (λ t. (t.set ≡ narrowed leaves left) × (t.left_out ≡ length (left_out_of leaves left)))
+    → left ≡ excepted_by e (with_lists (seconds_of now) (set_of used) lists) → IfOk r (λ t. (t.set ≡ narrowed leaves left) × (t.left_out ≡ length (left_out_of leaves left)))
     → IfOk r (λ t. LeavesOut points lists e leaves now t.left_out)
 is_counted points lists e leaves now used left (Ok t) in_use is h = record { used = used; in_use = in_use; is = h.1 ∙ ap (λ s. length (left_out_of leaves s)) is }
 is_counted points lists e leaves now used left (Err f) in_use is h = tt

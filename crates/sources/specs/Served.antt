@@ -1,12 +1,13 @@
 -- What is served: what all sources have together, with local exceptions.
-use Rattle.std.specs.Prelude.{◌≡◌, ◌⊎◌, ◌<◌, ◌≤◌, ℕ, nat_lt, length, filter, replicate, slice_set, Bool, true, false, not, ◌&&◌, ◌||◌, ◌==◌, List, [], ◌∷◌, Option, Some, None, Result, Ok, Err}
-use Rattle.std.specs.List.{list_any}
+use Rattle.std.specs.Prelude.{◌≡◌, ◌⊎◌, ◌<◌, ◌≤◌, ◌^◌, ℕ, nat_lt, length, count_by, filter, slice_set, Bool, true, false, not, ◌&&◌, ◌||◌, ◌==◌, List, [], ◌∷◌, Option, Some, None, Result, Ok, Err}
+use Rattle.std.specs.List.{All, list_any}
 use Rattle.der_lite.specs.Moments.{CivilMoment}
+use Rattle.der_lite.specs.Seconds.{seconds_of}
 use Rattle.prefixes.specs.Payload.{Payload, block_of}
 use Rattle.vrps.specs.VrpSet.{VrpSet, empty, has, listing, set_of, size, union, without}
 use Rattle.exports.specs.Export.{HasFault}
-use Rattle.exports.specs.Until.{IsExportUntil}
-use Rattle.exports.specs.declared.export.ExportUntil.{ExportUntil}
+use Rattle.exports.specs.Lasting.{IsExportLasting, counting}
+use Rattle.exports.specs.declared.export.ExportLasting.{ExportLasting}
 use Rattle.points.specs.InUse.{Points, Lists}
 use Rattle.slurm.specs.Exceptions.{excepted, exceptions_of, is_filtered}
 use Rattle.slurm.specs.SlurmFile.{ReadsSlurm}
@@ -18,10 +19,14 @@ use Rattle.sources.specs.declared.fault.TakeFault.TheVariants.{NoSuchFile, Expor
 use Rattle.sources.specs.declared.listed.Listed.{Listed}
 use Rattle.sources.specs.declared.sources.Sources.{Sources}
 
--- a set, and what was taken last of each of these files
-abbrev pub with_lists : VrpSet → List Listed → VrpSet
-with_lists s [] = s
-with_lists s (l ∷ ls) = with_lists (union s l.set) ls
+-- the set of a file's payloads that count at a moment, in seconds since 1970
+abbrev pub counting_at : ℕ → Listed → VrpSet
+counting_at at l = set_of (counting at (listing l.set) l.lasts.items)
+
+-- a set, and the payloads of each of these files that count at a moment
+abbrev pub with_lists : ℕ → VrpSet → List Listed → VrpSet
+with_lists at s [] = s
+with_lists at s (l ∷ ls) = with_lists at (union s (counting_at at l)) ls
 
 -- with local exceptions, where there are any
 abbrev pub excepted_by : Option Slurm → VrpSet → VrpSet
@@ -41,23 +46,23 @@ left_out_of true s = filter has_length_0 (listing s)
 abbrev pub narrowed : Bool → VrpSet → VrpSet
 narrowed leaves s = without s (set_of (left_out_of leaves s))
 
--- The payloads that publication points have in use at a moment, and those of files, with local exceptions, and without payloads of length 0
--- if these are left out
+-- The payloads that publication points have in use at a moment, and those of files that count then, with local exceptions, and without
+-- payloads of length 0 if these are left out
 pub record IsServed (points : Points) (lists : List Listed) (exceptions : Option Slurm) (leaves : Bool) (now : CivilMoment) (t : VrpSet) : Type 0 where
   pub used : List Payload
   pub in_use : Lists used points now
-  pub is : t ≡ narrowed leaves (excepted_by exceptions (with_lists (set_of used) lists))
+  pub is : t ≡ narrowed leaves (excepted_by exceptions (with_lists (seconds_of now) (set_of used) lists))
 
--- The payloads that publication points have in use at a moment and those of files are more than a set may have, or local exceptions make so
--- many of them.
+-- The payloads that publication points have in use at a moment and those of files that count then are more than a set may have, or local
+-- exceptions make so many of them.
 pub record PassesLimit (points : Points) (lists : List Listed) (exceptions : Option Slurm) (now : CivilMoment) : Type 0 where
   pub used : List Payload
   pub in_use : Lists used points now
-  pub passes : (16777215 < size (with_lists (set_of used) lists)) ⊎ (16777215 < size (excepted_by exceptions (with_lists (set_of used) lists)))
+  pub passes : (16777215 < size (with_lists (seconds_of now) (set_of used) lists)) ⊎ (16777215 < size (excepted_by exceptions (with_lists (seconds_of now) (set_of used) lists)))
 
--- some file says the payload
-abbrev pub is_listed : List Listed → Payload → Bool
-is_listed ls v = list_any (λ l. has l.set v) ls
+-- some file says the payload, which counts at the moment
+abbrev pub is_listed : ℕ → List Listed → Payload → Bool
+is_listed at ls v = list_any (λ l. has (counting_at at l) v) ls
 
 -- local exceptions leave the payload out
 abbrev pub is_left_out : Option Slurm → Payload → Bool
@@ -73,24 +78,35 @@ is_asserted (Some e) v = has e.assertions v
 pub record LeavesOut (points : Points) (lists : List Listed) (exceptions : Option Slurm) (leaves : Bool) (now : CivilMoment) (n : ℕ) : Type 0 where
   pub used : List Payload
   pub in_use : Lists used points now
-  pub is : n ≡ length (left_out_of leaves (excepted_by exceptions (with_lists (set_of used) lists)))
+  pub is : n ≡ length (left_out_of leaves (excepted_by exceptions (with_lists (seconds_of now) (set_of used) lists)))
 
--- A payload is in use at a publication point or a file says it, and local exceptions do not leave it out; or they say it.
-abbrev pub is_wanted : List Payload → List Listed → Option Slurm → Payload → Bool
-is_wanted used lists exceptions v = ((has (set_of used) v || is_listed lists v) && not (is_left_out exceptions v)) || is_asserted exceptions v
+-- A payload is in use at a publication point or counts in a file, and local exceptions do not leave it out; or they say it.
+abbrev pub is_wanted : ℕ → List Payload → List Listed → Option Slurm → Payload → Bool
+is_wanted at used lists exceptions v = ((has (set_of used) v || is_listed at lists v) && not (is_left_out exceptions v)) || is_asserted exceptions v
 
 -- Exactly such payloads are served, but for those of length 0 if these are left out.
 pub record HasServed (points : Points) (lists : List Listed) (exceptions : Option Slurm) (leaves : Bool) (now : CivilMoment) (t : VrpSet) : Type 0 where
   pub used : List Payload
   pub in_use : Lists used points now
-  pub those : (v : Payload) → has t v ≡ (is_wanted used lists exceptions v && not (leaves && has_length_0 v))
+  pub those : (v : Payload) → has t v ≡ (is_wanted (seconds_of now) used lists exceptions v && not (leaves && has_length_0 v))
 
--- What was taken of a file is its export at the moment, and until when it stays so.
+-- a moment has come
+abbrev pub has_come : ℕ → Option ℕ → Bool
+has_come now None = false
+has_come now (Some until) = not (nat_lt now until)
+
+-- some of these last seconds are before a moment
+abbrev pub is_any_before : ℕ → List ℕ → Bool
+is_any_before at lasts = list_any (λ last. nat_lt last at) lasts
+
+-- What was taken of a file is the set of its export at the moment, with the last second of each payload, and the first second before which
+-- one of these is.
 pub record IsTaken (bytes : List ℕ) (now : ℕ) (expired : ℕ) (l : Listed) : Type 0 where
-  pub read : ExportUntil
-  pub is : IsExportUntil bytes now read
+  pub read : ExportLasting
+  pub is : IsExportLasting bytes now read
   pub set_is : l.set ≡ read.export.set
-  pub until_is : l.until ≡ read.until
+  pub lasts_are : l.lasts.items ≡ read.lasts.items
+  pub until_is : (at : ℕ) → at < 2 ^ 64 → has_come at l.until ≡ is_any_before at l.lasts.items
   pub built_is : l.built ≡ read.export.built
   pub expired_is : expired ≡ read.export.expired
 
@@ -109,23 +125,26 @@ abbrev pub TakesSlurm : List ℕ → Result (Unit {0}) SlurmFault → Option Slu
 TakesSlurm bytes (Ok u) old new = (e : Slurm) × ReadsSlurm bytes (Ok (exceptions_of e)) × (new ≡ Some e)
 TakesSlurm bytes (Err fault) old new = (fault ≡ Memory ⊎ ReadsSlurm bytes (Err fault)) × (new ≡ old)
 
--- nothing of a file yet
-abbrev pub nothing : Listed
-nothing = record { set = empty; until = None; built = None }
+-- Nothing was taken of a file yet ..
+pub record IsNothing (l : Listed) : Type 0 where
+  pub set : l.set ≡ empty
+  pub lasts : l.lasts.items ≡ []
+  pub until : l.until ≡ None
+  pub built : l.built ≡ None
 
--- nothing of so many files
-abbrev pub none_taken : ℕ → List Listed
-none_taken n = replicate n nothing
-
--- a moment has come
-abbrev pub has_come : ℕ → Option ℕ → Bool
-has_come now None = false
-has_come now (Some until) = not (nat_lt now until)
+-- .. nor of any of so many.
+abbrev pub NoneTaken : ℕ → List Listed → Type 0
+NoneTaken n lists = (length lists ≡ n) × All IsNothing lists
 
 -- a payload of a file that counted when it was taken does not count at the moment
 abbrev pub is_over : ℕ → Option Listed → Bool
 is_over now None = false
 is_over now (Some l) = has_come now l.until
+
+-- how many payloads of a file that counted when it was taken do not count at the moment
+abbrev pub expired_of : ℕ → Option Listed → ℕ
+expired_of now None = 0
+expired_of now (Some l) = count_by (λ last. nat_lt last now) l.lasts.items
 
 -- when the export of a file was made
 abbrev pub built_at : Option Listed → Option ℕ

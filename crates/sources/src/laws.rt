@@ -1,11 +1,16 @@
 //! Laws of sources. The functions do nothing: each states a law, which is proved.
-ghost use Rattle.sources.specs.TakenLaws.{StaysTaken};
+ghost use Rattle.sources.specs.TakenLaws.{CountsExpired, StaysTaken};
 
-use exports::laws::same_until;
+use exports::laws::later_exports;
 
-/// What was taken of a file is what its bytes export at a later moment just where it is not over.
+/// At each later second the records of a file that count are exactly the set that its bytes export then.
 pub fn stays_taken()
     ensures { StaysTaken }
 {
-    same_until();
+    later_exports();
 }
+
+/// At each second a record of a file counts or is among those that `expired` counts. `has_expired` is true exactly if there are such.
+pub fn counts_expired()
+    ensures { CountsExpired }
+{}

@@ -1,35 +1,41 @@
-//! What was taken last of a file.
-ghost use Rattle.std.specs.Prelude.{◌≡◌, Some};
-ghost use Rattle.sources.specs.Served.{is_over, nothing};
+//! The export of a file, as it was read last.
+ghost use Rattle.std.specs.Prelude.{◌≡◌, ◌<◌, ◌^◌, ◌++◌, ◌∷◌, [], ℕ, cond, nat_le, IfOk, IsErrOf, OnOk, Some};
+ghost use Rattle.vrps.specs.VrpSet.{size};
+ghost use Rattle.exports.specs.Lasting.{counting, last_at};
+ghost use Rattle.sources.specs.Served.{IsNothing, counting_at, expired_of, has_come, is_any_before, is_over};
 
-use std::alloc::Global;
-use vrps::VrpSet;
+use prefixes::Vrp;
+use std::alloc::{AllocError, Global};
+use vrps::{SetFault, VrpSet};
 
-/// What was taken last of an export: the set of its payloads that counted then, when the first of these stops counting, and when the export
-/// was made, both in seconds since 1970, where it says so.
+/// The export of a file as it was read last: the records that counted then, and how long each of them counts. Moments are in seconds since
+/// 1970.
 #[derive(Debug, Drop)]
 pub struct Listed {
-    /// The payloads.
+    /// The records.
     pub set: VrpSet,
-    /// The moment at which the first of them does not count any more.
+    /// For each record, in the set's order, the last second at which it counts; `u64::MAX` if it does not end.
+    pub lasts: Vec<u64>,
+    /// The first second at which one of the records does not count.
     pub until: Option<u64>,
-    /// When the export was made.
+    /// When the export was made, where it says so.
     pub built: Option<u64>,
 }
 
 impl Listed {
-    /// Nothing yet. It takes no memory.
+    /// No record yet. It takes no memory.
     pub fn empty(alloc: Global) -> Listed
-        ensures { result ≡ nothing }
+        ensures { IsNothing result }
     {
         Listed {
             set: VrpSet::empty(alloc),
+            lasts: Vec::new(alloc),
             until: None,
             built: None,
         }
     }
 
-    /// Whether a payload that counted then does not count at this moment.
+    /// Whether a record has expired at this moment.
     pub(crate) fn is_over(&self, now: u64) -> bool
         ensures { result ≡ is_over now (Some self.now) }
     {
@@ -38,4 +44,72 @@ impl Listed {
             None => false,
         }
     }
+
+    /// How many records have expired at this moment.
+    pub(crate) fn expired(&self, now: u64) -> u64
+        ensures { result ≡ expired_of now (Some self.now) }
+    {
+        self.lasts.iter().filter(|last| **last < now).count() as u64
+    }
+
+    /// The set of the records that count at this moment.
+    pub(crate) fn counted(&self, alloc: Global, now: u64) -> Result<VrpSet, SetFault>
+        ensures ok { IfOk result (λ s. s ≡ counting_at now self.now) }
+        ensures too_many { IsErrOf result SetFault.TooMany → 16777215 < size (counting_at now self.now) }
+    {
+        let lasts = self.lasts.as_slice();
+        if is_any_before(lasts, now) {
+            return VrpSet::from_list(counting(alloc, self.set.as_slice(), lasts, now)?);
+        }
+        Ok(self.set.duplicate()?)
+    }
+}
+
+/// Whether some of these last seconds are before a moment.
+fn is_any_before(lasts: &[u64], now: u64) -> bool
+    ensures { result ≡ is_any_before now lasts.now }
+{
+    lasts.iter().any(|last| *last < now)
+}
+
+/// The second after the least of these last seconds, if it is in 64 bits.
+pub(crate) fn first_end(lasts: &[u64]) -> Option<u64>
+    ensures { (at : ℕ) → at < 2 ^ 64 → has_come at result ≡ is_any_before at lasts.now }
+{
+    let mut least = u64::MAX;
+    for last in lasts {
+        least = least.min(*last);
+    }
+    least.checked_add(1)
+}
+
+/// Whether the last second at a place is not before a moment.
+fn is_counting(lasts: &[u64], index: usize, now: u64) -> bool
+    ensures { result ≡ nat_le now (last_at lasts.now index) }
+{
+    match lasts.get(index) {
+        Some(last) => now <= *last,
+        None => true,
+    }
+}
+
+/// Puts a record behind others, if it counts.
+fn push_if(left: &mut Vec<Vrp>, vrp: &Vrp, counts: bool) -> Result<(), AllocError>
+    ensures { OnOk result (left.new.items ≡ left.old.items ++ cond counts (vrp.now ∷ []) []) }
+{
+    if counts {
+        left.push(*vrp)?;
+    }
+    Ok(())
+}
+
+/// Those of the records whose last second is not before a moment.
+fn counting(alloc: Global, records: &[Vrp], lasts: &[u64], now: u64) -> Result<Vec<Vrp>, AllocError>
+    ensures { IfOk result (λ left. left.items ≡ counting now records.now lasts.now) }
+{
+    let mut left = Vec::new(alloc);
+    for (index, vrp) in records.iter().enumerate() {
+        push_if(&mut left, vrp, is_counting(lasts, index, now))?;
+    }
+    Ok(left)
 }

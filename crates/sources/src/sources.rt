@@ -1,15 +1,15 @@
 //! Sources, and the set that is made of them.
-ghost use Rattle.std.specs.Prelude.{◌≡◌, ◌<◌, IfOk, IfSome, IsErrOf, None, false, length, slice_get, true};
+ghost use Rattle.std.specs.Prelude.{◌≡◌, ◌<◌, ◌^◌, ℕ, IfOk, IfSome, IsErrOf, None, false, length, slice_get, true};
 ghost use Rattle.vrps.specs.VrpSet.{empty, size, union};
 ghost use Rattle.points.specs.Answers.{told_by, NewExactly, BecomesAt};
 ghost use Rattle.points.specs.InUse.{accepted_at, no_points};
 ghost use Rattle.points.specs.Offers.{Acceptable, Judged};
-ghost use Rattle.sources.specs.Served.{HasServed, IsServed, LeavesOut, PassesLimit, TakesExport, TakesSlurm, built_at, excepted_by, has_length_0, is_over, left_out_of, narrowed, none_taken, with_lists};
+ghost use Rattle.sources.specs.Served.{HasServed, IsServed, LeavesOut, NoneTaken, PassesLimit, TakesExport, TakesSlurm, built_at, excepted_by, expired_of, has_come, has_length_0, is_any_before, is_over, left_out_of, narrowed, with_lists};
 
 use crate::fault::TakeFault;
-use crate::listed::Listed;
+use crate::listed::{Listed, first_end};
 use der_lite::Moment;
-use exports::{Export, ExportUntil, read_export_until};
+use exports::{Export, ExportLasting, read_export_lasting};
 use points::{FileIn, Offered, PointFault, Repository};
 use prefixes::Vrp;
 use slurm::{Slurm, SlurmFault, apply, read_slurm};
@@ -39,7 +39,7 @@ pub struct Served {
 impl Sources {
     /// Sources of so many files, of which nothing was taken yet, without exceptions and publication points. No payload is left out.
     pub fn new(alloc: Global, files: usize) -> Result<Sources, AllocError>
-        ensures { IfOk result (λ s. (s.exceptions ≡ None) × (s.repository ≡ no_points) × (s.lists.items ≡ none_taken files) × (s.leaves_out ≡ false)) }
+        ensures { IfOk result (λ s. (s.exceptions ≡ None) × (s.repository ≡ no_points) × NoneTaken files s.lists.items × (s.leaves_out ≡ false)) }
     {
         let mut lists = Vec::with_capacity(alloc, files)?;
         for _file in 0..files {
@@ -69,13 +69,24 @@ impl Sources {
         self.lists.len()
     }
 
-    /// Whether a payload of a file that counted when it was taken does not count at a moment, in seconds since 1970.
+    /// Whether a record that counted when its file was read has expired at a moment, in seconds since 1970. It takes no longer for many records
+    /// than for few.
     pub fn has_expired(&self, file: usize, now: u64) -> bool
         ensures { result ≡ is_over now (slice_get self.now.lists.items file) }
     {
         match self.lists.get(file) {
             Some(list) => list.is_over(now),
             None => false,
+        }
+    }
+
+    /// How many records that counted when their file was read have expired at a moment, in seconds since 1970.
+    pub fn expired(&self, file: usize, now: u64) -> u64
+        ensures { result ≡ expired_of now (slice_get self.now.lists.items file) }
+    {
+        match self.lists.get(file) {
+            Some(list) => list.expired(now),
+            None => 0,
         }
     }
 
@@ -98,7 +109,7 @@ impl Sources {
         if file >= self.lists.len() {
             return Err(TakeFault::NoSuchFile);
         }
-        let read = read_export_until(self.alloc, bytes, now)?;
+        let read = read_export_lasting(self.alloc, bytes, now)?;
         let (list, expired) = listed_of(read);
         self.lists[file] = list;
         Ok(expired)
@@ -130,9 +141,10 @@ impl Sources {
         self.repository.offer(name, manifest, files, now)
     }
 
-    /// The set that is served at a moment: the payloads of the files as they were taken, and those that the publication points have in use,
-    /// with the local exceptions applied, and without payloads of length 0 if these are left out. `TooMany` where those payloads together, or
-    /// what the exceptions make of them, are more than a set may have; `Memory` where memory for them runs out. Both leave all as it was.
+    /// The set that is served at a moment: the records of the files that count then, and those that the publication points have in use. The
+    /// local exceptions are applied to them, and records of length 0 are left out if that was asked for. A record of a file counts only before
+    /// its expiry, even if the file was not read since. `TooMany`: those records together, or what the exceptions make of them, are more than
+    /// a set may have. `Memory`: memory for them runs out. Both leave all as it was.
     pub fn served(&self, now: Moment) -> Result<Served, SetFault>
         ensures is { IfOk result (λ t. IsServed self.now.repository self.now.lists.items self.now.exceptions self.now.leaves_out now t.set) }
         ensures those { IfOk result (λ t. HasServed self.now.repository self.now.lists.items self.now.exceptions self.now.leaves_out now t.set) }
@@ -149,18 +161,18 @@ impl Sources {
         ensures too_many { IsErrOf result SetFault.TooMany → PassesLimit self.now.repository self.now.lists.items self.now.exceptions now }
     {
         let used = VrpSet::from_list(self.repository.payloads(now)?)?;
-        let all = all_of(self.alloc, used, self.lists.as_slice())?;
+        let all = all_of(self.alloc, used, self.lists.as_slice(), now.seconds())?;
         let left = excepted(self.alloc, &self.exceptions, all)?;
         narrowed(self.alloc, self.leaves_out, left)
     }
 }
 
-/// A set, and the payloads of files.
-fn all_of(alloc: Global, used: VrpSet, lists: &[Listed]) -> Result<VrpSet, SetFault>
-    ensures ok { IfOk result (λ t. t ≡ with_lists used lists.now) }
-    ensures too_many { IsErrOf result SetFault.TooMany → 16777215 < size (with_lists used lists.now) }
+/// A set, and the payloads of files that count at a moment.
+fn all_of(alloc: Global, used: VrpSet, lists: &[Listed], now: u64) -> Result<VrpSet, SetFault>
+    ensures ok { IfOk result (λ t. t ≡ with_lists now used lists.now) }
+    ensures too_many { IsErrOf result SetFault.TooMany → 16777215 < size (with_lists now used lists.now) }
 {
-    let listed = together(alloc, lists)?;
+    let listed = together(alloc, lists, now)?;
     joined(alloc, used, listed)
 }
 
@@ -215,16 +227,29 @@ fn narrowed(alloc: Global, leaves: bool, set: VrpSet) -> Result<Served, SetFault
 }
 
 /// What is kept of an export, and how many of its entries did not count.
-fn listed_of(read: ExportUntil) -> (Listed, u64)
-    ensures { (result.0.set ≡ read.export.set) × (result.0.until ≡ read.until) × (result.0.built ≡ read.export.built) × (result.1 ≡ read.export.expired) }
+fn listed_of(read: ExportLasting) -> (Listed, u64)
+    ensures list { (result.0.set ≡ read.export.set) × (result.0.lasts ≡ read.lasts) × (result.0.built ≡ read.export.built) }
+    ensures until { (at : ℕ) → at < 2 ^ 64 → has_come at result.0.until ≡ is_any_before at read.lasts.items }
+    ensures expired { result.1 ≡ read.export.expired }
 {
-    let ExportUntil { export, until } = read;
+    let ExportLasting {
+        export,
+        until: _,
+        lasts,
+    } = read;
     let Export {
         set,
         expired,
         built,
     } = export;
-    (Listed { set, until, built }, expired)
+    let until = first_end(lasts.as_slice());
+    let list = Listed {
+        set,
+        lasts,
+        until,
+        built,
+    };
+    (list, expired)
 }
 
 /// A set, and the members of another.
@@ -242,19 +267,20 @@ fn joined(alloc: Global, set: VrpSet, more: VrpSet) -> Result<VrpSet, SetFault>
     change.apply(alloc, &set)
 }
 
-/// The payloads of files. Those of each half are put together first, so each is looked at once for each doubling of the number of files.
-fn together(alloc: Global, lists: &[Listed]) -> Result<VrpSet, SetFault>
-    ensures ok { IfOk result (λ t. t ≡ with_lists empty lists.now) }
-    ensures too_many { IsErrOf result SetFault.TooMany → 16777215 < size (with_lists empty lists.now) }
+/// The payloads of files that count at a moment. Those of each half are put together first, so each is looked at once for each doubling of
+/// the number of files.
+fn together(alloc: Global, lists: &[Listed], now: u64) -> Result<VrpSet, SetFault>
+    ensures ok { IfOk result (λ t. t ≡ with_lists now empty lists.now) }
+    ensures too_many { IsErrOf result SetFault.TooMany → 16777215 < size (with_lists now empty lists.now) }
 {
     if lists.is_empty() {
         return Ok(VrpSet::empty(alloc));
     }
     if lists.len() == 1 {
-        return Ok(lists[0].set.duplicate()?);
+        return lists[0].counted(alloc, now);
     }
     let (first, second) = lists.split_at(lists.len() / 2);
-    let one = together(alloc, first)?;
-    let other = together(alloc, second)?;
+    let one = together(alloc, first, now)?;
+    let other = together(alloc, second, now)?;
     joined(alloc, one, other)
 }

@@ -1,4 +1,4 @@
-use Rattle.std.proofs.Common.{◌≡◌, ◌∙◌, ap, length, sym}
+use Rattle.std.proofs.Common.{◌∙◌, ap, length, sym}
 use Rattle.std.proofs.lemmas.Result.{err_from_is_err_and}
 use Rattle.vrps.specs.VrpSet.{set_of, union, without}
 use Rattle.vrps.specs.declared.set.SetFault.TheVariants.{TooMany}

@@ -1,10 +1,18 @@
-use Rattle.std.proofs.Common.{refl, arith}
-use Rattle.sources.specs.Served.{IsTaken}
+use Rattle.std.proofs.Common.{◌∙◌, refl, sym, ap, arith}
+use Rattle.sources.specs.Served.{IsTaken, is_any_before}
 use Rattle.sources.proofs.sources.Sources.take_export.Goals as goal
 
 pub returns-clause-lists : goal.returns-clause-lists
 returns-clause-lists c =
-    let so = c.listed_of-list.ensures in
+    let so = c.listed_of-list.ensures.list in
     let taken : IsTaken c.args.bytes.now c.args.now c.listed_of-list.result.1 c.listed_of-list.result.0 =
-    record { read = c.in_ok-read.read; is = c.in_ok-read.ensures.ok; set_is = so.0; until_is = so.1; built_is = so.2; expired_is = so.3 } in
+    record {
+      read = c.in_ok-read.read;
+      is = c.in_ok-read.ensures.ok;
+      set_is = so.0;
+      lasts_are = ap (λ v. v.items) so.1;
+      until_is = λ at small. c.listed_of-list.ensures.until at small ∙ ap (λ v. is_any_before at v.items) (sym so.1);
+      built_is = so.2;
+      expired_is = c.listed_of-list.ensures.expired;
+    } in
     (omega (arith, c.if-file-len.false), (_, taken, refl))
