@@ -15,19 +15,19 @@ abbrev these : List ℕ → Pdus
 these counts = record { counts = counts }
 
 -- An End of Data of version 1 has 24 bytes, and its serial stands behind the header.
-end_of_data : counted (unit_bytes V1 (EndOfData 0x1234 5 3600 600 7200)) ≡ record { pdus = these (0 ∷ 0 ∷ 0 ∷ 0 ∷ 0 ∷ 0 ∷ 0 ∷ 1 ∷ 0 ∷ 0 ∷ 0 ∷ []); serial = Some (record { 0 = 5 }); front = []; came = 0 }
+end_of_data : counted (unit_bytes V1 (EndOfData 0x1234 5 3600 600 7200)) ≡ record { pdus = these (0 ∷ 0 ∷ 0 ∷ 0 ∷ 0 ∷ 0 ∷ 0 ∷ 1 ∷ 0 ∷ 0 ∷ 0 ∷ []); serial = Some (record { 0 = 5 }); report = None; front = []; tail = []; came = 0 }
 end_of_data = refl
 
 -- One of version 0 has 12.
-end_of_data_0 : counted (unit_bytes V0 (EndOfData0 0x1234 0xfffffffe)) ≡ record { pdus = these (0 ∷ 0 ∷ 0 ∷ 0 ∷ 0 ∷ 0 ∷ 0 ∷ 1 ∷ 0 ∷ 0 ∷ 0 ∷ []); serial = Some (record { 0 = 0xfffffffe }); front = []; came = 0 }
+end_of_data_0 : counted (unit_bytes V0 (EndOfData0 0x1234 0xfffffffe)) ≡ record { pdus = these (0 ∷ 0 ∷ 0 ∷ 0 ∷ 0 ∷ 0 ∷ 0 ∷ 1 ∷ 0 ∷ 0 ∷ 0 ∷ []); serial = Some (record { 0 = 0xfffffffe }); report = None; front = []; tail = []; came = 0 }
 end_of_data_0 = refl
 
--- A PDU is counted at its last byte, and its first twelve are kept until then.
-cut_off : counted (take 23 (unit_bytes V1 (EndOfData 0x1234 5 3600 600 7200))) ≡ record { pdus = these (0 ∷ 0 ∷ 0 ∷ 0 ∷ 0 ∷ 0 ∷ 0 ∷ 0 ∷ 0 ∷ 0 ∷ 0 ∷ []); serial = None; front = 1 ∷ 7 ∷ 0x12 ∷ 0x34 ∷ 0 ∷ 0 ∷ 0 ∷ 24 ∷ 0 ∷ 0 ∷ 0 ∷ 5 ∷ []; came = 23 }
+-- A PDU is counted at its last byte. Its first twelve are kept until then, and those that would be behind a copy of five bytes in an Error Report.
+cut_off : counted (take 23 (unit_bytes V1 (EndOfData 0x1234 5 3600 600 7200))) ≡ record { pdus = these (0 ∷ 0 ∷ 0 ∷ 0 ∷ 0 ∷ 0 ∷ 0 ∷ 0 ∷ 0 ∷ 0 ∷ 0 ∷ []); serial = None; report = None; front = 1 ∷ 7 ∷ 0x12 ∷ 0x34 ∷ 0 ∷ 0 ∷ 0 ∷ 24 ∷ 0 ∷ 0 ∷ 0 ∷ 5 ∷ []; tail = 0 ∷ 2 ∷ 88 ∷ 0 ∷ 0 ∷ 28 ∷ []; came = 23 }
 cut_off = refl
 
 -- The last End of Data tells the serial; a Serial Notify tells none.
-three : counted (unit_bytes V0 (EndOfData0 7 5) ++ unit_bytes V0 (SerialNotify 7 6) ++ unit_bytes V0 (EndOfData0 7 9)) ≡ record { pdus = these (1 ∷ 0 ∷ 0 ∷ 0 ∷ 0 ∷ 0 ∷ 0 ∷ 2 ∷ 0 ∷ 0 ∷ 0 ∷ []); serial = Some (record { 0 = 9 }); front = []; came = 0 }
+three : counted (unit_bytes V0 (EndOfData0 7 5) ++ unit_bytes V0 (SerialNotify 7 6) ++ unit_bytes V0 (EndOfData0 7 9)) ≡ record { pdus = these (1 ∷ 0 ∷ 0 ∷ 0 ∷ 0 ∷ 0 ∷ 0 ∷ 2 ∷ 0 ∷ 0 ∷ 0 ∷ []); serial = Some (record { 0 = 9 }); report = None; front = []; tail = []; came = 0 }
 three = refl
 
 -- A number above ten is no type and is not counted, and as many bytes as its header tells are passed over; a header that tells less than a
@@ -65,4 +65,4 @@ shown = (refl, refl)
 
 -- A Reset Query is one of a run of its type.
 one_passes : PassesMany 2 1 (unit_bytes V1 ResetQuery ++ 1 ∷ []) (1 ∷ [])
-one_passes = λ n c. passes_one (unit_bytes V1 ResetQuery ++ 1 ∷ []) 0x0102000000000008 8 n c refl (λ e. absurd (omega (arith, e))) (omega arith) (refl, refl)
+one_passes = λ n c. passes_one (unit_bytes V1 ResetQuery ++ 1 ∷ []) 0x0102000000000008 8 n c refl (λ e. absurd (omega (arith, e)), λ e. absurd (omega (arith, e))) (omega arith) (refl, refl)

@@ -6,6 +6,8 @@ pub mod NoticeLaws
 pub mod PastLaws
 pub mod PlaceLaws
 pub mod QueryLaws
+pub mod ReportLaws
+pub mod ReportRows
 pub mod TurnLaws
 pub mod TurnRows
 pub mod UnitCounts

@@ -1,5 +1,5 @@
 -- Queries that came, and routers that await a notify.
-use Rattle.std.specs.Prelude.{◌≡◌, ℕ, zero, suc, ◌+◌, ◌-◌, ◌<◌, ◌==◌, Bool, true, false, not, ◌&&◌, ◌||◌, nat_le, nat_lt, List, [], ◌∷◌, ◌++◌, length, take, slice_index, slice_set, Option, Some, None, option_map, if◌then◌else◌, refl}
+use Rattle.std.specs.Prelude.{◌≡◌, ℕ, zero, suc, ◌+◌, ◌-◌, ◌<◌, ◌==◌, Bool, true, false, not, ◌&&◌, ◌||◌, nat_lt, List, [], ◌∷◌, ◌++◌, length, take, slice_index, slice_set, Option, Some, None, option_map, if◌then◌else◌, refl}
 use Rattle.std.proofs.Common.{sym, ap, ◌∙◌, arith}
 use Rattle.std.proofs.lemmas.Bool.Decides.{nat_tests}
 use Rattle.prefixes.specs.declared.prefix.IpPrefix.{IpPrefix}
@@ -13,7 +13,7 @@ use Rattle.rtr_pdu.specs.declared.unit.Unit.TheVariants.{SerialNotify, SerialQue
 use Rattle.rtr_ends.specs.Cache.{Gives, Notifies, Publishes, Takes, conn_takes, serving}
 use Rattle.rtr_ends.specs.CacheState.{CacheCall, CacheState, Close, Life, Notify, Open, Publish, Pull, Receive, can_notify_at, life, ran, serves}
 use Rattle.rtr_server.specs.Clients.{awaits, router_asked}
-use Rattle.rtr_server.specs.Counting.{Counted, CountsQueries, and_byte, and_pdu, and_whole, asks, capped, count_of, counted, counted_on, has_query, kind_of_prefix, none_counted, told_len, units_of}
+use Rattle.rtr_server.specs.Counting.{Counted, CountsQueries, and_byte, and_pdu, and_whole, asks, capped, count_of, counted, counted_on, grown, has_query, is_whole, kind_of_prefix, none_counted, units_of}
 use Rattle.rtr_server.specs.declared.tally.Pdus.{Pdus}
 use Rattle.rtr_server.proofs.CountingLaws.{counted_both}
 use Rattle.rtr_server.proofs.UnitCounts.{counts_units}
@@ -52,16 +52,13 @@ query_and_pdu type pdus h =
     (set_stays pdus.counts type (type_number kinds.SerialQuery) (capped (slice_index pdus.counts type + 1)) more) (set_stays pdus.counts type (type_number kinds.ResetQuery) (capped (slice_index pdus.counts type + 1)) more) h
 
 query_and_byte : (c : Counted) (b : ℕ) → has_query c.pdus ≡ true → has_query (and_byte c b).pdus ≡ true
-query_and_byte c b h = by_test (nat_le 8 came && nat_le (told_len front) came)
+query_and_byte c b h = by_test (is_whole now)
   where
-    front : List ℕ
-    front = take 12 (c.front ++ b ∷ [])
+    now : Counted
+    now = grown c b
 
-    came : ℕ
-    came = capped (c.came + 1)
-
-    by_test : (t : Bool) → has_query (if t then and_whole front came c else record c { front = front; came = came }).pdus ≡ true
-    by_test true = query_and_pdu (type_of front) c.pdus h
+    by_test : (t : Bool) → has_query (if t then and_whole now.front now.tail now.came c else now).pdus ≡ true
+    by_test true = query_and_pdu (type_of now.front) c.pdus h
     by_test false = h
 
 -- and where bytes more are.

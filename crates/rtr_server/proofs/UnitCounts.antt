@@ -1,13 +1,14 @@
 -- Bytes of PDUs are counted as these PDUs.
-use Rattle.std.specs.Prelude.{◌≡◌, ◌⊎◌, ℕ, ◌+◌, ◌<◌, ◌≤◌, ◌^◌, ◌==◌, Bool, true, false, List, [], ◌∷◌, ◌++◌, length, max, slice_index, slice_set, Option, Some, None, if◌then◌else◌, refl}
+use Rattle.std.specs.Prelude.{◌≡◌, ◌⊎◌, ℕ, ◌+◌, ◌<◌, ◌≤◌, ◌^◌, ◌==◌, Bool, true, false, List, [], ◌∷◌, ◌++◌, drop, length, max, take, slice_index, slice_set, Option, Some, None, if◌then◌else◌, refl}
 use Rattle.std.proofs.Common.{zero, suc, sym, ap, ◌∙◌, subst, arith, append_assoc, inl, inr}
-use Rattle.std.proofs.lemmas.List.{append-nil, length-append, length-set}
-use Rattle.std.proofs.Math.Seq.{drop-append_seam}
+use Rattle.std.proofs.lemmas.Bool.Decides.{nat_tests}
+use Rattle.std.proofs.lemmas.List.{append-nil, drop_all, length-append, length-drop, length-set, take_all}
+use Rattle.std.proofs.Math.Seq.{drop-append_seam, take-append_seam}
 use Rattle.prefixes.proofs.Basics.{eq_of, not_eq_of}
 use Rattle.prefixes.specs.declared.prefix.IpPrefix.TheVariants.{V4, V6}
 use Rattle.vrps.specs.declared.serial.Serial.{Serial}
 use Rattle.rtr_pdu.specs.Kind.{type_number}
-use Rattle.rtr_pdu.specs.Stream.{AreRead, IsPartial, header_fault, length_of, type_of}
+use Rattle.rtr_pdu.specs.Stream.{AreRead, IsPartial, IsReport, header_fault, length_of, type_of}
 use Rattle.rtr_pdu.proofs.BodyLaws.{header_most}
 use Rattle.rtr_pdu.specs.Unit.{Ignored, IsUnit, Reads, fits, prefix_bytes, spelled}
 use Rattle.rtr_pdu.specs.declared.kind.Kind.{Kind}
@@ -17,9 +18,14 @@ use Rattle.rtr_pdu.specs.declared.unit.Unit.TheVariants.{SerialNotify, SerialQue
 use Rattle.rtr_pdu.specs.declared.version.Version.{Version}
 use Rattle.rtr_pdu.specs.declared.version.Version.TheVariants.{V0, V1}
 use Rattle.rtr_pdu.proofs.DeviceLaws.{partial_most, strict}
-use Rattle.rtr_pdu.proofs.UnitLaws.{back, opens}
-use Rattle.rtr_server.specs.Counting.{Counted, CountsUnits, and_pdu, and_whole, capped, count_of, counted_on, end_serial, kind_of, kind_of_prefix, last_serial, none_counted, serial_after, told_len, units_of}
-use Rattle.rtr_server.proofs.CountingLaws.{coming, not_yet, one_more, whole_counts}
+use Rattle.rtr_pdu.proofs.UnitLaws.{back, is_report, opens, unit_in-spelled}
+use Rattle.rtr_pdu.proofs.ReadLaws.{number_fits}
+use Rattle.rtr_pdu.specs.Judging.{unit_in}
+use Rattle.rtr_pdu.specs.Payloads.{Report}
+use Rattle.rtr_pdu.specs.Reading.{number_at}
+use Rattle.rtr_server.specs.Reports.{Said, said_in}
+use Rattle.rtr_server.specs.Counting.{Counted, CountsReports, CountsUnits, IsBetween, and_pdu, and_whole, capped, count_of, counted, counted_on, end_serial, kind_of, kind_of_prefix, last_report, last_serial, none_counted, report_after, report_of, serial_after, text_in, told_len, units_of}
+use Rattle.rtr_server.proofs.CountingLaws.{coming, counted_both, not_yet, one_more, said_is, tail_of, text_is, whole_counts}
 
 -- The bytes of a PDU show its type,
 type_is : (version : Version) (u : Unit) (z : Ignored) (rest : List ℕ) → type_of (spelled version u z ++ rest) ≡ type_number (kind_of u)
@@ -61,9 +67,54 @@ serial_is version CacheReset z rest last is own = refl
 serial_is version (RouterKey k) z rest last is own = refl
 serial_is version (ErrorReport r) z rest last is own = refl
 
+abbrev of_unit : Unit → Said
+of_unit (ErrorReport r) = record { code = r.code; text = take 200 r.text }
+of_unit u = record { code = 0; text = [] }
+
+same_true : (a b : ℕ) → a ≡ b → (a == b) ≡ true
+same_true a b h = grind (arith, nat_tests)
+
+-- An Error Report says its code and the beginning of its text.
+said_is_of : (version : Version) (r : Report) (z : Ignored) → IsUnit (ErrorReport r) → fits version (ErrorReport r) ≡ true → said_in (spelled version (ErrorReport r) z) ≡ record { code = r.code; text = take 200 r.text }
+said_is_of version r z is own =
+    let nothing = append-nil bytes in
+    let o = opens version (ErrorReport r) z [] is own in
+    let sound : IsReport version bytes = subst (λ x. IsReport version x) nothing (is_report version r z [] is) in
+    let len : length_of bytes ≡ length bytes = ap length_of (sym nothing) ∙ o.len in
+    let l = length-drop (16 + copy) bytes in
+    let found = ap of_unit (sym (ap (unit_in version) nothing) ∙ unit_in-spelled version (ErrorReport r) z [] is own) in
+    ap (λ t. record { code = number_at 2 2 bytes; text = if t then take 200 (drop (16 + copy) bytes) else [] }) (same_true (16 + copy + text) (length bytes) (sound.0 ∙ len))
+    ∙ ap (λ xs. record { code = number_at 2 2 bytes; text = take 200 xs }) (sym (take_all text (drop (16 + copy) bytes) (omega (arith, l, sound.0, len))))
+    ∙ found
+  where
+    bytes : List ℕ
+    bytes = spelled version (ErrorReport r) z
+
+    copy : ℕ
+    copy = number_at 4 8 bytes
+
+    text : ℕ
+    text = number_at 4 (12 + copy) bytes
+
+abbrev Says : Version → Unit → Ignored → List ℕ → Option Said → Type 0
+Says version u z rest last = report_after (spelled version u z ++ rest) (tail_of (spelled version u z)) (length (spelled version u z)) last ≡ report_of u last
+
+report_is : (version : Version) (u : Unit) (z : Ignored) (rest : List ℕ) (last : Option Said) → IsUnit u → fits version u ≡ true → Says version u z rest last
+report_is version (SerialNotify session serial) z rest last is own = refl
+report_is version (SerialQuery session serial) z rest last is own = refl
+report_is version ResetQuery z rest last is own = refl
+report_is version (CacheResponse session) z rest last is own = refl
+report_is version (Prefix a v) z rest last is own =
+    elim v.prefix as (λ p. report_after (prefix_bytes version a p v.max_len v.asn z ++ rest) (tail_of (prefix_bytes version a p v.max_len v.asn z)) (length (prefix_bytes version a p v.max_len v.asn z)) last ≡ last) [ V4 p ↦ refl | V6 p ↦ refl ]
+report_is version (EndOfData session serial refresh retry expire) z rest last is own = refl
+report_is version (EndOfData0 session serial) z rest last is own = refl
+report_is version CacheReset z rest last is own = refl
+report_is version (RouterKey k) z rest last is own = refl
+report_is version (ErrorReport r) z rest last is own = ap Some (said_is (spelled version (ErrorReport r) z) rest (omega arith) ∙ said_is_of version r z is own)
+
 -- one PDU more
 abbrev and_unit : Unit → Counted → Counted
-and_unit u c = record { pdus = and_pdu (type_number (kind_of u)) c.pdus; serial = end_serial u c.serial; front = []; came = 0 }
+and_unit u c = record { pdus = and_pdu (type_number (kind_of u)) c.pdus; serial = end_serial u c.serial; report = report_of u c.report; front = []; tail = []; came = 0 }
 
 abbrev and_units : List Unit → Counted → Counted
 and_units [] c = c
@@ -72,18 +123,19 @@ and_units (u ∷ units) c = and_units units (and_unit u c)
 eight_most : (n len : ℕ) → n ≡ len → 8 ≤ len → len ≡ max n 8
 eight_most n len is long = omega (arith, is, long)
 
-unit_counts : (version : Version) (u : Unit) (bytes rest : List ℕ) (c : Counted) → Reads version u bytes → c.front ≡ [] → c.came ≡ 0 → length bytes < 2 ^ 64 → counted_on c (bytes ++ rest) ≡ counted_on (and_unit u c) rest
-unit_counts version u bytes rest c r none zero_came low =
-    let all : List ℕ = spelled version u r.ignored ++ rest in
-    let len = length (spelled version u r.ignored) in
+unit_counts : (version : Version) (u : Unit) (bytes rest : List ℕ) (c : Counted) → Reads version u bytes → IsBetween c → length bytes < 2 ^ 64 → counted_on c (bytes ++ rest) ≡ counted_on (and_unit u c) rest
+unit_counts version u bytes rest c r between low =
+    let pdu = spelled version u r.ignored in
+    let all : List ℕ = pdu ++ rest in
+    let len = length pdu in
     let o = opens version u r.ignored rest r.fits r.of_version in
-    let l = length-append (spelled version u r.ignored) rest in
+    let l = length-append pdu rest in
     let same = ap (λ x. length x) r.bytes_are in
-    let of : ℕ → Option Serial → Counted = λ type serial. record { pdus = and_pdu type c.pdus; serial = serial; front = []; came = 0 } in
+    let of : ℕ → Option Serial → Option Said → Counted = λ type serial report. record { pdus = and_pdu type c.pdus; serial = serial; report = report; front = []; tail = []; came = 0 } in
     ap (λ x. counted_on c (x ++ rest)) r.bytes_are
-    ∙ whole_counts c all len none zero_came (eight_most (length_of all) len o.len o.eight) (omega (arith, l)) (omega (arith, same, low))
-    ∙ ap (counted_on (and_whole all len c)) (drop-append_seam (spelled version u r.ignored) rest)
-    ∙ (λ i. counted_on (of (type_is version u r.ignored rest i) (serial_is version u r.ignored rest c.serial r.fits r.of_version i)) rest)
+    ∙ whole_counts c all len between (eight_most (length_of all) len o.len o.eight) (omega (arith, l)) (omega (arith, same, low))
+    ∙ (λ i. counted_on (and_whole all (tail_of (take-append_seam pdu rest i)) len c) (drop-append_seam pdu rest i))
+    ∙ (λ i. counted_on (of (type_is version u r.ignored rest i) (serial_is version u r.ignored rest c.serial r.fits r.of_version i) (report_is version u r.ignored rest c.report r.fits r.of_version i)) rest)
 
 -- the beginning of a PDU
 coming_on : (front bytes : List ℕ) (c : Counted) → length (front ++ bytes) < told_len (front ++ bytes) → length (front ++ bytes) < 2 ^ 64 → counted_on (coming front c) bytes ≡ coming (front ++ bytes) c
@@ -157,14 +209,13 @@ serial_after_units : (units : List Unit) (c : Counted) → (and_units units c).s
 serial_after_units [] c = refl
 serial_after_units (u ∷ units) c = serial_after_units units (and_unit u c)
 
--- where nothing came of a PDU
-record IsBetween (c : Counted) : Type 0 where
-  none : c.front ≡ []
-  zero_came : c.came ≡ 0
+report_after_units : (units : List Unit) (c : Counted) → (and_units units c).report ≡ last_report c.report units
+report_after_units [] c = refl
+report_after_units (u ∷ units) c = report_after_units units (and_unit u c)
 
 between_units : (units : List Unit) (c : Counted) → IsBetween c → IsBetween (and_units units c)
 between_units [] c h = h
-between_units (u ∷ units) c h = between_units units (and_unit u c) (record { none = refl; zero_came = refl })
+between_units (u ∷ units) c h = between_units units (and_unit u c) (record { no_front = refl; no_tail = refl; none_came = refl })
 
 unit_most : (version : Version) (bytes : List ℕ) → header_fault version bytes ≡ None → 8 ≤ length bytes → length_of bytes ≤ 4096
 unit_most version bytes none long =
@@ -183,21 +234,22 @@ units_count version [] front rest c read h = ap (λ x. counted_on c (x ++ rest))
 units_count version (u ∷ units) front rest c read h =
     let r = subst (λ x. Reads version u x) (strict version read.0) read.3 in
     ap (λ x. counted_on c (x ++ rest)) read.2 ∙ ap (counted_on c) (append_assoc read.0 read.1 rest)
-    ∙ unit_counts version u read.0 (read.1 ++ rest) c r h.none h.zero_came (unit_low version u read.0 r)
-    ∙ units_count version units read.1 rest (and_unit u c) read.4 (record { none = refl; zero_came = refl })
+    ∙ unit_counts version u read.0 (read.1 ++ rest) c r h (unit_low version u read.0 r)
+    ∙ units_count version units read.1 rest (and_unit u c) read.4 (record { no_front = refl; no_tail = refl; none_came = refl })
 
 rest_counts : (version : Version) (rest : List ℕ) (c : Counted) → IsPartial version rest → IsBetween c → counted_on c rest ≡ coming rest c
 rest_counts version rest c p h =
     let most = partial_most version rest (subst (IsPartial version) (sym (strict version rest)) p) in
-    let start : List ℕ → ℕ → Counted = λ front came. record c { front = front; came = came } in
-    (λ i. counted_on (start (h.none i) (h.zero_came i)) rest) ∙ coming_on [] rest c (below (length_of rest) (length rest) p.1) (omega (arith, most))
+    let start : List ℕ → List ℕ → ℕ → Counted = λ front tail came. record c { front = front; tail = tail; came = came } in
+    (λ i. counted_on (start (h.no_front i) (h.no_tail i) (h.none_came i)) rest) ∙ coming_on [] rest c (below (length_of rest) (length rest) p.1) (omega (arith, most))
 
 pub counts_units : CountsUnits
 counts_units version units front rest read partial =
-    let b : IsBetween none_counted = record { none = refl; zero_came = refl } in
+    let b : IsBetween none_counted = record { no_front = refl; no_tail = refl; none_came = refl } in
     let both = units_count version units front rest none_counted read b ∙ rest_counts version rest (and_units units none_counted) partial (between_units units none_counted b) in (
       λ kind. ap (λ (c : Counted). count_of c.pdus kind) both ∙ count_after kind units 0 none_counted refl (none_of_type kind) ∙ (let e : 0 + units_of kind units ≡ units_of kind units = omega arith in ap capped e),
       ap (λ (c : Counted). c.serial) both ∙ serial_after_units units none_counted,
+      ap (λ (c : Counted). c.report) both ∙ report_after_units units none_counted,
     )
   where
     none_of_type : (kind : Kind) → count_of none_counted.pdus kind ≡ capped 0
@@ -211,3 +263,15 @@ counts_units version units front rest read partial =
     none_of_type kinds.CacheReset = refl
     none_of_type kinds.RouterKey = refl
     none_of_type kinds.ErrorReport = refl
+
+-- An Error Report that comes whole
+pub counts_reports : CountsReports
+counts_reports bytes pdu are_bytes between is whole =
+    let c = counted bytes in
+    let small = number_fits pdu are_bytes 4 4 in
+    let low : length pdu < 2 ^ 64 = omega (arith, small, whole) in
+    let all = take_all (length pdu) pdu (omega arith) in
+    let none = drop_all (length pdu) pdu (omega arith) in
+    ap (λ (x : Counted). x.report) (counted_both none_counted bytes pdu ∙ whole_counts c pdu (length pdu) between (sym whole) (omega arith) low ∙ (λ i. counted_on (and_whole pdu (tail_of (all i)) (length pdu) c) (none i)))
+    ∙ ap (λ t. if t then Some (record { code = number_at 2 2 pdu; text = text_in pdu (tail_of pdu) (length pdu) }) else c.report) is
+    ∙ ap (λ xs. Some (record { code = number_at 2 2 pdu; text = xs })) (text_is pdu)

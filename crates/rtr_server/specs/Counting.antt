@@ -1,5 +1,5 @@
 -- How many PDUs of each type went one way, as their headers say (RFC 6810 section 5, RFC 8210 section 5).
-use Rattle.std.specs.Prelude.{ℕ, ◌+◌, ◌-◌, ◌^◌, min, max, ◌&&◌, ◌||◌, nat_le, nat_lt, Bool, true, List, [], ◌∷◌, ◌++◌, take, replicate, slice_index, slice_set, Option, Some, None, if◌then◌else◌, ◌≡◌, suc, ◌==◌, false}
+use Rattle.std.specs.Prelude.{ℕ, ◌+◌, ◌-◌, ◌^◌, min, max, ◌&&◌, ◌||◌, nat_le, nat_lt, Bool, true, List, [], ◌∷◌, ◌++◌, length, take, drop, replicate, slice_index, slice_set, Option, Some, None, if◌then◌else◌, ◌≡◌, suc, ◌==◌, false}
 use Rattle.vrps.specs.declared.serial.Serial.{Serial}
 use Rattle.prefixes.specs.declared.prefix.IpPrefix.{IpPrefix}
 use Rattle.prefixes.specs.declared.prefix.IpPrefix.TheVariants.{V4, V6}
@@ -7,10 +7,12 @@ use Rattle.rtr_pdu.specs.declared.unit.Unit.{Unit}
 use Rattle.rtr_pdu.specs.declared.unit.Unit.TheVariants.{SerialNotify, SerialQuery, ResetQuery, CacheResponse, Prefix, EndOfData, EndOfData0, CacheReset, RouterKey, ErrorReport}
 use Rattle.rtr_pdu.specs.declared.version.Version.{Version}
 use Rattle.rtr_pdu.specs.Kind.{type_number}
+use Rattle.rtr_pdu.specs.Payloads.{AreBytes}
 use Rattle.rtr_pdu.specs.Reading.{number_at}
 use Rattle.rtr_pdu.specs.Stream.{AreRead, IsPartial, is_kind, length_of, type_of}
 use Rattle.rtr_pdu.specs.declared.kind.Kind.{Kind}
 use Rattle.rtr_pdu.specs.declared.kind.Kind.TheVariants as kinds
+use Rattle.rtr_server.specs.Reports.{Said, said_in}
 use Rattle.rtr_server.specs.declared.tally.Pdus.{Pdus}
 
 -- a count of 64 bits
@@ -33,16 +35,25 @@ and_pdus count type pdus = record { counts = slice_set pdus.counts type (capped 
 abbrev pub and_pdu : ℕ → Pdus → Pdus
 and_pdu type pdus = and_pdus 1 type pdus
 
--- What was counted of bytes: their PDUs by type; the serial that the last End of Data carries; and of the PDU that stands last and has not come
--- whole its first twelve bytes and how many came
+-- What was counted of bytes: their PDUs by type, the serial that the last End of Data carries, and what the last Error Report says. Of the PDU
+-- that stands last and has not come whole: how many bytes came, and the first twelve. If it is an Error Report, the tail has those behind the
+-- PDU that it encapsulates, at most 204: the length of the text, and the beginning of the text.
 pub record Counted : Type 0 where
   pub pdus : Pdus
   pub serial : Option Serial
+  pub report : Option Said
   pub front : List ℕ
+  pub tail : List ℕ
   pub came : ℕ
 
+-- Nothing has come of a PDU that is not whole.
+pub record IsBetween (c : Counted) : Type 0 where
+  pub no_front : c.front ≡ []
+  pub no_tail : c.tail ≡ []
+  pub none_came : c.came ≡ 0
+
 abbrev pub none_counted : Counted
-none_counted = record { pdus = record { counts = replicate 11 0 }; serial = None; front = []; came = 0 }
+none_counted = record { pdus = record { counts = replicate 11 0 }; serial = None; report = None; front = []; tail = []; came = 0 }
 
 -- How many bytes a PDU has whose first bytes are these: as many as its header says, and a header has eight.
 abbrev pub told_len : List ℕ → ℕ
@@ -52,20 +63,46 @@ told_len front = max (length_of front) 8
 abbrev pub serial_after : List ℕ → ℕ → Option Serial → Option Serial
 serial_after front len last = if is_kind kinds.EndOfData front && nat_le 12 len then Some (record { 0 = number_at 4 8 front }) else last
 
--- A PDU of these first bytes has come whole, and has so many.
-abbrev pub and_whole : List ℕ → ℕ → Counted → Counted
-and_whole front len c = record { pdus = and_pdu (type_of front) c.pdus; serial = serial_after front len c.serial; front = []; came = 0 }
+-- The place of the tail in an Error Report of these first bytes: behind the header, the length of the encapsulated PDU, and that PDU (RFC 8210
+-- section 5.11)
+abbrev pub tail_at : List ℕ → ℕ
+tail_at front = 12 + number_at 4 8 front
 
--- So many PDUs of another type than End of Data have come whole.
+-- The beginning of the text of a whole Error Report of so many bytes, with these first bytes and this tail. It is empty if the lengths do not
+-- add up.
+abbrev pub text_in : List ℕ → List ℕ → ℕ → List ℕ
+text_in front tail len = if tail_at front + 4 + number_at 4 0 tail == len then drop 4 tail else []
+
+-- What the last Error Report says, after a PDU of so many bytes, with these first bytes and this tail
+abbrev pub report_after : List ℕ → List ℕ → ℕ → Option Said → Option Said
+report_after front tail len last = if is_kind kinds.ErrorReport front then Some (record { code = number_at 2 2 front; text = text_in front tail len }) else last
+
+-- A PDU of these first bytes and this tail has come whole, and has so many bytes.
+abbrev pub and_whole : List ℕ → List ℕ → ℕ → Counted → Counted
+and_whole front tail len c = record { pdus = and_pdu (type_of front) c.pdus; serial = serial_after front len c.serial; report = report_after front tail len c.report; front = []; tail = []; came = 0 }
+
+-- So many PDUs of another type than End of Data and Error Report have come whole.
 abbrev pub and_many : ℕ → ℕ → Counted → Counted
-and_many count type c = record { pdus = and_pdus count type c.pdus; serial = c.serial; front = []; came = 0 }
+and_many count type c = record { pdus = and_pdus count type c.pdus; serial = c.serial; report = c.report; front = []; tail = []; came = 0 }
+
+-- The tail of a PDU of these first bytes after the next byte, with which so many came
+abbrev pub and_tail : List ℕ → ℕ → List ℕ → ℕ → List ℕ
+and_tail front came tail b = if nat_lt (tail_at front) came then take 204 (tail ++ b ∷ []) else tail
+
+-- the next byte came of the PDU that stands last
+abbrev pub grown : Counted → ℕ → Counted
+grown c b =
+    let front = take 12 (c.front ++ b ∷ []) in
+    let came = capped (c.came + 1) in
+    record c { front = front; tail = and_tail front came c.tail b; came = came }
+
+-- whether it has come whole
+abbrev pub is_whole : Counted → Bool
+is_whole c = nat_le 8 c.came && nat_le (told_len c.front) c.came
 
 -- the next byte
 abbrev pub and_byte : Counted → ℕ → Counted
-and_byte c b =
-    let front = take 12 (c.front ++ b ∷ []) in
-    let came = capped (c.came + 1) in
-    if nat_le 8 came && nat_le (told_len front) came then and_whole front came c else record c { front = front; came = came }
+and_byte c b = let now = grown c b in if is_whole now then and_whole now.front now.tail now.came c else now
 
 abbrev pub counted_on : Counted → List ℕ → Counted
 counted_on c [] = c
@@ -108,12 +145,27 @@ abbrev pub last_serial : Option Serial → List Unit → Option Serial
 last_serial last [] = last
 last_serial last (u ∷ units) = last_serial (end_serial u last) units
 
--- What is counted of bytes that are read as these PDUs, with the beginning of one more: of each type as many as there are, and the serial of
--- the last End of Data.
+-- What an Error Report says; other PDUs say nothing.
+abbrev pub report_of : Unit → Option Said → Option Said
+report_of (ErrorReport r) last = Some (record { code = r.code; text = take 200 r.text })
+report_of u last = last
+
+-- what the last Error Report among these PDUs says, if there is one
+abbrev pub last_report : Option Said → List Unit → Option Said
+last_report last [] = last
+last_report last (u ∷ units) = last_report (report_of u last) units
+
+-- What is counted of bytes that are read as these PDUs, with the beginning of one more: of each type as many as there are, the serial of the
+-- last End of Data, and what the last Error Report says.
 abbrev pub CountsUnits : Type 0
 CountsUnits =
     (version : Version) (units : List Unit) (front rest : List ℕ) → AreRead version false units front → IsPartial version rest →
-    ((kind : Kind) → count_of (counted (front ++ rest)).pdus kind ≡ capped (units_of kind units)) × ((counted (front ++ rest)).serial ≡ last_serial None units)
+    ((kind : Kind) → count_of (counted (front ++ rest)).pdus kind ≡ capped (units_of kind units)) × ((counted (front ++ rest)).serial ≡ last_serial None units) × ((counted (front ++ rest)).report ≡ last_report None units)
+
+-- After the bytes of a whole Error Report, behind whole PDUs, it is the last, also if a fault is in it.
+abbrev pub CountsReports : Type 0
+CountsReports =
+    (bytes pdu : List ℕ) → AreBytes pdu → IsBetween (counted bytes) → is_kind kinds.ErrorReport pdu ≡ true → told_len pdu ≡ length pdu → (counted (bytes ++ pdu)).report ≡ Some (said_in pdu)
 
 abbrev pub is_query : Unit → Bool
 is_query (SerialQuery session serial) = true

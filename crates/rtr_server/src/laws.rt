@@ -1,6 +1,6 @@
 //! Laws of the definitions and of servers. These functions do nothing: their contracts are the laws.
 ghost use Rattle.rtr_server.specs.Clients.{EachClientIsServed};
-ghost use Rattle.rtr_server.specs.Counting.{CountsQueries, CountsUnits};
+ghost use Rattle.rtr_server.specs.Counting.{CountsQueries, CountsReports, CountsUnits};
 ghost use Rattle.rtr_server.specs.Turns.{MemoryEnds};
 
 use crate::server::Server;
@@ -19,10 +19,16 @@ pub fn memory_ends_its_client()
     ensures { MemoryEnds }
 {}
 
-/// What is counted of bytes that are read as PDUs, and of the beginning of one more, are these PDUs: of each type as many as there are, and
-/// the serial that the last End of Data among them carries.
+/// What is counted of bytes that are read as PDUs, and of the beginning of one more, are these PDUs: of each type as many as there are, the
+/// serial that the last End of Data among them carries, and what the last Error Report among them says.
 pub fn counts_units()
     ensures { CountsUnits }
+{}
+
+/// Of an Error Report that comes whole, its code and the beginning of its text are kept, also if a fault is in it. The text is empty if the
+/// lengths in the report do not add up to that of the report.
+pub fn counts_reports()
+    ensures { CountsReports }
 {}
 
 /// A query is counted exactly where one is among the PDUs that were read: no header and no other part of a query counts as one.

@@ -24,11 +24,13 @@
 
 pub mod laws;
 mod pieces;
+mod report;
 mod server;
 mod stream;
 mod tally;
 mod turn;
 
+pub use report::{REPORT_TEXT_LEN, Report};
 pub use server::{AdmitFault, Client, Server};
 pub use stream::{Call, Duplex, Moved, Stream};
 pub use tally::Pdus;

@@ -146,9 +146,9 @@ impl<S: VersionStore, T: Stream + Drop> Server<S, T> {
     }
 
     /// Publishes a set. Each client that has asked, whose connection goes on and has nothing due, is notified of a new version: the notify
-    /// stands behind what was pulled and is not written. Each other that has asked is owed a notify, which it gets as soon as nothing is due,
-    /// before anything more is handed in. A client that has not asked is sent none and owed none (RFC 8210 section 7): its first answer is of
-    /// the current version. Without memory nothing is published.
+    /// stands behind what was pulled and is not written. A client that has asked and still has bytes due is notified as soon as nothing is due,
+    /// before anything more is handed in. A client that has not asked is not notified (RFC 8210 section 7): its first answer is of the current
+    /// version. Without memory nothing is published.
     pub fn publish(&mut self, set: VrpSet) -> Result<Published, AllocError>
         ensures publishes { (p : Past) → ShowsServer S.holds T.remaining T.contents p self.old → PublishesTo S.holds T.remaining T.contents p set result self.old self.new }
         ensures parted { self.new.parted ≡ self.old.parted }
@@ -277,7 +277,7 @@ impl<S: VersionStore, T: Stream + Drop> Server<S, T> {
     }
 }
 
-/// Notifies a router that has asked, and says whether it is owed a notify: it is if it could not be sent one.
+/// Notifies a router that has asked. Answers whether the notify is still to be sent: bytes were due.
 fn owes<S: VersionStore>(cache: &mut Cache<S>, conn: Conn, asked: bool) -> bool
     ensures { (m : CacheState) → ShowsCache S.holds m cache.old → (result ≡ (asked && not (can_notify_at m.cache (m.at conn.0)))) × ShowsCache S.holds (if asked then notified conn.0 m else m) cache.new }
 {
@@ -397,6 +397,8 @@ fn counts_at<T: Stream>(
             carried: slot.traffic.carried,
             received: slot.traffic.received.pdus(),
             sent: slot.traffic.sent.pdus(),
+            received_report: slot.traffic.received.report(),
+            sent_report: slot.traffic.sent.report_code(),
             version,
         }),
     }

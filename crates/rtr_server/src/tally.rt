@@ -1,9 +1,10 @@
 //! How many PDUs of each type went one way, as their headers say (RFC 6810 section 5, RFC 8210 section 5).
-ghost use Rattle.std.specs.Prelude.{◌≡◌, ◌+◌, ◌≤◌, ◌<◌, ◌-◌, ◌*◌, ◌^◌, ◌++◌, ◌∷◌, [], ◌&&◌, IfSome, length, max, min, take, drop, nat_le, nat_lt, slice_set, if◌then◌else◌, true};
+ghost use Rattle.std.specs.Prelude.{◌≡◌, ◌+◌, ◌≤◌, ◌<◌, ◌-◌, ◌*◌, ◌^◌, ◌++◌, ◌∷◌, [], IfSome, length, max, min, option_map, take, drop, nat_le, nat_lt, slice_set, if◌then◌else◌, true};
 ghost use Rattle.rtr_pdu.specs.Stream.{type_of};
-ghost use Rattle.rtr_server.specs.Counting.{Counted, and_byte, and_many, and_pdu, and_pdus, and_whole, capped, count_of, counted_on, has_query, none_counted, serial_after, told_len};
-ghost use Rattle.rtr_server.specs.Runs.{PassesMany, ShowsHeader, length_in, type_in};
+ghost use Rattle.rtr_server.specs.Counting.{Counted, IsBetween, and_byte, and_many, and_pdu, and_pdus, and_whole, count_of, counted_on, grown, has_query, is_whole, none_counted, report_after, serial_after, tail_at, text_in, told_len};
+ghost use Rattle.rtr_server.specs.Runs.{IsOnlyCounted, PassesMany, ShowsHeader, length_in, type_in};
 
+use crate::report::{REPORT_TEXT_LEN, Report};
 use byteorder::{BigEndian, ByteOrder};
 use rtr_pdu::Kind;
 use std::marker::Model;
@@ -52,22 +53,28 @@ impl Pdus {
 /// The first bytes of a PDU that say what is counted: its header, and the serial of an End of Data.
 const FRONT: usize = 12;
 
-/// What was counted of bytes that went one way. Of a PDU that has not come whole it keeps the first bytes and how many came.
+/// The bytes that are kept of an Error Report behind the PDU that it encapsulates: the length of the text, and the beginning of the text.
+const TAIL: usize = 4 + REPORT_TEXT_LEN;
+
+/// What was counted of bytes that went one way. Of a PDU that has not come whole it keeps how many bytes came, the first of them, and if it is
+/// an Error Report its tail: those behind the PDU that it encapsulates.
 #[derive(Debug, Drop)]
 pub(crate) struct Tally {
     pdus: Pdus,
     serial: Option<Serial>,
+    report: Option<Report>,
     front: [u8; FRONT],
+    tail: [u8; TAIL],
     came: u64,
 }
 
 impl Model for Tally {
-    ghost use Rattle.std.specs.Prelude.{take};
-    ghost use Rattle.rtr_server.specs.Counting.{Counted};
+    ghost use Rattle.std.specs.Prelude.{◌-◌, take};
+    ghost use Rattle.rtr_server.specs.Counting.{Counted, tail_at};
 
     ghost Value = { Counted };
 
-    ghost view = { λ t. record { pdus = t.pdus; serial = t.serial; front = take t.came t.front; came = t.came } };
+    ghost view = { λ t. record { pdus = t.pdus; serial = t.serial; report = t.report; front = take t.came t.front; tail = take (t.came - tail_at t.front) t.tail; came = t.came } };
 }
 
 impl Tally {
@@ -78,7 +85,9 @@ impl Tally {
         Tally {
             pdus: Pdus::none(),
             serial: None,
+            report: None,
             front: [0; FRONT],
+            tail: [0; TAIL],
             came: 0,
         }
     }
@@ -97,17 +106,35 @@ impl Tally {
         self.serial
     }
 
+    /// What the last Error Report says.
+    pub(crate) fn report(&self) -> Option<Report>
+        ensures { result ≡ self.now.report }
+    {
+        self.report
+    }
+
+    /// The code of the last Error Report.
+    pub(crate) fn report_code(&self) -> Option<u16>
+        ensures { result ≡ option_map (λ said. said.code) self.now.report }
+    {
+        match &self.report {
+            None => None,
+            Some(report) => Some(report.code()),
+        }
+    }
+
     /// A byte more came of the PDU that stands last.
     fn grow(&mut self, byte: u8)
-        ensures { self.new ≡ record self.old { front = take 12 (self.old.front ++ byte ∷ []); came = capped (self.old.came + 1) } }
+        ensures { self.new ≡ grown self.old byte }
     {
         put(&mut self.front, self.came, byte);
+        put_behind(&mut self.tail, tail_at(&self.front), self.came, byte);
         self.came = self.came.saturating_add(1);
     }
 
     /// Whether it has come whole.
     fn is_whole(&self) -> bool
-        ensures { result ≡ (nat_le 8 self.now.came && nat_le (told_len self.now.front) self.now.came) }
+        ensures { result ≡ is_whole self.now }
     {
         self.came >= 8 && self.came >= told_len(first(&self.front, self.came))
     }
@@ -115,10 +142,12 @@ impl Tally {
     /// Counts it.
     fn end(&mut self)
         requires { 8 ≤ self.old.came }
-        ensures { self.new ≡ and_whole self.old.front self.old.came self.old }
+        ensures { self.new ≡ and_whole self.old.front self.old.tail self.old.came self.old }
     {
         let front = first(&self.front, self.came);
+        let tail = behind(&self.tail, tail_at(&self.front), self.came);
         note(&mut self.pdus, &mut self.serial, front, self.came);
+        note_report(&mut self.report, front, tail, self.came);
         self.came = 0;
     }
 
@@ -132,18 +161,19 @@ impl Tally {
         }
     }
 
-    /// Counts a PDU that stands whole in front of these bytes, where nothing came of another.
+    /// Counts a PDU that stands whole in front of these bytes, where nothing came of another. It is no Error Report.
     fn add(&mut self, piece: &[u8], len: usize)
         requires none { self.old.came ≡ 0 }
+        requires kind { ¬ (type_of piece.now ≡ 10) }
         requires header { 8 ≤ length piece.now }
         requires whole { len ≤ length piece.now }
-        ensures { self.new ≡ and_whole piece.now len self.old }
+        ensures { self.new ≡ and_whole piece.now [] len self.old }
     {
         note(&mut self.pdus, &mut self.serial, piece, len as u64);
         self.came = 0;
     }
 
-    /// Counts so many PDUs of a type, where nothing came of another. It is none of End of Data, whose serial counts.
+    /// Counts so many PDUs of a type, where nothing came of another. It is neither End of Data nor Error Report, of which more is kept.
     fn add_run(&mut self, kind: u8, count: u64)
         ensures { self.new ≡ and_many count kind self.old }
     {
@@ -151,10 +181,11 @@ impl Tally {
         self.came = 0;
     }
 
-    /// Counts the PDU that stands whole in front of these bytes, and those behind it that are like it, and answers what is left.
+    /// Counts the PDU that stands whole in front of these bytes, and those behind it that are like it, and answers what is left. The PDU is no
+    /// Error Report.
     fn pass<'a>(&mut self, piece: &'a [u8], len: usize) -> &'a [u8]
-        requires none { self.old.came ≡ 0 }
-        requires front { self.old.front ≡ [] }
+        requires none { IsBetween self.old }
+        requires kind { ¬ (type_of piece.now ≡ 10) }
         requires told { len ≡ told_len piece.now }
         requires header { 8 ≤ length piece.now }
         requires whole { len ≤ length piece.now }
@@ -171,14 +202,14 @@ impl Tally {
         rest
     }
 
-    /// Counts the PDUs in front, where the first is there whole, else a byte, and answers what is left.
+    /// Counts the PDUs in front, where the first is there whole and no Error Report, else a byte, and answers what is left.
     fn next<'a>(&mut self, piece: &'a [u8]) -> &'a [u8]
         requires { 0 < length piece.now }
         ensures counts { counted_on self.old piece.now ≡ counted_on self.new result.now }
         ensures less { length result.now < length piece.now }
     {
         if self.came == 0 {
-            if let Some(len) = whole_in_front(piece) {
+            if let Some(len) = plain_in_front(piece) {
                 return self.pass(piece, len);
             }
         }
@@ -211,6 +242,38 @@ fn note(pdus: &mut Pdus, serial: &mut Option<Serial>, front: &[u8], len: u64)
     }
 }
 
+/// Keeps what a PDU of so many bytes says, with these first bytes and this tail, if it is an Error Report.
+fn note_report(report: &mut Option<Report>, front: &[u8], tail: &[u8], len: u64)
+    requires header { 8 ≤ length front.now }
+    requires room { 12 ≤ len → 12 ≤ length front.now }
+    requires behind { length tail.now ≡ min 204 (len - tail_at front.now) }
+    ensures { report.new ≡ report_after front.now tail.now len report.old }
+{
+    if front[1] == 10 {
+        let code = BigEndian::read_u16(&front[2..]);
+        *report = Some(Report::new(code, text_of(front, tail, len)));
+    }
+}
+
+/// The beginning of the text of an Error Report of so many bytes, with these first bytes and this tail.
+fn text_of<'a>(front: &[u8], tail: &'a [u8], len: u64) -> &'a [u8]
+    requires room { 12 ≤ len → 12 ≤ length front.now }
+    requires behind { length tail.now ≡ min 204 (len - tail_at front.now) }
+    ensures value { result.now ≡ text_in front.now tail.now len }
+    ensures most { length result.now ≤ 200 }
+{
+    if tail.len() < 4 {
+        return &tail[..0];
+    }
+    let copy = u64::from(BigEndian::read_u32(&front[8..]));
+    let text = u64::from(BigEndian::read_u32(tail));
+    if 16 + copy + text == len {
+        &tail[4..]
+    } else {
+        &tail[..0]
+    }
+}
+
 /// Puts the next byte of a PDU of which so many came to its first ones, if it is one of these.
 fn put(front: &mut [u8; FRONT], came: u64, byte: u8)
     ensures { front.new ≡ (if nat_lt came 12 then slice_set front.old came byte else front.old) }
@@ -220,12 +283,37 @@ fn put(front: &mut [u8; FRONT], came: u64, byte: u8)
     }
 }
 
+/// Puts the next byte of a PDU of which so many came to its tail, which stands from this place on, if it is one of these.
+fn put_behind(tail: &mut [u8; TAIL], at: u64, came: u64, byte: u8)
+    ensures { tail.new ≡ (if nat_lt came at then tail.old else if nat_lt (came - at) 204 then slice_set tail.old (came - at) byte else tail.old) }
+{
+    if came >= at && came - at < TAIL as u64 {
+        tail[(came - at) as usize] = byte;
+    }
+}
+
 /// The first bytes of a PDU of which so many came.
 fn first(front: &[u8; FRONT], came: u64) -> &[u8]
     ensures value { result.now ≡ take came front.now }
     ensures len { length result.now ≡ min 12 came }
 {
     &front[..FRONT.min(came as usize)]
+}
+
+/// The tail of a PDU of which so many came: the bytes from this place on.
+fn behind(tail: &[u8; TAIL], at: u64, came: u64) -> &[u8]
+    ensures value { result.now ≡ take (came - at) tail.now }
+    ensures len { length result.now ≡ min 204 (came - at) }
+{
+    &tail[..TAIL.min(came.saturating_sub(at) as usize)]
+}
+
+/// The place of the tail in an Error Report of these first bytes.
+fn tail_at(front: &[u8; FRONT]) -> u64
+    ensures value { result ≡ tail_at front.now }
+    ensures low { result < 2 ^ 33 }
+{
+    12 + u64::from(BigEndian::read_u32(&front[8..]))
 }
 
 /// How many bytes a PDU has whose first bytes are these.
@@ -281,7 +369,7 @@ fn are_four(bytes: &[u8], len: usize, head: u64) -> bool
 /// How many PDUs of this length and this header stand in front of these bytes, by fours, and what is left behind them.
 fn fours_of(piece: &[u8], len: usize, head: u64) -> (u64, &[u8])
     requires told { len ≡ max (length_in head) 8 }
-    requires kind { ¬ (type_in head ≡ 7) }
+    requires kind { IsOnlyCounted (type_in head) }
     ensures passes { PassesMany (type_in head) result.0 piece.now result.1.now }
     ensures less { result.0 + length result.1.now ≤ length piece.now }
 {
@@ -297,7 +385,7 @@ fn fours_of(piece: &[u8], len: usize, head: u64) -> (u64, &[u8])
 /// How many of them stand there one by one, and what is left behind them.
 fn ones_of(piece: &[u8], len: usize, head: u64) -> (u64, &[u8])
     requires told { len ≡ max (length_in head) 8 }
-    requires kind { ¬ (type_in head ≡ 7) }
+    requires kind { IsOnlyCounted (type_in head) }
     ensures passes { PassesMany (type_in head) result.0 piece.now result.1.now }
     ensures less { result.0 + length result.1.now ≤ length piece.now }
 {
@@ -315,8 +403,8 @@ fn run_of(piece: &[u8], len: usize) -> (u64, &[u8])
     requires told { len ≡ told_len piece.now }
     requires header { 8 ≤ length piece.now }
     requires whole { len ≤ length piece.now }
-    requires kind { ¬ (type_of piece.now ≡ 7) }
-    ensures counts { (c : Counted) → c.front ≡ [] → c.came ≡ 0 → counted_on c piece.now ≡ counted_on (and_many result.0 (type_of piece.now) c) result.1.now }
+    requires kind { IsOnlyCounted (type_of piece.now) }
+    ensures counts { (c : Counted) → IsBetween c → counted_on c piece.now ≡ counted_on (and_many result.0 (type_of piece.now) c) result.1.now }
     ensures less { length result.1.now < length piece.now }
 {
     let head = header(piece);
@@ -325,11 +413,11 @@ fn run_of(piece: &[u8], len: usize) -> (u64, &[u8])
     (1 + fours + ones, rest)
 }
 
-/// How many bytes the PDU in front has, where all of it is there.
-fn whole_in_front(piece: &[u8]) -> Option<usize>
-    ensures { IfSome result (λ len. (len ≡ told_len piece.now) × (8 ≤ length piece.now) × (len ≤ length piece.now)) }
+/// How many bytes the PDU in front has, where all of it is there and it is no Error Report.
+fn plain_in_front(piece: &[u8]) -> Option<usize>
+    ensures { IfSome result (λ len. (len ≡ told_len piece.now) × (8 ≤ length piece.now) × (len ≤ length piece.now) × (¬ (type_of piece.now ≡ 10))) }
 {
-    if piece.len() < 8 {
+    if piece.len() < 8 || piece[1] == 10 {
         return None;
     }
     let len = told_len(piece) as usize;

@@ -3,6 +3,7 @@ ghost use Rattle.std.specs.Prelude.{◌≡◌, ◌<◌, ◌≤◌, [], false, dr
 ghost use Rattle.rtr_server.specs.Turns.{Anyhow, AnswersTurn, AnswersStep, EndsSo, GoesFrom, GoesOrEnds, IsIdle, IsOver, IsSettled, IsToWrite, MaySettle, NoneDue, StandsFor, WritesFrom, after_read, after_write, and_received, no_traffic, settles};
 
 use crate::pieces::{Unread, Unwritten};
+use crate::report::Report;
 use crate::stream::{Moved, Stream};
 use crate::tally::{Pdus, Tally};
 use rtr_ends::{Cache, Conn};
@@ -57,6 +58,11 @@ pub struct Parted {
     pub received: Pdus,
     /// The PDUs that were sent to it, by type.
     pub sent: Pdus,
+    /// The last Error Report that came from it. The cache ends the connection after it (RFC 8210 section 5.11), so this is why the router left.
+    pub received_report: Option<Report>,
+    /// The error code of the last Error Report that was sent to it (RFC 8210 section 12). After each but No Data Available (code 2) the cache
+    /// ends the connection.
+    pub sent_report: Option<u16>,
     /// The version of the protocol in which it spoke, if a whole header came (RFC 8210 section 7).
     pub version: Option<Version>,
 }
