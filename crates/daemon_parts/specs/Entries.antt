@@ -1,10 +1,12 @@
 -- What an event is logged by: a word, and values under their keys.
-use Rattle.std.specs.Prelude.{ℕ, List, [], ◌∷◌, codes, Option, None, Some}
+use Rattle.std.specs.Prelude.{ℕ, Bool, true, false, List, [], ◌∷◌, codes, Option, None, Some}
 use Rattle.std.specs.declared.net.socket_addr.SocketAddr.{SocketAddr}
 use Rattle.daemon_parts.specs.declared.event.Departure.{Departure}
 use Rattle.daemon_parts.specs.declared.event.Event.{Event}
 use Rattle.daemon_parts.specs.declared.event.Event.TheVariants as event
+use Rattle.daemon_parts.specs.declared.event.PeerReport.{PeerReport}
 use Rattle.daemon_parts.specs.declared.event.Publication.{Publication}
+use Rattle.daemon_parts.specs.ReportNames.{report_name}
 use Rattle.daemon_parts.specs.declared.event.VersionNames.{VersionNames}
 use Rattle.daemon_parts.specs.declared.entries.Value.{Value}
 use Rattle.daemon_parts.specs.declared.entries.Value.TheVariants as value
@@ -59,6 +61,16 @@ departure_entries d =
     at d.address ∷ of_text (codes "why") d.why.now ∷ entry (codes "version") (spoken d.version)
     ∷ of_number (codes "read") d.read ∷ of_number (codes "written") d.written ∷ of_number (codes "seconds") d.seconds ∷ []
 
+-- of an Error Report,
+abbrev pub direction : Bool → List ℕ
+direction true = codes "received"
+direction false = codes "sent"
+
+abbrev pub report_entries : PeerReport → List Entry
+report_entries r =
+    at r.address ∷ of_text (codes "direction") (direction r.is_received) ∷ of_number (codes "code") r.code
+    ∷ of_text (codes "name") (report_name r.code) ∷ of_text (codes "text") r.text.now ∷ []
+
 -- and of a version that is published
 abbrev pub publication_entries : Publication → List Entry
 publication_entries p =
@@ -74,6 +86,7 @@ word_of (event.Status address) = codes "status"
 word_of event.Ready = codes "ready"
 word_of (event.ClientCame address) = codes "client-came"
 word_of (event.ClientGone departure) = codes "client-gone"
+word_of (event.ErrorReport report) = codes "error-report"
 word_of (event.Stalled address) = codes "stalled"
 word_of (event.Full address clients) = codes "full"
 word_of (event.AddressFull address clients) = codes "address-full"
@@ -100,6 +113,7 @@ entries_of (event.Status address) = at address ∷ []
 entries_of event.Ready = []
 entries_of (event.ClientCame address) = at address ∷ []
 entries_of (event.ClientGone departure) = departure_entries departure
+entries_of (event.ErrorReport report) = report_entries report
 entries_of (event.Stalled address) = at address ∷ []
 entries_of (event.Full address clients) = at address ∷ of_number (codes "clients") clients ∷ []
 entries_of (event.AddressFull address clients) = at address ∷ of_number (codes "clients") clients ∷ []

@@ -4,6 +4,7 @@ pub mod Runs
 pub mod RunRows
 pub mod Clock
 pub mod ClockRows
+pub mod ReportNames
 pub mod Entries
 pub mod Lines
 pub mod LineRows

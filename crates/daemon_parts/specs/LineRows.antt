@@ -6,6 +6,7 @@ use Rattle.std.specs.Str.{chars}
 use Rattle.daemon_parts.specs.declared.line.LogForm.TheVariants as form
 use Rattle.daemon_parts.specs.Entries.{Nothing, of_number, of_text, entry}
 use Rattle.daemon_parts.specs.Lines.{escaped, told_char, quoted, is_plain, line_text}
+use Rattle.daemon_parts.specs.ReportNames.{report_name}
 
 -- a blank, a new line, a quote and a backslash
 in_quotes : quoted (codes "a b\n\"\\") ≡ codes "\"a b\\u000a\\\"\\\\\""
@@ -67,3 +68,13 @@ json_line = refl
 
 without_values : line_text form.Text (codes "T") (codes "ready") [] ≡ codes "T ready\n"
 without_values = refl
+
+-- the ends of the codes of Error Reports that have a name
+first_code : report_name 0 ≡ codes "Corrupt Data"
+first_code = refl
+
+last_code : report_name 8 ≡ codes "Unexpected Protocol Version"
+last_code = refl
+
+behind_the_last_code : report_name 9 ≡ codes "unknown"
+behind_the_last_code = refl

@@ -1,8 +1,9 @@
 //! What an event is logged by: a word, and values under their keys.
 ghost use Rattle.std.specs.Prelude.{◌≡◌, codes, map};
-ghost use Rattle.daemon_parts.specs.Entries.{at, departure_entries, entry, name_entries, of_number, of_text, publication_entries, spoken, told_pair, told_value, word_of};
+ghost use Rattle.daemon_parts.specs.Entries.{at, departure_entries, direction, entry, name_entries, of_number, of_text, publication_entries, report_entries, spoken, told_pair, told_value, word_of};
 
-use crate::event::{Departure, Event, Publication, VersionNames};
+use crate::event::{Departure, Event, PeerReport, Publication, VersionNames};
+use crate::report::report_name;
 use std::net::SocketAddr;
 
 /// A value of an event.
@@ -89,6 +90,25 @@ pub(crate) fn departure_pairs<'a>(departure: &Departure<'a>) -> [Pair<'a>; 6]
     ]
 }
 
+/// The way of a report.
+fn direction(is_received: bool) -> &'static str
+    ensures { result.now ≡ direction is_received }
+{
+    if is_received { "received" } else { "sent" }
+}
+
+pub(crate) fn report_pairs<'a>(report: &PeerReport<'a>) -> [Pair<'a>; 5]
+    ensures { map told_pair result ≡ report_entries report.now }
+{
+    [
+        address(&report.address),
+        text("direction", direction(report.is_received)),
+        number("code", u64::from(report.code)),
+        text("name", report_name(report.code)),
+        text("text", report.text),
+    ]
+}
+
 pub(crate) fn publication_pairs<'a>(publication: &Publication) -> [Pair<'a>; 6]
     ensures { map told_pair result ≡ publication_entries publication.now }
 {
@@ -114,6 +134,7 @@ pub(crate) fn word_of(event: &Event<'_>) -> &'static str
         Event::Ready => "ready",
         Event::ClientCame { .. } => "client-came",
         Event::ClientGone(_) => "client-gone",
+        Event::ErrorReport(_) => "error-report",
         Event::Stalled { .. } => "stalled",
         Event::Full { .. } => "full",
         Event::AddressFull { .. } => "address-full",

@@ -29,6 +29,19 @@ pub struct Departure<'a> {
     pub seconds: u64,
 }
 
+/// An Error Report (RFC 8210 section 5.11) that passed between the daemon and a client.
+#[derive(Clone, Copy, Debug, PartialEq, Eq)]
+pub struct PeerReport<'a> {
+    /// The client's address and port.
+    pub address: SocketAddr,
+    /// Whether the client sent it. If not, it was sent to the client.
+    pub is_received: bool,
+    /// Its code.
+    pub code: u16,
+    /// Its text, or the beginning of it.
+    pub text: &'a str,
+}
+
 /// What a version is called, what it changes, and what it took.
 #[derive(Clone, Copy, Debug, PartialEq, Eq)]
 pub struct Publication {
@@ -75,6 +88,8 @@ pub enum Event<'a> {
     },
     /// `client-gone`: a client is not there any more.
     ClientGone(Departure<'a>),
+    /// `error-report`: a client that is gone sent an Error Report, or was sent one.
+    ErrorReport(PeerReport<'a>),
     /// `stalled`: nothing could be written to a client for too long, so it is closed.
     Stalled {
         /// The client's address and port.
@@ -129,11 +144,11 @@ pub enum Event<'a> {
         /// How many seconds ago it was made.
         age: u64,
     },
-    /// `expired`: entries of a file had expired when it was read, and do not count.
+    /// `expired`: entries of a file have expired, or all that a publication point holds. They are not served.
     Expired {
         /// The path of the file.
         file: &'a str,
-        /// How many of its entries had expired.
+        /// How many. Of a publication point these are the objects that its manifest lists.
         entries: u64,
     },
     /// `clock`: the clock was set back.

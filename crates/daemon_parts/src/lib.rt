@@ -27,9 +27,11 @@ pub mod laws;
 mod line;
 mod names;
 mod pace;
+mod report;
 
 pub use clock::{moment_at, time_at};
-pub use event::{Departure, Event, Publication, VersionNames};
+pub use event::{Departure, Event, PeerReport, Publication, VersionNames};
 pub use line::{LogForm, write_event};
 pub use names::{first_serial, is_machine_id, session_of, session0_of};
 pub use pace::Pace;
+pub use report::report_name;

@@ -9,7 +9,8 @@ ghost use Rattle.daemon_parts.specs.Lines.{TellsEvent, end_text, entry_text, esc
 
 use crate::clock::{civil_at, time_text};
 use crate::entries::{
-    Pair, Value, address, departure_pairs, name_pairs, number, publication_pairs, text, word_of,
+    Pair, Value, address, departure_pairs, name_pairs, number, publication_pairs, report_pairs,
+    text, word_of,
 };
 use crate::event::Event;
 use std::io::{self, Write};
@@ -220,6 +221,7 @@ fn write_values<W: Write>(out: &mut W, form: LogForm, event: &Event<'_>) -> io::
         Event::Ready | Event::NoDescriptor => Ok(()),
         Event::Started(names) => write_pairs(out, form, &name_pairs(names)),
         Event::ClientGone(departure) => write_pairs(out, form, &departure_pairs(departure)),
+        Event::ErrorReport(report) => write_pairs(out, form, &report_pairs(report)),
         Event::Published(publication) => write_pairs(out, form, &publication_pairs(publication)),
         Event::Listening { address: at }
         | Event::Status { address: at }
