@@ -66,10 +66,11 @@ pub(crate) static MATTERS: [Matter; 7] = [
                 kind: Kind::Number,
                 value: "SECONDS",
                 help: &[
-                    "The files are looked at every so many seconds, and read again if they have",
-                    "changed or if an entry has expired. Routers are notified no more often. RFC",
-                    "8210 section 8.2: a cache MUST NOT notify more than once a minute, so less",
-                    "than 60 breaks it. The number is from 1 to 4294967295; the default is 60.",
+                    "The files are looked at every so many seconds. A file that has changed is",
+                    "read again, and records that have expired leave. Routers are notified no",
+                    "more often. RFC 8210 section 8.2: a cache MUST NOT notify more than once",
+                    "a minute, so less than 60 breaks it. The number is from 1 to 4294967295;",
+                    "the default is 60.",
                 ],
             },
             Choice {
@@ -80,9 +81,9 @@ pub(crate) static MATTERS: [Matter; 7] = [
                 help: &[
                     "A file of --vrps whose data were made longer ago is reported as old, and",
                     "what is served stays. If a file does not say when it was made, or says a",
-                    "time more than an hour ahead, its modification time counts. DIR of --points",
-                    "and the file of --slurm have no age. The number is from 1 to 4294967295; by",
-                    "default no file is old.",
+                    "time more than an hour ahead, its modification time counts. DIR of",
+                    "--points and the file of --slurm have no age. The number is from 1 to",
+                    "4294967295; by default no file is old.",
                 ],
             },
             Choice {
@@ -91,8 +92,9 @@ pub(crate) static MATTERS: [Matter; 7] = [
                 kind: Kind::Number,
                 value: "BYTES",
                 help: &[
-                    "A larger file of --vrps or --slurm is refused, and so is what is no regular",
-                    "file. The number is from 1 to 1099511627776; the default is 2147483648.",
+                    "A larger file of --vrps or --slurm is refused, and so is one that is not",
+                    "a regular file. The number is from 1 to 1099511627776; the default is",
+                    "2147483648.",
                 ],
             },
             Choice {
@@ -176,9 +178,10 @@ pub(crate) static MATTERS: [Matter; 7] = [
                 value: "NUMBER",
                 help: &[
                     "This is the session in version 1 of the protocol, from 0 to 65535. By",
-                    "default it is made of /etc/machine-id, the host name, the addresses and the",
-                    "sources, so a restart keeps it. Without a machine id it is random at each",
-                    "start. Give each of several caches behind one address its own.",
+                    "default it is made of /etc/machine-id, the host name, the addresses and",
+                    "the sources, so a restart keeps it. If there is no machine id, it is",
+                    "random at each start. If several caches stand behind one address, give",
+                    "each its own session.",
                 ],
             },
             Choice {
@@ -188,8 +191,8 @@ pub(crate) static MATTERS: [Matter; 7] = [
                 value: "NUMBER",
                 help: &[
                     "This is the session in version 0, from 0 to 65535. By default it is made",
-                    "of the time of the start: it changes every second, and comes again after 18",
-                    "hours.",
+                    "of the time of the start. It changes every second, and comes again after",
+                    "18 hours.",
                 ],
             },
             Choice {
@@ -291,6 +294,16 @@ pub(crate) static MATTERS: [Matter; 7] = [
     Matter {
         title: "Others:",
         choices: &[
+            Choice {
+                name: "test",
+                letter: None,
+                kind: Kind::Flag,
+                value: "",
+                help: &[
+                    "All files are read and judged, and the daemon ends. The status is 0 if it",
+                    "could start with them, and 1 if one is refused. No address is opened.",
+                ],
+            },
             Choice {
                 name: "help",
                 letter: Some('h'),

@@ -1,5 +1,6 @@
 //! What a run is asked for.
 ghost use Rattle.std.specs.Prelude.{◌≡◌, ◌≤◌, ◌+◌, true, IsSome, vec_len};
+ghost use Rattle.daemon_words.specs.Bounds.{is_within};
 
 use daemon_parts::LogForm;
 use rtr_ends::Timing;
@@ -48,6 +49,8 @@ pub struct Settings {
     pub log: LogForm,
     /// Whether the daemon ends when the first client has gone.
     pub once: bool,
+    /// Whether the files are only judged: then nothing is served.
+    pub test: bool,
 
     // What every run is asked for: a source at least, an address at least, and numbers in their ranges.
     ghost has_source: { 1 ≤ vec_len vrps + vec_len points },
@@ -56,8 +59,11 @@ pub struct Settings {
     ghost keeps_to: { keep ≤ 65536 },
     ghost looks: { 1 ≤ check },
     ghost reads: { 1 ≤ max_size },
+    ghost reads_to: { max_size ≤ 1099511627776 },
     ghost serves: { 1 ≤ clients },
     ghost serves_to: { clients ≤ 4294967295 },
     ghost waits: { 1 ≤ stall },
     ghost ages: { stop_when_old ≡ true → IsSome max_age },
+    ghost ages_within: { is_within 1 4294967295 max_age ≡ true },
+    ghost shares_within: { is_within 1 4294967295 clients_per_address ≡ true },
 }

@@ -1,6 +1,7 @@
 //! The values of options.
-ghost use Rattle.std.specs.Prelude.{◌≤◌, IfOk, IfSome};
+ghost use Rattle.std.specs.Prelude.{◌≡◌, ◌≤◌, true, IfOk, IfSome};
 ghost use Rattle.daemon_words.specs.Decimals.{ReadsBetween, ReadsNumber};
+ghost use Rattle.daemon_words.specs.Bounds.{is_within};
 
 use crate::fault::{Wanted, WordsFault};
 use clap::ArgMatches;
@@ -61,7 +62,8 @@ pub(crate) fn number(
     least: u64,
     most: u64,
 ) -> Result<Option<u64>, WordsFault>
-    ensures { IfOk result (λ found. IfSome found (λ n. (least ≤ n) × (n ≤ most))) }
+    ensures each { IfOk result (λ found. IfSome found (λ n. (least ≤ n) × (n ≤ most))) }
+    ensures within { IfOk result (λ found. is_within least most found ≡ true) }
 {
     match found.get_str(option) {
         Some(text) => Ok(Some(number_in(alloc, option, text, least, most)?)),

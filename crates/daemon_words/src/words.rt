@@ -1,5 +1,6 @@
 //! What the words ask for.
 ghost use Rattle.std.specs.Prelude.{◌≡◌, ◌≤◌, ◌+◌, true, IfOk, IsSome, vec_len};
+ghost use Rattle.daemon_words.specs.Bounds.{is_within};
 
 use crate::fault::WordsFault;
 use crate::help::{help, version};
@@ -116,6 +117,7 @@ struct MaxAge {
     max_age: Option<u64>,
     stop_when_old: bool,
     ghost ages: { stop_when_old ≡ true → IsSome max_age },
+    ghost ages_within: { is_within 1 4294967295 max_age ≡ true },
 }
 
 fn age(alloc: Global, found: &ArgMatches<'_>) -> Result<MaxAge, WordsFault> {
@@ -132,7 +134,7 @@ fn age(alloc: Global, found: &ArgMatches<'_>) -> Result<MaxAge, WordsFault> {
 
 /// How many bytes a file may have.
 fn max_size(alloc: Global, found: &ArgMatches<'_>) -> Result<u64, WordsFault>
-    ensures { IfOk result (λ size. 1 ≤ size) }
+    ensures { IfOk result (λ size. (1 ≤ size) × (size ≤ 1099511627776)) }
 {
     match number(alloc, found, "max-size", 1, 1_099_511_627_776)? {
         Some(size) => Ok(size),
@@ -168,6 +170,7 @@ fn settings(alloc: Global, found: &ArgMatches<'_>) -> Result<Settings, WordsFaul
         status: address(alloc, found, "status")?,
         log: log_form(alloc, found, "log")?,
         once: found.get_flag("once"),
+        test: found.get_flag("test"),
     })
 }
 
