@@ -78,42 +78,42 @@ type Answer = (&'static str, &'static str, &'static str);
 const ANSWERS: &[Answer] = &[
     (
         "GET / HTTP/1.1\r\nHost: a\r\n\r\n",
-        "HTTP/1.1 200 OK\r\ncontent-type: text/html; charset=utf-8\r\ncache-control: no-store\r\nx-content-type-options: nosniff\r\ncontent-security-policy: default-src 'none'; style-src 'unsafe-inline'; base-uri 'none'; form-action 'none'; frame-ancestors 'none'\r\n",
+        "HTTP/1.1 200 OK\r\ndate: Thu, 26 Nov 2026 00:37:00 GMT\r\ncontent-type: text/html; charset=utf-8\r\ncache-control: no-store\r\nx-content-type-options: nosniff\r\ncontent-security-policy: default-src 'none'; style-src 'unsafe-inline'; base-uri 'none'; form-action 'none'; frame-ancestors 'none'\r\n",
         "<!doctype html>",
     ),
     (
         "GET /metrics HTTP/1.1\r\nHost: a\r\n\r\n",
-        "HTTP/1.1 200 OK\r\ncontent-type: text/plain; version=0.0.4; charset=utf-8\r\ncache-control: no-store\r\nx-content-type-options: nosniff\r\n",
+        "HTTP/1.1 200 OK\r\ndate: Thu, 26 Nov 2026 00:37:00 GMT\r\ncontent-type: text/plain; version=0.0.4; charset=utf-8\r\ncache-control: no-store\r\nx-content-type-options: nosniff\r\n",
         "\nrpkirtrd_serial 1795653120\n",
     ),
     (
         "GET /vrps.json HTTP/1.1\r\nHost: a\r\n\r\n",
-        "HTTP/1.1 200 OK\r\ncontent-type: application/json; charset=utf-8\r\n",
+        "HTTP/1.1 200 OK\r\ndate: Thu, 26 Nov 2026 00:37:00 GMT\r\ncontent-type: application/json; charset=utf-8\r\n",
         "\r\n\r\n[]",
     ),
     (
         "HEAD /vrps.json HTTP/1.1\r\nHost: a\r\n\r\n",
-        "HTTP/1.1 200 OK\r\ncontent-type: application/json; charset=utf-8\r\n",
+        "HTTP/1.1 200 OK\r\ndate: Thu, 26 Nov 2026 00:37:00 GMT\r\ncontent-type: application/json; charset=utf-8\r\n",
         "content-length: 2\r\n\r\n",
     ),
     (
         "GET /validity?asn=64496&prefix=192.0.2.0/24 HTTP/1.1\r\nHost: a\r\n\r\n",
-        "HTTP/1.1 200 OK\r\ncontent-type: application/json; charset=utf-8\r\n",
+        "HTTP/1.1 200 OK\r\ndate: Thu, 26 Nov 2026 00:37:00 GMT\r\ncontent-type: application/json; charset=utf-8\r\n",
         "{\"validated_route\":{\"route\":{\"origin_asn\":\"AS64496\",\"prefix\":\"192.0.2.0/24\"},\"validity\":{\"state\":\"valid\",",
     ),
     (
         "GET /validity HTTP/1.1\r\nHost: a\r\n\r\n",
-        "HTTP/1.1 400 Bad Request\r\ncontent-type: text/plain; charset=utf-8\r\n",
+        "HTTP/1.1 400 Bad Request\r\ndate: Thu, 26 Nov 2026 00:37:00 GMT\r\ncontent-type: text/plain; charset=utf-8\r\n",
         "\r\n\r\nwrite ?asn=NUMBER&prefix=PREFIX, each of the two keys once and no other, as in ?asn=64496&prefix=192.0.2.0/24\n",
     ),
     (
         "GET /status HTTP/1.1\r\nHost: a\r\n\r\n",
-        "HTTP/1.1 404 Not Found\r\ncontent-type: text/plain; charset=utf-8\r\n",
+        "HTTP/1.1 404 Not Found\r\ndate: Thu, 26 Nov 2026 00:37:00 GMT\r\ncontent-type: text/plain; charset=utf-8\r\n",
         "\r\n\r\nthere are /, /metrics, /vrps.json and /validity\n",
     ),
     (
         "POST /metrics HTTP/1.1\r\nHost: a\r\ncontent-length: 0\r\n\r\n",
-        "HTTP/1.1 405 Method Not Allowed\r\nallow: GET, HEAD\r\ncontent-type: text/plain; charset=utf-8\r\n",
+        "HTTP/1.1 405 Method Not Allowed\r\ndate: Thu, 26 Nov 2026 00:37:00 GMT\r\nallow: GET, HEAD\r\ncontent-type: text/plain; charset=utf-8\r\n",
         "\r\n\r\nonly GET and HEAD are answered\n",
     ),
 ];
@@ -146,7 +146,7 @@ const EARLY: &[(&str, &str)] = &[
 #[test]
 fn nothing_is_said_of_records_before_a_version(rt: HostRuntime) -> Result<(), Fail> {
     let begin =
-        "HTTP/1.1 503 Service Unavailable\r\nretry-after: 1\r\ncontent-type: text/plain; charset=utf-8\r\n";
+        "HTTP/1.1 503 Service Unavailable\r\ndate: Thu, 26 Nov 2026 00:37:00 GMT\r\nretry-after: 1\r\ncontent-type: text/plain; charset=utf-8\r\n";
     for &(request, part) in EARLY {
         let mut told = Small {
             alloc: rt.alloc(),
@@ -163,7 +163,7 @@ fn nothing_is_said_of_records_before_a_version(rt: HostRuntime) -> Result<(), Fa
 const ENDS: &[(&str, &str)] = &[
     (
         "GET /vrps.json HTTP/1.1\r\nHost: a\r\nconnection: close\r\n\r\n",
-        "HTTP/1.1 200 OK\r\n",
+        "HTTP/1.1 200 OK\r\ndate: Thu, 26 Nov 2026 00:37:00 GMT\r\n",
     ),
     ("no request\r\n\r\n", "HTTP/1.1 400 Bad Request\r\n"),
     (
@@ -199,7 +199,7 @@ fn requests_behind_one_another(rt: HostRuntime) -> Result<(), Fail> {
         has(
             rt.alloc(),
             &output,
-            "HTTP/1.1 200 OK\r\n",
+            "HTTP/1.1 200 OK\r\ndate: Thu, 26 Nov 2026 00:37:00 GMT\r\n",
             "\r\n\r\n[]HTTP/1.1 404 Not Found\r\n"
         )?
     );

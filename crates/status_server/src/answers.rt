@@ -5,11 +5,12 @@ ghost use Rattle.http_header.specs.FieldValue.{is_visible_text};
 use crate::told::Told;
 use bytes::{BufMut, Bytes};
 use http::header::{
-    ALLOW, CACHE_CONTROL, CONTENT_SECURITY_POLICY, CONTENT_TYPE, RETRY_AFTER,
+    ALLOW, CACHE_CONTROL, CONTENT_SECURITY_POLICY, CONTENT_TYPE, DATE, RETRY_AFTER,
     X_CONTENT_TYPE_OPTIONS,
 };
 use http::{HeaderValue, Request, StatusCode};
 use http_server::{Response, Service};
+use httpdate::HttpDate;
 use prefixes::Route;
 use status_pages::{QueryFault, read_query, write_metrics, write_page, write_validity};
 use std::alloc::{AllocError, Global};
@@ -65,6 +66,17 @@ pub(crate) struct Answers<'a, S> {
 }
 
 impl<S: Told> Answers<'_, S> {
+    /// Adds the moment of the answer (RFC 9110 section 6.6.1), if it is one of the years 1970 to 9999.
+    fn add_date(&mut self, response: &mut Response) -> Result<(), AllocError> {
+        let Ok(date) = HttpDate::from_unix_secs(self.told.now()) else {
+            return Ok(());
+        };
+        match HeaderValue::from_bytes(self.alloc, &date.to_bytes()) {
+            Ok(value) => response.add_header(DATE, value),
+            Err(_) => Err(AllocError),
+        }
+    }
+
     /// The page for people.
     fn page(&mut self, response: &mut Response) -> Result<(), AllocError> {
         let status = self.told.status()?;
@@ -158,7 +170,7 @@ impl<S: Told> Service for Answers<'_, S> {
         request: &Request<Bytes>,
         response: &mut Response,
     ) -> Result<(), AllocError> {
-        if self.answer(request, response).is_err() {
+        if self.add_date(response).is_err() || self.answer(request, response).is_err() {
             response.clear();
             response.status = StatusCode::SERVICE_UNAVAILABLE;
         }
