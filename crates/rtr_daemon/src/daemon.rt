@@ -66,6 +66,8 @@ pub enum End {
     Once,
     /// An export is older than it may be.
     Old,
+    /// The files were only to be judged, and can be taken.
+    Test,
 }
 
 /// A cache that goes on: its clients, the files that it follows, and what is due when.
@@ -350,6 +352,11 @@ impl<S: VersionStore + Drop, T: Stream + Drop> Daemon<S, T> {
         }
     }
 
+    /// How a daemon ends that is to judge its files alone.
+    pub fn judged(&self) -> End {
+        self.end().unwrap_or(End::Test)
+    }
+
     /// Why the daemon is to end, where it is.
     fn end(&self) -> Option<End> {
         if self.plan.once && self.has_parted {
@@ -453,7 +460,7 @@ fn read_all<S: VersionStore, T: Stream + Drop, W: Disk + Journal>(
     ensures { GoesOn S.holds T.remaining T.contents service.old service.new }
 {
     for file in files.iter_mut() {
-        match read_one(file, service, now, world) {
+        match read_one(file, service, alloc, now, world) {
             Ok(expired) => tell_expired(file.path.as_str(), expired, now, world),
             Err(refusal) => return Err(StartFault::of(file.path.as_str(), alloc, refusal)),
         }
@@ -465,6 +472,7 @@ fn read_all<S: VersionStore, T: Stream + Drop, W: Disk + Journal>(
 fn read_one<S: VersionStore, T: Stream + Drop, W: Disk>(
     file: &mut Followed,
     service: &mut Service<S, T>,
+    alloc: Global,
     now: u64,
     world: &mut W,
 ) -> Result<u64, Refusal>
@@ -476,7 +484,7 @@ fn read_one<S: VersionStore, T: Stream + Drop, W: Disk>(
             Look::Same | Look::Unstable | Look::RefusedBefore => {}
             Look::Failed(error) => return Err(Refusal::Device(error)),
             Look::Read(stamp, bytes) => {
-                let expired = take(service, file.source, bytes.as_slice(), now)?;
+                let expired = take(service, file.source, bytes.as_slice(), alloc, now)?;
                 let _ = file.take(stamp, now, expired);
                 return Ok(expired);
             }
@@ -496,8 +504,8 @@ fn read_points<S: VersionStore, T: Stream + Drop, W: Disk>(
 {
     for point in points.iter_mut() {
         match offer(service, point.path.as_str(), alloc, now, world) {
-            Ok(_offered) => {
-                let _ = point.take(now);
+            Ok(held) => {
+                let _ = point.take(held, now);
             }
             Err(refusal) => return Err(StartFault::of(point.path.as_str(), alloc, refusal)),
         }

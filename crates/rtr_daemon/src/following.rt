@@ -22,7 +22,9 @@ pub(crate) struct Followed {
     /// When that was, in seconds since 1970.
     pub(crate) taken_at: Option<u64>,
     /// How many of its entries had expired then.
-    pub(crate) expired: u64,
+    expired: u64,
+    /// How many of its records have expired since, as of the last look.
+    pub(crate) expired_since: u64,
     pub(crate) refusals: Refusals,
     /// Whether what it has is old.
     pub(crate) is_old: bool,
@@ -51,6 +53,7 @@ impl Followed {
             taken: None,
             taken_at: None,
             expired: 0,
+            expired_since: 0,
             refusals: Refusals::none(),
             is_old: false,
         }
@@ -93,7 +96,13 @@ impl Followed {
         self.taken = Some(stamp);
         self.taken_at = Some(now);
         self.expired = expired;
+        self.expired_since = 0;
         self.refusals.clear()
+    }
+
+    /// How many of its entries have expired: those that had when it was taken, and records that have since.
+    pub(crate) fn all_expired(&self) -> u64 {
+        self.expired.saturating_add(self.expired_since)
     }
 
     /// When it was modified, as it looked when it was taken last, in seconds since 1970.

@@ -38,6 +38,6 @@ mod surroundings;
 mod telling;
 
 pub use daemon::{Daemon, End, Paths, Plan};
-pub use refusal::{Refusal, StartFault};
+pub use refusal::{FileFault, Refusal, StartFault};
 pub use service::{Issue, Service};
 pub use surroundings::{Accepted, Disk, Journal, Ports, Ready, Stamp, Time};

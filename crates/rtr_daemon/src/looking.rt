@@ -1,5 +1,5 @@
 //! Looking at the files, and taking what is new.
-ghost use Rattle.std.specs.Prelude.{◌≡◌};
+ghost use Rattle.std.specs.Prelude.{◌≡◌, true};
 ghost use Rattle.rtr_daemon.specs.Serving.{Follows, GoesOn, TakenAs, TakesSo};
 
 use crate::daemon::Daemon;
@@ -10,10 +10,17 @@ use crate::refusals::Refusals;
 use crate::service::Service;
 use crate::surroundings::{Disk, Journal, Stamp, Time};
 use daemon_parts::Event;
-use points::Offered;
+use payloads::decode_manifest;
 use rtr_server::Stream;
 use std::alloc::Global;
 use vrps::VersionStore;
+
+/// What a publication point holds: until which second since 1970 it is used, and how many objects its manifest lists.
+#[derive(Clone, Copy, Debug)]
+pub(crate) struct Held {
+    next_update: u64,
+    objects: u64,
+}
 
 /// A directory that is offered to the publication point of its name.
 #[derive(Debug, Drop)]
@@ -21,6 +28,9 @@ pub(crate) struct Offering {
     pub(crate) path: String,
     /// When it was taken last, or was what its point holds, in seconds since 1970.
     pub(crate) taken_at: Option<u64>,
+    held: Option<Held>,
+    /// How many objects its point held that are past their manifest's nextUpdate, as of the last look.
+    pub(crate) expired: u64,
     pub(crate) refusals: Refusals,
 }
 
@@ -29,14 +39,27 @@ impl Offering {
         Offering {
             path,
             taken_at: None,
+            held: None,
+            expired: 0,
             refusals: Refusals::none(),
         }
     }
 
     /// It was taken, or is what its point holds. It answers whether a refusal was reported before.
-    pub(crate) fn take(&mut self, now: u64) -> bool {
+    pub(crate) fn take(&mut self, held: Option<Held>, now: u64) -> bool {
         self.taken_at = Some(now);
+        self.held = held;
         self.refusals.clear()
+    }
+
+    /// Notes whether what its point holds is past the nextUpdate (RFC 9286 section 6.6), and answers whether that is news.
+    fn note_expired(&mut self, now: u64) -> bool {
+        let before = self.expired;
+        self.expired = match self.held {
+            Some(held) if held.next_update < now => held.objects,
+            _ => 0,
+        };
+        self.expired > before
     }
 }
 
@@ -55,6 +78,7 @@ pub(crate) fn take<S: VersionStore, T: Stream + Drop>(
     service: &mut Service<S, T>,
     source: Source,
     bytes: &[u8],
+    alloc: Global,
     now: u64,
 ) -> Result<u64, Refusal>
     ensures goes { GoesOn S.holds T.remaining T.contents service.old service.new }
@@ -64,23 +88,32 @@ pub(crate) fn take<S: VersionStore, T: Stream + Drop>(
     match source {
         Source::Export(file) => match service.take_export(file, bytes, now) {
             Ok(expired) => Ok(expired),
-            Err(fault) => Err(Refusal::Export(fault)),
+            Err(fault) => Err(Refusal::of_export(alloc, bytes, fault)),
         },
         Source::Slurm => match service.take_slurm(bytes) {
             Ok(()) => Ok(0),
-            Err(fault) => Err(Refusal::Slurm(fault)),
+            Err(fault) => Err(Refusal::of_slurm(alloc, bytes, fault)),
         },
     }
 }
 
-/// Offers what a directory holds to the publication point of its name.
+/// What a manifest says of its point.
+fn held_of(alloc: Global, manifest: &[u8]) -> Option<Held> {
+    let manifest = decode_manifest(alloc, manifest).ok()?;
+    Some(Held {
+        next_update: manifest.next_update().seconds(),
+        objects: manifest.files().len() as u64,
+    })
+}
+
+/// Offers what a directory holds to the publication point of its name, and answers what the point holds then.
 pub(crate) fn offer<S: VersionStore, T: Stream + Drop, W: Disk>(
     service: &mut Service<S, T>,
     path: &str,
     alloc: Global,
     now: u64,
     world: &mut W,
-) -> Result<Offered, Refusal>
+) -> Result<Option<Held>, Refusal>
     ensures goes { GoesOn S.holds T.remaining T.contents service.old service.new }
     ensures server { service.new.server ≡ service.old.server }
 {
@@ -89,20 +122,43 @@ pub(crate) fn offer<S: VersionStore, T: Stream + Drop, W: Disk>(
             service.owe();
             Err(Refusal::Device(error))
         }
-        Ok(directory) => service.offer(&directory, alloc, now),
+        Ok(directory) => {
+            let _offered = service.offer(&directory, alloc, now)?;
+            Ok(held_of(alloc, directory.manifest()))
+        }
     }
 }
 
-/// Whether something of a file has expired since it was taken.
-fn has_expired<S: VersionStore, T: Stream + Drop>(
+/// How many records of a file have expired since it was taken.
+fn expired_of<S: VersionStore, T: Stream + Drop>(
     service: &Service<S, T>,
     source: Source,
     now: u64,
-) -> bool {
+) -> u64 {
     match source {
-        Source::Export(file) => service.has_expired(file, now),
-        Source::Slurm => false,
+        Source::Export(file) => service.expired(file, now),
+        Source::Slurm => 0,
     }
+}
+
+/// Notes how many records of a file have expired since it was taken, and whether these are more than at the look before. They are not served any
+/// more, whatever has become of the file: if they are not as many as before, a version is pending.
+fn note_expired<S: VersionStore, T: Stream + Drop>(
+    file: &mut Followed,
+    service: &mut Service<S, T>,
+    now: u64,
+) -> bool
+    ensures goes { GoesOn S.holds T.remaining T.contents service.old service.new }
+    ensures server { service.new.server ≡ service.old.server }
+    ensures pending { ¬ (file.new.expired_since ≡ file.old.expired_since) → service.new.is_owed ≡ true }
+{
+    let expired = expired_of(service, file.source, now);
+    let before = file.expired_since;
+    file.expired_since = expired;
+    if expired != before {
+        service.owe();
+    }
+    expired > before
 }
 
 /// Notes whether what a file holds was taken, and answers what is to be reported.
@@ -128,6 +184,7 @@ fn news_if(is_news: bool) -> News {
 fn follow<S: VersionStore, T: Stream + Drop, W: Disk>(
     file: &mut Followed,
     service: &mut Service<S, T>,
+    alloc: Global,
     now: u64,
     world: &mut W,
 ) -> News
@@ -135,14 +192,13 @@ fn follow<S: VersionStore, T: Stream + Drop, W: Disk>(
     ensures server { service.new.server ≡ service.old.server }
     ensures follows { Follows file.old.source now service.old.sources service.new.sources }
 {
-    let anew = has_expired(service, file.source, now) || file.is_taken_after(now);
-    match file.look(world, anew) {
+    match file.look(world, file.is_taken_after(now)) {
         Look::Same => News::Nothing,
         Look::Unstable => news_if(file.refusals.add(None, Refusal::Changing)),
         Look::RefusedBefore => news_if(file.refusals.mark_reported()),
         Look::Failed(error) => news_if(file.refusals.add(None, Refusal::Device(error))),
         Look::Read(stamp, bytes) => {
-            let taken = take(service, file.source, bytes.as_slice(), now);
+            let taken = take(service, file.source, bytes.as_slice(), alloc, now);
             note(file, stamp, taken, now)
         }
     }
@@ -192,9 +248,12 @@ fn follow_each<S: VersionStore, T: Stream + Drop, W: Disk + Time + Journal>(
     for file in files.iter_mut() {
         let now = world.seconds();
         let began = world.millis();
-        let news = follow(file, service, now, world);
+        let news = follow(file, service, alloc, now, world);
         note_news(ledger, &news, world.millis().saturating_sub(began));
         tell_news(alloc, file, news, now, world);
+        if note_expired(file, service, now) {
+            tell_expired(file.path.as_str(), file.all_expired(), now, world);
+        }
     }
 }
 
@@ -213,6 +272,9 @@ fn offer_each<S: VersionStore, T: Stream + Drop, W: Disk + Time + Journal>(
         let now = world.seconds();
         let offered = offer(service, point.path.as_str(), alloc, now, world);
         note_offer(alloc, point, offered, now, ledger, world);
+        if point.note_expired(now) {
+            tell_expired(point.path.as_str(), point.expired, now, world);
+        }
     }
 }
 
@@ -220,14 +282,14 @@ fn offer_each<S: VersionStore, T: Stream + Drop, W: Disk + Time + Journal>(
 fn note_offer<W: Journal>(
     alloc: Global,
     point: &mut Offering,
-    offered: Result<Offered, Refusal>,
+    offered: Result<Option<Held>, Refusal>,
     now: u64,
     ledger: &mut Ledger,
     world: &mut W,
 ) {
     match offered {
-        Ok(_) => {
-            if point.take(now) {
+        Ok(held) => {
+            if point.take(held, now) {
                 world.tell(
                     now,
                     &Event::Taken {
@@ -269,7 +331,7 @@ fn tell_news<W: Journal>(alloc: Global, file: &Followed, news: News, now: u64, w
     }
 }
 
-/// Reports how many entries of a file had expired when it was read, where some had.
+/// Reports how many entries of a source have expired, if some have.
 pub(crate) fn tell_expired<W: Journal>(file: &str, entries: u64, now: u64, world: &mut W) {
     if entries > 0 {
         world.tell(now, &Event::Expired { file, entries });

@@ -4,9 +4,27 @@ use points::PointFault;
 use slurm::SlurmFault;
 use sources::TakeFault;
 use std::alloc::{AllocError, Global};
-use std::io;
+use std::{fmt, io};
 use thiserror::Error;
 use vrps::SetFault;
+
+/// A fault of a file, and the same in words that say what stands in the file.
+#[derive(Debug, Drop)]
+pub struct FileFault<F> {
+    /// The fault.
+    pub fault: F,
+    /// The words, or `None`: memory ran out for them.
+    pub words: Option<String>,
+}
+
+impl<F: fmt::Display> fmt::Display for FileFault<F> {
+    fn fmt<W: fmt::Write>(&self, f: &mut fmt::Formatter<W>) -> fmt::Result {
+        match &self.words {
+            Some(words) => f.write_str(words.as_str()),
+            None => write!(f, "{}", self.fault),
+        }
+    }
+}
 
 /// Why a file was not taken, or nothing was published.
 #[derive(Debug, Drop, Error)]
@@ -16,10 +34,10 @@ pub enum Refusal {
     Device(io::Error),
     /// It is no export, or no file of the sources has its number.
     #[error("{0}")]
-    Export(TakeFault),
+    Export(FileFault<TakeFault>),
     /// It holds no local exceptions.
     #[error("{0}")]
-    Slurm(SlurmFault),
+    Slurm(FileFault<SlurmFault>),
     /// Its publication point does not take it.
     #[error("{0}")]
     Point(PointFault),
@@ -35,6 +53,21 @@ pub enum Refusal {
 }
 
 impl Refusal {
+    /// An export that these bytes are not.
+    pub(crate) fn of_export(alloc: Global, bytes: &[u8], fault: TakeFault) -> Refusal {
+        let words = match fault {
+            TakeFault::Export(of) => exports::fault_text(alloc, bytes, of).ok(),
+            TakeFault::NoSuchFile => None,
+        };
+        Refusal::Export(FileFault { fault, words })
+    }
+
+    /// Local exceptions that these bytes are not.
+    pub(crate) fn of_slurm(alloc: Global, bytes: &[u8], fault: SlurmFault) -> Refusal {
+        let words = slurm::fault_text(alloc, bytes, fault).ok();
+        Refusal::Slurm(FileFault { fault, words })
+    }
+
     /// Whether memory ran out.
     pub(crate) fn is_memory(&self) -> bool {
         self.status() == 4
@@ -45,8 +78,18 @@ impl Refusal {
         match self {
             Refusal::Device(error) if error.kind() == io::ErrorKind::OutOfMemory => 4,
             Refusal::Device(_) | Refusal::Changing => 3,
-            Refusal::Export(TakeFault::Export(ExportFault::Memory))
-            | Refusal::Slurm(SlurmFault::Memory)
+            Refusal::Export(
+                FileFault {
+                    fault: TakeFault::Export(ExportFault::Memory),
+                    ..
+                },
+            )
+            | Refusal::Slurm(
+                FileFault {
+                    fault: SlurmFault::Memory,
+                    ..
+                },
+            )
             | Refusal::Point(PointFault::Memory)
             | Refusal::Set(SetFault::Memory) => 4,
             _ => 1,

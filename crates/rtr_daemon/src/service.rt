@@ -87,9 +87,9 @@ impl<S: VersionStore, T: Stream + Drop> Service<S, T> {
         self.server.drop_client(client)
     }
 
-    /// Whether a payload of a file that counted has expired since it was taken.
-    pub fn has_expired(&self, file: usize, now: u64) -> bool {
-        self.sources.has_expired(file, now)
+    /// How many records of a file that counted when it was taken have expired by this second since 1970.
+    pub fn expired(&self, file: usize, now: u64) -> u64 {
+        self.sources.expired(file, now)
     }
 
     /// Takes the export of a file, where it is one, and answers how many of its entries had expired.

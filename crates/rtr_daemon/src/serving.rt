@@ -5,9 +5,11 @@ ghost use Rattle.rtr_daemon.specs.Serving.{GoesOn};
 use crate::daemon::Daemon;
 use crate::surroundings::{Journal, Ports, Ready, Time};
 use crate::telling::with_seen;
-use daemon_parts::{Departure, Event};
+use daemon_parts::{Departure, Event, PeerReport};
 use rtr_pdu::Version;
-use rtr_server::{Carried, Client, Gone, Pdus, Stream, Turn};
+use rtr_server::{Carried, Client, Gone, Pdus, Report, Stream, Turn};
+use std::net::SocketAddr;
+use std::str;
 use vrps::VersionStore;
 
 /// How many calls of its stream a client has in one turn.
@@ -95,10 +97,7 @@ impl<S: VersionStore, T: Stream + Drop> Daemon<S, T> {
     {
         match self.service.serve(client, BUDGET) {
             None => {}
-            Some(Turn::Gone(how)) => {
-                let seen = self.seen_last();
-                self.part(line, why(how), seen, world);
-            }
+            Some(Turn::Gone(how)) => self.part(line, why(how), world),
             Some(turn) => {
                 if let Some(carried) = self.seen(client).carried {
                     self.guests.note(line, turn, carried, world.millis());
@@ -110,19 +109,21 @@ impl<S: VersionStore, T: Stream + Drop> Daemon<S, T> {
         }
     }
 
-    /// Parts from a client that has gone.
-    fn part<W: Time + Journal>(&mut self, line: usize, why: &str, seen: Seen, world: &mut W)
+    /// Parts from the client that left last.
+    fn part<W: Time + Journal>(&mut self, line: usize, why: &str, world: &mut W)
         ensures { self.new.service ≡ self.old.service }
     {
         let Some(guest) = self.guests.remove(line) else {
             return;
         };
+        let seen = self.seen_last();
         let carried = seen.carried.unwrap_or(guest.carried);
         self.gates.end_rests();
         self.has_parted = true;
         self.ledger.gone = with_seen(self.ledger.gone, &seen);
         let stayed = world.millis().saturating_sub(guest.came) / 1000;
         let now = world.seconds();
+        self.tell_reports(guest.address, now, world);
         world.tell(
             now,
             &Event::ClientGone(Departure {
@@ -134,6 +135,31 @@ impl<S: VersionStore, T: Stream + Drop> Daemon<S, T> {
                 seconds: stayed,
             }),
         );
+    }
+
+    /// Reports the last Error Report that the client that left last had sent, and the last that it was sent.
+    fn tell_reports<W: Journal>(&self, address: SocketAddr, now: u64, world: &mut W) {
+        let Some(parted) = self.service.server().parted() else {
+            return;
+        };
+        if let Some(report) = &parted.received_report {
+            let report = PeerReport {
+                address,
+                is_received: true,
+                code: report.code(),
+                text: text_of(report),
+            };
+            world.tell(now, &Event::ErrorReport(report));
+        }
+        if let Some(code) = parted.sent_report {
+            let report = PeerReport {
+                address,
+                is_received: false,
+                code,
+                text: "",
+            };
+            world.tell(now, &Event::ErrorReport(report));
+        }
     }
 
     /// Drops the clients that have sent no whole query within their time.
@@ -188,9 +214,16 @@ impl<S: VersionStore, T: Stream + Drop> Daemon<S, T> {
         let Some((client, _address)) = self.guests.at(line) else {
             return;
         };
-        let seen = self.seen(client);
         self.service.drop_client(client);
-        self.part(line, why, seen, world);
+        self.part(line, why, world);
+    }
+}
+
+/// The text of a report, as far as it is UTF-8.
+fn text_of(report: &Report) -> &str {
+    match str::from_utf8(report.text()) {
+        Ok(text) => text,
+        Err(error) => str::from_utf8(&report.text()[..error.valid_up_to()]).unwrap_or(""),
     }
 }
 

@@ -81,7 +81,7 @@ impl<S: VersionStore, T: Stream + Drop> Daemon<S, T> {
             taken: file.taken_at,
             refusal: refusal_text(self.alloc, file.refusals.reported())?,
             is_old: file.is_old,
-            expired: file.expired,
+            expired: file.all_expired(),
         })
     }
 
@@ -133,7 +133,7 @@ fn point_status(alloc: Global, point: &Offering) -> Result<FileStatus, AllocErro
         taken: point.taken_at,
         refusal: refusal_text(alloc, point.refusals.reported())?,
         is_old: false,
-        expired: 0,
+        expired: point.expired,
     })
 }
 

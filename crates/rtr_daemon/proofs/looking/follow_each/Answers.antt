@@ -3,7 +3,9 @@ use Rattle.rtr_daemon.proofs.ServiceLaws.{then_on}
 use Rattle.rtr_daemon.proofs.looking.follow_each.Goals as goal
 
 pub loop-file-preserved : goal.loop-file-preserved
-loop-file-preserved g c = record {
-  goes = then_on g.S.VersionStore.holds g.T.Stream.remaining g.T.Stream.contents c.args.service.now c.loop-file.service c.follow-news.new.service c.loop-file.invariant.goes c.follow-news.ensures.goes;
-  server = c.follow-news.ensures.server ∙ c.loop-file.invariant.server;
-}
+loop-file-preserved g c =
+    let followed = then_on g.S.VersionStore.holds g.T.Stream.remaining g.T.Stream.contents c.args.service.now c.loop-file.service c.follow-news.new.service c.loop-file.invariant.goes c.follow-news.ensures.goes in
+    record {
+      goes = then_on g.S.VersionStore.holds g.T.Stream.remaining g.T.Stream.contents c.args.service.now c.follow-news.new.service c.note_expired.new.service followed c.note_expired.ensures.goes;
+      server = c.note_expired.ensures.server ∙ c.follow-news.ensures.server ∙ c.loop-file.invariant.server;
+    }
