@@ -15,14 +15,14 @@ const MACHINE_ID: &str = "/etc/machine-id";
 const HOST_NAME: &str = "/proc/sys/kernel/hostname";
 
 /// The names of the versions, and whether the session was drawn at random.
-#[derive(Clone, Copy)]
+#[derive(Clone, Copy, Debug)]
 pub struct Named {
     pub names: VersionNames,
     pub is_random: bool,
 }
 
 /// The session in version 1 of the protocol, and whether it was drawn at random.
-#[derive(Clone, Copy)]
+#[derive(Clone, Copy, Debug)]
 struct Session {
     number: u16,
     is_random: bool,

@@ -42,6 +42,7 @@ pub fn run_words<
 >(rt: &R, words: &[String], out: &mut O, err: &mut E) -> u8 {
     match read_words(rt.alloc(), words) {
         Ok(Asked::Help(text)) | Ok(Asked::Version(text)) => print(text.as_str(), out),
+        Ok(Asked::Serve(settings)) if settings.test => judge(rt, settings, err),
         Ok(Asked::Serve(settings)) => serve(rt, settings, err),
         Err(WordsFault::Memory) => out_of_memory(err),
         Err(fault) => {
@@ -58,6 +59,21 @@ fn print<O: Write>(text: &str, out: &mut O) -> u8 {
         return 3;
     }
     0
+}
+
+/// Reads the files as at a start, and answers the status that a start with them would have. No socket is opened.
+fn judge<R: Files + Net + Clock + RandomSource + AllocGlobal + Clone + Drop, E: Write>(
+    rt: &R,
+    settings: Settings,
+    err: &mut E,
+) -> u8 {
+    match Host::open(rt, err, settings.log, settings.max_size, &[]) {
+        Err(fault) => refuse_sockets(&fault, err),
+        Ok(mut host) => match open(rt, settings, &mut host) {
+            Err(fault) => refuse_start(&fault, &mut host),
+            Ok(daemon) => stop(daemon.judged(), &mut host),
+        },
+    }
 }
 
 /// Opens the sockets, reads the files, and serves.
@@ -313,7 +329,7 @@ fn stop<W: Time + Journal>(end: End, world: &mut W) -> u8 {
     let now = world.seconds();
     world.tell(now, &Event::Stopped { reason });
     match end {
-        End::Once => 0,
+        End::Once | End::Test => 0,
         End::Old => 1,
     }
 }
@@ -321,6 +337,7 @@ fn stop<W: Time + Journal>(end: End, world: &mut W) -> u8 {
 fn reason_of(end: End) -> &'static str {
     match end {
         End::Once => "the client has gone",
+        End::Test => "all files can be taken, and with --test nothing is served",
         End::Old => "an export is older than --max-age",
     }
 }
