@@ -163,7 +163,7 @@ const FOLLOWS_LOG: &str =
     "2026-11-25T18:40:01Z published session=4660 serial=5 announced=1 withdrawn=0 records=1 ms=0\n\
     2026-11-25T18:40:01Z ready\n\
     2026-11-25T18:40:01Z client-came address=192.0.2.1:179\n\
-    2026-11-25T18:45:00Z refused file=list.json reason=\"not JSON (fault 1)\"\n\
+    2026-11-25T18:45:00Z refused file=list.json reason=\"not JSON at line 1, column 3 (fault 1)\"\n\
     2026-11-25T18:47:00Z taken file=list.json\n\
     2026-11-25T18:47:00Z published session=4660 serial=6 announced=1 withdrawn=1 records=1 ms=0\n";
 
@@ -219,7 +219,7 @@ const CHANGES: &[Step] = &[
 const CHANGES_LOG: &str =
     "2026-11-25T18:40:01Z published session=4660 serial=5 announced=1 withdrawn=0 records=1 ms=0\n\
     2026-11-25T18:40:01Z ready\n\
-    2026-11-25T18:43:00Z refused file=list.json reason=\"not JSON (fault 1)\"\n";
+    2026-11-25T18:43:00Z refused file=list.json reason=\"not JSON at line 1, column 3 (fault 1)\"\n";
 
 /// A version is published although the wall clock is set back by a day.
 const GOES_BACK: &[Step] = &[

@@ -1,5 +1,5 @@
 //! Lines of the log, in both forms.
-use daemon_parts::{Departure, Event, LogForm, Publication, VersionNames, write_event};
+use daemon_parts::{Departure, Event, LogForm, PeerReport, Publication, VersionNames, write_event};
 use std::alloc::Global;
 use std::net::{IpAddr, Ipv4Addr, Ipv6Addr, SocketAddr};
 use std::test::Fail;
@@ -178,7 +178,7 @@ fn file_events() -> [Told; 7] {
 }
 
 /// The events of clients.
-fn client_events() -> [Told; 8] {
+fn client_events() -> [Told; 10] {
     let at = address();
     let v6 = SocketAddr::new(IpAddr::V6(Ipv6Addr::LOCALHOST), 3323);
     [
@@ -225,6 +225,28 @@ fn client_events() -> [Told; 8] {
             "client-gone",
             " address=192.0.2.1:40000 why=truncated version=none read=0 written=0 seconds=0",
             ",\"address\":\"192.0.2.1:40000\",\"why\":\"truncated\",\"version\":null,\"read\":0,\"written\":0,\"seconds\":0",
+        ),
+        (
+            Event::ErrorReport(PeerReport {
+                address: at,
+                is_received: true,
+                code: 7,
+                text: "a=\u{1b}[2J",
+            }),
+            "error-report",
+            " address=192.0.2.1:40000 direction=received code=7 name=\"Duplicate Announcement Received\" text=\"a=\\u001b[2J\"",
+            ",\"address\":\"192.0.2.1:40000\",\"direction\":\"received\",\"code\":7,\"name\":\"Duplicate Announcement Received\",\"text\":\"a=\\u001b[2J\"",
+        ),
+        (
+            Event::ErrorReport(PeerReport {
+                address: v6,
+                is_received: false,
+                code: 300,
+                text: "",
+            }),
+            "error-report",
+            " address=[::1]:3323 direction=sent code=300 name=unknown text=\"\"",
+            ",\"address\":\"[::1]:3323\",\"direction\":\"sent\",\"code\":300,\"name\":\"unknown\",\"text\":\"\"",
         ),
         (
             Event::Stalled { address: at },

@@ -37,7 +37,7 @@ const DEFAULTS: &str =
     session: None, session0: None, start: None, keep: 16, \
     timing: Timing { refresh: 3600, retry: 600, expire: 7200 }, check: 60, max_age: None, \
     stop_when_old: false, max_size: 2147483648, leave_out_length_0: false, clients: 256, clients_per_address: None, \
-    stall: 120, status: None, log: Text, once: false }";
+    stall: 120, status: None, log: Text, once: false, test: false }";
 
 /// Lines, and a part of what they ask for.
 const LINES: &[(&str, &str)] = &[
@@ -96,7 +96,8 @@ const LINES: &[(&str, &str)] = &[
     ("--vrps a --status [::1]:9323", "status: Some([::1]:9323),"),
     ("--vrps a --log text", "log: Text,"),
     ("--vrps a --log json", "log: Json,"),
-    ("--vrps a --once", "once: true "),
+    ("--vrps a --once", "once: true, test: false "),
+    ("--vrps a --test", "once: false, test: true "),
     (
         "--help",
         "Usage: rpkirtrd (--vrps FILE | --points DIR).. [OPTION]..\n",
@@ -438,14 +439,15 @@ const OPTIONS: &[(&str, &str)] = &[
     ("--status ADDRESS:PORT", "option there are none."),
     ("--log FORM", "text or json. The default is text."),
     ("--once", "when the first router has gone."),
+    ("--test", "and 1 if one is refused. No address is opened."),
     ("-h, --help", "printed."),
     ("-V, --version", "printed."),
 ];
 
-/// Whether each line of a text has at most 81 columns, and none ends in a blank.
+/// Whether each line of a text has at most 80 columns, and none ends in a blank.
 fn fits_a_screen(text: &str) -> bool {
     text.lines()
-        .all(|line| line.len() <= 81 && !line.ends_with(' '))
+        .all(|line| line.len() <= 80 && !line.ends_with(' '))
 }
 
 /// What the help says of an option, in one line.

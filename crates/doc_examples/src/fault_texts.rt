@@ -149,6 +149,7 @@ fn faults_of_exports_and_exceptions(rt: HostRuntime) {
         ExportFault::Entry(3, EntryFault::Expires),
         ExportFault::TooMany,
         ExportFault::Memory,
+        ExportFault::Repeated,
     ];
     assert!(rt; all_tell(rt.alloc(), "fault", &faults));
     let faults = numbered![

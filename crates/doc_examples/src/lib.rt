@@ -16,6 +16,8 @@ mod fault_texts;
 #[cfg(test)]
 mod feed_example;
 #[cfg(test)]
+mod json_texts_example;
+#[cfg(test)]
 mod orders_example;
 #[cfg(test)]
 mod payload_commands_example;

@@ -43,6 +43,7 @@ const NO_JSON: &[&[u8]] = &[
     b"{\"roas\":[{\"asn\":\"AS-1\"}]} x",
     b"{\"roas\":[],}",
     b"{\"x\":1e999,\"roas\":[]}",
+    b"{\"roas\":[],\"roas\":[]} x",
     b"\xff{\"roas\":[]}",
     b"[[[[[[[[[[[[[[[[[[[[[[[[[[[[[[[[[[[[[[[[[[[[[[[[[[[[[[[[[[[[[[[[[[[[[[[[[[[[[[[[[[[[[[[[[[[[[[[[[[[[[[[[[[[[[[[[[[[[[[[[[[[[[[[[[[[[[[[[",
 ];
@@ -58,7 +59,6 @@ const OF_NEITHER_FORM: &[&[u8]] = &[
     b"{}",
     b"{\"roas\":{}}",
     b"{\"roas\":\"[]\"}",
-    b"{\"roas\":[],\"roas\":7}",
     b"[7]",
     b"[{\"asn\":\"AS1\",\"prefix\":\"10.0.0.0/8\",\"maxLength\":8}]",
     b"[{\"asn\":1,\"prefix\":\"10.0.0.0/8\",\"maxLength\":8,\"ta\":\"\"}]",
@@ -68,6 +68,27 @@ const OF_NEITHER_FORM: &[&[u8]] = &[
 #[test]
 fn json_of_neither_form(rt: HostRuntime) {
     assert!(rt; all_have(rt.alloc(), OF_NEITHER_FORM, &ExportFault::NoRoas));
+}
+
+/// Names that are read and stand twice: in the export, in the metadata, in an entry; before an entry that cannot be read, and where there
+/// are no `roas`.
+const REPEATED: &[&[u8]] = &[
+    b"{\"roas\":[],\"roas\":[]}",
+    b"{\"roas\":[],\"ro\\u0061s\":7}",
+    b"{\"metadata\":{},\"roas\":[],\"metadata\":7}",
+    b"{\"metadata\":{\"generated\":1,\"generated\":1},\"roas\":[]}",
+    b"{\"roas\":[],\"metadata\":{\"buildtime\":1,\"x\":2,\"buildtime\":\"\"}}",
+    b"{\"roas\":[{\"asn\":1,\"prefix\":\"10.0.0.0/8\",\"maxLength\":8,\"asn\":1}]}",
+    b"{\"roas\":[{\"asn\":1,\"prefix\":\"10.0.0.0/8\",\"prefix\":\"10.0.0.0/8\",\"maxLength\":8}]}",
+    b"{\"roas\":[7,{\"maxLength\":1,\"maxLength\":null}]}",
+    b"{\"roas\":[{},{\"expires\":1,\"expires\":1},{}]}",
+    b"{\"metadata\":{},\"metadata\":{}}",
+    b"{\"roas\":{},\"roas\":[{\"asn\":1}]}",
+];
+
+#[test]
+fn names_that_stand_twice(rt: HostRuntime) {
+    assert!(rt; all_have(rt.alloc(), REPEATED, &ExportFault::Repeated));
 }
 
 /// Whether a second entry of each AS is read so.
@@ -203,6 +224,11 @@ const FAULTS: &[(ExportFault, u8, &str)] = &[
         "more than 16777215 different payloads (fault 4)",
     ),
     (ExportFault::Memory, 5, "out of memory (fault 5)"),
+    (
+        ExportFault::Repeated,
+        6,
+        "a name that is read stands twice in an object (fault 6)",
+    ),
 ];
 
 /// Whether each is told so.

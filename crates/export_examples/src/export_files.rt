@@ -1,6 +1,6 @@
 //! Files as validators and RTR tools write them.
 use example_values::sets::{Rows, set_of};
-use exports::{Export, read_export, read_export_until};
+use exports::{Export, ExportLasting, read_export, read_export_lasting, read_export_until};
 use std::alloc::Global;
 use std::test::Fail;
 
@@ -184,6 +184,65 @@ fn an_export_ends_with_the_first_of_its_entries(rt: HostRuntime) -> Result<(), F
     Ok(())
 }
 
+/// Four records; those of AS 2 and AS 3 have two entries each.
+const TWICE: &str = r#"{"roas":[
+    {"asn":3,"prefix":"10.0.0.0/8","maxLength":8},
+    {"asn":2,"prefix":"10.0.0.0/8","maxLength":8,"expires":1700000002},
+    {"asn":1,"prefix":"10.0.0.0/8","maxLength":8,"expires":1700000009},
+    {"asn":2,"prefix":"10.0.0.0/8","maxLength":8,"expires":1700000005},
+    {"asn":3,"prefix":"10.0.0.0/8","maxLength":8,"expires":1700000001},
+    {"asn":4,"prefix":"10.0.0.0/8","maxLength":8,"expires":1700000000}]}"#;
+
+#[test]
+fn of_entries_with_one_record_the_last_end_counts(rt: HostRuntime) -> Result<(), Fail> {
+    let read = read_export_lasting(rt.alloc(), TWICE.as_bytes(), NOW)?;
+    let rows: Rows = &[
+        ("10.0.0.0/8", 8, 1),
+        ("10.0.0.0/8", 8, 2),
+        ("10.0.0.0/8", 8, 3),
+    ];
+    assert!(rt; is_of(rt.alloc(), &read.export, rows)?);
+    assert_eq!(rt;
+        read.lasts.as_slice(),
+        [NOW + 8, NOW + 4, u64::MAX].as_slice()
+    );
+    assert!(rt; read.export.expired == 1);
+    assert!(rt; read.until == Some(NOW + 1));
+    Ok(())
+}
+
+#[test]
+fn records_of_a_payload_list_do_not_end(rt: HostRuntime) -> Result<(), Fail> {
+    let text =
+        r#"[{"asn":1,"prefix":"10.0.0.0/8","maxLength":8},{"asn":1,"prefix":"10.0.0.0/8","maxLength":8}]"#;
+    let read = read_export_lasting(rt.alloc(), text.as_bytes(), NOW)?;
+    assert_eq!(rt; read.lasts.as_slice(), [u64::MAX].as_slice());
+    assert!(rt; read.until.is_none());
+    Ok(())
+}
+
+/// Whether the records that count at a moment, by their last seconds, are those that a text exports then.
+fn counts_then(alloc: Global, read: &ExportLasting, text: &str, moment: u64) -> Result<bool, Fail> {
+    let mut left = Vec::new(alloc);
+    for (vrp, last) in read.export.set.iter().zip(read.lasts.iter()) {
+        if moment <= *last {
+            left.push(*vrp)?;
+        }
+    }
+    let then = read_export(alloc, text.as_bytes(), moment)?;
+    Ok(left.as_slice() == then.set.as_slice())
+}
+
+#[test]
+fn later_exports_are_known(rt: HostRuntime) -> Result<(), Fail> {
+    let read = read_export_lasting(rt.alloc(), TWICE.as_bytes(), NOW - 3)?;
+    for moment in NOW - 3..NOW + 12 {
+        assert!(rt; counts_then(rt.alloc(), &read, TWICE, moment)?);
+    }
+    assert!(rt; counts_then(rt.alloc(), &read, TWICE, u64::MAX)?);
+    Ok(())
+}
+
 #[test]
 fn an_export_without_expiry_does_not_end(rt: HostRuntime) -> Result<(), Fail> {
     let list = r#"[{"asn":1,"prefix":"10.0.0.0/8","maxLength":8}]"#;
@@ -192,7 +251,7 @@ fn an_export_without_expiry_does_not_end(rt: HostRuntime) -> Result<(), Fail> {
     Ok(())
 }
 
-/// Read as a whole, as a number of it has a point, and at the last second that there is.
+/// A number has a point, and an entry expires at the last second that there is.
 #[test]
 fn the_last_second_is_an_end(rt: HostRuntime) -> Result<(), Fail> {
     let text =
@@ -202,7 +261,7 @@ fn the_last_second_is_an_end(rt: HostRuntime) -> Result<(), Fail> {
     Ok(())
 }
 
-/// What is read as a whole: a number in another form, and a value that nests deeper than what is passed over.
+/// A number in another form is passed over, and so is a value that nests deep.
 #[test]
 fn other_forms_are_the_same_exports(rt: HostRuntime) -> Result<(), Fail> {
     let float =
@@ -216,17 +275,24 @@ fn other_forms_are_the_same_exports(rt: HostRuntime) -> Result<(), Fail> {
     Ok(())
 }
 
-/// Of a key that stands twice the last is read, in an entry, in the metadata and in the whole.
+/// A name that is not read may stand twice, also within what is not read.
 #[test]
-fn the_last_of_a_key_is_read(rt: HostRuntime) -> Result<(), Fail> {
-    let text = r#"{"roas":[{"asn":"AS1"}],"metadata":{"generated":1,"generated":2},"roas":[
-        {"asn":1,"asn":"AS64496","prefix":"10.0.0.0/8","prefix":"192.0.2.0/24","maxLength":1,"maxLength":24},
-        {"asn":"AS1","asn":64497,"prefix":"2001:db8::/32","maxLength":48,"expires":1,"expires":1700000001}]}"#;
+fn names_that_are_not_read_may_stand_twice(rt: HostRuntime) -> Result<(), Fail> {
+    let text =
+        r#"{"x":{"roas":1,"roas":2},"asn":1,"asn":2,"metadata":{"generated":2,"roas":[],"roas":[],"x":{"generated":1,"generated":1}},"x":1,"roas":[
+        {"asn":"AS64496","prefix":"192.0.2.0/24","ta":"a","maxLength":24,"ta":"b"},
+        {"roas":1,"roas":2,"asn":64497,"prefix":"2001:db8::/32","maxLength":48,"expires":1700000001,"x":{"asn":1,"asn":2}}]}"#;
     assert!(rt; is_two(rt.alloc(), text, Some(2))?);
-    let plain = r#"{"roas":[],"metadata":{"generated":1,"generated":2},"roas":[
-        {"asn":1,"asn":"AS64496","prefix":"10.0.0.0/8","prefix":"192.0.2.0/24","maxLength":1,"maxLength":24},
-        {"asn":"AS1","asn":64497,"prefix":"2001:db8::/32","maxLength":48,"expires":1,"expires":1700000001}]}"#;
-    assert!(rt; is_two(rt.alloc(), plain, Some(2))?);
+    Ok(())
+}
+
+/// In an entry of a payload list the last member of a name is read.
+#[test]
+fn the_last_of_a_name_in_a_list(rt: HostRuntime) -> Result<(), Fail> {
+    let text =
+        r#"[{"asn":1,"asn":64496,"prefix":"10.0.0.0/8","prefix":"192.0.2.0/24","maxLength":24},
+        {"asn":64497,"prefix":"2001:db8::/32","maxLength":1,"maxLength":48}]"#;
+    assert!(rt; is_two(rt.alloc(), text, None)?);
     Ok(())
 }
 

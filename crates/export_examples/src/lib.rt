@@ -1,6 +1,6 @@
-//! Examples of exports and of local exceptions (RFC 8416), which are the tests of the libraries `prefix_texts`, `exports` and `slurm`: files
-//! as validators write them, the RFC's own file, a fault of each kind, and what comes of sets. They stand apart, as a crate with tests is
-//! proved twice.
+//! Examples of exports and of local exceptions (RFC 8416), which are the tests of the libraries `prefix_texts`, `json_texts`, `exports`,
+//! `slurm` and `sources`: files as validators write them, the RFC's own file, a fault of each kind, and what comes of sets. They stand apart,
+//! as a crate with tests is proved twice.
 #![tactic(auto)]
 
 #[cfg(test)]
@@ -9,6 +9,8 @@ mod export_cases;
 mod export_faults;
 #[cfg(test)]
 mod export_files;
+#[cfg(test)]
+mod export_texts;
 #[cfg(test)]
 mod list_parts;
 #[cfg(test)]
@@ -21,3 +23,5 @@ mod slurm_files;
 mod slurm_outcomes;
 #[cfg(test)]
 mod slurm_texts;
+#[cfg(test)]
+mod source_files;

@@ -4,14 +4,14 @@ use std::alloc::Global;
 use std::test::Fail;
 
 /// Whether these bytes have a fault of this text.
-fn is_told(alloc: Global, bytes: &[u8], text: &str) -> Result<bool, Fail> {
+fn has_text(alloc: Global, bytes: &[u8], text: &str) -> Result<bool, Fail> {
     match read_slurm(alloc, bytes) {
         Ok(_) => Ok(false),
         Err(fault) => Ok(fault_text(alloc, bytes, fault)?.as_str() == text),
     }
 }
 
-/// Texts that are no file, and what is told of them.
+/// Texts that are no SLURM file, and the fault of each in words.
 const FILES: &[(&str, &str)] = &[
     (
         "{\n  \"slurmVersion\": 1,\n  }",
@@ -44,7 +44,7 @@ const FILES: &[(&str, &str)] = &[
     ),
 ];
 
-/// Entries of the four arrays, and what is told of a file of them.
+/// The four arrays of a file, and its fault in words.
 const ENTRIES: &[([&str; 4], &str)] = &[
     (
         [r#"{"asn":1}"#, "[]", "[]", "[]"],
@@ -98,21 +98,21 @@ const ENTRIES: &[([&str; 4], &str)] = &[
     ),
 ];
 
-/// Whether what is told of each text is this.
-fn are_told(alloc: Global, rows: &[(&str, &str)]) -> Result<bool, Fail> {
+/// Whether the fault of each text reads so.
+fn have_texts(alloc: Global, rows: &[(&str, &str)]) -> Result<bool, Fail> {
     for &(bytes, text) in rows {
-        if !is_told(alloc, bytes.as_bytes(), text)? {
+        if !has_text(alloc, bytes.as_bytes(), text)? {
             return Ok(false);
         }
     }
     Ok(true)
 }
 
-/// The same of each file of entries.
-fn entries_are_told(alloc: Global, rows: &[([&str; 4], &str)]) -> Result<bool, Fail> {
+/// Whether the fault of each file with these arrays reads so.
+fn entries_have_texts(alloc: Global, rows: &[([&str; 4], &str)]) -> Result<bool, Fail> {
     for (arrays, text) in rows {
         let file = file(alloc, arrays)?;
-        if !is_told(alloc, file.as_bytes(), text)? {
+        if !has_text(alloc, file.as_bytes(), text)? {
             return Ok(false);
         }
     }
@@ -120,13 +120,13 @@ fn entries_are_told(alloc: Global, rows: &[([&str; 4], &str)]) -> Result<bool, F
 }
 
 #[test]
-fn faults_are_told_with_what_stands_in_the_file(rt: HostRuntime) -> Result<(), Fail> {
-    assert!(rt; are_told(rt.alloc(), FILES)?);
+fn faults_of_slurm_files_name_what_stands_in_them(rt: HostRuntime) -> Result<(), Fail> {
+    assert!(rt; have_texts(rt.alloc(), FILES)?);
     Ok(())
 }
 
 #[test]
-fn faults_of_entries_are_told_with_their_values(rt: HostRuntime) -> Result<(), Fail> {
-    assert!(rt; entries_are_told(rt.alloc(), ENTRIES)?);
+fn faults_of_slurm_entries_name_their_values(rt: HostRuntime) -> Result<(), Fail> {
+    assert!(rt; entries_have_texts(rt.alloc(), ENTRIES)?);
     Ok(())
 }

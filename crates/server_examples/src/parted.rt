@@ -4,7 +4,7 @@ use example_values::hex::bytes;
 use example_values::sets::V;
 use example_values::units::RESET_QUERY;
 use rtr_pdu::{Kind, Version};
-use rtr_server::{Carried, Client, Gone, Parted, Pdus, Turn};
+use rtr_server::{Carried, Client, Gone, Parted, Pdus, Report, Turn};
 use std::alloc::Global;
 use std::test::Fail;
 
@@ -18,6 +18,10 @@ struct Leaving {
     version: Option<Version>,
     received: &'static [(Kind, u64)],
     sent: &'static [(Kind, u64)],
+    /// The code and the text of the Error Report that it sent.
+    says: Option<(u16, &'static str)>,
+    /// The code of the one that was sent to it.
+    sent_code: Option<u16>,
 }
 
 /// The types that are counted, but for those of the prefixes.
@@ -42,6 +46,8 @@ const LEAVINGS: &[Leaving] = &[
         version: Some(Version::V1),
         received: &[(Kind::ResetQuery, 1), (Kind::ErrorReport, 1)],
         sent: &[(Kind::CacheResponse, 1), (Kind::EndOfData, 1)],
+        says: Some((0, "")),
+        sent_code: None,
     },
     // An Error Report of version 0 before anything else.
     Leaving {
@@ -52,6 +58,20 @@ const LEAVINGS: &[Leaving] = &[
         version: Some(Version::V0),
         received: &[(Kind::ErrorReport, 1)],
         sent: &[],
+        says: Some((2, "")),
+        sent_code: None,
+    },
+    // An Error Report of code 3 on a Reset Query, with the text "no".
+    Leaving {
+        sends: "01 02 0000 00000008 | 01 0a 0003 0000001a 00000008 0102000000000008 00000002 6e6f",
+        stays_open: true,
+        how: Gone::CacheEnded,
+        carried: (34, 52),
+        version: Some(Version::V1),
+        received: &[(Kind::ResetQuery, 1), (Kind::ErrorReport, 1)],
+        sent: &[(Kind::CacheResponse, 1), (Kind::EndOfData, 1)],
+        says: Some((3, "no")),
+        sent_code: None,
     },
     // A Cache Reset, which no router sends: an Error Report with a copy of it goes out.
     Leaving {
@@ -62,6 +82,8 @@ const LEAVINGS: &[Leaving] = &[
         version: Some(Version::V1),
         received: &[(Kind::CacheReset, 1)],
         sent: &[(Kind::ErrorReport, 1)],
+        says: None,
+        sent_code: Some(3),
     },
     Leaving {
         sends: RESET_QUERY,
@@ -71,6 +93,8 @@ const LEAVINGS: &[Leaving] = &[
         version: Some(Version::V1),
         received: &[(Kind::ResetQuery, 1)],
         sent: &[(Kind::CacheResponse, 1), (Kind::EndOfData, 1)],
+        says: None,
+        sent_code: None,
     },
     Leaving {
         sends: "01 02 00",
@@ -80,6 +104,8 @@ const LEAVINGS: &[Leaving] = &[
         version: None,
         received: &[],
         sent: &[],
+        says: None,
+        sent_code: None,
     },
     Leaving {
         sends: "",
@@ -89,6 +115,8 @@ const LEAVINGS: &[Leaving] = &[
         version: None,
         received: &[],
         sent: &[],
+        says: None,
+        sent_code: None,
     },
 ];
 
@@ -107,6 +135,17 @@ fn are(pdus: &Pdus, list: &[(Kind, u64)]) -> bool {
     KINDS.iter().all(|kind| pdus.of(*kind) == told(list, *kind))
 }
 
+/// Whether a report says this.
+fn says(report: &Option<Report>, expected: Option<(u16, &str)>) -> bool {
+    match (report, expected) {
+        (None, None) => true,
+        (Some(report), Some((code, text))) => {
+            report.code() == code && report.text() == text.as_bytes()
+        }
+        _ => false,
+    }
+}
+
 /// Whether it is counted so.
 fn is_counted(parted: &Parted, leaving: &Leaving) -> bool {
     let (read, written) = leaving.carried;
@@ -114,6 +153,8 @@ fn is_counted(parted: &Parted, leaving: &Leaving) -> bool {
         && parted.version == leaving.version
         && are(&parted.received, leaving.received)
         && are(&parted.sent, leaving.sent)
+        && says(&parted.received_report, leaving.says)
+        && parted.sent_report == leaving.sent_code
 }
 
 /// Serves a client to its end, call by call, and says how it went.
