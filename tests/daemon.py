@@ -11,6 +11,7 @@ import argparse
 import concurrent.futures
 import contextlib
 import datetime
+import email.utils
 import hashlib
 import http.client
 import ipaddress
@@ -135,6 +136,11 @@ def told(line):
         return {}
     values = {key: it[1:-1] if it.startswith('"') else it for key, it in re.findall(r' ([\w-]+)=("(?:[^"\\]|\\.)*"|\S*)', parts[3])}
     return {"time": parts[1], "event": parts[2], **values}
+
+
+def unescaped(text):
+    """The text of a value in quotes."""
+    return json.loads(f'"{text}"')
 
 
 @contextlib.contextmanager
@@ -420,8 +426,67 @@ def point_gone():
         shutil.rmtree("point")
         daemon.wait("refused", file="point")
         differs("a point that is gone", router.catch_up(), {*FIRST[2:], ("192.0.2.0/24", 24, 64496)})
+        daemon.wait("expired", file="point", entries=1)
         daemon.wait("published", withdrawn=1, records=len(FIRST[2:]))
         differs("a point that is gone, after its nextUpdate", router.catch_up(), set(FIRST[2:]))
+
+
+def entry_of(prefix, most, asn, **more):
+    return {"asn": f"AS{asn}", "prefix": prefix, "maxLength": most, "ta": "x", **more}
+
+
+def expired_of_bad_files():
+    """Entries leave at the second of their expiry, whatever became of their file. Of two entries of one record the later expiry counts."""
+    until = int(time.time()) + 5
+    put("bad.json", json.dumps({"roas": [entry_of("192.0.2.0/24", 24, 64496, expires=until), entry_of("198.51.100.0/24", 26, 64497)]}))
+    put("gone.json", json.dumps({"roas": [entry_of("203.0.113.0/24", 24, 64499, expires=until), entry_of("10.0.0.0/8", 8, 64500, expires=until), entry_of("10.0.0.0/8", 8, 64500, expires=until + 3600)]}))
+    with running("--vrps", "bad.json", "--vrps", "gone.json", "--listen", "127.0.0.1:0", "--check", "1", "--status", "127.0.0.1:0") as daemon:
+        at = int(daemon.wait("listening")["address"].rpartition(":")[2])
+        port = int(daemon.wait("status")["address"].rpartition(":")[2])
+        daemon.wait("ready")
+        router = Router(at)
+        lasting = {("198.51.100.0/24", 26, 64497), ("10.0.0.0/8", 8, 64500)}
+        differs("before the expiry", router.catch_up(), lasting | {("192.0.2.0/24", 24, 64496), ("203.0.113.0/24", 24, 64499)})
+        put("bad.json", '{"roas":[')
+        os.unlink("gone.json")
+        daemon.wait("refused", file="bad.json")
+        daemon.wait("refused", file="gone.json")
+        daemon.wait("expired", file="bad.json", entries=1)
+        daemon.wait("expired", file="gone.json", entries=1)
+        daemon.wait("published", withdrawn=2, records=2)
+        router.wait_notify()
+        differs("entries that have expired, of a file that is bad and one that is gone", router.catch_up(), lasting)
+        told = metrics_of(port)
+        differs("expired entries in the metrics", [told.get(f'rpkirtrd_file_expired_entries{{file="{it}"}}') for it in ("bad.json", "gone.json")], [1, 1])
+        put("bad.json", json.dumps({"roas": [entry_of("198.51.100.0/24", 26, 64497)]}))
+        daemon.wait("taken", file="bad.json")
+        differs("expired entries of a file that is taken again", metrics_of(port).get('rpkirtrd_file_expired_entries{file="bad.json"}'), 0)
+
+
+def refusals_in_words():
+    """A refusal names the entry, the member and its value; a name that stands twice; or the line and the column."""
+    good = json.dumps({"roas": [entry_of(*FIRST[0])]})
+    put("export.json", good)
+    slurm = {"slurmVersion": 1, "validationOutputFilters": {"prefixFilters": [], "bgpsecFilters": []}, "locallyAddedAssertions": {"prefixAssertions": [], "bgpsecAssertions": []}}
+    put("slurm.json", json.dumps(slurm))
+    spoiled = [
+        ("export.json", json.dumps({"roas": [entry_of(*FIRST[0]), entry_of("::ffff:0:0/96x", 96, 1)]}), 'entry 1 of roas: prefix "::ffff:0:0/96x" is no prefix (fault 3)'),
+        ("export.json", '{"roas":[],"roas":[]}', "roas stands twice in the file (fault 6)"),
+        ("export.json", '{\n"roas":[}', "not JSON at line 2, column 9 (fault 1)"),
+        ("slurm.json", json.dumps({**slurm, "slurmVersion": 2}), "slurmVersion is 2, and not 1 (fault 3)"),
+        ("slurm.json", json.dumps(slurm).replace('"bgpsecFilters": []', '"prefixFilters": []'), '"prefixFilters" stands twice in validationOutputFilters (fault 8)'),
+    ]
+    with running("--vrps", "export.json", "--slurm", "slurm.json", "--listen", "127.0.0.1:0", "--check", "1") as daemon:
+        daemon.wait("ready")
+        for file, text, reason in spoiled:
+            put(file, text)
+            differs(f"{file} with {text}", unescaped(daemon.wait("refused", file=file)["reason"]), reason)
+            put(file, good if file == "export.json" else json.dumps(slurm))
+            daemon.wait("taken", file=file)
+    for text, words, status, said in [(spoiled[0][1], [], 1, spoiled[0][2]), (spoiled[0][1], ["--test"], 1, spoiled[0][2]), (good, ["--test"], 0, "stopped reason=")]:
+        put("export.json", text)
+        ran = subprocess.run([program, "--vrps", "export.json", "--slurm", "slurm.json", "--listen", "127.0.0.1:0", *words], stdin=subprocess.DEVNULL, capture_output=True, text=True, timeout=PATIENCE)
+        differs(f"a start {words} with {text}", (ran.returncode, said in ran.stderr), (status, True))
 
 
 def pipe_for_a_file():
@@ -628,10 +693,21 @@ def last_words():
         router = Router(at)
         router.catch_up()
         router.send(ERROR, 3, struct.pack("!II", 0, 0))
+        report = daemon.wait("error-report")
+        differs("a report without a text", [report[it] for it in ("direction", "code", "name", "text")], ["received", "3", "Invalid Request", ""])
         daemon.wait("client-gone")
         told = metrics_of(port)
         differs("the Error Reports that are counted", told['rpkirtrd_pdus_total{type="error_report",direction="received"}'], 1)
         differs("the bytes that are counted", told['rpkirtrd_bytes_total{direction="received"}'], 8 + 16)
+        router = Router(at)
+        router.catch_up()
+        said = "no such record \x1b[2J ".encode() + b"x" * 300
+        router.send(ERROR, 6, struct.pack("!I", 8) + bytes(8) + struct.pack("!I", len(said)) + said)
+        report = daemon.wait("error-report", direction="received", code=6)
+        differs("the text of a report", (report["name"], unescaped(report["text"])), ("Withdrawal of Unknown Record", said[:200].decode()))
+        router = Router(at)
+        router.send(END, 0)
+        differs("a report that the cache sent", daemon.wait("error-report", direction="sent")["code"] in ("3", "5"), True)
 
 
 def reasons():
@@ -757,6 +833,7 @@ def pages():
             differs(f"the state of {prefix} {asn}", validity(port, prefix, asn), state_of(prefix, asn, near))
         page = got(port, "/")
         differs("the page", (page[0], page[1]["content-type"], "4660" in page[2], "<script" in page[2]), (200, "text/html; charset=utf-8", True, False))
+        differs("the date of an answer", abs(email.utils.parsedate_to_datetime(page[1]["date"]).timestamp() - time.time()) < 30, True)
         for target, method, status in ("/nothing", "GET", 404), ("/metrics", "POST", 405), ("/validity?asn=1", "GET", 400), ("/metrics", "HEAD", 200):
             differs(f"{method} {target}", got(port, target, method)[0], status)
         strange_visitors(port)
@@ -1081,7 +1158,7 @@ def main():
     given = words.parse_args()
     program, shim = os.path.abspath(given.program), given.shim and os.path.abspath(given.shim)
     parts = [soak, silent_visitor, words_and_starts, tables, refused_files, sources, points, two_points, point_gone, pipe_for_a_file, large_file, no_streams, pages, restarts, limits, full_descriptors]
-    parts += [silent_router, one_address, kept_alive, old_by_its_file, warnings_and_names, early_visitors, reasons, narrowed, asked_first, last_words]
+    parts += [silent_router, one_address, kept_alive, old_by_its_file, warnings_and_names, early_visitors, reasons, narrowed, asked_first, last_words, expired_of_bad_files, refusals_in_words]
     parts += ([routes] if given.rpkirtr else []) + ([refused_memory] if shim else [])
     with multiprocessing.get_context("fork").Pool(len(parts)) as pool:
         found = sum(pool.map(played, [it.__name__ for it in parts], chunksize=1))

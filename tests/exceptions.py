@@ -15,7 +15,7 @@ import sys
 import tempfile
 import time
 
-from exports import Chance, Refused, deep, is_whole, number, prefix_of, written
+from exports import Chance, Refused, deep, is_whole, members, number, prefix_of, written
 
 ARRAYS = ["prefixFilters", "bgpsecFilters", "prefixAssertions", "bgpsecAssertions"]
 OBJECTS = ["validationOutputFilters", "locallyAddedAssertions"]
@@ -32,18 +32,6 @@ def unless(well, fault, what):
 
 def is_of(value, keys):
     return isinstance(value, dict) and sorted(value) == sorted(keys)
-
-
-class Members(dict):
-    """An object, and whether a name stands in it twice."""
-
-    doubled = False
-
-
-def members(pairs):
-    found = Members(pairs)
-    found.doubled = len(found) < len(pairs)
-    return found
 
 
 def objects_in(value):
@@ -73,29 +61,36 @@ def arrays_of(text):
     return [found[name] for name in ARRAYS]
 
 
-def why_not(entry, keys, least):
-    """Why an entry of these keys is none, up to its prefix; of the keys that it must have, one is enough for a filter."""
+def misshapen(entry, keys, either):
+    """Why an entry of these keys is none, up to its AS. A filter needs either of two keys; an assertion needs its AS."""
     if not isinstance(entry, dict):
         return "no object"
     if set(entry) - set(keys):
         return "a key that is not known"
-    if least == 1 and not {"prefix", "asn"} & set(entry):
-        return "neither prefix nor asn"
-    if ("asn" in entry or least == 2) and not (is_whole(entry.get("asn")) and entry["asn"] < 1 << 32):
+    if either and not {*either} & set(entry):
+        return f"neither {either[0]} nor {either[1]}"
+    if ("asn" in entry or not either) and not (is_whole(entry.get("asn")) and entry["asn"] < 1 << 32):
         return "asn is no AS number"
+    return None
+
+
+def why_not(entry, keys, either=()):
+    """Why an entry on prefixes is none, up to its prefix."""
+    if why := misshapen(entry, keys, either):
+        return why
     if type(entry.get("comment", "")) is not str:
         return "comment is no text"
-    if ("prefix" in entry or least == 2) and prefix_of(entry.get("prefix")) is None:
+    if ("prefix" in entry or not either) and prefix_of(entry.get("prefix")) is None:
         return "prefix is no prefix"
     return None
 
 
 def filter_of(entry):
-    return why_not(entry, ["prefix", "asn", "comment"], 1), entry
+    return why_not(entry, ["prefix", "asn", "comment"], ("prefix", "asn")), entry
 
 
 def assertion_of(entry):
-    why, record = why_not(entry, ["asn", "prefix", "maxPrefixLength", "comment"], 2), None
+    why, record = why_not(entry, ["asn", "prefix", "maxPrefixLength", "comment"]), None
     if not why:
         width, bits, length = prefix_of(entry["prefix"])
         longest = entry.get("maxPrefixLength", length)
@@ -106,29 +101,23 @@ def assertion_of(entry):
     return why, record
 
 
-def no_key(entry, keys, least):
-    """Why an entry on BGPsec of these keys is none; of those that it must have, one is enough for a filter."""
-    if not isinstance(entry, dict):
-        return "no object"
-    if set(entry) - set(keys):
-        return "a key that is not known"
-    if least == 1 and not {"SKI", "asn"} & set(entry):
-        return "neither SKI nor asn"
-    if ("asn" in entry or least > 1) and not (is_whole(entry.get("asn")) and entry["asn"] < 1 << 32):
-        return "asn is no AS number"
+def no_key(entry, keys, either=()):
+    """Why an entry on BGPsec is none."""
+    if why := misshapen(entry, keys, either):
+        return why
     for key in ("comment", "SKI", "routerPublicKey"):
-        needed = least > 1 and key != "comment"
+        needed = not either and key != "comment"
         if (key in entry or needed) and type(entry.get(key)) is not str:
             return f"{key} is no text"
     return None
 
 
 def key_filter_of(entry):
-    return no_key(entry, ["SKI", "asn", "comment"], 1), None
+    return no_key(entry, ["SKI", "asn", "comment"], ("SKI", "asn")), None
 
 
 def key_assertion_of(entry):
-    return no_key(entry, ["asn", "SKI", "routerPublicKey", "comment"], 3), None
+    return no_key(entry, ["asn", "SKI", "routerPublicKey", "comment"]), None
 
 
 def values_of(text):

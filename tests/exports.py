@@ -8,6 +8,7 @@ the shapes that validators write, with members in any order, doubled, missing, d
 limit; spoiled prefixes, times and bytes. What must come of a text is worked out here, with Python's json, from the rules of
 docs/FORMATS.md. It exits with 1 where an outcome is another, and tells the text; the seed makes it again."""
 import argparse
+import collections
 import datetime
 import json
 import os
@@ -23,7 +24,7 @@ GROUP = r"[0-9A-Fa-f]{1,4}"
 OCTET = r"(?:0|[1-9]\d?|1\d\d|2[0-4]\d|25[0-5])"
 LENGTH = re.compile(r"0|[1-9]\d{0,2}")
 PLAIN, MIXED = range(2)
-WHAT = ["it is no object", "asn is no AS number", "prefix is no prefix", "maxLength is no length of the prefix's parts", "expires is no whole number"]
+WHAT = ["it is no object", "asn is no AS number", "prefix is no prefix", "maxLength is not from the prefix length to 32 (IPv4) or 128 (IPv6)", "expires is no whole number"]
 
 
 class Refused(Exception):
@@ -44,10 +45,23 @@ def number(digits):
     return int(digits) if not digits.startswith("-") and int(digits) < 1 << 64 else float(digits)
 
 
+class Members(dict):
+    """An object, in which the last of a name's members counts, and the names that stand twice in it."""
+
+    doubled = frozenset()
+
+
+def members(pairs):
+    found = Members(pairs)
+    if len(found) < len(pairs):
+        found.doubled = {name for name, count in collections.Counter(name for name, _ in pairs).items() if count > 1}
+    return found
+
+
 def value_of(text):
     """The value of a JSON text, of whose doubled keys the last counts."""
     try:
-        value = json.loads(text.decode("utf-8"), parse_int=number, parse_constant=lambda it: int(it))
+        value = json.loads(text.decode("utf-8"), parse_int=number, parse_constant=lambda it: int(it), object_pairs_hook=members)
     except ValueError:
         raise Refused("fault 1: not JSON (fault 1)") from None
     if deep(value) > 127:
@@ -138,6 +152,20 @@ def built_of(value):
     return metadata["generated"] if is_whole(metadata.get("generated")) else second_of(metadata.get("buildtime"))
 
 
+def read_objects(value):
+    """The objects of an export of which names are read, with these names."""
+    yield value, {"roas", "metadata"}
+    yield value.get("metadata"), {"generated", "buildtime"}
+    for it in value["roas"] if isinstance(value.get("roas"), list) else []:
+        yield it, {"asn", "prefix", "maxLength", "expires"}
+
+
+def judge_names(value):
+    """Refuses an export of the object form in which a name that is read stands twice in its object."""
+    if isinstance(value, dict) and any(isinstance(it, dict) and it.doubled & names for it, names in read_objects(value)):
+        raise Refused("fault 6: a name that is read stands twice in an object (fault 6)")
+
+
 def entries_of(value):
     if isinstance(value, list):
         try:
@@ -167,6 +195,7 @@ def outcome(now, text):
     """What must come of a text."""
     try:
         value = value_of(text)
+        judge_names(value)
         entries = entries_of(value)
     except Refused as fault:
         return str(fault)
