@@ -92,9 +92,9 @@ put_unit() { # put_unit SOURCE TARGET
     put_text "$1" "$2" "s|/usr/local/bin/|$prefix/bin/|" "s|/etc/default/rpkirtrd|$options_file|"
 }
 
-# A page is read where there are no sources: what leads to them is a name there, and no link.
+# A page is read where there are no sources: what leads to them is a name there, and no link. The programs have their installed names.
 put_page() { # put_page SOURCE TARGET
-    put_text "$1" "$2" 's|\[\([^]]*\)\]([./]*crates/[^)]*)|\1|g'
+    put_text "$1" "$2" 's|\[\([^]]*\)\]([./]*crates/[^)]*)|\1|g' 's|\./rpkirtrd\b|rpkirtrd|g' 's|\./run\b|rpkirtr|g'
 }
 
 # The options are the user's: where the file is there already, it stays.
