@@ -1,5 +1,5 @@
 //! The set of what was gathered, and the last second of each of its members.
-ghost use Rattle.std.specs.Prelude.{◌≡◌, ◌==◌, ◌<◌, ◌≤◌, slice_get, Some, true, IfOk, IfErr};
+ghost use Rattle.std.specs.Prelude.{◌≡◌, ◌==◌, ◌<◌, ◌≤◌, slice_get, Some, true, Err, IfOk, IfErr, OnErr};
 ghost use Rattle.std.specs.List.{list_all};
 ghost use Rattle.std.specs.List.Sorted.{IsStrictlySortedBy};
 ghost use Rattle.prefixes.specs.Payload.{vrp_cmp};
@@ -16,6 +16,7 @@ use vrps::VrpSet;
 fn set_from(records: Vec<Vrp>) -> Result<VrpSet, ExportFault>
     ensures ok { IfOk result (λ s. (s ≡ set_of records.items) × (size s ≤ 16777215)) }
     ensures fault { IfErr result (λ fault. SetFails records.items fault) }
+    ensures too_many { OnErr result (result ≡ Err ExportFault.TooMany) }
 {
     match VrpSet::from_list(records) {
         Ok(set) => {

@@ -1,11 +1,11 @@
 -- What leads from one service to another.
-use Rattle.std.specs.Prelude.{◌≡◌, ℕ, ◌==◌, Bool, true, false, List, [], ◌∷◌, ◌++◌, Option, Some, None, Result, Ok, Err, refl, if◌then◌else◌, ⊤}
+use Rattle.std.specs.Prelude.{◌≡◌, ℕ, ◌==◌, true, false, List, [], ◌∷◌, ◌++◌, Option, Some, None, Result, Ok, Err, refl, if◌then◌else◌, ⊤}
 use Rattle.std.proofs.Common.{ap, sym, subst, ◌∙◌, length}
 use Rattle.std.specs.List.{AllByRecursion}
 use Rattle.std.specs.declared.alloc.AllocError.{AllocError}
 use Rattle.std.proofs.lemmas.List.{append_assoc}
 use Rattle.vrps.specs.Instance.{Instance, NumberedSet, versions, versions_from}
-use Rattle.vrps.specs.Store.{is_current, is_same, published}
+use Rattle.vrps.specs.Store.{is_current, published}
 use Rattle.vrps.specs.Stores.{newest}
 use Rattle.vrps.specs.Serial.{serial_at}
 use Rattle.vrps.specs.VrpSet.{VrpSet}
@@ -22,7 +22,7 @@ use Rattle.rtr_server.specs.declared.turn.Turn.{Turn}
 use Rattle.rtr_server.specs.declared.turn.Turn.TheVariants.{Busy, Gone, WaitsToRead, WaitsToWrite}
 use Rattle.sources.specs.declared.sources.Sources.{Sources}
 use Rattle.prefixes.proofs.Basics.{eq_of, false_if_never}
-use Rattle.rtr_daemon.specs.Serving.{OpensNone, GoesOn, IsLater, IsNewest, IsNewestAt, IsServedAt, Issues, SameSources, ShowsService}
+use Rattle.rtr_daemon.specs.Serving.{OpensNone, GoesOn, IsLater, IsNewest, IsNewestAt, IsServedAt, Issues, SameSources}
 use Rattle.rtr_daemon.specs.declared.service.Service.{Service}
 
 -- Nothing more was called.
