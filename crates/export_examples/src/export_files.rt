@@ -261,7 +261,7 @@ fn the_last_second_is_an_end(rt: HostRuntime) -> Result<(), Fail> {
     Ok(())
 }
 
-/// A number in another form is passed over, and so is a value that nests deep.
+/// A member that is not read may be a number in any form, or a deeply nested value. Both are ignored.
 #[test]
 fn other_forms_are_the_same_exports(rt: HostRuntime) -> Result<(), Fail> {
     let float =
