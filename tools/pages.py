@@ -1,10 +1,11 @@
 #!/usr/bin/env python3
 """Makes the pages of docs/ that are read off the sources: DEFINITIONS.md, BELIEVE.md and STANDARDS.md.
 
-usage: tools/pages.py [--check]
+usage: tools/pages.py [--check | --calls [CRATE]]
 
-Without a word the pages are written. With --check they are compared with what would be written: the status is 1 where one differs, and its
-name is printed."""
+Without an argument the pages are written. With --check they are compared with what would be written: the status is 1 if one differs, and its
+name is printed. With --calls nothing is written: each public call with a contract is printed, of all crates or of one, with the definitions
+that its clauses name, and how many definitions and lines they rest on in all."""
 import collections
 import glob
 import os
@@ -16,14 +17,14 @@ WORD = re.compile(r"[^\s(){}\[\],;:`=]+")
 
 # The promises and the calls by whose contracts they are kept.
 PROMISES = [
-    ("Payloads: decoders accept exactly the grammar and else tell the first fault", ["payloads::decode_roa", "payloads::decode_manifest", "payloads::laws::one_fault", "payloads::laws::one_spelling"]),
+    ("Payloads: decoders accept exactly the grammar, and otherwise report the first fault", ["payloads::decode_roa", "payloads::decode_manifest", "payloads::laws::one_fault", "payloads::laws::one_spelling"]),
     ("Publication points: offers and what is in use", ["points::Repository::offer", "points::Repository::payloads", "points::laws::new_where_acceptable"]),
     ("Route states", ["vrps::OriginIndex::state", "vrps::laws::state_by_members"]),
-    ("PDUs in any cutting", ["rtr_pdu::UnitReader::next", "rtr_pdu::encode", "rtr_pdu::laws::one_split"]),
+    ("PDUs, however the bytes are split", ["rtr_pdu::UnitReader::next", "rtr_pdu::encode", "rtr_pdu::laws::one_split"]),
     ("A cache's replies", ["rtr_ends::Cache::receive", "rtr_ends::Cache::pull", "rtr_ends::laws::serves_history"]),
     ("What a router commits", ["rtr_ends::Router::receive", "rtr_ends::laws::router_keeps", "rtr_ends::laws::acts_exactly"]),
-    ("From what is offered to the state of a route", ["feed::route_from_payloads"]),
-    ("The headline, after every list of events", ["rtr_world::World::run", "rtr_world::laws::headline"]),
+    ("From offers to the state of a route", ["feed::route_from_payloads"]),
+    ("Every router's table, after every list of events", ["rtr_world::World::run", "rtr_world::laws::headline"]),
     ("Catching up", ["rtr_world::World::catch_up"]),
     ("One cache and many clients", ["rtr_server::Server::serve", "rtr_server::Server::publish", "rtr_server::laws::each_client_is_served"]),
     ("What validators export", ["exports::read_export"]),
@@ -226,9 +227,9 @@ def link(path):
 
 
 def definitions_page(house):
-    out = ["# Definitions", "", "Made from the sources by `tools/pages.py`. These are the words in which the contracts of this repository speak, in reading order: a crate after those below it, a file after those on which it rests. A reader has to believe them and nothing else. What stands in one entry shares one comment in its file; a word without a comment says itself what it is."]
+    out = ["# Definitions", "", "Made from the sources by `tools/pages.py`. The contracts of this repository are stated in these terms. They are in reading order: a crate after those below it, a file after those that it uses. A reader has to believe them and nothing else. Names in one entry share one comment in their file."]
     total = [it for file in house.sources for it in file.definitions]
-    out += ["", f"{len(total)} definitions of {lines_of(total)} lines. `docs/BELIEVE.md` says on which of them each contract rests, `docs/STANDARDS.md` where a section of a standard stands."]
+    out += ["", f"{len(total)} definitions of {lines_of(total)} lines. `docs/BELIEVE.md` says on which of them each promise rests, `docs/STANDARDS.md` where a section of a standard is defined."]
     crate = ""
     for file in house.sources:
         if file.crate != crate:
@@ -261,7 +262,7 @@ def rows():
 
 def believe_page(house):
     named = {call.name: call for call in house.calls}
-    out = ["# What has to be believed", "", "Made from the sources by `tools/pages.py`. A contract is proved; that it says what was meant, a reader has to see. For each promise, and then for each public call with a contract and each law: the definitions on which its clauses rest, and how many lines they have without their comments; under each promise those are listed that it adds to the ones before. What the kit's own library says (lists, numbers, options) is not counted.", ""]
+    out = ["# What has to be believed", "", "Made from the sources by `tools/pages.py`. A contract is proved. That it says what was meant, a reader has to check. For each promise this page lists the definitions on which its clauses rest, and their lines without comments. Definitions listed under an earlier promise are not repeated. Those of the kit's library (lists, numbers, options) are not counted.", "", "`tools/pages.py --calls` prints the same for each public call. [DEFINITIONS.md](DEFINITIONS.md) has what each definition is.", ""]
     seen = set()
     for promise, calls in PROMISES:
         missing = [it for it in calls if it not in named]
@@ -276,18 +277,18 @@ def believe_page(house):
         for it in fresh:
             by_file.setdefault(it.file.path, []).append(it.name)
         out += [f"- {link(path)}: {', '.join(f'`{name}`' for name in names)}" for path, names in by_file.items()] + [""]
-    out += ["## Every call", ""]
-    crate = ""
-    for call in house.calls:
-        if call.crate != crate:
-            crate = call.crate
-            out += ["", f"### {crate}", "", "| Call | Its clauses name | Definitions in all | Lines |", "|---|---|---|---|"]
-        rest = house.closure(call.roots)
-        cited = sorted({house.known[it].name for it in call.roots})
-        out.append(f"| `{call.name[len(crate) + 2:]}` | {', '.join(f'`{it}`' for it in cited)} | {len(rest)} | {lines_of(rest)} |")
-    out += ["", "## What the laws say", "", "A law is the contract of a public function that does nothing.", ""]
+    out += ["", "## What the laws say", "", "A law is the contract of a public function with an empty body: a theorem about definitions.", ""]
     out += [f"- `{call.name}`: {call.comment}" for call in house.calls if "::laws::" in call.name]
     return out
+
+
+def print_calls(house, crate):
+    """Prints each public call with a contract, of one crate or of all: what its clauses name, and how many definitions and lines these rest on."""
+    for call in house.calls:
+        if crate in ("", call.crate):
+            rest = house.closure(call.roots)
+            names = ", ".join(sorted({house.known[it].name for it in call.roots}))
+            print(f"{call.name}: {names or '-'} ({len(rest)} definitions, {lines_of(rest)} lines)")
 
 
 # What a comment cites: sections of a standard, or of the one that its file is about, or a standard alone.
@@ -343,37 +344,50 @@ def cited_by(house):
     for file in house.sources:
         of = subject(file.comment, file.crate)
         for pair in cited(file.comment, of):
-            places[pair].append(link(file.path))
+            places[pair].append((file.path, ""))
         for it in file.definitions:
             for pair in cited(it.comment, of):
-                places[pair].append(f"`{it.name}` in {link(file.path)}")
+                places[pair].append((file.path, f"`{it.name}`"))
     for crate in crates() + examples():
         for path in sorted(glob.glob(f"{TOP}/crates/{crate}/src/*.rt")):
             found = comments(path)
             of = subject(found[0][1] if found else "", crate)
             for name, comment in found:
                 for pair in cited(comment, of):
-                    places[pair].append(f"`{name}` in {link(os.path.relpath(path, TOP))}" if name else link(os.path.relpath(path, TOP)))
+                    places[pair].append((os.path.relpath(path, TOP), name and f"`{name}`"))
         for path in sorted(glob.glob(f"{TOP}/crates/{crate}/proofs/*Rows.antt")):
             for pair in sorted(set().union(*(cited(it, subject("", crate)) for it in re.findall(r"(?m)^\s*-- (.*)$", read(path))))):
-                places[pair].append(f"rows in {link(os.path.relpath(path, TOP))}")
+                places[pair].append((os.path.relpath(path, TOP), "rows"))
     return places
 
 
 def standards_page(house):
     places = cited_by(house)
-    out = ["# Where the standards stand", "", "Made from the sources by `tools/pages.py`: for each section of a standard the definitions, the code and the worked rows whose comments cite it."]
+    out = ["# Standards, section by section", "", "Made from the sources by `tools/pages.py`. For each section of a standard: the definitions, the code and the worked rows whose comments cite it."]
     standard = ""
     for pair in sorted(places, key=lambda pair: (pair[0].split()[0] != "RFC", int(re.search(r"\d+", pair[0]).group()), [int(it) for it in pair[1].split(".") if it])):
         if pair[0] != standard:
             standard = pair[0]
             out += ["", f"## {standard}", ""]
-        out.append(f"- {'Section ' + pair[1] if pair[1] else 'The whole'}: {'; '.join(dict.fromkeys(places[pair]))}.")
+        found = by_file(places[pair])
+        out.append(f"- {'Section ' + pair[1] if pair[1] else 'The whole'}:" + (f" {found[0]}." if len(found) == 1 else ""))
+        out += [f"  - {it}." for it in found if len(found) > 1]
     return out
+
+
+def by_file(places):
+    """One text for each file of these places: a link to it, and what in it cites the section."""
+    files = collections.OrderedDict()
+    for path, name in places:
+        files.setdefault(path, {}).update({name: None} if name else {})
+    return [link(path) + (f": {', '.join(names)}" if names else "") for path, names in files.items()]
 
 
 def main():
     house = House()
+    if sys.argv[1:2] == ["--calls"]:
+        print_calls(house, "".join(sys.argv[2:3]))
+        return 0
     pages = {"DEFINITIONS.md": definitions_page(house), "BELIEVE.md": believe_page(house), "STANDARDS.md": standards_page(house)}
     status = 0
     for name, lines in pages.items():
