@@ -246,7 +246,13 @@ def definitions_page(house):
             else:
                 entry += f"; `{it.name}`"
         out.append(entry + "." if entry else "")
-    return out + rows()
+    return out + laws(house) + rows()
+
+
+def laws(house):
+    """The laws, with their comments."""
+    out = ["", "## Laws", "", "A law is the contract of a public function with an empty body: a theorem about definitions.", ""]
+    return out + [f"- `{call.name}`: {call.comment}" for call in house.calls if "::laws::" in call.name]
 
 
 def rows():
@@ -262,7 +268,7 @@ def rows():
 
 def believe_page(house):
     named = {call.name: call for call in house.calls}
-    out = ["# What has to be believed", "", "Made from the sources by `tools/pages.py`. A contract is proved. That it says what was meant, a reader has to check. For each promise this page lists the definitions on which its clauses rest, and their lines without comments. Definitions listed under an earlier promise are not repeated. Those of the kit's library (lists, numbers, options) are not counted.", "", "`tools/pages.py --calls` prints the same for each public call. [DEFINITIONS.md](DEFINITIONS.md) has what each definition is.", ""]
+    out = ["# What has to be believed", "", "Made from the sources by `tools/pages.py`. A contract is proved. That it says what was meant, a reader has to check. For each promise this page lists the definitions on which its clauses rest, and their lines without comments. Definitions listed under an earlier promise are not repeated. Those of the kit's library (lists, numbers, options) are not counted.", "", "`tools/pages.py --calls` prints the same for each public call. [DEFINITIONS.md](DEFINITIONS.md) has what each definition is, and what each law says.", ""]
     seen = set()
     for promise, calls in PROMISES:
         missing = [it for it in calls if it not in named]
@@ -277,8 +283,6 @@ def believe_page(house):
         for it in fresh:
             by_file.setdefault(it.file.path, []).append(it.name)
         out += [f"- {link(path)}: {', '.join(f'`{name}`' for name in names)}" for path, names in by_file.items()] + [""]
-    out += ["", "## What the laws say", "", "A law is the contract of a public function with an empty body: a theorem about definitions.", ""]
-    out += [f"- `{call.name}`: {call.comment}" for call in house.calls if "::laws::" in call.name]
     return out
 
 
