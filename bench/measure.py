@@ -260,7 +260,7 @@ def before_and_after(old, new, commit):
             for label, program in programs.items():
                 rows[what][label] = min(rows[what][label], measure(program))
         plain = min(plain, served([sys.executable, "-c", SENDER, "{port}", sent]))
-    lines = ["", f"Beside an older program, over {count:,} records, in turn, the best of five, in seconds:", "", "| | " + " | ".join(programs) + " |", "|---|" + "---|" * len(programs)]
+    lines = ["", f"Compared with an older program, over {count:,} records, alternating, the best of five, in seconds:", "", "| | " + " | ".join(programs) + " |", "|---|" + "---|" * len(programs)]
     lines += [f"| {what} | " + " | ".join(f"{it:.4f}" for it in cells.values()) + " |" for what, cells in rows.items()]
     return "\n".join([*lines, f"| a plain sender, from the query to the last byte | | {plain:.4f} |", ""])
 
@@ -269,7 +269,7 @@ def page(rows, speeds):
     lines = [
         "# Figures",
         "",
-        f"Made by `bench/measure.py` on {time.strftime('%Y-%m-%d')}: {machine()}. Seconds, the best of three runs, in which our cache and the plain sender are asked ten times; records are made by a seed, with the global table's shares of lengths, families and AS numbers. A cache's time is from the Reset Query to the last byte; a router's is that of the whole command, with the writing of its table; \"read and judge\" is `route` from a cold start over a payload list, with the most memory that it takes.",
+        f"Made by `bench/measure.py` on {time.strftime('%Y-%m-%d')}: {machine()}. Seconds, the best of three runs, in which our cache and the plain sender are asked ten times. Records are drawn at random, always the same ones, with the shares of lengths, families and ASes of the global table. A cache's time is from the Reset Query to the last byte. A router's is that of the whole command, with the writing of its table. \"Read and judge\" is `route` from a cold start over a payload list, with its peak of memory.",
         "",
         "| Records | " + " | ".join(NAMES) + " | memory |",
         "|---|" + "---|" * (len(NAMES) + 1),
@@ -277,7 +277,7 @@ def page(rows, speeds):
     for count, figures in rows:
         cells = [f"{figures[it]:.4f}" if it in figures else "not installed" for it in NAMES]
         lines.append(f"| {count:,} | " + " | ".join(cells) + f" | {figures['memory']:.0f} MB |")
-    lines += ["", f"Payloads, with the printing of what they say: a ROA of 65,536 entries {speeds['roa']:.1f} MB a second, a manifest of 65,536 files {speeds['manifest']:.1f} MB a second.", ""]
+    lines += ["", f"Payloads, decoded and printed: a ROA of 65,536 entries {speeds['roa']:.1f} MB a second, a manifest of 65,536 files {speeds['manifest']:.1f} MB a second.", ""]
     return "\n".join([*lines, "![Seconds over records](figures/growth.svg)", ""])
 
 

@@ -1,0 +1,122 @@
+#!/usr/bin/env python3
+"""Counts in the pages turns of phrase that a reader stumbles over, and sentences of more than 30 words.
+
+usage: tests/prose.py [--list [PAGE]]
+
+The pages are README.md, SECURITY.md, docs/*.md but the generated DEFINITIONS.md, and the manual pages. Code, examples and output do not
+count. The status is 1 if a count over all pages is above its bound. With --list each place is printed, of all pages or of one."""
+import glob
+import os
+import re
+import sys
+
+TOP = os.path.realpath(f"{os.path.dirname(os.path.abspath(__file__))}/..")
+LONGEST = 30
+
+# Each turn, its pattern, and how often it may occur in all pages: some are right now and then.
+TURNS = [
+    ("where (for a condition, mostly)", r"\bwhere\b", 0),
+    ("take, taken", r"\b(?:take|takes|taken|taking|took)\b", 0),
+    ("stand, stands", r"\b(?:stand|stands|stood|standing)\b", 0),
+    ("told, tells", r"\b(?:tell|tells|told|telling)\b", 0),
+    ("owed, owes", r"\bow(?:e|es|ed)\b", 0),
+    ("is to be", r"\b(?:is|are|was|were) to be\b", 0),
+    ("does not wait", r"\b(?:does|do|did) not wait\b", 0),
+    ("any more, no more", r"\bany more\b|\bno more\b(?! than)", 0),
+    ("else, heading a clause", r"(?:^|[,;:.] |\bor |\band )else\b(?! who| where)", 0),
+    ("so many", r"\bso many\b", 0),
+    ("goes on", r"\b(?:go|goes|went|going) on\b", 0),
+    ("handed in", r"\b(?:hand|hands|handed|handing) in\b", 0),
+    ("behind", r"\bbehind\b", 0),
+    ("comes of", r"\b(?:came|come|comes) of\b", 0),
+]
+SENTENCES = 0
+
+
+def read(path):
+    with open(path, encoding="utf-8") as it:
+        return it.read()
+
+
+def pages():
+    found = [f"{TOP}/README.md", f"{TOP}/SECURITY.md", *sorted(glob.glob(f"{TOP}/docs/*.md")), *sorted(glob.glob(f"{TOP}/docs/man/*.[18]"))]
+    return [it for it in found if not it.endswith("/DEFINITIONS.md")]
+
+
+def of_markdown(text):
+    """The paragraphs, list items, headings and table cells of a page, with code as one word."""
+    text = re.sub(r"(?ms)^ *```.*?^ *```$", "\n\n", text)
+    parts, block = [], []
+    for line in [*text.split("\n"), ""]:
+        head = re.match(r"\s*(?:[-*]|\d+\.) |#+ ", line)
+        if not line.strip() or head or line.startswith("|"):
+            parts.append(" ".join(block))
+            block = []
+        if line.startswith(("|", "#")):
+            parts += re.split(r"(?<!\\)\|", line)
+        elif line.strip():
+            block.append(line[head.end() :] if head else line.strip())
+    return [plain(it) for it in [*parts, " ".join(block)] if it.strip(" -|")]
+
+
+def plain(text):
+    """A part without its marks: code is the word CODE, and a list of code is one such word."""
+    text = re.sub(r"`[^`]*`", "CODE", text)
+    text = re.sub(r"!?\[([^\]]*)\]\([^)]*\)", r"\1", text).replace("**", "").replace("*", "").replace("\\|", "|")
+    return re.sub(r"CODE(?:(?:,? and|,? or|,|/|;| to|:)? ?CODE)+", "CODE", text)
+
+
+def of_manual(text):
+    """The paragraphs of a manual page."""
+    parts, block, on = [], [], True
+    for line in [*text.split("\n"), ".Pp"]:
+        name = line.split(" ")[0]
+        if name in (".Bd", ".Ed"):
+            on = name == ".Ed"
+        if name in (".Pp", ".It", ".Sh", ".Ss", ".Bl", ".El", ".Bd", ".Ed", ".Nd", ".Dd", ".Dt", ".Os", ".Nm"):
+            parts.append(" ".join(block))
+            block = []
+        elif on and line.startswith("."):
+            ends = re.search(r" ([.,;:])$", line)
+            block.append("CODE" + (ends.group(1) if ends else ""))
+        elif on:
+            block.append(line)
+    return [plain(it) for it in parts if it.strip()]
+
+
+def sentences(part):
+    return [it for it in re.split(r"(?<=[.!?])[)\"]* +", part) if it.strip()]
+
+
+def words(sentence):
+    return len(re.findall(r"[^\W_][\w'.,:/-]*", sentence))
+
+
+def found_in(path):
+    """What is counted in a page: the name of a turn, or None for a long sentence, and the text around it."""
+    text = read(path)
+    for part in of_markdown(text) if path.endswith(".md") else of_manual(text):
+        for sentence in sentences(part):
+            if words(sentence) > LONGEST:
+                yield None, f"{words(sentence)} words: {sentence}"
+            for name, pattern, _bound in TURNS:
+                for hit in re.finditer(pattern, sentence, re.I):
+                    yield name, sentence[max(0, hit.start() - 50) : hit.end() + 50]
+
+
+def main(listed, only):
+    counts = {name: 0 for name, _pattern, _bound in TURNS} | {None: 0}
+    for path in pages():
+        for name, around in found_in(path):
+            counts[name] += 1
+            if listed and only in ("", os.path.basename(path)):
+                print(f"{os.path.relpath(path, TOP)}: {name or 'long sentence'}: {around}")
+    bounds = {name: bound for name, _pattern, bound in TURNS} | {None: SENTENCES}
+    over = [it for it in counts if counts[it] > bounds[it]]
+    for it in counts if listed else over:
+        print(f"{counts[it]} times {it or f'a sentence of over {LONGEST} words'}, and at most {bounds[it]} are allowed", file=sys.stderr)
+    return 1 if over else 0
+
+
+if __name__ == "__main__":
+    sys.exit(main("--list" in sys.argv[1:2], "".join(sys.argv[2:3])))
