@@ -1,4 +1,8 @@
 #!/usr/bin/env bash
-# The pages of docs/ that are made from the sources are what the sources make.
+# The pages of docs/ that are made from the sources are what the sources make, and the pages stay free of the turns that tests/prose.py counts.
 set -u
-exec python3 "$(dirname "${BASH_SOURCE[0]}")/../tools/pages.py" --check
+top=$(cd "$(dirname "${BASH_SOURCE[0]}")/.." && pwd) || exit 1
+failed=0
+python3 "$top/tools/pages.py" --check || failed=1
+python3 "$top/tests/prose.py" || failed=1
+exit "$failed"

@@ -15,22 +15,22 @@ LONGEST = 30
 
 # Each turn, its pattern, and how often it may occur in all pages: some are right now and then.
 TURNS = [
-    ("where (for a condition, mostly)", r"\bwhere\b", 0),
-    ("take, taken", r"\b(?:take|takes|taken|taking|took)\b", 0),
+    ("where (for a condition, mostly)", r"\bwhere\b", 6),
+    ("take, taken", r"\b(?:take|takes|taken|taking|took)\b", 3),
     ("stand, stands", r"\b(?:stand|stands|stood|standing)\b", 0),
-    ("told, tells", r"\b(?:tell|tells|told|telling)\b", 0),
+    ("told, tells", r"\b(?:tell|tells|told|telling)\b", 3),
     ("owed, owes", r"\bow(?:e|es|ed)\b", 0),
     ("is to be", r"\b(?:is|are|was|were) to be\b", 0),
     ("does not wait", r"\b(?:does|do|did) not wait\b", 0),
-    ("any more, no more", r"\bany more\b|\bno more\b(?! than)", 0),
+    ("any more, no more", r"\bany more\b|\bno more\b(?! than)", 1),
     ("else, heading a clause", r"(?:^|[,;:.] |\bor |\band )else\b(?! who| where)", 0),
     ("so many", r"\bso many\b", 0),
     ("goes on", r"\b(?:go|goes|went|going) on\b", 0),
     ("handed in", r"\b(?:hand|hands|handed|handing) in\b", 0),
-    ("behind", r"\bbehind\b", 0),
+    ("behind", r"\bbehind\b", 4),
     ("comes of", r"\b(?:came|come|comes) of\b", 0),
 ]
-SENTENCES = 0
+SENTENCES = 6
 
 
 def read(path):
