@@ -28,6 +28,7 @@ TURNS = [
     ("goes on", r"\b(?:go|goes|went|going) on\b", 0),
     ("handed in", r"\b(?:hand|hands|handed|handing) in\b", 0),
     ("behind", r"\bbehind\b", 4),
+    ("passed over, at hand", r"\b(?:pass|passes|passed) over\b|\bat hand\b", 0),
     ("comes of", r"\b(?:came|come|comes) of\b", 0),
 ]
 SENTENCES = 6
