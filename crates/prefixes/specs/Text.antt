@@ -1,16 +1,17 @@
 -- The texts of prefixes and of AS numbers (RFC 4632 section 3.1; RFC 4291 sections 2.2 and 2.3; RFC 5952 section 4).
-use Rattle.std.specs.Prelude.{◌≡◌, ◌⊎◌, ℕ, ◌+◌, ◌/◌, ◌%◌, ◌^◌, ◌≤◌, ◌<◌, List, [], ◌∷◌, ◌++◌, length, map, take, drop, replicate, Result, Ok, Err, codes, ⊤}
+use Rattle.std.specs.Prelude.{◌≡◌, ◌⊎◌, ℕ, ◌+◌, ◌/◌, ◌%◌, ◌^◌, ◌≤◌, ◌<◌, List, [], ◌∷◌, ◌++◌, length, map, take, drop, replicate, Option, Some, None, Result, Ok, Err, codes, ⊤}
 use Rattle.std.specs.List.{join_with_byte}
 use Rattle.std.specs.Fmt.{decimal}
 use Rattle.std.specs.Net.Text.{dotted_text, groups_text, hex_groups_text}
 use Rattle.std.specs.Str.Parse.{IsNumeral, digits_value}
 use Rattle.prefixes.specs.Address.{HasNoHostBits, IsPrefix}
-use Rattle.prefixes.specs.Payload.{block_of, width_of}
+use Rattle.prefixes.specs.Payload.{Payload, block_of, width_of}
 use Rattle.prefixes.specs.declared.asn.Asn.{Asn}
 use Rattle.prefixes.specs.declared.fault.PrefixFault.{PrefixFault}
 use Rattle.prefixes.specs.declared.fault.PrefixFault.TheVariants as faults
 use Rattle.prefixes.specs.declared.prefix.IpPrefix.{IpPrefix}
 use Rattle.prefixes.specs.declared.prefix.IpPrefix.TheVariants.{V4, V6}
+use Rattle.prefixes.specs.declared.route.Route.{Route}
 
 -- What a text says is one thing, and whether that is a prefix another: a text may say a length over the width, or set host bits.
 
@@ -97,6 +98,18 @@ written_address (V6 p) = hex_groups_text (groups p.addr)
 
 abbrev pub written_text : IpPrefix → List ℕ
 written_text p = written_address p ++ codes "/" ++ decimal (block_of p).len
+
+-- A payload is written as its prefix, its maximum length and the number of its AS, with a blank between.
+abbrev pub vrp_text : Payload → List ℕ
+vrp_text v = written_text v.prefix ++ codes " " ++ decimal v.max_len ++ codes " " ++ decimal v.asn
+
+-- A route is written as its prefix and its origin. An origin is the number of an AS, or NONE (RFC 6811 section 2).
+abbrev pub origin_text : Option ℕ → List ℕ
+origin_text (Some n) = decimal n
+origin_text None = codes "none"
+
+abbrev pub route_text : Route → List ℕ
+route_text r = written_text r.prefix ++ codes " " ++ origin_text r.origin
 
 -- No text says two things.
 abbrev pub OneReading : Type 0

@@ -1,10 +1,10 @@
 -- Texts of prefixes, worked out.
-use Rattle.std.specs.Prelude.{◌≡◌, [], ◌∷◌, codes, refl}
+use Rattle.std.specs.Prelude.{◌≡◌, [], ◌∷◌, Some, None, codes, refl}
 use Rattle.std.specs.Fmt.{digits}
 use Rattle.std.specs.Net.Text.{hex, hex_groups_text}
 use Rattle.std.proofs.Common.{inl, inr, arith, rules}
 use Rattle.prefixes.specs.Address.{HasNoHostBits}
-use Rattle.prefixes.specs.Text.{Says, written_text}
+use Rattle.prefixes.specs.Text.{Says, route_text, vrp_text, written_text}
 use Rattle.prefixes.specs.declared.prefix.IpPrefix.TheVariants.{V4, V6}
 
 written_v4 : written_text (V4 (record { addr = 0xc0000200; len = 24 })) ≡ codes "192.0.2.0/24"
@@ -34,6 +34,19 @@ written_longest_run = refl
 written_mapped : written_text (V6 (record { addr = 0x0000000000000000ffffc0000200; len = 128 })) ≡ codes "::ffff:c000:200/128"
 unfolding digits hex hex_groups_text
 written_mapped = refl
+
+-- a payload, and a route from an AS and from NONE
+written_vrp : vrp_text (record { prefix = V4 (record { addr = 0xc0000200; len = 24 }); max_len = 26; asn = 64496 }) ≡ codes "192.0.2.0/24 26 64496"
+unfolding digits
+written_vrp = refl
+
+written_route : route_text (record { prefix = V4 (record { addr = 0xc0000200; len = 24 }); origin = Some 64496 }) ≡ codes "192.0.2.0/24 64496"
+unfolding digits
+written_route = refl
+
+written_route_of_none : route_text (record { prefix = V4 (record { addr = 0xc0000200; len = 24 }); origin = None }) ≡ codes "192.0.2.0/24 none"
+unfolding digits
+written_route_of_none = refl
 
 -- The length is over the width.
 says_too_long : Says (V4 (record { addr = 0xc0000200; len = 33 })) (codes "192.0.2.0/33")

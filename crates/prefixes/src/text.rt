@@ -8,6 +8,8 @@ use crate::asn::Asn;
 use crate::family::Family;
 use crate::fault::PrefixFault;
 use crate::prefix::{IpPrefix, Prefix};
+use crate::route::Route;
+use crate::vrp::Vrp;
 use std::fmt::{self, Debug, Display};
 use std::net::{Ipv4Addr, Ipv6Addr};
 use std::str::FromStr;
@@ -123,6 +125,31 @@ impl Display for Asn {
 
     fn fmt<W: fmt::Write>(&self, f: &mut fmt::Formatter<W>) -> fmt::Result {
         write!(f, "{}", self.0)
+    }
+}
+
+/// The prefix, the maximum length and the AS number, with a blank between, as the commands print a payload: `192.0.2.0/24 26 64496`.
+impl Display for Vrp {
+    ghost use Rattle.prefixes.specs.Text.{vrp_text};
+
+    ghost output = { λ v. Some (vrp_text v) };
+
+    fn fmt<W: fmt::Write>(&self, f: &mut fmt::Formatter<W>) -> fmt::Result {
+        write!(f, "{} {} {}", self.prefix(), self.max_len(), self.asn())
+    }
+}
+
+/// The prefix and the AS number or `none`, with a blank between, as the commands read a route: `192.0.2.0/24 64496`.
+impl Display for Route {
+    ghost use Rattle.prefixes.specs.Text.{route_text};
+
+    ghost output = { λ r. Some (route_text r) };
+
+    fn fmt<W: fmt::Write>(&self, f: &mut fmt::Formatter<W>) -> fmt::Result {
+        match self.origin {
+            Some(asn) => write!(f, "{} {}", self.prefix, asn),
+            None => write!(f, "{} none", self.prefix),
+        }
     }
 }
 
