@@ -37,6 +37,18 @@ fn ascends(set: &VrpSet, rows: &[Row]) -> Result<bool, Fail> {
     Ok(set.len() == rows.len())
 }
 
+/// Whether a `for` over a set yields the members in their order.
+fn is_walked(set: &VrpSet) -> bool {
+    let mut count = 0;
+    for vrp in set {
+        if set.as_slice().get(count) != Some(vrp) {
+            return false;
+        }
+        count += 1;
+    }
+    count == set.len()
+}
+
 /// Whether a set is the same where it is duplicated, and as a list.
 fn is_duplicated(set: &VrpSet) -> Result<bool, Fail> {
     let list = set.duplicate()?.into_list();
@@ -63,6 +75,8 @@ fn sets_ascend(rt: HostRuntime) -> Result<(), Fail> {
     ];
     let set = set_of(rt.alloc(), &rows)?;
     assert!(rt; ascends(&set, &ascending)?);
+    assert!(rt; is_walked(&set));
+    assert!(rt; VrpSet::try_from(set.duplicate()?.into_list())?.is_same(&set));
     assert!(rt; !set.is_empty());
     assert!(rt; VrpSet::empty(rt.alloc()).is_empty());
     assert!(rt; !set.contains(&payload("10.0.0.0/8", 9, 1)?));

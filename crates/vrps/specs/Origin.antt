@@ -1,5 +1,5 @@
 -- The state of a route (RFC 6811 section 2).
-use Rattle.std.specs.Prelude.{◌≡◌, ◌↔◌, IsTrue, ℕ, Bool, false, not, ◌&&◌, ◌==◌, nat_le, List, [], Option, Some, None, filter, if◌then◌else◌}
+use Rattle.std.specs.Prelude.{◌≡◌, ◌↔◌, IsTrue, ℕ, Bool, false, not, ◌&&◌, ◌==◌, nat_le, List, [], Option, Some, None, codes, filter, if◌then◌else◌}
 use Rattle.std.specs.List.{list_any}
 use Rattle.std.specs.List.Sorted.{IsStrictlySortedBy}
 use Rattle.prefixes.specs.Payload.{Payload, block_of, covers, vrp_cmp}
@@ -34,6 +34,12 @@ state_among vs r =
 
 abbrev pub state : VrpSet → Route → OriginState
 state s r = state_among (listing s) r
+
+-- the word for a state
+abbrev pub state_text : OriginState → List ℕ
+state_text Valid = codes "valid"
+state_text Invalid = codes "invalid"
+state_text NotFound = codes "not-found"
 
 -- some member covers the route, or matches it
 abbrev pub IsCovered : VrpSet → Route → Type 0

@@ -1,5 +1,5 @@
 //! The states of routes.
-ghost use Rattle.std.specs.Prelude.{◌≡◌, ◌+◌, ◌*◌, ◌≤◌, ◌<◌, ◌++◌, reverse, IfOk, OnOk};
+ghost use Rattle.std.specs.Prelude.{◌≡◌, ◌+◌, ◌*◌, ◌≤◌, ◌<◌, ◌++◌, reverse, IfOk, OnOk, Some};
 ghost use Rattle.std.specs.List.{list_any};
 ghost use Rattle.prefixes.specs.Payload.{block_of};
 ghost use Rattle.vrps.specs.Groups.{group_count};
@@ -13,6 +13,7 @@ use crate::search::{Rest, next_covering};
 use crate::set::VrpSet;
 use prefixes::{Asn, Route, Vrp};
 use std::alloc::{AllocError, Global};
+use std::fmt::{self, Display};
 use std::marker::Model;
 
 /// The state of a route (RFC 6811 section 2).
@@ -24,6 +25,21 @@ pub enum OriginState {
     Invalid,
     /// No record covers the route.
     NotFound,
+}
+
+/// The word for the state: `valid`, `invalid` or `not-found`.
+impl Display for OriginState {
+    ghost use Rattle.vrps.specs.Origin.{state_text};
+
+    ghost output = { λ s. Some (state_text s) };
+
+    fn fmt<W: fmt::Write>(&self, f: &mut fmt::Formatter<W>) -> fmt::Result {
+        f.write_str(match self {
+            OriginState::Valid => "valid",
+            OriginState::Invalid => "invalid",
+            OriginState::NotFound => "not-found",
+        })
+    }
 }
 
 /// Judges routes over one set. The records of one prefix are a group. The groups that cover a route are found the longest first, by a

@@ -1,6 +1,9 @@
 //! Serial numbers.
-ghost use Rattle.std.specs.Prelude.{◌≡◌};
+ghost use Rattle.std.specs.Prelude.{◌≡◌, Some};
+ghost use Rattle.std.specs.Fmt.{decimal};
 ghost use Rattle.vrps.specs.Serial.{is_before};
+
+use std::fmt::{self, Display};
 
 /// The serial number of a version; it goes on from 2^32 - 1 with 0 (RFC 8210 section 2).
 #[derive(Clone, Copy, Debug, PartialEq, Eq)]
@@ -13,5 +16,14 @@ impl Serial {
     {
         let ahead = other.0.wrapping_sub(self.0);
         1 <= ahead && ahead < 1 << 31
+    }
+}
+
+/// The number in decimal.
+impl Display for Serial {
+    ghost output = { λ s. Some (decimal s.0) };
+
+    fn fmt<W: fmt::Write>(&self, f: &mut fmt::Formatter<W>) -> fmt::Result {
+        write!(f, "{}", self.0)
     }
 }

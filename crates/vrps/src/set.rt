@@ -165,6 +165,34 @@ impl VrpSet {
     }
 }
 
+/// Yields the members in ascending order, as `iter` does.
+impl<'a> IntoIterator for &'a VrpSet {
+    type Item = &'a Vrp;
+
+    type IntoIter = Iter<'a, Vrp>;
+
+    ghost use Rattle.prefixes.specs.Payload.{Payload};
+
+    ghost into_iter_gives = { λ s it. (iter_rest it ≡ listing s.now) × IterYieldsInOrder Payload };
+
+    fn into_iter(self) -> Iter<'a, Vrp> {
+        self.iter()
+    }
+}
+
+/// The set of a list, as `from_list` makes it.
+impl TryFrom<Vec<Vrp>> for VrpSet {
+    type Error = SetFault;
+
+    ghost use Rattle.vrps.specs.SetFaults.{IsSetOf};
+
+    ghost try_from_gives = { λ list result. IsSetOf list.items result };
+
+    fn try_from(list: Vec<Vrp>) -> Result<VrpSet, SetFault> {
+        VrpSet::from_list(list)
+    }
+}
+
 /// The same records in ascending order, each once.
 fn ascending(list: Vec<Vrp>) -> Vec<Vrp>
     ensures ascending { IsStrictlySortedBy vrp_cmp result.items }
