@@ -1,6 +1,9 @@
 //! The versions of the protocol.
-ghost use Rattle.std.specs.Prelude.{◌≡◌};
+ghost use Rattle.std.specs.Prelude.{◌≡◌, Some};
+ghost use Rattle.std.specs.Fmt.{decimal};
 ghost use Rattle.rtr_pdu.specs.Version.{version_number, first_version};
+
+use std::fmt::{self, Display};
 
 /// A version of the protocol.
 #[derive(Clone, Copy, Debug, PartialEq, Eq)]
@@ -28,5 +31,14 @@ impl Version {
             Some(0) => Version::V0,
             _ => Version::V1,
         }
+    }
+}
+
+/// The number of the version: `0` or `1`.
+impl Display for Version {
+    ghost output = { λ v. Some (decimal (version_number v)) };
+
+    fn fmt<W: fmt::Write>(&self, f: &mut fmt::Formatter<W>) -> fmt::Result {
+        write!(f, "{}", self.number())
     }
 }
