@@ -6,11 +6,13 @@ use crate::scripts::{
 use crate::scripts_v0::IN_VERSION_0;
 use example_values::hex::{Bytes, bytes};
 use example_values::units::{ANSWER, END_5, RESET_QUERY, RESPONSE, bytes_in};
-use rtr_ends::{AskFault, End, Link, Router, StreamFault};
+use prefixes::{IpPrefix, Route};
+use rtr_ends::{AskFault, CommittedVersion, End, Link, Router, StreamFault};
 use rtr_pdu::{Version, error_code};
 use std::alloc::{AllocGlobal, Global};
 use std::process::Abort;
 use std::test::Fail;
+use vrps::Serial;
 
 fn play_script<R: AllocGlobal + Abort>(rt: &R, script: &Script) {
     let mut router = played(rt, Version::V1, script.begin, script.name);
@@ -129,6 +131,40 @@ fn a_change_commits_at_its_last_byte(rt: HostRuntime) {
         router.closed(0);
         assert!(rt; holds(&router, records, Version::V1, 4660, serial), "{cut}");
     }
+}
+
+/// The route of this prefix and this AS.
+fn route(prefix: &str, asn: u32) -> Result<Route, Fail> {
+    let prefix = IpPrefix::parse(prefix)?;
+    let origin = Some(asn);
+    Ok(Route { prefix, origin })
+}
+
+#[test]
+fn a_committed_version_is_told_with_its_names(rt: HostRuntime) {
+    let mut router = played(&rt, Version::V1, ASKED_AT_100, "asked");
+    assert!(rt; router.committed_version().is_none());
+    router.receive(bytes(ANSWER).as_slice(), 100);
+    let version = CommittedVersion {
+        version: Version::V1,
+        session: 4660,
+        serial: Serial(5),
+        moment: 100,
+        refresh: 3600,
+        retry: 600,
+        expire: 7200,
+    };
+    assert!(rt; router.committed_version() == Some(version));
+}
+
+#[test]
+fn the_records_that_cover_a_route_are_told(rt: HostRuntime) -> Result<(), Fail> {
+    let mut router = played(&rt, Version::V1, ASKED, "asked");
+    router.receive(bytes(ANSWER).as_slice(), 0);
+    let found = router.covering(&route("192.0.2.128/25", 64497)?)?;
+    assert!(rt; found.as_slice() == router.table().as_slice());
+    assert!(rt; router.covering(&route("192.0.0.0/16", 64496)?)?.is_empty());
+    Ok(())
 }
 
 /// Refresh, retry and expire of an End of Data, and what is kept of them: the nearest that RFC 8210 section 6 allows.

@@ -291,7 +291,7 @@ module _ (old : Machine) (q : Question.Question) (session serial refresh retry e
   last_unit = EndOfData session serial refresh retry expire
 
   abbrev version_now : CommittedVersion
-  version_now = record { version = old.spoken; session = session; serial = serial; moment = old.clock; refresh = within 1 86400 refresh; retry = within 1 7200 retry; expire = within 600 172800 expire }
+  version_now = record { version = old.spoken; session = session; serial = record { 0 = serial }; moment = old.clock; refresh = within 1 86400 refresh; retry = within 1 7200 retry; expire = within 600 172800 expire }
 
   reads_end : (a : Begun) (r : Router) → a.session ≡ session → on_unit (Answering a) last_unit r ≡ commit a (record { version = r.spoken; session = session; serial = serial; moment = r.now; intervals = bounded refresh retry expire }) r
   unfolding on_unit

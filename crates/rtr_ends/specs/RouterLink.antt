@@ -1,5 +1,6 @@
 -- The link of a router to its cache, how it ends, and what is seen of it (RFC 8210 sections 5 to 8).
-use Rattle.std.specs.Prelude.{ℕ, Bool, true, false, not, nat_lt, Option, Some, None, Result, Ok, Err, ⊤}
+use Rattle.std.specs.Prelude.{ℕ, Bool, true, false, not, nat_lt, List, ◌++◌, Option, Some, None, Result, Ok, Err, codes, ⊤}
+use Rattle.std.specs.Fmt.{decimal}
 use Rattle.rtr_pdu.specs.declared.version.Version.{Version}
 use Rattle.rtr_ends.specs.Transcript.{Question, Begun, Committed}
 use Rattle.rtr_ends.specs.declared.link.AskFault.{AskFault}
@@ -47,6 +48,15 @@ end_number ends.Malformed = 3
 end_number ends.Memory = 4
 end_number ends.Expired = 5
 end_number ends.TooMany = 6
+
+-- A sentence for how a link ended
+abbrev pub end_text : End → List ℕ
+end_text (ends.Reported code) = codes "the cache was sent an Error Report of code " ++ decimal code
+end_text (ends.Told code) = codes "the cache sent an Error Report of code " ++ decimal code
+end_text ends.Malformed = codes "the cache sent a malformed Error Report"
+end_text ends.Memory = codes "out of memory"
+end_text ends.Expired = codes "the committed version expired"
+end_text ends.TooMany = codes "the answer has more than 16777215 records"
 
 abbrev pub told_link : Link → code.Link
 told_link Closed = links.Closed

@@ -25,7 +25,7 @@ seen_question questions.Reset = AskReset
 seen_question (questions.Serial session serial) = AskSerial session serial
 
 abbrev pub seen_version : CommittedVersion → Committed
-seen_version v = record { version = v.version; session = v.session; serial = v.serial; moment = v.moment; intervals = intervals v.refresh v.retry v.expire }
+seen_version v = record { version = v.version; session = v.session; serial = v.serial.0; moment = v.moment; intervals = intervals v.refresh v.retry v.expire }
 
 abbrev pub seen_versions : Option CommittedVersion → Option Committed
 seen_versions None = None

@@ -46,6 +46,7 @@ mod timing;
 pub use cache::{Cache, Conn};
 pub use fetching::{Fetched, fetch_stream};
 pub use link::{AskFault, End, Link};
+pub use question::CommittedVersion;
 pub use router::Router;
 pub use serving::{Served, serve_stream};
 pub use sessions::Sessions;

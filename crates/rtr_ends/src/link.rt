@@ -1,6 +1,7 @@
 //! A router's link, and how it ends.
-ghost use Rattle.std.specs.Prelude.{◌≡◌};
+ghost use Rattle.std.specs.Prelude.{◌≡◌, Some};
 
+use std::fmt::{self, Display};
 use thiserror::Error;
 
 /// Why a router's link ended.
@@ -34,6 +35,24 @@ impl End {
             End::Memory => 4,
             End::Expired => 5,
             End::TooMany => 6,
+        }
+    }
+}
+
+/// A sentence that says why the link ended.
+impl Display for End {
+    ghost use Rattle.rtr_ends.specs.RouterLink.{end_text};
+
+    ghost output = { λ end. Some (end_text end) };
+
+    fn fmt<W: fmt::Write>(&self, f: &mut fmt::Formatter<W>) -> fmt::Result {
+        match self {
+            End::Reported(code) => write!(f, "the cache was sent an Error Report of code {code}"),
+            End::Told(code) => write!(f, "the cache sent an Error Report of code {code}"),
+            End::Malformed => f.write_str("the cache sent a malformed Error Report"),
+            End::Memory => f.write_str("out of memory"),
+            End::Expired => f.write_str("the committed version expired"),
+            End::TooMany => f.write_str("the answer has more than 16777215 records"),
         }
     }
 }

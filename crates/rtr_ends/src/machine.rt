@@ -134,7 +134,7 @@ impl Machine {
                 } else {
                     Question::Serial {
                         session: version.session,
-                        serial: version.serial,
+                        serial: version.serial.0,
                     }
                 }
             }

@@ -18,7 +18,7 @@ use crate::staging::{Staged, Staging};
 use prefixes::Vrp;
 use rtr_pdu::{Kind, Unit, UnitFault, error_code};
 use std::mem;
-use vrps::SetFault;
+use vrps::{Serial, SetFault};
 
 impl Machine {
     ghost use Rattle.rtr_ends.specs.Seen.{Does, UnitIsRead, ReadsOrLacks, begun_with};
@@ -288,7 +288,7 @@ impl Machine {
                 self.version = Some(CommittedVersion {
                     version: self.spoken,
                     session,
-                    serial,
+                    serial: Serial(serial),
                     moment: self.clock,
                     refresh,
                     retry: within(1, 7_200, retry),

@@ -29,16 +29,22 @@ impl Question {
     }
 }
 
-/// The version that was committed: the version of the protocol, its name, when that was, and its intervals, in seconds (RFC 8210
-/// sections 5.8 and 6).
+/// A version that a router has committed (RFC 8210 sections 5.8 and 6).
 #[derive(Clone, Copy, Debug, PartialEq, Eq)]
 pub struct CommittedVersion {
+    /// The version of the protocol in which it was committed.
     pub version: Version,
+    /// The session of the cache.
     pub session: u16,
-    pub serial: u32,
+    /// The serial number, from the End of Data.
+    pub serial: Serial,
+    /// When it was committed, in seconds of the caller's clock.
     pub moment: u64,
+    /// After how many seconds the router asks again.
     pub refresh: u32,
+    /// After how many seconds the router tries again if it could not refresh.
     pub retry: u32,
+    /// After how many seconds without another commit the records are dropped.
     pub expire: u32,
 }
 
@@ -46,7 +52,7 @@ impl CommittedVersion {
     ghost use Rattle.rtr_ends.specs.Seen.{seen_version, seen_versions};
 
     /// Whether it was committed in this version of the protocol.
-    pub fn is_of(&self, version: Version) -> bool
+    pub(crate) fn is_of(&self, version: Version) -> bool
         ensures { result ≡ is_same version self.now.version }
     {
         match version {
@@ -62,17 +68,17 @@ impl CommittedVersion {
     }
 
     /// Whether more than expire has passed since the commit.
-    pub fn is_over(&self, now: u64) -> bool
+    pub(crate) fn is_over(&self, now: u64) -> bool
         ensures { result ≡ is_over (Some (seen_version self.now)) now }
     {
         u64::from(self.expire) < now.saturating_sub(self.moment)
     }
 
     /// Whether this serial is one of a later version (RFC 1982).
-    pub fn is_before(&self, serial: u32) -> bool
-        ensures { result ≡ is_before self.now.serial serial }
+    pub(crate) fn is_before(&self, serial: u32) -> bool
+        ensures { result ≡ is_before self.now.serial.0 serial }
     {
-        Serial(self.serial).is_before(Serial(serial))
+        self.serial.is_before(Serial(serial))
     }
 }
 

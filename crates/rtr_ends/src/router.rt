@@ -1,22 +1,23 @@
 //! Routers, over any transport.
 ghost use Rattle.rtr_pdu.specs.Reader.{after_agreed};
-ghost use Rattle.std.specs.Prelude.{if◌then◌else◌, ℕ, List, Option, ◌≡◌, ◌<◌, ◌≤◌, ◌&&◌, not, true, false, [], ◌++◌, take, drop, min, length, option_map};
+ghost use Rattle.std.specs.Prelude.{if◌then◌else◌, ℕ, List, Option, ◌≡◌, ◌<◌, ◌≤◌, ◌&&◌, not, true, false, [], ◌++◌, take, drop, min, length, option_map, IfOk};
 ghost use Rattle.rtr_ends.specs.Cache.{is_none};
 ghost use Rattle.rtr_ends.specs.Router as model;
 ghost use Rattle.rtr_ends.specs.RouterLink as linked;
 ghost use Rattle.rtr_ends.specs.LinkRules as rules;
 ghost use Rattle.rtr_ends.specs.Router.{called};
-ghost use Rattle.rtr_ends.specs.Seen.{ShowsRouter, seen_link};
+ghost use Rattle.rtr_ends.specs.Seen.{ShowsRouter, seen_link, seen_versions};
 ghost use Rattle.rtr_ends.specs.Transcript.{due, kept};
 ghost use Rattle.rtr_ends.specs.Peer.{HasBufferRoom};
 ghost use Rattle.rtr_ends.specs.RouterLink.{asked_on, name_of, told_link};
-ghost use Rattle.vrps.specs.Origin.{state};
+ghost use Rattle.vrps.specs.Origin.{covering, state};
 
 use crate::link::{AskFault, Link};
 use crate::machine::{Machine, State};
-use prefixes::Route;
+use crate::question::CommittedVersion;
+use prefixes::{Route, Vrp};
 use rtr_pdu::{Next, UnitReader, Version};
-use std::alloc::Global;
+use std::alloc::{AllocError, Global};
 use vrps::{OriginState, Serial, VrpSet};
 
 /// A router: what it has committed, and at most one connection (RFC 6810, RFC 8210 sections 5 to 8). Moments are in seconds of a clock
@@ -123,9 +124,24 @@ impl Router {
         ensures kept { (calls : List model.RouterCall) → CallsLead calls self.now → option_map (λ name. (name.0, name.1, name.2.0)) result ≡ name_of (kept (model.played calls).items).version }
     {
         match &self.machine.version {
-            Some(version) => Some((version.version, version.session, Serial(version.serial))),
+            Some(version) => Some((version.version, version.session, version.serial)),
             None => None,
         }
+    }
+
+    /// The committed version, if there is one: the version of the protocol, session and serial, and when it was committed, with its intervals.
+    pub fn committed_version(&self) -> Option<CommittedVersion>
+        ensures shown { (r : rules.Router) → IsShown r self.now → seen_versions result ≡ r.version }
+        ensures kept { (calls : List model.RouterCall) → CallsLead calls self.now → seen_versions result ≡ (kept (model.played calls).items).version }
+    {
+        self.machine.version
+    }
+
+    /// The records of the committed table that cover a route, in ascending order.
+    pub fn covering(&self, route: &Route) -> Result<Vec<Vrp>, AllocError>
+        ensures { (r : rules.Router) → IsShown r self.now → IfOk result (λ records. records.items ≡ covering r.table route.now) }
+    {
+        self.machine.table.covering(self.machine.alloc, route)
     }
 
     /// The state of a route over the committed table. It takes no memory.

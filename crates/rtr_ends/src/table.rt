@@ -1,6 +1,6 @@
 //! A router's table.
 ghost use Rattle.std.specs.Prelude.{◌≡◌, ◌≤◌, IfOk};
-ghost use Rattle.vrps.specs.Origin.{state};
+ghost use Rattle.vrps.specs.Origin.{covering, state};
 ghost use Rattle.vrps.specs.VrpSet.{empty, has, size};
 
 use prefixes::{Route, Vrp};
@@ -70,6 +70,13 @@ impl Table {
         ensures { result ≡ has self.now vrp.now }
     {
         self.set.contains(vrp)
+    }
+
+    /// The records that cover a route, in ascending order.
+    pub fn covering(&self, alloc: Global, route: &Route) -> Result<Vec<Vrp>, AllocError>
+        ensures { IfOk result (λ records. records.items ≡ covering self.now route.now) }
+    {
+        self.index.covering(alloc, route)
     }
 
     /// The state of a route. It takes no memory.
