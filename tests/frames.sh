@@ -40,10 +40,10 @@ expect 'a cache without names' $? 1 'Error: usage: cache_over_frames SESSION SER
 timeout 20 "$cache" 4660 5 <"$folder/asked" >"$folder/answered" 2>"$folder/cache" &
 timeout 20 "$router" >"$folder/asked" <"$folder/answered" 2>"$folder/errors"
 expect 'the router' $? 0 'session 4660, serial 5
-192.0.2.0/24 up to 24, AS64496
-198.51.100.0/24 up to 26, AS64497
-2001:db8::/32 up to 48, AS64497
-192.0.2.0/24 of AS64497 is Invalid
+192.0.2.0/24 24 64496
+198.51.100.0/24 26 64497
+2001:db8::/32 48 64497
+192.0.2.0/24 64497 is invalid
 '
 wait $!
 status=$?

@@ -11,10 +11,9 @@
 use anyhow::{Result, bail};
 use frames::{FrameReader, write_frame};
 use prefixes::{IpPrefix, Route};
-use rtr_ends::{End, Link, Router};
+use rtr_ends::{Link, Router};
 use std::io::{self, Read, Write};
 use std::time::{Clock, Instant};
-use vrps::Serial;
 
 /// A clock of seconds that never goes back.
 #[derive(Clone, Copy)]
@@ -75,12 +74,7 @@ fn is_answered(router: &Router) -> Result<bool> {
         Link::Asked | Link::Answering => Ok(false),
         Link::Idle if router.committed().is_none() => bail!("the cache has no data"),
         Link::Idle => Ok(true),
-        Link::Ended(End::Told(code)) => bail!("the cache sent an Error Report of code {code}"),
-        Link::Ended(End::Reported(code)) => bail!(
-            "the cache was sent an Error Report of code {code}"
-        ),
-        Link::Ended(End::Memory) => bail!("out of memory"),
-        Link::Ended(end) => bail!("the connection ended: {end:?}"),
+        Link::Ended(end) => bail!("{end}"),
         Link::Closed => bail!("there is no connection"),
     }
 }
@@ -114,18 +108,17 @@ fn send_due<W: Write>(router: &mut Router, output: &mut W) -> io::Result<()> {
 
 /// Prints what the router holds, and the state of a route over it (RFC 6811 section 2).
 fn report(rt: &impl Eprint, router: &Router) -> Result<()> {
-    if let Some((_, session, Serial(serial))) = router.committed() {
+    if let Some((_, session, serial)) = router.committed() {
         eprintln!(rt; "session {session}, serial {serial}")?;
     }
-    for vrp in router.table().iter() {
-        let (prefix, max_len, asn) = (vrp.prefix(), vrp.max_len(), vrp.asn());
-        eprintln!(rt; "{prefix} up to {max_len}, AS{asn}")?;
+    for vrp in router.table() {
+        eprintln!(rt; "{vrp}")?;
     }
-    let prefix = IpPrefix::parse("192.0.2.0/24")?;
-    let state = router.route_state(&Route {
-        prefix,
+    let route = Route {
+        prefix: IpPrefix::parse("192.0.2.0/24")?,
         origin: Some(64497),
-    });
-    eprintln!(rt; "{prefix} of AS64497 is {state:?}")?;
+    };
+    let state = router.route_state(&route);
+    eprintln!(rt; "{route} is {state}")?;
     Ok(())
 }
