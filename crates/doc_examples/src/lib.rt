@@ -32,6 +32,8 @@ mod prefix_texts_example;
 #[cfg(test)]
 mod prefixes_example;
 #[cfg(test)]
+mod printed;
+#[cfg(test)]
 mod rtr_commands_example;
 #[cfg(test)]
 mod rtr_daemon_example;
