@@ -66,7 +66,7 @@ ends : (vs : List Payload) (answer : Option Begun) (version : Committed) (k : Ke
 ends vs None version k none h = inl none
 ends vs (Some a) version k none h = by_tests (version.session == a.session) (acts_once (base_of a.question k.table) a.withdrawn a.announced)
   where
-    by_tests : (same acts : Bool) → Ends vs (if same then (if acts then record { version = Some version; table = led_to (base_of a.question k.table) a.withdrawn a.announced } else k) else nothing)
+    by_tests : (same acts : Bool) → Ends vs (if same then (if acts then record { version = Some version; table = led_to (base_of a.question k.table) a.withdrawn a.announced; before = k.table } else k) else nothing)
     by_tests true true = inr (a.announced, (λ i. led_to (base_is a.question k.table (ap (λ (x : Kept). x.table) none) i) (h.0 i) a.announced), h.1)
     by_tests true false = inl none
     by_tests false acts = inl refl

@@ -9,7 +9,7 @@ use example_values::units::{ANSWER, END_5, RESET_QUERY, RESPONSE, bytes_in};
 use prefixes::{IpPrefix, Route};
 use rtr_ends::{AskFault, CommittedVersion, End, Link, Router, StreamFault};
 use rtr_pdu::{Version, error_code};
-use std::alloc::{AllocGlobal, Global};
+use std::alloc::{AllocError, AllocGlobal, Global};
 use std::process::Abort;
 use std::test::Fail;
 use vrps::Serial;
@@ -131,6 +131,32 @@ fn a_change_commits_at_its_last_byte(rt: HostRuntime) {
         router.closed(0);
         assert!(rt; holds(&router, records, Version::V1, 4660, serial), "{cut}");
     }
+}
+
+/// Whether the latest commit withdrew and announced so many records.
+fn has_changed(router: &Router, withdrawn: usize, announced: usize) -> Result<bool, AllocError> {
+    match router.last_change()? {
+        None => Ok(false),
+        Some(change) => Ok(
+            change.withdraw.len() == withdrawn && change.announce.len() == announced,
+        ),
+    }
+}
+
+#[test]
+fn the_latest_commit_tells_what_it_changed(rt: HostRuntime) -> Result<(), Fail> {
+    let mut router = played(&rt, Version::V1, ASKED, "asked");
+    assert!(rt; router.last_change()?.is_none());
+    router.receive(bytes(ANSWER).as_slice(), 0);
+    assert!(rt; has_changed(&router, 0, 1)?);
+    router.ask()?;
+    router.pull(&mut [0; 64]);
+    assert!(rt; has_changed(&router, 0, 1)?);
+    router.receive(bytes_in(1, CHANGE).as_slice(), 0);
+    assert!(rt; has_changed(&router, 1, 0)?);
+    router.tick(7201);
+    assert!(rt; router.last_change()?.is_none());
+    Ok(())
 }
 
 /// The route of this prefix and this AS.

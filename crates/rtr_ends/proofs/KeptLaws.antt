@@ -125,7 +125,7 @@ played_tells [] = new_tells
 played_tells (call ∷ calls) = called_tells call (played calls).router (played calls).items (played_tells calls)
 
 pub is_kept : (r : Router) (items : List Item) → Tells r items → IsKept r items
-is_kept r items t = record { table = ap (λ k. k.table) (sym t.kept_is); version = ap (λ k. k.version) (sym t.kept_is); due = sym t.due_is; now = sym t.now_is; spoken = sym t.spoken_is; link = t.link }
+is_kept r items t = record { table = ap (λ k. k.table) (sym t.kept_is); before = ap (λ k. k.before) (sym t.kept_is); version = ap (λ k. k.version) (sym t.kept_is); due = sym t.due_is; now = sym t.now_is; spoken = sym t.spoken_is; link = t.link }
 
 -- What a router holds is what its transcript keeps.
 pub router_keeps : RouterKeeps

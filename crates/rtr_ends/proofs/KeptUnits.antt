@@ -10,7 +10,7 @@ use Rattle.rtr_ends.proofs.Effects.{by_whole, either, reading_open_so}
 use Rattle.rtr_ends.specs.Transcript.{choose, of_version, spoken, Question, AskReset, AskSerial, Item, Reads, Begun, outstanding, question_of, has_agreed, responded, is_connected, moment, is_among, led_to, Kept, bounded, base_of, is_wrong, kept, due}
 
 abbrev pub holds : Router → Kept
-holds r = record { version = r.version; table = r.table }
+holds r = record { version = r.version; table = r.table; before = r.before }
 
 pub record Tells (r : Router) (items : List Item) : Type 0 where
   pub kept_is : kept items ≡ holds r

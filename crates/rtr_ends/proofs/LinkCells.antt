@@ -116,10 +116,10 @@ closes = refl
 abbrev told_v : List Item
 told_v = Reads (EndOfData 0x1234 5 3600 600 7200) ∷ At 100 ∷ Reads (Prefix true v) ∷ At 100 ∷ Reads (CacheResponse 0x1234) ∷ At 100 ∷ Asks AskReset ∷ Opened V1 ∷ At 100 ∷ []
 
-keeps_v : kept told_v ≡ record { version = Some (committed_at 100); table = just_v }
+keeps_v : kept told_v ≡ record { version = Some (committed_at 100); table = just_v; before = empty }
 keeps_v =
-    (λ i. if (not (has-empty v i) && true) && true then record { version = Some (committed_at 100); table = led_to empty [] (v ∷ []) } else record { version = None; table = empty })
-    ∙ ap (λ s. record { version = Some (committed_at 100); table = s }) (led_from_empty (v ∷ []))
+    (λ i. if (not (has-empty v i) && true) && true then record { version = Some (committed_at 100); table = led_to empty [] (v ∷ []); before = empty } else record { version = None; table = empty; before = empty })
+    ∙ ap (λ s. record { version = Some (committed_at 100); table = s; before = empty }) (led_from_empty (v ∷ []))
 
 -- What was pulled and what is to be pulled are the bytes of the question.
 pulls_a_part : (pulled_by (Pulls 3 ∷ Connects 100 ∷ []) ≡ take 3 reset_bytes) × ((played (Pulls 3 ∷ Connects 100 ∷ [])).router.out ≡ drop 3 reset_bytes)

@@ -43,8 +43,8 @@ reports_so u s old new is steps e = ends_so_with u s old old new is steps e
 
 -- or is emptied.
 pub fails_so : (u : Unit) (s : State) (old new : Machine) → old.state ≡ s → Steps s u (fails u) old
-    → new ≡ record old { table = empty; version = None; mark = false; state = states.Ended (ends.Reported 0); out = sent old.spoken (report 0 (sent old.spoken u)) } → Does (λ r. on_unit r.link u r) old new
-fails_so u s old new is steps e = ends_so_with u s old (record old { table = empty; version = None; mark = false }) new is steps e
+    → new ≡ record old { table = empty; before = empty; version = None; mark = false; state = states.Ended (ends.Reported 0); out = sent old.spoken (report 0 (sent old.spoken u)) } → Does (λ r. on_unit r.link u r) old new
+fails_so u s old new is steps e = ends_so_with u s old (record old { table = empty; before = empty; version = None; mark = false }) new is steps e
 
 -- Nothing happens.
 pub stays_so : (u : Unit) (s : State) (old : Machine) → old.state ≡ s → Steps s u (λ r. r) old → Does (λ r. on_unit r.link u r) old old
@@ -304,14 +304,14 @@ module _ (old : Machine) (q : Question.Question) (session serial refresh retry e
   LeadsSo result = (b : Begun) → IsStaged (base_of (seen_question q) old.table) b.withdrawn b.announced old.staging → LeadsToSet (base_of (seen_question q) old.table) b result
 
   pub commits_so : (table : VrpSet) (due : ℕ) (s : Staging) (new : Machine) → LeadsSo (Ok table) → due ≡ sum_of old.clock (within 1 86400 refresh)
-      → new ≡ record old { table = table; version = Some version_now; mark = false; due = Some due; no_data = false; state = states.Idle; staging = s }
+      → new ≡ record old { table = table; before = old.table; version = Some version_now; mark = false; due = Some due; no_data = false; state = states.Idle; staging = s }
       → Does (λ r. on_unit r.link last_unit r) old new
   commits_so table due s new leads at e = unit_does last_unit (states.Answering q session) old new is (λ withdrawn announced held st.
       let a : Begun = begun_with q session withdrawn announced in
       let r : Router = seen old withdrawn announced held in
       subst (λ n. ShowsRouter (on_unit (Answering a) last_unit r) n) (sym e)
-      (shown_as (on_unit (Answering a) last_unit r) (record old { table = table; version = Some version_now; mark = false; due = Some due; no_data = false; state = states.Idle; staging = s }) withdrawn announced held
-      (reads_end a r refl ∙ (λ i. record r { table = sym (leads a st) i; version = Some (seen_version version_now); mark = false; due = Some (sym at i); no_data = false; link = Idle })) tt))
+      (shown_as (on_unit (Answering a) last_unit r) (record old { table = table; before = old.table; version = Some version_now; mark = false; due = Some due; no_data = false; state = states.Idle; staging = s }) withdrawn announced held
+      (reads_end a r refl ∙ (λ i. record r { table = sym (leads a st) i; before = r.table; version = Some (seen_version version_now); mark = false; due = Some (sym at i); no_data = false; link = Idle })) tt))
 
   pub lacks_end : (s : Staging) (fault : SetFault) → LeadsSo (Err fault) → UnitIsRead (Err fault) last_unit old (record old { staging = s })
   lacks_end s Memory leads = (ends_so old s, λ r shows. ap (λ (x : Router). may_lack x.link last_unit x) shows.is ∙ ap (λ x. may_lack (seen_link x shows.withdrawn shows.announced) last_unit (seen old shows.withdrawn shows.announced r.held)) is ∙ eq_self session)

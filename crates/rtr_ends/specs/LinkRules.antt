@@ -14,12 +14,13 @@ use Rattle.rtr_ends.specs.Transcript.{Question, AskReset, AskSerial, query, Begu
 use Rattle.rtr_ends.specs.Timing.{default_intervals}
 use Rattle.rtr_ends.specs.RouterLink.{Link, Closed, Idle, Asked, Answering, Ended}
 
--- What a router holds: the committed table and version; the mark that the next query must be a Reset Query; when an idle link
+-- What a router holds: the committed table and version, and the table before the latest commit; the mark that the next query must be a Reset Query; when an idle link
 -- asks; whether code 2, No Data Available, and no commit brought a link to idle last; the greatest moment so far; the version of its
 -- next connection, and that of its connection, or of the latest one; and of its connection the link, whether a version is agreed on,
 -- the session of the latest Cache Response, what has come of a PDU, and the bytes to be pulled
 pub record Router : Type 0 where
   pub table : VrpSet
+  pub before : VrpSet
   pub version : Option Committed
   pub mark : Bool
   pub due : Option ℕ
@@ -34,7 +35,7 @@ pub record Router : Type 0 where
   pub out : List ℕ
 
 abbrev pub new_router : Router
-new_router = record { table = empty; version = None; mark = false; due = None; no_data = false; now = 0; speaks = V1; spoken = V1; link = Closed; agreed = false; session = None; held = []; out = [] }
+new_router = record { table = empty; before = empty; version = None; mark = false; due = None; no_data = false; now = 0; speaks = V1; spoken = V1; link = Closed; agreed = false; session = None; held = []; out = [] }
 
 abbrev pub asking : Question → Router → Router
 asking question r = record r { link = Asked question; out = sent r.spoken (query question) }
@@ -44,7 +45,7 @@ ask r = asking (choose (of_version r.spoken r.version) r.mark) r
 
 -- Emptied: no table, no session, no mark
 abbrev pub emptied : Router → Router
-emptied r = record r { table = empty; version = None; mark = false }
+emptied r = record r { table = empty; before = empty; version = None; mark = false }
 
 -- The link ends: with a report on a PDU, or by one that was read.
 abbrev pub reports : ℕ → Unit → Router → Router
@@ -90,6 +91,7 @@ staged u Over r = record r { link = Ended ends.TooMany }
 abbrev pub commit : Begun → Committed → Router → Router
 commit a version r = record r {
   table = led_to (base_of a.question r.table) a.withdrawn a.announced;
+  before = r.table;
   version = Some version;
   mark = false;
   due = Some (sum_of version.moment version.intervals.refresh);

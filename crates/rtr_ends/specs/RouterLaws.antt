@@ -43,6 +43,7 @@ LinkTells (Answering a) agreed session table items =
 -- transcript, and its link is as that says.
 pub record IsKept (r : Router) (items : List Item) : Type 0 where
   pub table : r.table ≡ (kept items).table
+  pub before : r.before ≡ (kept items).before
   pub version : r.version ≡ (kept items).version
   pub due : r.due ≡ due items
   pub now : r.now ≡ moment items

@@ -48,6 +48,7 @@ seen_link (states.Ended end) withdrawn announced = Ended end
 abbrev pub seen : Machine → List Payload → List Payload → List ℕ → Router
 seen m withdrawn announced held = record {
   table = m.table;
+  before = m.before;
   version = seen_versions m.version;
   mark = m.mark;
   due = m.due;

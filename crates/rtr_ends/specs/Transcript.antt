@@ -1,10 +1,12 @@
 -- What a router was given, asked and read, and what it must hold after that (RFC 8210 sections 5, 6 and 8). All lists stand with
 -- the last first.
-use Rattle.std.specs.Prelude.{◌≡◌, ◌↔◌, ℕ, ◌+◌, ◌-◌, Bool, true, false, not, ◌&&◌, ◌||◌, ◌==◌, nat_lt, List, [], ◌∷◌, Option, Some, None, is_some, if◌then◌else◌, ⊤}
+use Rattle.std.specs.Prelude.{◌≡◌, ◌↔◌, ℕ, ◌+◌, ◌-◌, Bool, true, false, not, ◌&&◌, ◌||◌, ◌==◌, nat_lt, List, [], ◌∷◌, Option, Some, None, is_some, option_map, if◌then◌else◌, ⊤}
 use Rattle.std.specs.List.{list_any}
 use Rattle.std.specs.Ordering.{eq_by_cmp}
 use Rattle.prefixes.specs.Payload.{Payload, vrp_cmp}
+use Rattle.vrps.specs.Change.{between}
 use Rattle.vrps.specs.VrpSet.{VrpSet, empty, has, set_of, union, without}
+use Rattle.vrps.specs.declared.change.Change.{Change}
 use Rattle.rtr_pdu.specs.Code.{CORRUPT_DATA, NO_DATA_AVAILABLE}
 use Rattle.rtr_pdu.specs.declared.version.Version.{Version}
 use Rattle.rtr_pdu.specs.declared.version.Version.TheVariants.{V0, V1}
@@ -167,13 +169,18 @@ abbrev pub of_version : Version → Option Committed → Option Committed
 of_version spoken None = None
 of_version spoken (Some version) = if is_same spoken version.version then Some version else None
 
--- what a router holds
+-- what a router holds, and the table before the latest commit: the empty one if nothing is held
 pub record Kept : Type 0 where
   pub version : Option Committed
   pub table : VrpSet
+  pub before : VrpSet
 
 abbrev pub nothing : Kept
-nothing = record { version = None; table = empty }
+nothing = record { version = None; table = empty; before = empty }
+
+-- What the latest commit changed, if anything is committed: the change that leads from the table before it to the table
+abbrev pub last_change : Kept → Option Change
+last_change k = option_map (λ version. between k.before k.table) k.version
 
 -- Intervals are brought to the nearest bound of their range (RFC 8210 section 6).
 abbrev pub within : ℕ → ℕ → ℕ → ℕ
@@ -222,7 +229,7 @@ at_end_of_data None version k = k
 at_end_of_data (Some a) version k =
     if version.session == a.session then
     (if acts_once (base_of a.question k.table) a.withdrawn a.announced
-    then record { version = Some version; table = led_to (base_of a.question k.table) a.withdrawn a.announced }
+    then record { version = Some version; table = led_to (base_of a.question k.table) a.withdrawn a.announced; before = k.table }
     else k)
     else nothing
 

@@ -20,6 +20,7 @@ use crate::staging::Staging;
 use crate::table::Table;
 use rtr_pdu::{Unit, Version, error_code};
 use std::alloc::Global;
+use vrps::VrpSet;
 
 /// The state of a link.
 #[derive(Clone, Copy, Debug, PartialEq, Eq)]
@@ -37,6 +38,8 @@ pub enum State {
 pub struct Machine {
     pub alloc: Global,
     pub table: Table,
+    /// The records before the latest commit, none if nothing is committed.
+    pub before: VrpSet,
     pub version: Option<CommittedVersion>,
     /// Whether the next query must be a Reset Query.
     pub mark: bool,
@@ -69,6 +72,7 @@ impl Machine {
         Machine {
             alloc,
             table: Table::empty(alloc),
+            before: VrpSet::empty(alloc),
             version: None,
             mark: false,
             due: None,
@@ -152,9 +156,10 @@ impl Machine {
 
     /// Drops what is committed.
     pub fn empty(&mut self)
-        ensures { self.new ≡ record self.old { table = empty; version = None; mark = false } }
+        ensures { self.new ≡ record self.old { table = empty; before = empty; version = None; mark = false } }
     {
         self.table = Table::empty(self.alloc);
+        self.before = VrpSet::empty(self.alloc);
         self.version = None;
         self.mark = false;
     }
@@ -172,7 +177,7 @@ impl Machine {
     /// The same with code 0, Corrupt Data, and what is committed is dropped.
     pub fn fails(&mut self, unit: &Unit)
         requires { fits self.old.spoken unit.now ≡ true }
-        ensures { self.new ≡ record self.old { table = empty; version = None; mark = false; state = states.Ended (ends.Reported CORRUPT_DATA); out = sent self.old.spoken (report CORRUPT_DATA (sent self.old.spoken unit.now)) } }
+        ensures { self.new ≡ record self.old { table = empty; before = empty; version = None; mark = false; state = states.Ended (ends.Reported CORRUPT_DATA); out = sent self.old.spoken (report CORRUPT_DATA (sent self.old.spoken unit.now)) } }
     {
         self.empty();
         self.reports(error_code::CORRUPT_DATA, unit);

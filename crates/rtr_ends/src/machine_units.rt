@@ -284,7 +284,8 @@ impl Machine {
         match staging.end(self.alloc, question, &self.table) {
             Ok(table) => {
                 let refresh = within(1, 86_400, refresh);
-                self.table = table;
+                let before = mem::replace(&mut self.table, table);
+                self.before = before.into_set();
                 self.version = Some(CommittedVersion {
                     version: self.spoken,
                     session,

@@ -7,7 +7,7 @@ ghost use Rattle.rtr_ends.specs.RouterLink as linked;
 ghost use Rattle.rtr_ends.specs.LinkRules as rules;
 ghost use Rattle.rtr_ends.specs.Router.{called};
 ghost use Rattle.rtr_ends.specs.Seen.{ShowsRouter, seen_link, seen_versions};
-ghost use Rattle.rtr_ends.specs.Transcript.{due, kept};
+ghost use Rattle.rtr_ends.specs.Transcript.{due, kept, last_change};
 ghost use Rattle.rtr_ends.specs.Peer.{HasBufferRoom};
 ghost use Rattle.rtr_ends.specs.RouterLink.{asked_on, name_of, told_link};
 ghost use Rattle.vrps.specs.Origin.{covering, state};
@@ -18,7 +18,7 @@ use crate::question::CommittedVersion;
 use prefixes::{Route, Vrp};
 use rtr_pdu::{Next, UnitReader, Version};
 use std::alloc::{AllocError, Global};
-use vrps::{OriginState, Serial, VrpSet};
+use vrps::{Change, OriginState, Serial, VrpSet};
 
 /// A router: what it has committed, and at most one connection (RFC 6810, RFC 8210 sections 5 to 8). Moments are in seconds of a clock
 /// that the caller hands in; one below the greatest so far counts as that one.
@@ -135,6 +135,22 @@ impl Router {
         ensures kept { (calls : List model.RouterCall) → CallsLead calls self.now → seen_versions result ≡ (kept (model.played calls).items).version }
     {
         self.machine.version
+    }
+
+    /// What the latest commit changed: the records that its End of Data withdrew and announced. If nothing is committed, there is no
+    /// change, and whoever follows the table drops all. The time is linear in the records of both tables.
+    pub fn last_change(&self) -> Result<Option<Change>, AllocError>
+        ensures shown { (r : rules.Router) → IsShown r self.now → IfOk result (λ change. change ≡ last_change (record { version = r.version; table = r.table; before = r.before })) }
+        ensures kept { (calls : List model.RouterCall) → CallsLead calls self.now → IfOk result (λ change. change ≡ last_change (kept (model.played calls).items)) }
+    {
+        match &self.machine.version {
+            None => Ok(None),
+            Some(_) => {
+                let table = self.machine.table.set();
+                let change = Change::between(self.machine.alloc, &self.machine.before, table)?;
+                Ok(Some(change))
+            }
+        }
     }
 
     /// The records of the committed table that cover a route, in ascending order.

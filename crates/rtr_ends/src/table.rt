@@ -50,6 +50,14 @@ impl Table {
         Ok(Table { set, index })
     }
 
+    /// The records alone.
+    pub fn into_set(self) -> VrpSet
+        ensures { result ≡ self }
+    {
+        let Table { set, index: _ } = self;
+        set
+    }
+
     /// The records.
     pub fn set(&self) -> &VrpSet
         ensures { result.now ≡ self.now }

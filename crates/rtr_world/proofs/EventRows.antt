@@ -352,7 +352,7 @@ abbrev twice : List Item
 twice = Reads (EndOfData 0x1234 7 3600 600 7200) ∷ Reads (CacheResponse 0x1234) ∷ At 0 ∷ asked_since
 
 abbrev committed_twice : VrpSet → Side
-committed_twice set = record (waiting_side []) { router = record asked { table = set; version = Some (version_of 7); link = Idle }; items = twice; places = place 0 2 ∷ place 0 0 ∷ [] }
+committed_twice set = record (waiting_side []) { router = record asked { table = set; before = just_v; version = Some (version_of 7); link = Idle }; items = twice; places = place 0 2 ∷ place 0 0 ∷ [] }
 
 second_commit : after (On 0 (RouterGets 32)) (Done None) (world_of (waiting_side no_change)) ≡ world_of (committed_twice just_v)
 unfolding goes_through settled settle side_step router_gets receives clocked router_byte on_unit judge as_read
@@ -410,7 +410,7 @@ refused_before = refl
 
 -- Refused behind it, with a notify still to come: nothing is on the wire, what was committed still_holds, and its place is noted.
 abbrev still_holds : VrpSet → World
-still_holds set = world_of (record new_side { router = holding set 7; items = Shut ∷ At 0 ∷ Refused ∷ twice; places = place 0 2 ∷ place 0 0 ∷ [] })
+still_holds set = world_of (record new_side { router = record (holding set 7) { before = just_v }; items = Shut ∷ At 0 ∷ Refused ∷ twice; places = place 0 2 ∷ place 0 0 ∷ [] })
 
 refused_behind : after (On 0 (RouterGets 44)) (Memory 32 None) (world_of (waiting_side and_notify)) ≡ still_holds just_v
 unfolding is_refused settled settle side_refused cut router_gets receives clocked router_byte on_unit judge as_read closed_at

@@ -23,7 +23,7 @@ at_end_once None version k = tt
 at_end_once (Some a) version k = by_test (version.session == a.session) (acts_once (base_of a.question k.table) a.withdrawn a.announced) refl
   where
     by_test : (same once : Bool) → acts_once (base_of a.question k.table) a.withdrawn a.announced ≡ once
-        → ActsOnce (same && once) (Some a) k.table (if same then (if once then record { version = Some version; table = led_to (base_of a.question k.table) a.withdrawn a.announced } else k) else nothing).table
+        → ActsOnce (same && once) (Some a) k.table (if same then (if once then record { version = Some version; table = led_to (base_of a.question k.table) a.withdrawn a.announced; before = k.table } else k) else nothing).table
     by_test false once is = tt
     by_test true false is = tt
     by_test true true is = (acts_exactly (base_of a.question k.table) a.withdrawn a.announced).0 is
