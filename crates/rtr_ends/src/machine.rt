@@ -89,7 +89,7 @@ impl Machine {
     }
 
     /// A question is put.
-    pub fn asks(&mut self, question: Question)
+    pub fn send_query(&mut self, question: Question)
         ensures { self.new ≡ record self.old { state = states.Asked question; out = sent self.old.spoken (query (seen_question question)) } }
     {
         match question {
@@ -147,11 +147,11 @@ impl Machine {
     }
 
     /// Asks as it is to be asked next.
-    pub fn ask(&mut self)
+    pub fn query(&mut self)
         ensures { Does rules.ask self.old self.new }
     {
         let question = self.choose();
-        self.asks(question);
+        self.send_query(question);
     }
 
     /// Drops what is committed.
@@ -165,7 +165,7 @@ impl Machine {
     }
 
     /// Ends the link with a report on a PDU.
-    pub fn reports(&mut self, code: u16, unit: &Unit)
+    pub fn send_report(&mut self, code: u16, unit: &Unit)
         requires { fits self.old.spoken unit.now ≡ true }
         ensures { self.new ≡ record self.old { state = states.Ended (ends.Reported code); out = sent self.old.spoken (report code (sent self.old.spoken unit.now)) } }
     {
@@ -175,12 +175,12 @@ impl Machine {
     }
 
     /// The same with code 0, Corrupt Data, and what is committed is dropped.
-    pub fn fails(&mut self, unit: &Unit)
+    pub fn drop_and_report(&mut self, unit: &Unit)
         requires { fits self.old.spoken unit.now ≡ true }
         ensures { self.new ≡ record self.old { table = empty; before = empty; version = None; mark = false; state = states.Ended (ends.Reported CORRUPT_DATA); out = sent self.old.spoken (report CORRUPT_DATA (sent self.old.spoken unit.now)) } }
     {
         self.empty();
-        self.reports(error_code::CORRUPT_DATA, unit);
+        self.send_report(error_code::CORRUPT_DATA, unit);
     }
 
     /// Whether bytes are taken: a connection is open, and nothing is to be pulled.

@@ -15,7 +15,7 @@ impl Machine {
     ghost use Rattle.rtr_ends.specs.declared.link.End.TheVariants as ends;
 
     /// A moment is given. What has expired is dropped; a Serial Query that is outstanding then ends the link.
-    pub fn tell(&mut self, now: u64)
+    pub fn advance_clock(&mut self, now: u64)
         ensures { Does (model.clocked now) self.old self.new }
     {
         self.clock = self.clock.max(now);
@@ -63,17 +63,17 @@ impl Machine {
     pub fn connect(&mut self, now: u64)
         ensures { Does (λ r. (model.connects_at now r).router) self.old self.new }
     {
-        self.tell(now);
+        self.advance_clock(now);
         self.close();
         self.spoken = self.speaks;
-        self.ask();
+        self.query();
     }
 
     /// The connection is closed.
     pub fn closed(&mut self, now: u64)
         ensures { Does (λ r. (model.closed_at now r).router) self.old self.new }
     {
-        self.tell(now);
+        self.advance_clock(now);
         self.close();
     }
 
@@ -107,9 +107,9 @@ impl Machine {
     pub fn tick(&mut self, now: u64)
         ensures { Does (λ r. (model.ticks_at now r).router) self.old self.new }
     {
-        self.tell(now);
+        self.advance_clock(now);
         if self.is_due() {
-            self.ask();
+            self.query();
         }
     }
 
@@ -133,7 +133,7 @@ impl Machine {
     {
         match self.state {
             State::Idle => {
-                self.ask();
+                self.query();
                 true
             }
             State::Closed => false,

@@ -101,20 +101,20 @@ impl Machine {
     {
         match unit {
             Unit::SerialNotify { session, serial } => {
-                if self.is_strange(*session) {
-                    self.fails(unit);
-                } else if self.is_news(*serial) {
-                    self.ask();
+                if self.is_other_session(*session) {
+                    self.drop_and_report(unit);
+                } else if self.is_newer(*serial) {
+                    self.query();
                 }
             }
-            Unit::CacheResponse { .. } => self.reports(error_code::CORRUPT_DATA, unit),
-            Unit::Prefix { .. } => self.reports(error_code::CORRUPT_DATA, unit),
-            Unit::RouterKey(_) => self.reports(error_code::CORRUPT_DATA, unit),
-            Unit::EndOfData { .. } => self.reports(error_code::CORRUPT_DATA, unit),
-            Unit::EndOfData0 { .. } => self.reports(error_code::CORRUPT_DATA, unit),
-            Unit::CacheReset => self.reports(error_code::CORRUPT_DATA, unit),
-            Unit::SerialQuery { .. } => self.reports(error_code::CORRUPT_DATA, unit),
-            Unit::ResetQuery => self.reports(error_code::CORRUPT_DATA, unit),
+            Unit::CacheResponse { .. } => self.send_report(error_code::CORRUPT_DATA, unit),
+            Unit::Prefix { .. } => self.send_report(error_code::CORRUPT_DATA, unit),
+            Unit::RouterKey(_) => self.send_report(error_code::CORRUPT_DATA, unit),
+            Unit::EndOfData { .. } => self.send_report(error_code::CORRUPT_DATA, unit),
+            Unit::EndOfData0 { .. } => self.send_report(error_code::CORRUPT_DATA, unit),
+            Unit::CacheReset => self.send_report(error_code::CORRUPT_DATA, unit),
+            Unit::SerialQuery { .. } => self.send_report(error_code::CORRUPT_DATA, unit),
+            Unit::ResetQuery => self.send_report(error_code::CORRUPT_DATA, unit),
             Unit::ErrorReport(report) => {
                 let code = report.code();
                 if code != error_code::NO_DATA_AVAILABLE {
@@ -132,33 +132,33 @@ impl Machine {
     {
         match unit {
             Unit::SerialNotify { session, serial: _ } => {
-                if self.is_strange(*session) {
-                    self.fails(unit);
+                if self.is_other_session(*session) {
+                    self.drop_and_report(unit);
                 }
             }
             Unit::CacheResponse { session } => {
-                if self.is_wrong(question, *session) {
-                    self.fails(unit);
+                if self.answers_other_session(question, *session) {
+                    self.drop_and_report(unit);
                 } else {
                     self.begin(question, *session);
                 }
             }
-            Unit::Prefix { .. } => self.reports(error_code::CORRUPT_DATA, unit),
-            Unit::RouterKey(_) => self.reports(error_code::CORRUPT_DATA, unit),
-            Unit::EndOfData { .. } => self.reports(error_code::CORRUPT_DATA, unit),
-            Unit::EndOfData0 { .. } => self.reports(error_code::CORRUPT_DATA, unit),
+            Unit::Prefix { .. } => self.send_report(error_code::CORRUPT_DATA, unit),
+            Unit::RouterKey(_) => self.send_report(error_code::CORRUPT_DATA, unit),
+            Unit::EndOfData { .. } => self.send_report(error_code::CORRUPT_DATA, unit),
+            Unit::EndOfData0 { .. } => self.send_report(error_code::CORRUPT_DATA, unit),
             Unit::CacheReset => match question {
                 Question::Serial { .. } => {
                     self.agreed = true;
-                    self.asks(Question::Reset);
+                    self.send_query(Question::Reset);
                 }
-                Question::Reset => self.reports(error_code::CORRUPT_DATA, unit),
+                Question::Reset => self.send_report(error_code::CORRUPT_DATA, unit),
             },
-            Unit::SerialQuery { .. } => self.reports(error_code::CORRUPT_DATA, unit),
-            Unit::ResetQuery => self.reports(error_code::CORRUPT_DATA, unit),
+            Unit::SerialQuery { .. } => self.send_report(error_code::CORRUPT_DATA, unit),
+            Unit::ResetQuery => self.send_report(error_code::CORRUPT_DATA, unit),
             Unit::ErrorReport(report) => {
                 self.agreed = true;
-                self.told_off(question, report.code());
+                self.on_error_report(question, report.code());
             }
         }
     }
@@ -177,8 +177,8 @@ impl Machine {
     {
         match unit {
             Unit::SerialNotify { session, serial: _ } => {
-                if self.is_strange(*session) {
-                    self.fails(unit);
+                if self.is_other_session(*session) {
+                    self.drop_and_report(unit);
                 }
                 Ok(())
             }
@@ -192,7 +192,7 @@ impl Machine {
                 expire,
             } => {
                 if *named != session {
-                    self.fails(unit);
+                    self.drop_and_report(unit);
                     return Ok(());
                 }
                 self.commit(question, session, *serial, *refresh, *retry, *expire)
@@ -202,13 +202,13 @@ impl Machine {
                 serial,
             } => {
                 if *named != session {
-                    self.fails(unit);
+                    self.drop_and_report(unit);
                     return Ok(());
                 }
                 self.commit_0(question, session, *serial)
             }
             Unit::ErrorReport(report) => {
-                self.told_off(question, report.code());
+                self.on_error_report(question, report.code());
                 Ok(())
             }
             Unit::CacheResponse { .. } => self.rejects(unit),
@@ -224,7 +224,7 @@ impl Machine {
         ensures ok { result ≡ Ok tt }
         ensures reports { self.new ≡ record self.old { state = states.Ended (ends.Reported CORRUPT_DATA); out = sent self.old.spoken (report CORRUPT_DATA (sent self.old.spoken unit.now)) } }
     {
-        self.reports(error_code::CORRUPT_DATA, unit);
+        self.send_report(error_code::CORRUPT_DATA, unit);
         Ok(())
     }
 
@@ -247,7 +247,7 @@ impl Machine {
         match self.staging.take(in_base, announce, vrp) {
             Ok(Staged::Stays) => Ok(()),
             Ok(Staged::Wrong(code)) => {
-                self.reports_prefix(code, announce, vrp);
+                self.send_prefix_report(code, announce, vrp);
                 self.mark = true;
                 Ok(())
             }
@@ -258,14 +258,14 @@ impl Machine {
     /// Ends the link with a report on a Prefix.
     #[cold]
     #[inline(never)]
-    fn reports_prefix(&mut self, code: u16, announce: bool, vrp: &Vrp)
+    fn send_prefix_report(&mut self, code: u16, announce: bool, vrp: &Vrp)
         ensures { self.new ≡ record self.old { state = states.Ended (ends.Reported code); out = sent self.old.spoken (report code (sent self.old.spoken (Unit.Prefix announce vrp.now))) } }
     {
         let unit = Unit::Prefix {
             announce,
             vrp: *vrp,
         };
-        self.reports(code, &unit);
+        self.send_report(code, &unit);
     }
 
     /// The end of an answer: what is staged becomes the table, under this name.
@@ -314,7 +314,7 @@ impl Machine {
 
     /// An Error Report to the question that is outstanding: code 2, No Data Available, leaves the link idle; code 0, Corrupt Data,
     /// to a Serial Query drops what is committed; all but 2 end the link.
-    fn told_off(&mut self, question: Question, code: u16)
+    fn on_error_report(&mut self, question: Question, code: u16)
         ensures { Does (rules.told_off (seen_question question) code) self.old self.new }
     {
         self.staging = Staging::over(self.alloc, 0);
@@ -331,7 +331,7 @@ impl Machine {
     }
 
     /// Whether the session differs from the connection's, after agreement.
-    fn is_strange(&self, session: u16) -> bool
+    fn is_other_session(&self, session: u16) -> bool
         ensures { result ≡ (self.now.agreed && differs (session_of self.now.session (of_version self.now.spoken (seen_versions self.now.version))) session) }
     {
         let own = match self.session {
@@ -345,7 +345,7 @@ impl Machine {
     }
 
     /// Whether a notify of this serial is of a later version than the committed one.
-    fn is_news(&self, serial: u32) -> bool
+    fn is_newer(&self, serial: u32) -> bool
         ensures { result ≡ rules.is_news (of_version self.now.spoken (seen_versions self.now.version)) serial }
     {
         match self.known() {
@@ -355,7 +355,7 @@ impl Machine {
     }
 
     /// Whether a Cache Response of this session does not answer the question.
-    fn is_wrong(&self, question: Question, session: u16) -> bool
+    fn answers_other_session(&self, question: Question, session: u16) -> bool
         ensures { result ≡ is_wrong (Some (seen_question question)) (of_version self.now.spoken (seen_versions self.now.version)) session }
     {
         match self.known() {
@@ -386,7 +386,7 @@ impl Machine {
     }
 
     /// Bytes show a fault. The link ends, with a report but for an Error Report.
-    pub fn breaks(&mut self, fault: UnitFault, bytes: &[u8])
+    pub fn on_fault(&mut self, fault: UnitFault, bytes: &[u8])
         ensures { Does (λ r. (model.breaks fault bytes.now r).router) self.old self.new }
     {
         let agreed = agreed_version(self.agreed, self.spoken);

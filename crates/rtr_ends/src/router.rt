@@ -211,7 +211,7 @@ impl Router {
         ensures leads { (wanting : Option ℕ) × LeadsOn (model.Receives now wanting piece.now) self.old self.new }
         ensures within { result ≤ length piece.now }
     {
-        self.machine.tell(now);
+        self.machine.advance_clock(now);
         let mut rest = piece;
         self.take(&mut rest);
         piece.len() - rest.len()
@@ -262,7 +262,7 @@ impl Router {
             }
             Next::NeedMore => false,
             Next::Fault(fault) => {
-                self.machine.breaks(fault, self.reader.held());
+                self.machine.on_fault(fault, self.reader.held());
                 false
             }
         }

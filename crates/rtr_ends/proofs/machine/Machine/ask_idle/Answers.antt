@@ -5,7 +5,7 @@ use Rattle.rtr_ends.proofs.MachineCells.{asks_idle, asks_not}
 use Rattle.rtr_ends.proofs.machine.Machine.ask_idle.Goals as goal
 
 pub returns-in-Idle-clause-asks : goal.returns-in-Idle-clause-asks
-returns-in-Idle-clause-asks c = asks_idle c.args.self.now _ c.in-Idle.is c.ask.ensures
+returns-in-Idle-clause-asks c = asks_idle c.args.self.now _ c.in-Idle.is c.query.ensures
 
 pub returns-in-Closed-clause-asks : goal.returns-in-Closed-clause-asks
 returns-in-Closed-clause-asks c = asks_not c.args.self.now (ap (λ x. is_idle (seen_link x [] [])) c.in-Closed.is)

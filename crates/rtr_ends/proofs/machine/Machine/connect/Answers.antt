@@ -4,4 +4,4 @@ use Rattle.rtr_ends.proofs.MachineCells.{connects, opens_so}
 use Rattle.rtr_ends.proofs.machine.Machine.connect.Goals as goal
 
 pub returns : goal.returns
-returns c r s = subst (λ x. ShowsRouter x c.ask.new.self) (sym (connects c.args.now r)) (c.ask.ensures _ (opens_so c.close.new.self _ (c.close.ensures _ (c.tell.ensures r s))))
+returns c r s = subst (λ x. ShowsRouter x c.query.new.self) (sym (connects c.args.now r)) (c.query.ensures _ (opens_so c.close.new.self _ (c.close.ensures _ (c.advance_clock.ensures r s))))

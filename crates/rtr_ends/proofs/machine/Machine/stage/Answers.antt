@@ -11,7 +11,7 @@ returns-in-Ok-Stays c session is =
 pub returns-in-Ok-Wrong : goal.returns-in-Ok-Wrong
 returns-in-Ok-Wrong c session is =
     wrong_staged c.args.self.now c.args.question session is c.args.announce c.args.vrp.now (Prefix c.args.announce c.args.vrp.now) refl c.is_in_base-in_base.result c.is_in_base-in_base.ensures _ _ _
-    (λ base b st k. subst (λ x. GoesTo base b c.args.announce c.args.vrp.now (Ok x) c.take.new.self) c.in-Ok-Wrong.field-0-is (c.in-Ok-Wrong.ensures base b st k)) c.reports_prefix.ensures
+    (λ base b st k. subst (λ x. GoesTo base b c.args.announce c.args.vrp.now (Ok x) c.take.new.self) c.in-Ok-Wrong.field-0-is (c.in-Ok-Wrong.ensures base b st k)) c.send_prefix_report.ensures
 
 pub returns-in-Err : goal.returns-in-Err
 returns-in-Err c session is =

@@ -17,4 +17,4 @@ returns-in-NeedMore-clause-takes c = more_goes c.args.self.now c.args.piece.now.
 
 pub returns-in-Fault-clause-takes : goal.returns-in-Fault-clause-takes
 returns-in-Fault-clause-takes c =
-    fault_goes c.args.self.now c.args.piece.now.now c.next.new.piece.now c.requires c.next.ensures.reader c.in-Fault.fault c.next.new.self c.held.result.now c.breaks.new.self c.in-Fault.ensures.takes c.held.ensures.held c.breaks.ensures
+    fault_goes c.args.self.now c.args.piece.now.now c.next.new.piece.now c.requires c.next.ensures.reader c.in-Fault.fault c.next.new.self c.held.result.now c.on_fault.new.self c.in-Fault.ensures.takes c.held.ensures.held c.on_fault.ensures

@@ -1,6 +1,6 @@
 use Rattle.std.proofs.Common.{sym, ◌∙◌}
 use Rattle.rtr_ends.proofs.MachineCells.{expires_so, later_max, stays_on}
-use Rattle.rtr_ends.proofs.machine.Machine.tell.Goals as goal
+use Rattle.rtr_ends.proofs.machine.Machine.advance_clock.Goals as goal
 
 pub returns-then-is_over : goal.returns-then-is_over
 returns-then-is_over c =
