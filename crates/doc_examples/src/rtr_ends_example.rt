@@ -17,5 +17,7 @@ fn a_router_gets_what_a_cache_published(rt: HostRuntime) -> Result<(), Fail> {
     let sent = cache.pull(conn, &mut bytes);
     router.receive(&bytes[..sent], 0);
     assert!(rt; router.committed() == Some((Version::V1, 4660, Serial(5))));
+    let change = router.last_change()?.ok_or("nothing is committed")?;
+    assert!(rt; change.announce.is_empty() && change.withdraw.is_empty());
     Ok(())
 }
