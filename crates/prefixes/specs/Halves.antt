@@ -9,7 +9,7 @@ pub record AreEight (bytes : List ℕ) : Type 0 where
   pub eight : length bytes ≡ 8
   pub small : (i : ℕ) → slice_index bytes i < 256
 
--- the number of a high and a low half, in each of which the lowest byte stands first
+-- the number of a high and a low half, in each of which the lowest byte comes first
 abbrev pub number_of : List ℕ → List ℕ → ℕ
 number_of high low = from_le_bytes w64 high * 2 ^ 64 + from_le_bytes w64 low
 

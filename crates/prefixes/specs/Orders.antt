@@ -18,7 +18,7 @@ prefix_total = then_total (on_total width_of nat_cmp_total) (on_total block_of b
 pub vrp_total : IsTotalOrder vrp_cmp
 vrp_total = then_total (on_total (λ v. v.prefix) prefix_total) (then_total (on_total (λ v. v.max_len) nat_cmp_total) (on_total (λ v. v.asn) nat_cmp_total))
 
--- two orders, the second where the first ties
+-- two orders, the second if the first ties
 both_equal : (a b : Ordering) → ordering_then a b ≡ Equal → (a ≡ Equal) × (b ≡ Equal)
 both_equal Less b h = cc
 both_equal Equal b h = (refl, h)

@@ -40,7 +40,7 @@ joined_by_colons texts = join_with_byte 58 texts
 abbrev pub IsFull : List ℕ → List ℕ → Type 0
 IsFull all text = (texts : List (List ℕ)) × AreHexGroups all texts × (text ≡ joined_by_colons texts)
 
--- .. or `::` stands between groups, at most seven, for one zero group or more.
+-- .. or `::` replaces one zero group or more, between at most seven other groups.
 pub record IsCompressed (all text : List ℕ) : Type 0 where
   pub before : List ℕ
   pub after : List ℕ
@@ -90,7 +90,7 @@ ReadsAsNumber text (Err faults.TooLong) = ⊥
 ReadsAsNumber text (Err faults.HostBits) = ⊥
 ReadsAsNumber text (Err faults.MaxLength) = ⊥
 
--- The one spelling that is written. An IPv6 address is written in lower case without leading zeros, and `::` stands for the
+-- The one spelling that is written. An IPv6 address is written in lower case without leading zeros, and `::` replaces the
 -- first longest run of two or more zero groups.
 abbrev pub written_address : IpPrefix → List ℕ
 written_address (V4 p) = v4_address p.addr
@@ -136,11 +136,11 @@ pub record ReplacesRun (all : List ℕ) (start len : ℕ) : Type 0 where
   pub chosen : IsFirstLongest all start len
   pub text_is : hex_groups_text all ≡ groups_text (take start all) ++ codes "::" ++ groups_text (drop (start + len) all)
 
--- .. or for none, where no two zero groups stand side by side.
+-- .. or for none, if no two zero groups are side by side.
 pub record ReplacesNone (all : List ℕ) : Type 0 where
   pub none : (start : ℕ) → ¬ (IsZeroRun all start 2)
   pub text_is : hex_groups_text all ≡ groups_text all
 
--- In what is written, `::` stands for the first longest run of two or more zero groups, and nowhere else.
+-- In what is written, `::` replaces the first longest run of two or more zero groups, and no other.
 abbrev pub FirstLongestRun : Type 0
 FirstLongestRun = (all : List ℕ) → ((start : ℕ) × (len : ℕ) × ReplacesRun all start len) ⊎ ReplacesNone all

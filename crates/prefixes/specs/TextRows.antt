@@ -16,7 +16,7 @@ written_first_run : written_text (V6 (record { addr = 0x20010db80000000000010000
 unfolding digits hex hex_groups_text
 written_first_run = refl
 
--- a lone zero stands as it is
+-- a lone zero is written as it is
 written_lone_zero : written_text (V6 (record { addr = 0x00010000000200030004000500060007; len = 128 })) ≡ codes "1:0:2:3:4:5:6:7/128"
 unfolding digits hex hex_groups_text
 written_lone_zero = refl

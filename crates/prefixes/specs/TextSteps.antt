@@ -4,7 +4,7 @@ use Rattle.prefixes.specs.Address.{Block, HasNoHostBits, IsPrefix}
 use Rattle.prefixes.specs.declared.fault.PrefixFault.{PrefixFault}
 use Rattle.prefixes.specs.declared.fault.PrefixFault.TheVariants as faults
 
--- A text of decimal digits without leading zeros begins with no sign, and with 0 only where 0 is all of it.
+-- A text of decimal digits without leading zeros begins with no sign, and with 0 only if 0 is all of it.
 pub record BeginsNumeral (text : List ℕ) : Type 0 where
   pub some : 0 < length text
   pub digit : 48 ≤ slice_index text 0

@@ -3,7 +3,7 @@ ghost use Rattle.std.specs.Prelude.{◌≡◌};
 
 use thiserror::Error;
 
-/// Why an address, a length or a text is refused. The numbers are fixed, and stand at the end of the text that `Display` writes.
+/// Why an address, a length or a text is refused. The numbers are fixed. They end the text that `Display` writes.
 #[derive(Clone, Copy, Debug, PartialEq, Eq, Error)]
 pub enum PrefixFault {
     /// The length is over the width of the family.

@@ -11,8 +11,7 @@ pub fn written_is_read()
     ensures { WrittenTextIsRead }
 {}
 
-/// In what is written for an IPv6 address, `::` stands for the first longest run of two or more zero groups, and nowhere else
-/// (RFC 5952 section 4.2).
+/// In the text of an IPv6 address, `::` replaces the first longest run of two or more zero groups, and no other (RFC 5952 section 4.2).
 pub fn first_longest_run()
     ensures { FirstLongestRun }
 {}

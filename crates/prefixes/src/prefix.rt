@@ -121,7 +121,7 @@ impl<F: Family> PartialOrd for Prefix<F> {
     }
 }
 
-/// A prefix of either family. All of IPv4 stand before all of IPv6; within a family the order is by address, then length.
+/// A prefix of either family. IPv4 comes before IPv6. Within a family the order is by address, then length.
 #[derive(Clone, Copy, PartialEq, Eq, Hash)]
 pub enum IpPrefix {
     V4(Prefix<V4>),

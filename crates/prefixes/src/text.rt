@@ -17,9 +17,9 @@ use std::str::FromStr;
 impl IpPrefix {
     ghost use Rattle.prefixes.specs.Text.{PrefixText, ReadsAs};
 
-    /// The prefix that a text spells: an address, a slash, and the length in one to three decimal digits without a leading zero
-    /// (RFC 4632 section 3.1, RFC 4291 sections 2.2 and 2.3). An IPv6 address has no part in dotted decimal. Other text is
-    /// `BadText`; then a length over the family's width is `TooLong`; then a bit set after the first bits is `HostBits`.
+    /// The prefix that a text spells (RFC 4632 section 3.1, RFC 4291 sections 2.2 and 2.3): an address, a slash, and the length. The length has
+    /// one to three decimal digits without a leading zero. An IPv6 address has no part in dotted decimal. Other text is `BadText`. Then a
+    /// length over the family's width is `TooLong`. Then a bit set after the first bits is `HostBits`.
     pub fn parse(text: &str) -> Result<IpPrefix, PrefixFault>
         ensures reads { ReadsAs text.now result }
         ensures only { (p : IpPrefix) → PrefixText p text.now → result ≡ Ok p }
@@ -43,8 +43,9 @@ impl IpPrefix {
     }
 }
 
-/// An IPv4 address in dotted decimal, or an IPv6 address as RFC 5952 section 4 has it: in lower case, without leading zeros, with
-/// `::` for the first longest run of two or more zero groups, and never in dotted decimal; then a slash and the length in decimal.
+/// The address, a slash, and the length in decimal. An IPv4 address is written in dotted decimal, an IPv6 address in the form of RFC 5952
+/// section 4. That is lower case without leading zeros, with `::` for the first longest run of two or more zero groups. Dotted decimal is
+/// never used for IPv6.
 impl Display for IpPrefix {
     ghost use Rattle.prefixes.specs.Text.{written_text};
 
@@ -200,7 +201,7 @@ fn number(text: &str) -> Option<u32>
     }
 }
 
-/// Whether a text begins as a number without leading zeros does: with no sign, and with 0 only where 0 is all of it.
+/// Whether a text begins as a number without leading zeros does: with no sign, and with 0 only if 0 is all of it.
 fn begins_number(bytes: &[u8]) -> bool
     ensures { IsTrue result ↔ BeginsNumeral bytes.now }
 {

@@ -39,7 +39,7 @@ impl Model for Vrp {
 }
 
 impl Vrp {
-    /// The payload of these, or `MaxLength` where the maximum is below the prefix's length or over its family's width.
+    /// The payload of these, or `MaxLength` if the maximum is below the prefix's length or over its family's width.
     pub fn new(prefix: IpPrefix, max_len: u8, asn: Asn) -> Result<Self, PrefixFault>
         ensures ok { IfOk result (λ v. v ≡ record { prefix = prefix; max_len = max_len; asn = asn.0 }) }
         ensures valid { IsOk result ↔ (((block_of prefix).len ≤ max_len) × (max_len ≤ width_of prefix)) }
@@ -75,7 +75,7 @@ impl Vrp {
         self.max_len
     }
 
-    /// The AS that may originate the prefix; AS 0 stands for none (RFC 6483 section 4).
+    /// The AS that may originate the prefix; AS 0 means none (RFC 6483 section 4).
     pub fn asn(&self) -> Asn
         ensures value { result.0 ≡ self.now.asn }
         ensures payload { IsPayload self.now }
@@ -84,8 +84,8 @@ impl Vrp {
     }
 }
 
-/// The order in which sets of payloads are listed: family, address, length, maximum, AS. It stands where it is called, as walks over sets
-/// take most of their time for it.
+/// The order in which sets of payloads are listed: family, address, length, maximum, AS. It is inlined, since walks over sets spend most
+/// of their time in it.
 impl Ord for Vrp {
     ghost cmp = { vrp_cmp };
 
