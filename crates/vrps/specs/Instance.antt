@@ -5,8 +5,8 @@ use Rattle.std.specs.List.{AllByRecursion}
 use Rattle.vrps.specs.VrpSet.{VrpSet, IsVrpSet}
 use Rattle.vrps.specs.Serial.{serial_at}
 
--- An instance of a cache: its session in version 1 of the protocol and that in version 0, the serial of its first version, and the
--- sets that it published, the newest first
+-- An instance of a cache: its sessions in versions 1 and 0 of the protocol, the serial of its first version, and the sets that it
+-- published, the newest first
 pub record Instance : Type 0 where
   pub session : ℕ
   pub session0 : ℕ
@@ -18,7 +18,7 @@ pub record NumberedSet : Type 0 where
   pub serial : ℕ
   pub set : VrpSet
 
--- Each version under its serial, the newest first. The oldest set stands at position 0.
+-- Each version under its serial, the newest first. The oldest set has position 0.
 abbrev pub versions_from : ℕ → List VrpSet → List NumberedSet
 versions_from start [] = []
 versions_from start (set ∷ older) = record { serial = serial_at start (length older); set = set } ∷ versions_from start older
@@ -44,7 +44,7 @@ abbrev pub with_serial : ℕ → List NumberedSet → Option NumberedSet
 with_serial serial vs = find (λ v. v.serial == serial) vs
 
 -- What was published under a session and a serial: the newest such set of the instance that has that session in a version of the
--- protocol, as `session_of` says. The newest instance stands first.
+-- protocol, as `session_of` says. The newest instance comes first.
 abbrev pub named : (Instance → ℕ) → List Instance → ℕ → ℕ → Option VrpSet
 named session_of instances session serial =
     option_and_then (λ i. option_map (λ v. v.set) (with_serial serial (versions i))) (find (λ i. session_of i == session) instances)

@@ -12,7 +12,7 @@ use Rattle.vrps.specs.declared.key.Key.TheVariants as keys
 abbrev pub head_block : Head ℕ → Block
 head_block head = record { addr = head.addr; len = head.len }
 
--- the prefix that a key stands for
+-- the prefix that a key encodes
 abbrev pub key_prefix : Key → IpPrefix
 key_prefix (keys.V4 head) = V4 (head_block head)
 key_prefix (keys.V6 head) = V6 (head_block head)

@@ -38,7 +38,7 @@ abbrev pub count_of : Option Payload → ℕ
 count_of None = 0
 count_of (Some v) = 1
 
--- The first of the records that stand in just one of two ascending lists, and what comes after it
+-- The first of the records that are in just one of two ascending lists, and what comes after it
 pub record IsFront (s t : List Payload) (first : Option Payload) (of_s : Bool) (more_s more_t : List Payload) : Type 0 where
   pub only_s : left_out s t ≡ first_and first of_s (left_out more_s more_t)
   pub only_t : left_out t s ≡ first_and first (not of_s) (left_out more_t more_s)

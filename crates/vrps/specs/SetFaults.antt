@@ -1,4 +1,4 @@
--- The numbers of faults, and the set of a list where there is one.
+-- The numbers of faults, and the set of a list if there is one.
 use Rattle.std.specs.Prelude.{◌≡◌, ◌↔◌, ℕ, ◌<◌, List, Result, Err, IfOk, OnErr}
 use Rattle.prefixes.specs.Payload.{Payload}
 use Rattle.vrps.specs.VrpSet.{VrpSet, set_of, size}

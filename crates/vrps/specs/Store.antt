@@ -29,8 +29,8 @@ is_current (now ∷ older) set = is_same now set
 abbrev pub published : VrpSet → Instance → Instance
 published set i = if is_current i.sets set then i else record i { sets = set ∷ i.sets }
 
--- What a cache knows of a version that is asked for by its serial: nothing is published; it is not kept; or the change from it
--- to the current version (RFC 8210 sections 8.2 to 8.4)
+-- What a cache knows of a version that is asked for by its serial (RFC 8210 sections 8.2 to 8.4). Nothing is published, or the version is
+-- not kept, or there is the change from it to the current version.
 pub data Since : Type 0 where
   NoData : Since
   Unknown : Since

@@ -31,7 +31,7 @@ abbrev pub with_all : VrpSet → List Payload → VrpSet
 with_all s [] = s
 with_all s (v ∷ vs) = with_member (with_all s vs) v
 
--- The set of a list. What stands twice counts once.
+-- The set of a list. A record that is listed twice counts once.
 abbrev pub set_of : List Payload → VrpSet
 set_of vs = with_all empty vs
 

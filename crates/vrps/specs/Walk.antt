@@ -5,7 +5,7 @@ use Rattle.std.specs.declared.cmp.Ordering.TheVariants.{Less}
 use Rattle.prefixes.specs.Payload.{Payload, vrp_cmp}
 use Rattle.vrps.specs.VrpSet.{listing, set_of, union, without}
 
--- An ascending list, cut at a record: those below it, whether it stands there, and those above it.
+-- An ascending list, cut at a record: those below it, whether it is there, and those above it.
 pub record IsCut (records : List Payload) (at : Payload) (below : List Payload) (found : Bool) (above : List Payload) : Type 0 where
   pub parts : records ≡ below ++ (if found then at ∷ above else above)
   pub below_it : AllByRecursion (λ v. vrp_cmp v at ≡ Less) below

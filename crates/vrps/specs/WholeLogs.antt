@@ -15,7 +15,7 @@ pub record IsLogOf (keep : ℕ) (i : Instance) (log : WholeLog) : Type 0 where
   pub holds : HoldsSets keep i log.session log.next.0 (sets_of log)
   pub room : deque_capacity log.sets ≡ keep + 1
 
--- The oldest set went where there was no room, and nothing else changed.
+-- The oldest set was dropped if there was no room, and nothing else changed.
 pub record HasRoom (old new : WholeLog) : Type 0 where
   pub session : new.session ≡ old.session
   pub next : new.next ≡ old.next

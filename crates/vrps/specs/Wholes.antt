@@ -11,7 +11,7 @@ pub record HoldsSets (keep : ℕ) (i : Instance) (session next : ℕ) (sets : Li
   pub next_is : next ≡ serial_at i.start (length i.sets)
   pub sets_are : sets ≡ take (suc keep) i.sets
 
--- The version of a serial stands so far behind the one before the next, as their serials say.
+-- The version of a serial is as far behind the one before the next as their serials say.
 pub record IsBehind (next serial behind : ℕ) : Type 0 where
   pub serial_fits : serial < 2 ^ 32
   pub fits : behind < 2 ^ 32

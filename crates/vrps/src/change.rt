@@ -34,8 +34,8 @@ impl Change {
         })
     }
 
-    /// The set without the withdrawn records, together with the announced ones; the set may be any. `TooMany` where that has more
-    /// members than a set may have; `Memory` where memory for it runs out. The set and both lists are walked once, side by side.
+    /// The set without the withdrawn records, together with the announced ones; the set may be any. It is `TooMany` if that has more
+    /// members than a set may have, and `Memory` if memory for it runs out. The set and both lists are walked once, side by side.
     pub fn apply(&self, alloc: Global, set: &VrpSet) -> Result<VrpSet, SetFault>
         ensures ok { IfOk result (λ t. (t ≡ apply self.now set.now) × (size t ≤ 16777215)) }
         ensures too_many { IsErrOf result SetFault.TooMany → 16777215 < size (apply self.now set.now) }
@@ -52,7 +52,7 @@ impl Change {
 #[derive(Clone, Copy)]
 pub(crate) struct Cut<'a> {
     pub(crate) below: &'a [Vrp],
-    /// Whether the record stands in the list.
+    /// Whether the record is in the list.
     pub(crate) found: bool,
     pub(crate) above: &'a [Vrp],
 }

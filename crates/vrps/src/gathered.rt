@@ -10,8 +10,8 @@ use std::alloc::{AllocError, Global};
 use std::collections::BTreeSet;
 use std::marker::Model;
 
-/// Records that come one by one, in any order. One that is after all others is added at once, and each other one in logarithmic time, taken
-/// over all; each is found in logarithmic time.
+/// Records that come one by one, in any order. A record after all others is added in constant time, any other in amortized logarithmic
+/// time. Each is found in logarithmic time.
 #[derive(Debug, Drop)]
 pub struct Gathered {
     records: Records,
@@ -97,8 +97,8 @@ impl Gathered {
         }
     }
 
-    /// The set of the records; `TooMany` where they are more than a set may have, `Memory` where memory for it runs out. Records that came in
-    /// ascending order are the set as they lie, and it takes no memory then; else the time is linear in their number.
+    /// The set of the records. It is `TooMany` if they are more than a set may have, and `Memory` if memory for it runs out. If the records
+    /// came in ascending order, no memory is allocated; otherwise the time is linear in their number.
     pub fn into_set(self, alloc: Global) -> Result<VrpSet, SetFault>
         ensures ok { IfOk result (λ s. s ≡ self) }
         ensures too_many { IsErrOf result SetFault.TooMany → 16777215 < size self }

@@ -69,7 +69,7 @@ fn heads_of(alloc: Global, records: &[Vrp], starts: &[u32]) -> Result<Heads, All
     Ok(heads)
 }
 
-/// The place of the first IPv6 group, or the number of groups where there is none.
+/// The place of the first IPv6 group, or the number of groups if there is none.
 fn first_v6(records: &[Vrp], starts: &[u32]) -> usize
     requires { AreGroups records.now starts.now }
     ensures { result ≤ length starts.now }

@@ -54,7 +54,7 @@ impl Heads {
     }
 }
 
-/// Sorted groups of records. A group is all records of one prefix. The prefixes stand apart from the records, as a search reads them alone.
+/// Sorted groups of records. A group is all records of one prefix. The prefixes are kept apart from the records, as a search reads them alone.
 #[derive(Debug, Drop)]
 pub(crate) struct Groups {
     /// The groups, one after the other.

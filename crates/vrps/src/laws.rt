@@ -24,8 +24,8 @@ pub fn changes_merge()
     ensures { ChangesMerge }
 {}
 
-/// A route is Valid where some member matches it, Invalid where some member covers it and none matches, and NotFound where none
-/// covers it (RFC 6811 section 2).
+/// A route is Valid if some member matches it, Invalid if some member covers it and none matches, and NotFound if none covers it
+/// (RFC 6811 section 2).
 pub fn state_by_members()
     ensures { StateByMembers }
 {}
@@ -40,12 +40,12 @@ pub fn covering_members()
     ensures { CoveringMembers }
 {}
 
-/// A route is Valid exactly where one of the members that cover it matches, and NotFound exactly where there are none.
+/// A route is Valid if and only if one of the members that cover it matches, and NotFound if and only if there are none.
 pub fn state_by_covering()
     ensures { StateByCovering }
 {}
 
-/// Two sets list the same members exactly where they are one.
+/// Two sets list the same members if and only if they are one.
 pub fn same_exactly()
     ensures { SameExactly }
 {}
@@ -55,8 +55,8 @@ pub fn published_is_instance()
     ensures { PublishedIsInstance }
 {}
 
-/// While fewer than 2^31 versions are newer, the serial of a version names it, what is kept under it is it or nothing, and it is
-/// before those of newer versions (RFC 1982 section 3.2; RFC 8210 section 2).
+/// The serial of a version names it while fewer than 2^31 versions are newer. What is kept under the serial is that version or nothing, and
+/// the serial is before those of newer versions (RFC 1982 section 3.2; RFC 8210 section 2).
 pub fn serials_name_versions()
     ensures names { NamesItself }
     ensures kept { KeptIsItself }

@@ -42,7 +42,7 @@ impl Model for VersionLog {
 
 impl VersionLog {
     /// A log of a session without versions, whose first one has the serial `start`, and which keeps `keep` versions before the
-    /// current one, from 1 to 65,536. Room for as many steps is taken here.
+    /// current one, from 1 to 65,536. Room for as many steps is allocated here.
     pub fn new(alloc: Global, session: u16, start: u32, keep: u32) -> Result<VersionLog, AllocError>
         requires some { 1 ≤ keep }
         requires limit { keep ≤ 65536 }
@@ -58,15 +58,15 @@ impl VersionLog {
         })
     }
 
-    /// The kept step at a place, counted from the oldest one: with n the last position and m the lesser of n and the versions that
-    /// are kept, the change from the set of position n - m + i to the next one, for i below m, and else nothing.
+    /// The kept step at place `i`, counted from the oldest one. Let n be the last position, and m the lesser of n and the versions that are
+    /// kept. For `i` below m it is the change from the set of position n - m + i to the next one; otherwise there is none.
     pub fn kept(&self, i: usize) -> Option<&Change>
         ensures { (keep : ℕ) (instance : Instance) → HoldsSteps keep instance self.now → option_map (λ step. step.now) result ≡ kept_step keep instance.sets i }
     {
         self.steps.nth_back(i)
     }
 
-    /// How many versions before the current one that of this serial stands.
+    /// How many versions before the current one that of this serial is.
     fn behind(&self, serial: Serial) -> usize
         ensures { IsBehind self.now.next serial.0 result }
     {

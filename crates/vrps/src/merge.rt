@@ -97,7 +97,7 @@ fn joined(alloc: Global, older: &Lists, newer: &Lists) -> Result<Lists, AllocErr
     Ok(lists)
 }
 
-/// The first of the records that stand in just one of two ascending lists, and the lists from there on.
+/// The first of the records that are in just one of two ascending lists, and the lists from there on.
 #[derive(Clone, Copy)]
 struct Front<'a> {
     first: Option<&'a Vrp>,
@@ -118,7 +118,7 @@ fn made_front<'a>(first: Option<&'a Vrp>, of_s: bool, s: &'a [Vrp], t: &'a [Vrp]
     Front { first, of_s, s, t }
 }
 
-/// The front of two ascending lists. The time is linear in the number of records that stand in both and are passed over.
+/// The front of two ascending lists. The time is linear in the number of records that are in both and are passed over.
 #[inline(always)]
 fn front_of<'a>(s: &'a [Vrp], t: &'a [Vrp]) -> Front<'a>
     requires s_ascends { IsStrictlySortedBy vrp_cmp s.now }
@@ -160,7 +160,7 @@ fn put(lists: &mut Lists, vrp: &Vrp, withdrawn: bool) -> Result<(), AllocError>
     Ok(())
 }
 
-/// Adds a record that is to be added to the one list or to the other already, where this is not the same list.
+/// Adds a record to the other list, if it was to be added to one list already and this is not the same list.
 #[inline(always)]
 fn put_other(lists: &mut Lists, vrp: &Vrp, is_put: bool, withdrawn: bool) -> Result<(), AllocError>
     ensures withdraw { IfOk result (λ _. lists.new.withdraw.items ≡ lists.old.withdraw.items ++ (if not is_put && withdrawn then vrp.now ∷ [] else [])) }
@@ -174,7 +174,7 @@ fn put_other(lists: &mut Lists, vrp: &Vrp, is_put: bool, withdrawn: bool) -> Res
     Ok(())
 }
 
-/// Adds what stands in just one of the two lists, from their front on.
+/// Adds what is in just one of the two lists, from their front on.
 fn put_all(alloc: Global, lists: &mut Lists, front: Front) -> Result<(), AllocError>
     requires s_ascends { IsStrictlySortedBy vrp_cmp front.s.now }
     requires t_ascends { IsStrictlySortedBy vrp_cmp front.t.now }

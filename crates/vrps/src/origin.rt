@@ -90,8 +90,8 @@ impl OriginIndex {
         self.state_counted(route).0
     }
 
-    /// The state of a route, and how many groups were read for it: no more than the route's length plus 1, times the binary digits of
-    /// the number of groups, and at least one where there is a group. It takes no memory.
+    /// The state of a route, and how many groups were read for it. That is at most the route's length plus 1, times the binary digits of the
+    /// number of groups. It is at least one if there is a group. Nothing is allocated.
     pub fn state_counted(&self, route: &Route) -> (OriginState, u32)
         ensures state { result.0 ≡ state self.now route.now }
         ensures probes { result.1 ≤ ((block_of route.now.prefix).len + 1) * digit_count (group_count self.now) }

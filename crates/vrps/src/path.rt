@@ -17,7 +17,7 @@ pub enum SegmentKind {
     ConfedSet,
 }
 
-/// A segment of a path, with its AS numbers in the order in which they stand.
+/// A segment of a path, with its AS numbers in their order in the path.
 #[derive(Debug, Drop)]
 pub struct Segment {
     /// Whether it is a sequence or a set, of a confederation or not.
@@ -47,7 +47,7 @@ impl PathFault {
 
 /// The origin of a path that a speaker of the AS `own` received (RFC 6811 section 2). The final segment decides, and no other is
 /// looked at: the last number of a sequence, `own` for a segment of a confederation, and the origin NONE for a set. A path without
-/// a segment is `own`'s. `EmptySequence` where the final segment is a sequence without a number. It takes no memory.
+/// a segment is `own`'s. It is `EmptySequence` if the final segment is a sequence without a number. Nothing is allocated.
 pub fn origin_of_path(segments: &[Segment], own: u32) -> Result<Option<u32>, PathFault>
     ensures { result ≡ origin_of_path segments.now own }
 {

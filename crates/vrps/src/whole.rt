@@ -10,7 +10,7 @@ use std::collections::VecDeque;
 use std::rc::Rc;
 
 /// The versions of one session, each kept as a whole set: the current one and some before it. Room for
-/// them is taken when the log is made, so a publication takes no memory.
+/// them is allocated when the log is made, so a publication allocates nothing.
 #[derive(Debug, Drop)]
 pub struct WholeLog {
     alloc: Global,
@@ -40,7 +40,7 @@ impl WholeLog {
         })
     }
 
-    /// Lets the oldest set go where there is no room for one more.
+    /// Drops the oldest set if there is no room for one more.
     fn make_room(&mut self)
         ensures { HasRoom self.old self.new }
     {
@@ -49,7 +49,7 @@ impl WholeLog {
         }
     }
 
-    /// How many versions before the current one that of this serial stands.
+    /// How many versions before the current one that of this serial is.
     fn behind(&self, serial: Serial) -> usize
         ensures { IsBehind self.now.next.0 serial.0 result }
     {
