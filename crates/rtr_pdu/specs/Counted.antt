@@ -18,11 +18,11 @@ failures_of c = c.failures
 abbrev pub IsSpent : {D : Type 0} → Counted D → Type 0
 IsSpent c = calls_of c ≡ 2 ^ 64 - 1
 
--- A read fails where it answers Err. That it gives no byte is the end of the input.
+-- A read fails if it answers Err. That it gives no byte is the end of the input.
 abbrev pub read_fails : {E : Type 0} → Result ℕ E → Bool
 read_fails answer = is_err answer
 
--- A write fails where it answers Err, or takes no byte where there are some.
+-- A write fails if it answers Err, or writes no byte although there are some.
 abbrev pub write_fails : {E : Type 0} → Result ℕ E → List ℕ → Bool
 write_fails (Ok n) bytes = n == 0 && nat_lt 0 (length bytes)
 write_fails (Err e) bytes = true

@@ -12,8 +12,8 @@ use Rattle.rtr_pdu.specs.Counted.{calls_of, failures_of, HasFailed}
 use Rattle.rtr_pdu.specs.Stream.{as_read, length_of, IsPartial, Splits, end_fault}
 use Rattle.rtr_pdu.specs.Reader.{IsFaulty, IsRead}
 
--- What these bytes are, and that they are the last ones where it is known that the input ends: a PDU and no more, or nothing,
--- or the beginning of a PDU, or what shows a fault and no more
+-- What these bytes are: a PDU and no more, or nothing, or the beginning of a PDU, or what shows a fault and no more. If it is known that
+-- the input ends, they are the last ones.
 abbrev pub ReadAnswers : Version → List ℕ → Option (List ℕ) → Result (Option Unit) ReadFault → Type 0
 ReadAnswers version bytes left (Ok (Some u)) = IsRead version false bytes u
 ReadAnswers version bytes left (Ok None) = (bytes ≡ []) × IsAtEnd left
@@ -28,13 +28,13 @@ pub record ReadsUnit (version : Version) (before left : Option (List ℕ)) (call
   pub answers : ReadAnswers version bytes left answer
   pub calls_most : now ≤ calls + length bytes + 1
 
--- No failure was counted and some call was; where the answer is that the reader failed, it did.
+-- No failure was counted and some call was. If the answer is that the reader failed, it did.
 abbrev pub CountsRead : {D : Type 0} → Counted D → Counted D → Result (Option Unit) ReadFault → Type 0
 CountsRead old new (Err read_faults.ReadFailed) = HasFailed old new
 CountsRead old new answer = (failures_of new ≡ failures_of old) × (calls_of old < calls_of new)
 
--- What this answer, after these bytes were read, says of the split of what there was, where this is left: its first PDU, and then
--- the PDUs of what is left; or no PDU, and this fault at its end; or nothing at all
+-- What this answer, after these bytes were read and if this is left, says of the split of what there was. That is its first PDU, and then
+-- the PDUs of what is left; or no PDU, and this fault at its end; or nothing at all.
 abbrev pub SaysOfSplit : Version → List ℕ → List ℕ → Result (Option Unit) ReadFault → Type 0
 SaysOfSplit version bytes left (Ok (Some u)) =
     (units : List Unit) (rest : List ℕ) (fault : Option UnitFault) → Splits version false left units rest fault → Splits version false (bytes ++ left) (u ∷ units) rest fault
@@ -43,7 +43,7 @@ SaysOfSplit version bytes left (Err (read_faults.Fault fault)) =
     (shown : Option UnitFault) × Splits version false (bytes ++ left) [] (bytes ++ left) shown × (end_fault (bytes ++ left) shown ≡ Some fault)
 SaysOfSplit version bytes left (Err read_faults.ReadFailed) = ⊤
 
--- An answer gives the first PDU or fault of the split, where the reader's bytes are known.
+-- An answer gives the first PDU or fault of the split, if the reader's bytes are known.
 abbrev pub TellsFirst : Type 0
 TellsFirst = (version : Version) (bytes left : List ℕ) (answer : Result (Option Unit) ReadFault) → ReadAnswers version bytes (Some left) answer → SaysOfSplit version bytes left answer
 
@@ -55,7 +55,7 @@ GoesOutInPart before now bytes = (n : ℕ) × (n < length bytes) × Appends befo
 abbrev pub wanted : List ℕ → ℕ
 wanted held = if nat_lt (length held) 8 then 8 - length held else length_of held - length held
 
--- What is answered where the input ends
+-- What is answered at the end of the input
 abbrev pub end_answer : Option UnitFault → Result (Option Unit) ReadFault
 end_answer None = Ok None
 end_answer (Some fault) = Err (read_faults.Fault fault)

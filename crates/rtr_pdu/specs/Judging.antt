@@ -64,8 +64,8 @@ body_fault version bytes =
     else if is_kind kinds.ErrorReport bytes && not (has_report version bytes) then Some faults.ErrorReport
     else None
 
--- Bytes of a stream, from the beginning of a PDU on, are the beginning of a PDU in which no fault shows yet, or begin with a
--- PDU, or show a fault.
+-- What bytes of a stream are, from the beginning of a PDU on: a beginning of one in which no fault shows yet, or one at the front, or a
+-- fault.
 pub data Judgement : Type 0 where
   Begins : Judgement
   Whole : Unit → Judgement
@@ -82,21 +82,21 @@ by_header version bytes None =
     else if nat_lt (length bytes) (length_of bytes) then Begins
     else by_body version bytes (body_fault version bytes)
 
--- What bytes are where PDUs of this version are expected, at a cache and at a router (any)
+-- What bytes are if PDUs of this version are expected, at a cache and at a router (any)
 unfoldable pub judge : Version → Bool → List ℕ → Judgement
 judge version any bytes = let seen = as_read version any bytes in by_header version seen (header_fault version seen)
 
--- They are judged the beginning of a PDU exactly where they are one.
+-- They are judged the beginning of a PDU if and only if they are one.
 abbrev pub BeginsExactly : Type 0
 BeginsExactly = (version : Version) (any : Bool) (bytes : List ℕ) → (judge version any bytes ≡ Begins) ↔ IsPartial version (as_read version any bytes)
 
--- They are judged to show a fault exactly where it shows.
+-- They are judged to show a fault if and only if it shows.
 abbrev pub FaultyExactly : Type 0
 FaultyExactly =
     (version : Version) (any : Bool) (bytes : List ℕ) (fault : UnitFault) →
     (judge version any bytes ≡ Faulty fault) ↔ Shows version (as_read version any bytes) fault
 
--- Bytes of the length that their header gives are judged a PDU exactly where they are it.
+-- Bytes of the length that their header gives are judged a PDU if and only if they are it.
 abbrev pub WholeExactly : Type 0
 WholeExactly =
     (version : Version) (any : Bool) (bytes : List ℕ) (u : Unit) → AreBytes bytes →

@@ -7,7 +7,7 @@ use Rattle.rtr_pdu.specs.declared.version.Version.TheVariants.{V0, V1}
 use Rattle.rtr_pdu.specs.declared.kind.Kind.{Kind}
 use Rattle.rtr_pdu.specs.declared.kind.Kind.TheVariants as kinds
 
--- The number that stands for a type in a header
+-- The number of a type in a header
 abbrev pub type_number : Kind → ℕ
 type_number kinds.SerialNotify = 0
 type_number kinds.SerialQuery = 1

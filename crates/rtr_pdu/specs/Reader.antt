@@ -10,8 +10,8 @@ use Rattle.rtr_pdu.specs.declared.unit.Next.TheVariants as next
 use Rattle.rtr_pdu.specs.Unit.{Reads, fits}
 use Rattle.rtr_pdu.specs.Stream.{as_read, length_of, IsPartial, Shows, IsShortest, end_fault, is_notify}
 
--- The version of the PDUs that were read, or to be read from the start; the bytes that no PDU has given back; whether a Serial
--- Notify among them, and one after them, may show any version; and the fault, once one was found
+-- The version of the PDUs that were read, or the one expected from the start, and the bytes that no PDU has given back. `any` and `later`:
+-- whether a Serial Notify among these bytes, and one after them, may show any version. And the fault, once one was found.
 pub record Reader : Type 0 where
   pub version : Option Version
   pub held : List ℕ
@@ -37,13 +37,13 @@ pub record IsRead (version : Version) (any : Bool) (bytes : List ℕ) (u : Unit)
   pub reads : Reads version u (as_read version any bytes)
   pub shortest : IsShortest version any bytes
 
--- What these bytes of a PDU are, where this is left of the piece
+-- What these bytes of a PDU are, if this is left of the piece
 abbrev pub Judges : Version → Bool → List ℕ → Next → List ℕ → Type 0
 Judges version any bytes (next.Unit u) rest = IsRead version any bytes u
 Judges version any bytes next.NeedMore rest = IsPartial version (as_read version any bytes) × (rest ≡ [])
 Judges version any bytes (next.Fault fault) rest = IsFaulty version any bytes fault
 
--- Behind these bytes some of the piece are taken, and this is left.
+-- Behind these bytes some of the piece are consumed, and this is left.
 pub record Advances (version : Version) (any : Bool) (held piece : List ℕ) (answer : Next) (rest now : List ℕ) : Type 0 where
   pub taken : List ℕ
   pub piece_is : piece ≡ taken ++ rest
@@ -63,11 +63,11 @@ IsReader version r = MatchOption r.fault (IsPartial version (as_read version r.a
 abbrev pub fresh : Option Version → Bool → Reader
 fresh version any = record { version = version; held = []; any = any; later = any; fault = None }
 
--- The version of a reader, once a header has come whole or where it was known from the start
+-- The version of a reader, once a header has come whole or if it was known from the start
 abbrev pub known_version : Reader → Option Version
 known_version r = header_version r.version r.held
 
--- The version of the PDU at hand, where these bytes follow
+-- The version of the PDU at hand, if these bytes follow
 abbrev pub version_with : Reader → List ℕ → Version
 version_with r bytes = version_in r.version (r.held ++ bytes)
 
@@ -76,7 +76,7 @@ abbrev pub FitsAnswer : Version → Next → Type 0
 FitsAnswer version (next.Unit u) = fits version u ≡ true
 FitsAnswer version answer = ⊤
 
--- The reader after an answer for which this was taken
+-- The reader after an answer for which this was consumed
 abbrev pub ReaderGives : Version → Reader → List ℕ → Next → List ℕ → Reader → Type 0
 ReaderGives version old taken (next.Unit u) rest new = (old.fault ≡ None) × IsRead version old.any (old.held ++ taken) u × (new ≡ fresh (Some version) old.later)
 ReaderGives version old taken next.NeedMore rest new =
@@ -85,7 +85,7 @@ ReaderGives version old taken (next.Fault fault) rest new =
     ((old.fault ≡ None) × IsFaulty version old.any (old.held ++ taken) fault × (new ≡ record old { held = old.held ++ taken; fault = Some fault }))
     ⊎ ((old.fault ≡ Some fault) × (taken ≡ []) × (new ≡ old))
 
--- A call of `next`: what it takes stands at the front of the piece, and nothing else changes.
+-- A call of `next`: what it consumes is at the front of the piece, and nothing else changes.
 pub record ReaderTakes (version : Version) (old : Reader) (piece : List ℕ) (answer : Next) (rest : List ℕ) (new : Reader) : Type 0 where
   pub taken : List ℕ
   pub piece_is : piece ≡ taken ++ rest
@@ -99,6 +99,6 @@ after_agreed r = record r { any = (if nat_lt (length r.held) 8 then false else r
 abbrev pub told : Unit → Reader → Reader
 told u r = elim (is_notify u) [ true ↦ r | false ↦ after_agreed r ]
 
--- The fault of the input if it ends where the reader stands
+-- The fault of the input if it ends at the reader's place
 abbrev pub at_end : Reader → Option UnitFault
 at_end r = end_fault r.held r.fault

@@ -171,7 +171,7 @@ row_any_version : as_read V1 true (0x00 ∷ 0x00 ∷ 0x12 ∷ 0x34 ∷ 0x00 ∷ 
 unfolding as_read
 row_any_version = refl
 
--- after agreement bytes are read as they stand
+-- after agreement bytes are read as they are
 row_agreed : as_read V1 false (0x00 ∷ 0x00 ∷ 0x12 ∷ 0x34 ∷ 0x00 ∷ 0x00 ∷ 0x00 ∷ 0x0c ∷ []) ≡ 0x00 ∷ 0x00 ∷ 0x12 ∷ 0x34 ∷ 0x00 ∷ 0x00 ∷ 0x00 ∷ 0x0c ∷ []
 unfolding as_read
 row_agreed = refl

@@ -33,7 +33,7 @@ IsKind kind bytes = type_of bytes ≡ type_number kind
 abbrev pub is_kind : Kind → List ℕ → Bool
 is_kind kind bytes = type_of bytes == type_number kind
 
--- The first fault of a header with these bytes of version, type and length, where PDUs of this version are expected
+-- The first fault of a header with these bytes of version, type and length, if PDUs of this version are expected
 abbrev pub fault_of : Version → ℕ → ℕ → ℕ → Option UnitFault
 fault_of version shown type len =
     if not (shown == version_number version) then Some faults.Version
@@ -75,7 +75,7 @@ Shows version bytes faults.ErrorReport = IsWhole version bytes × IsKind kinds.E
 Shows version bytes faults.Truncated = ⊥
 Shows version bytes fault = header_fault version bytes ≡ Some fault
 
--- The fault where the input ends behind what follows the last PDU: the one that shows, or that a PDU is cut off
+-- The fault if the input ends behind what follows the last PDU: the one that shows, or that a PDU is cut off
 abbrev pub end_fault : List ℕ → Option UnitFault → Option UnitFault
 end_fault rest (Some fault) = Some fault
 end_fault [] None = None
@@ -140,7 +140,7 @@ IsShortest version any bytes =
 abbrev pub WrittenIsRead : Type 0
 WrittenIsRead = (version : Version) (u : Unit) → IsUnit u → fits version u ≡ true → Reads version u (unit_bytes version u)
 
--- No PDU's bytes begin another's: where two stand at the front of the same bytes, they are the same, and so is what follows.
+-- No PDU's bytes begin another's: if two are at the front of the same bytes, they are the same, and so is what follows.
 abbrev pub NoBeginning : Type 0
 NoBeginning =
     (version : Version) (u v : Unit) (front other back rest : List ℕ) → Reads version u front → Reads version v other → front ++ back ≡ other ++ rest →

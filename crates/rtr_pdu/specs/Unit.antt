@@ -62,8 +62,8 @@ prefix_bytes version announce (V4 p) max_len asn z =
 prefix_bytes version announce (V6 p) max_len asn z =
     fixed_header version kinds.Ipv6Prefix z.header ++ (flag announce + 2 * z.flags) ∷ p.len ∷ max_len ∷ z.byte ∷ big_bytes 16 p.addr ++ big_bytes 4 asn
 
--- The PDUs that there are in a version: an End of Data with intervals and a Router Key in version 1, an End of Data without
--- intervals in version 0, and all others in both.
+-- The PDUs that there are in a version. Version 1 has an End of Data with intervals and a Router Key, version 0 an End of Data without
+-- intervals, and both have all others.
 abbrev pub fits : Version → Unit → Bool
 fits version (EndOfData session serial refresh retry expire) = not (is_v0 version)
 fits version (EndOfData0 session serial) = is_v0 version
@@ -103,7 +103,7 @@ IsUnit (RouterKey k) =
     (length k.identifier ≡ 20) × (k.asn < 2 ^ 32) × (length k.info ≤ KEY_ROOM) × AreBytes k.identifier × AreBytes k.info
 IsUnit (ErrorReport r) = (r.code < 2 ^ 16) × (length r.copy + length r.text ≤ REPORT_ROOM) × IsUtf8 r.text × AreBytes r.copy
 
--- These bytes are read as this PDU of this version, whatever stands where zeros are sent.
+-- These bytes are read as this PDU of this version, whatever is in the places of zeros that are sent.
 pub record Reads (version : Version) (u : Unit) (bytes : List ℕ) : Type 0 where
   pub of_version : fits version u ≡ true
   pub fits : IsUnit u

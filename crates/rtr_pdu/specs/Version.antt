@@ -3,7 +3,7 @@ use Rattle.std.specs.Prelude.{ℕ, zero, Bool, true, false, nat_lt, List, ◌∷
 use Rattle.rtr_pdu.specs.declared.version.Version.{Version}
 use Rattle.rtr_pdu.specs.declared.version.Version.TheVariants.{V0, V1}
 
--- The number that stands for a version in a header
+-- The number of a version in a header
 abbrev pub version_number : Version → ℕ
 version_number V0 = 0
 version_number V1 = 1
@@ -17,12 +17,12 @@ abbrev pub first_version : List ℕ → Version
 first_version (zero ∷ bytes) = V0
 first_version bytes = V1
 
--- The version of bytes where one is expected already, or else that of their first header
+-- The version of bytes: the expected one, if any, or else that of their first header
 abbrev pub version_in : Option Version → List ℕ → Version
 version_in (Some version) bytes = version
 version_in None bytes = first_version bytes
 
--- The version that is known where these bytes are held: the one that is expected already, or that of a header that has come whole
+-- The version that is known if these bytes are held: the one that is expected already, or that of a header that has come whole
 abbrev pub header_version : Option Version → List ℕ → Option Version
 header_version (Some version) held = Some version
 header_version None held = if nat_lt (length held) 8 then None else Some (first_version held)

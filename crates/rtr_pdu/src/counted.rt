@@ -73,7 +73,7 @@ impl<D: Read> Read for Counted<D> {
 
     ghost remaining = { λ c. D.remaining (device_of c) };
 
-    /// Hands the read on. It fails where it answers an error.
+    /// Hands the read on. It fails if it answers an error.
     fn read(&mut self, buf: &mut [u8]) -> Result<usize>
         ensures bound { ReadsAtMost result buf.new }
         ensures bytes { ReadConsumes (D.remaining (device_of self.old)) (D.remaining (device_of self.new)) result buf.new }
@@ -102,7 +102,7 @@ impl<D: Write> Write for Counted<D> {
 
     ghost contents = { λ c. D.contents (device_of c) };
 
-    /// Hands the write on. It fails where it answers an error, or takes no byte where there are some.
+    /// Hands the write on. It fails if it answers an error, or writes no byte although there are some.
     fn write(&mut self, buf: &[u8]) -> Result<usize>
         ensures bound { WritesAtMost result buf.now }
         ensures bytes { WriteAppends (D.contents (device_of self.old)) (D.contents (device_of self.new)) result buf.now }

@@ -30,7 +30,7 @@ pub enum ReadFault {
 impl ReadFault {
     ghost use Rattle.rtr_pdu.specs.Fault.{read_fault_number};
 
-    /// The number by which the fault is printed: 1 to 7 of a `UnitFault`, 8 where the reader failed.
+    /// The number by which the fault is printed: 1 to 7 of a `UnitFault`, 8 if the reader failed.
     pub fn number(self) -> u8
         ensures { result ≡ read_fault_number self }
     {
@@ -65,7 +65,7 @@ fn write_bytes<W: Write>(bytes: &[u8], out: &mut Counted<W>) -> Result<(), Write
     Ok(())
 }
 
-/// Writes the bytes of a PDU of version 1 (RFC 8210 section 5), all in one call where the writer takes them. Where it
+/// Writes the bytes of a PDU of version 1 (RFC 8210 section 5), all in one call if the writer accepts them. If it
 /// fails, a beginning of them has gone out.
 pub fn write_unit<W: Write>(unit: &Unit, out: &mut Counted<W>) -> Result<(), WriteFailed>
     requires { fits Version.V1 unit.now ≡ true }
@@ -81,7 +81,7 @@ pub fn write_unit<W: Write>(unit: &Unit, out: &mut Counted<W>) -> Result<(), Wri
     write_bytes(buffer.as_slice(), out)
 }
 
-/// The answer where the input ends.
+/// The answer at the end of the input.
 fn end(fault: Option<UnitFault>) -> Result<Option<Unit>, ReadFault>
     ensures { result ≡ end_answer fault }
 {
@@ -113,7 +113,7 @@ pub fn read_unit<R: Read>(input: &mut Counted<R>) -> Result<Option<Unit>, ReadFa
     read_unit_of(Version::V1, input)
 }
 
-/// Reads one PDU of this version as a cache reads it, and nothing after it: `None` where the input ends before a first
+/// Reads one PDU of this version as a cache reads it, and nothing after it: `None` if the input ends before a first
 /// byte.
 pub fn read_unit_of<R: Read>(
     version: Version,

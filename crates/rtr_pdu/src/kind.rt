@@ -30,7 +30,7 @@ pub enum Kind {
 }
 
 impl Kind {
-    /// The type that this number stands for in a header of this version, or `None` where there is none.
+    /// The type that this number means in a header of this version, or `None` if it means none.
     pub fn from_number(version: Version, number: u8) -> Option<Kind>
         ensures some { IfSome result (λ kind. (type_number kind ≡ number) × (has_kind version kind ≡ true)) }
         ensures none { IfNone result (is_type version number ≡ false) }
@@ -53,15 +53,15 @@ impl Kind {
         }
     }
 
-    /// The number that stands for the type in a header.
+    /// The number of the type in a header.
     pub fn number(self) -> u8
         ensures { result ≡ type_number self }
     {
         self as u8
     }
 
-    /// How many bytes each PDU of the type has: of a Router Key without its key, of an Error Report without its copy and
-    /// its text, and of all others the whole.
+    /// How many bytes each PDU of the type has. A Router Key is counted without its key, an Error Report without its copy
+    /// and its text, and every other PDU as a whole.
     pub fn fixed_len(self, version: Version) -> u32
         ensures { result ≡ fixed_len version self }
     {

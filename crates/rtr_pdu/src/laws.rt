@@ -23,8 +23,8 @@ pub fn no_beginning()
     ensures { NoBeginning }
 {}
 
-/// Bytes are judged the beginning of a PDU, a fault, or a PDU exactly where they are one: a PDU where they are bytes of the
-/// length that their header gives.
+/// Bytes are judged the beginning of a PDU or a fault if and only if they are one. Bytes of the length that their header gives are judged a
+/// PDU if and only if they are one.
 pub fn judges_exactly()
     ensures begins { BeginsExactly }
     ensures faulty { FaultyExactly }

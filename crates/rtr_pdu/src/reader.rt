@@ -66,9 +66,9 @@ fn advance(version: Version, any: bool, buffer: &mut UnitBuffer, piece: &mut &[u
 /// the PDU ahead of it was answered, and it holds at most 4,096 bytes, within the value.
 #[derive(Debug, Drop)]
 pub struct UnitReader {
-    /// The version of the PDUs, where it was known from the start or a PDU was read.
+    /// The version of the PDUs, if it was known from the start or a PDU was read.
     version: Option<Version>,
-    /// What was taken of the PDU in hand, or of the bytes that are none.
+    /// What was read of the PDU in hand, or of the bytes that are none.
     buffer: UnitBuffer,
     /// Whether a Serial Notify may show any version.
     any: bool,
@@ -117,7 +117,7 @@ impl UnitReader {
         UnitReader::fresh(Some(version), false)
     }
 
-    /// A reader at a router that speaks this version and has not agreed on it: it reads a Serial Notify of any version
+    /// A reader at a router that speaks this version and has not agreed on it. It reads a Serial Notify of any version
     /// (RFC 8210 section 7), known by its type 0 and its length of 12 bytes.
     pub fn for_router(version: Version) -> Self
         ensures { result ≡ fresh (Some version) true }
@@ -148,7 +148,7 @@ impl UnitReader {
         }
     }
 
-    /// The version of the PDU at hand, where this piece follows.
+    /// The version of the PDU at hand, if this piece follows.
     fn version_with(&self, piece: &[u8]) -> Version
         ensures { result ≡ version_with self.now piece.now }
     {
@@ -195,8 +195,8 @@ impl UnitReader {
         }
     }
 
-    /// Takes a Prefix (RFC 8210 sections 5.6 and 5.7) as `next` does, where it stands whole at the front of the piece, and makes no `Unit` of
-    /// it: whether it is announced, and its payload. Else nothing is taken, and `next` says what there is.
+    /// Reads a Prefix (RFC 8210 sections 5.6 and 5.7) as `next` does, if it is whole at the front of the piece, and makes no `Unit` of it. The
+    /// result is whether it is announced, and its payload. Otherwise nothing is consumed, and `next` says what there is.
     pub fn next_prefix(&mut self, piece: &mut &[u8]) -> Option<(bool, Vrp)>
         ensures some { IfSome result (λ found. ReaderTakes (version_with self.old piece.old.now) self.old piece.old.now (Next.Unit (Prefix found.0 found.1)) piece.new.now self.new) }
         ensures none { IfNone result ((self.new ≡ self.old) × (piece.new.now ≡ piece.old.now)) }
@@ -232,7 +232,7 @@ impl UnitReader {
         self.fault
     }
 
-    /// The bytes that were taken and are in no PDU that was answered: at a fault the 8 bytes of the header, or the
+    /// The bytes that were consumed and are in no PDU that was answered: at a fault the 8 bytes of the header, or the
     /// whole PDU.
     pub fn held(&self) -> &[u8]
         ensures held { result.now ≡ self.now.held }

@@ -232,7 +232,7 @@ pub fn read(version: Version, any: bool, bytes: &[u8]) -> Result<Unit, UnitFault
     }
 }
 
-/// The Prefix that has come whole, behind a header without a fault: whether it is announced, and its payload. Nothing where it is another
+/// The Prefix that has come whole, behind a header without a fault: whether it is announced, and its payload. None if it is another
 /// PDU, or a fault.
 pub fn read_prefix(version: Version, any: bool, bytes: &[u8]) -> Option<(bool, Vrp)>
     requires { IsBody version any bytes.now }
@@ -252,7 +252,7 @@ pub fn read_prefix(version: Version, any: bool, bytes: &[u8]) -> Option<(bool, V
     }
 }
 
-/// The size of the PDU with which the bytes begin, where it has come whole, behind a header without a fault.
+/// The size of the PDU with which the bytes begin, if it has come whole, behind a header without a fault.
 pub fn whole_size(version: Version, any: bool, bytes: &[u8]) -> Option<usize>
     ensures within { IfSome result (λ size. size ≤ length bytes.now) }
     ensures body { IfSome result (λ size. IsBody version any (take size bytes.now)) }

@@ -62,8 +62,8 @@ fn reader_at(router: Option<Version>) -> UnitReader
     }
 }
 
-/// Reads the stream that comes in these pieces, at a router that speaks this version or at the cache, to its end or to a fault:
-/// its PDUs, and the fault. A router agrees on its version at the first PDU that is no Serial Notify. That the stream ends within a PDU is
+/// Reads the stream that comes in these pieces, to its end or to a fault, at a router that speaks this version or at the cache. The
+/// result is its PDUs, and the fault. A router agrees on its version at the first PDU that is no Serial Notify. That the stream ends within a PDU is
 /// no fault here. `AllocError`: no memory for the PDUs.
 pub fn read_all(
     alloc: Global,

@@ -15,14 +15,14 @@ pub enum Version {
 }
 
 impl Version {
-    /// The number that stands for the version in a header (RFC 8210 section 5.1).
+    /// The number of the version in a header (RFC 8210 section 5.1).
     pub fn number(self) -> u8
         ensures { result ≡ version_number self }
     {
         self as u8
     }
 
-    /// The version of bytes that begin with a header: 0 where that shows 0, and else 1. Where it shows neither, it is a fault of
+    /// The version of bytes that begin with a header: 0 if that shows 0, and otherwise 1. If it shows neither, that is a fault of
     /// version 1.
     pub fn first(bytes: &[u8]) -> Version
         ensures { result ≡ first_version bytes.now }

@@ -249,7 +249,7 @@ fn put_ipv6(
     put_four(out, at + 4, 0, 0, 0, 32);
 }
 
-/// Writes a Prefix, as `encode_prefix` does, behind the first `at` bytes of `out`, whose other bytes stay, and answers where it ends.
+/// Writes a Prefix, as `encode_prefix` does, behind the first `at` bytes of `out`, whose other bytes stay, and returns its end.
 #[inline(always)]
 pub fn encode_prefix_at(
     version: Version,
