@@ -70,9 +70,10 @@ impl<S: VersionStore> Cache<S> {
         }
     }
 
-    /// Bytes of a router are handed in. It answers how many were consumed: none where bytes are due to the router, or the connection
-    /// has ended; else up to the end of the first PDU, or to where a fault shows, or all. Memory is taken at a Serial Query alone,
-    /// for the change; where it runs out, Error Report 1 is due, and the connection ends (RFC 8210 section 12).
+    /// Hands in bytes of a router, and returns how many were consumed. None are consumed if bytes are due to the router, or the connection
+    /// has ended. Otherwise the bytes up to the end of the first PDU are consumed, or up to the place at which a fault shows, or all.
+    /// Memory is allocated at a Serial Query alone, for the change. If it runs out, Error Report 1 is due, and the connection ends (RFC
+    /// 8210 section 12).
     pub fn receive(&mut self, conn: Conn, piece: &[u8]) -> usize
         ensures takes { (m : CacheState) → ShowsCache S.holds m self.old → TakesPiece S.holds m conn.0 piece.now result self.new }
         ensures within { result ≤ length piece.now }
@@ -101,8 +102,8 @@ impl<S: VersionStore> Cache<S> {
         }
     }
 
-    /// Sends a Serial Notify of the current version to a router (RFC 8210 section 5.2), and says whether it did: where the connection
-    /// goes on, nothing is due, and something is published. It takes no memory.
+    /// Sends a Serial Notify of the current version to a router (RFC 8210 section 5.2), if the connection is open, nothing is due, and
+    /// something is published. It returns whether it did. It allocates nothing.
     pub fn notify(&mut self, conn: Conn) -> bool
         ensures { (m : CacheState) → ShowsCache S.holds m self.old → (result ≡ can_notify_at m.cache (m.at conn.0)) × ShowsCache S.holds (notified conn.0 m) self.new }
     {

@@ -28,10 +28,10 @@ pub enum Fetched {
     Limit,
 }
 
-/// Connects a router, writes its questions and reports, and reads, in pieces of at most 4,096 bytes, until no question is outstanding or
-/// the link ends, or the input ends, or a device fails, or `limit` reads were made. Each question goes out in one write where the writer
-/// takes it. The router learns in every case that the connection is closed, and keeps what it has committed by its own rules alone. The
-/// moment `now` is in seconds of the router's clock.
+/// Connects a router, writes its questions and reports, and reads in pieces of at most 4,096 bytes. It ends if no question is outstanding,
+/// the link or the input ends, a device fails, or `limit` reads were made. Each question goes out in one write if the writer accepts it. In
+/// every case the router is told that the connection is closed, and keeps what it has committed by its own rules alone. The moment `now` is
+/// in seconds of the router's clock.
 pub fn fetch_stream<R: Read, W: Write>(
     router: &mut Router,
     input: &mut Counted<R>,

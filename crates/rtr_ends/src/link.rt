@@ -9,7 +9,7 @@ use thiserror::Error;
 pub enum End {
     /// The router sent an Error Report of this code (RFC 8210 section 12).
     Reported(u16),
-    /// The router read an Error Report of this code.
+    /// The router received an Error Report of this code.
     Told(u16),
     /// An Error Report that could not be read. None is sent on it (RFC 8210 section 5.11).
     Malformed,
@@ -68,7 +68,7 @@ pub enum Link {
     Asked,
     /// An answer has begun.
     Answering,
-    /// It has ended, and the connection is still to be closed.
+    /// It has ended, and the connection has yet to be closed.
     Ended(End),
 }
 

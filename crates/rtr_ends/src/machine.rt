@@ -88,7 +88,7 @@ impl Machine {
         }
     }
 
-    /// A question is put.
+    /// Sends this query, and waits for its answer.
     pub fn send_query(&mut self, question: Question)
         ensures { self.new ≡ record self.old { state = states.Asked question; out = sent self.old.spoken (query (seen_question question)) } }
     {
@@ -102,7 +102,7 @@ impl Machine {
         self.state = State::Asked(question);
     }
 
-    /// The version of the reader, where it knows one, is that of the connection.
+    /// Takes over the version of the reader for the connection, if the reader knows one.
     pub fn follow(&mut self, version: Option<Version>)
         ensures { (spoken : Protocol) → version ≡ Some spoken → self.new ≡ record self.old { spoken = spoken } }
     {
@@ -111,7 +111,7 @@ impl Machine {
         }
     }
 
-    /// What is committed, where it is of the version of the connection.
+    /// The committed version, if it is of the version of the connection.
     pub fn known(&self) -> Option<CommittedVersion>
         ensures { seen_versions result ≡ of_version self.now.spoken (seen_versions self.now.version) }
     {
@@ -127,7 +127,7 @@ impl Machine {
         }
     }
 
-    /// Which question is to be put.
+    /// The query that comes next.
     pub fn choose(&self) -> Question
         ensures { seen_question result ≡ choose (of_version self.now.spoken (seen_versions self.now.version)) self.now.mark }
     {
@@ -146,7 +146,7 @@ impl Machine {
         }
     }
 
-    /// Asks as it is to be asked next.
+    /// Sends the query that comes next.
     pub fn query(&mut self)
         ensures { Does rules.ask self.old self.new }
     {
@@ -164,7 +164,7 @@ impl Machine {
         self.mark = false;
     }
 
-    /// Ends the link with a report on a PDU.
+    /// Sends an Error Report on a PDU, and ends the link.
     pub fn send_report(&mut self, code: u16, unit: &Unit)
         requires { fits self.old.spoken unit.now ≡ true }
         ensures { self.new ≡ record self.old { state = states.Ended (ends.Reported code); out = sent self.old.spoken (report code (sent self.old.spoken unit.now)) } }
@@ -174,7 +174,7 @@ impl Machine {
         self.state = State::Ended(End::Reported(code));
     }
 
-    /// The same with code 0, Corrupt Data, and what is committed is dropped.
+    /// Drops what is committed, and sends an Error Report of code 0, Corrupt Data, which ends the link.
     pub fn drop_and_report(&mut self, unit: &Unit)
         requires { fits self.old.spoken unit.now ≡ true }
         ensures { self.new ≡ record self.old { table = empty; before = empty; version = None; mark = false; state = states.Ended (ends.Reported CORRUPT_DATA); out = sent self.old.spoken (report CORRUPT_DATA (sent self.old.spoken unit.now)) } }
@@ -183,7 +183,7 @@ impl Machine {
         self.send_report(error_code::CORRUPT_DATA, unit);
     }
 
-    /// Whether bytes are taken: a connection is open, and nothing is to be pulled.
+    /// Whether bytes are consumed: a connection is open, and there is nothing to pull.
     pub fn takes(&self) -> bool
         ensures { result ≡ (linked.is_reading (seen_link self.now.state [] []) && is_none self.now.out) }
     {

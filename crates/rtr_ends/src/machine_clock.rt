@@ -1,4 +1,4 @@
-//! What a router does where a moment is given, and where a connection is made or closed (RFC 8210 sections 6 and 8).
+//! What a router does at a moment, and as a connection is made or closed (RFC 8210 sections 6 and 8).
 ghost use Rattle.std.specs.Prelude.{◌≡◌, [], Option};
 ghost use Rattle.rtr_ends.specs.Router as model;
 ghost use Rattle.rtr_ends.specs.RouterLink as linked;
@@ -14,7 +14,7 @@ impl Machine {
     ghost use Rattle.rtr_ends.specs.declared.machine.State.TheVariants as states;
     ghost use Rattle.rtr_ends.specs.declared.link.End.TheVariants as ends;
 
-    /// A moment is given. What has expired is dropped; a Serial Query that is outstanding then ends the link.
+    /// Advances the clock. A version that has expired is dropped, and then an outstanding Serial Query ends the link.
     pub fn advance_clock(&mut self, now: u64)
         ensures { Does (model.clocked now) self.old self.new }
     {
@@ -103,7 +103,7 @@ impl Machine {
         self.clock.saturating_add(u64::from(retry))
     }
 
-    /// A moment is given. An idle link asks where it is due.
+    /// Advances the clock. An idle link sends a query if that is due.
     pub fn tick(&mut self, now: u64)
         ensures { Does (λ r. (model.ticks_at now r).router) self.old self.new }
     {
@@ -126,7 +126,7 @@ impl Machine {
         }
     }
 
-    /// Asks where the link is idle, and answers whether it did.
+    /// Sends a query if the link is idle, and returns whether it did.
     pub fn ask_idle(&mut self) -> bool
         ensures asks { Does (λ r. (model.asks r).router) self.old self.new }
         ensures idle { result ≡ linked.is_idle (seen_link self.old.state [] []) }

@@ -57,7 +57,7 @@ impl Machine {
         }
     }
 
-    /// A Prefix is read, as `read` does, and no `Unit` is made of it where it is staged.
+    /// A Prefix is read, as `read` does. If it is staged, no `Unit` is made of it.
     pub fn read_prefix(&mut self, announce: bool, vrp: &Vrp) -> bool
         ensures { ReadsOrLacks result (Unit.Prefix announce vrp.now) self.old self.new }
     {
@@ -80,7 +80,7 @@ impl Machine {
         }
     }
 
-    /// A Prefix is read where no answer has begun.
+    /// A Prefix is read if no answer has begun.
     #[cold]
     #[inline(never)]
     fn read_apart(&mut self, announce: bool, vrp: &Vrp) -> bool
@@ -124,7 +124,7 @@ impl Machine {
         }
     }
 
-    /// A PDU where the question is not answered yet.
+    /// A PDU while the query is not answered yet.
     fn on_asked(&mut self, question: Question, unit: &Unit)
         requires state { self.old.state ≡ states.Asked question }
         requires fits { fits self.old.spoken unit.now ≡ true }
@@ -255,7 +255,7 @@ impl Machine {
         }
     }
 
-    /// Ends the link with a report on a Prefix.
+    /// Sends an Error Report on a Prefix, and ends the link.
     #[cold]
     #[inline(never)]
     fn send_prefix_report(&mut self, code: u16, announce: bool, vrp: &Vrp)
@@ -312,8 +312,8 @@ impl Machine {
         self.commit(question, session, serial, 3600, 600, 7200)
     }
 
-    /// An Error Report to the question that is outstanding: code 2, No Data Available, leaves the link idle; code 0, Corrupt Data,
-    /// to a Serial Query drops what is committed; all but 2 end the link.
+    /// An Error Report to the question that is outstanding. Code 2, No Data Available, leaves the link idle. Code 0, Corrupt Data, to a
+    /// Serial Query drops what is committed. All codes but 2 end the link.
     fn on_error_report(&mut self, question: Question, code: u16)
         ensures { Does (rules.told_off (seen_question question) code) self.old self.new }
     {
@@ -330,7 +330,7 @@ impl Machine {
         self.state = State::Ended(End::Told(code));
     }
 
-    /// Whether the session differs from the connection's, after agreement.
+    /// Whether this is another session than the connection's, after agreement on a version.
     fn is_other_session(&self, session: u16) -> bool
         ensures { result ≡ (self.now.agreed && differs (session_of self.now.session (of_version self.now.spoken (seen_versions self.now.version))) session) }
     {
@@ -344,7 +344,7 @@ impl Machine {
         self.agreed && own != session
     }
 
-    /// Whether a notify of this serial is of a later version than the committed one.
+    /// Whether this serial, of a Serial Notify, is newer than the committed one.
     fn is_newer(&self, serial: u32) -> bool
         ensures { result ≡ rules.is_news (of_version self.now.spoken (seen_versions self.now.version)) serial }
     {
@@ -354,7 +354,7 @@ impl Machine {
         }
     }
 
-    /// Whether a Cache Response of this session does not answer the question.
+    /// Whether a Cache Response of this session does not answer the query, which named another one.
     fn answers_other_session(&self, question: Question, session: u16) -> bool
         ensures { result ≡ is_wrong (Some (seen_question question)) (of_version self.now.spoken (seen_versions self.now.version)) session }
     {
@@ -385,7 +385,7 @@ impl Machine {
         }
     }
 
-    /// Bytes show a fault. The link ends, with a report but for an Error Report.
+    /// Bytes show a fault. An Error Report is sent, unless the bytes are one, and the link ends.
     pub fn on_fault(&mut self, fault: UnitFault, bytes: &[u8])
         ensures { Does (λ r. (model.breaks fault bytes.now r).router) self.old self.new }
     {

@@ -152,8 +152,8 @@ impl Peer {
         }
     }
 
-    /// Takes bytes from the front of the piece: to the end of the first PDU, or to a fault, or else all; none where bytes are
-    /// due, or the connection has ended. It answers how many.
+    /// Consumes bytes from the front of the piece, and returns how many: to the end of the first PDU, or to a fault, or otherwise all. None
+    /// are consumed if bytes are due, or the connection has ended.
     pub fn receive<S: VersionStore>(&mut self, store: &S, piece: &[u8]) -> usize
         ensures receives { (keep : ℕ) (t : Intervals) (i : Instance) (o : Conn) → S.holds keep i store.now → ShowsPeer t i o self.old →
             Receives keep t i o piece.now result self.new }

@@ -41,7 +41,7 @@ impl Router {
         }
     }
 
-    /// The version of the connections from the next one on; one that is there stays as it is. It takes no memory.
+    /// Sets the version of the protocol for the next connection and those after it. An open connection keeps its own. It allocates nothing.
     pub fn speak(&mut self, version: Version)
         ensures calls { Calls (λ r. (called (model.Speaks version) r).router) self.old self.new }
         ensures leads { LeadsOn (model.Speaks version) self.old self.new }
@@ -49,8 +49,8 @@ impl Router {
         self.machine.speaks = version;
     }
 
-    /// A connection is made, of the version that was set last, and a question put on it. An older connection is closed. It takes no
-    /// memory.
+    /// A connection is made, of the version that was set last, and a query is sent on it. An older connection is closed. It allocates
+    /// nothing.
     pub fn connect(&mut self, now: u64)
         ensures calls { Calls (λ r. (called (model.Connects now) r).router) self.old self.new }
         ensures leads { LeadsOn (model.Connects now) self.old self.new }
@@ -59,7 +59,7 @@ impl Router {
         self.reader = UnitReader::for_router(self.machine.spoken);
     }
 
-    /// The connection is closed. It takes no memory.
+    /// The transport closed the connection. It allocates nothing.
     pub fn closed(&mut self, now: u64)
         ensures calls { Calls (λ r. (called (model.Closes now) r).router) self.old self.new }
         ensures leads { LeadsOn (model.Closes now) self.old self.new }
@@ -67,7 +67,7 @@ impl Router {
         self.machine.closed(now);
     }
 
-    /// A moment is given; an idle link asks where it is due. It takes no memory.
+    /// Advances the clock. An idle link sends a query if that is due. It allocates nothing.
     pub fn tick(&mut self, now: u64)
         ensures calls { Calls (λ r. (called (model.Ticks now) r).router) self.old self.new }
         ensures leads { LeadsOn (model.Ticks now) self.old self.new }
@@ -75,7 +75,7 @@ impl Router {
         self.machine.tick(now);
     }
 
-    /// Asks on an idle link. It takes no memory.
+    /// Sends a query on an idle link. It allocates nothing.
     pub fn ask(&mut self) -> Result<(), AskFault>
         ensures calls { Calls (λ r. (called model.AsksNow r).router) self.old self.new }
         ensures leads { LeadsOn model.AsksNow self.old self.new }
@@ -167,7 +167,7 @@ impl Router {
         self.machine.table.state(route)
     }
 
-    /// When an idle link asks again, if ever, in seconds of the caller's clock.
+    /// When the next query of an idle link is due, if ever, in seconds of the caller's clock: `tick` sends it then.
     pub fn due(&self) -> Option<u64>
         ensures shown { (r : rules.Router) → IsShown r self.now → result ≡ r.due }
         ensures kept { (calls : List model.RouterCall) → CallsLead calls self.now → result ≡ due (model.played calls).items }
@@ -203,9 +203,10 @@ impl Router {
         let _ready = self.machine.out.len();
     }
 
-    /// Takes bytes of a piece, and answers how many: none where bytes are to be pulled or no link is open, else up to the end of the first
-    /// PDU that gives bytes to be pulled or ends the link. The clock is judged first, at `now`, in seconds. Memory is taken where a record
-    /// is staged or an answer ends; where it runs out, the link ends with `Memory` and the table stays.
+    /// Hands in bytes of the cache at the moment `now`, in seconds, and returns how many were consumed. None are consumed if bytes are to
+    /// be pulled or no link is open. Otherwise the bytes up to the end of the first PDU that gives bytes to be pulled or ends the link are
+    /// consumed. The clock is judged first. Memory is allocated if a record is staged or an answer ends. If it runs out, the link ends with
+    /// `Memory` and the table stays.
     pub fn receive(&mut self, piece: &[u8], now: u64) -> usize
         ensures shown { ReceivesSo now piece.now result self.old self.new }
         ensures leads { (wanting : Option ℕ) × LeadsOn (model.Receives now wanting piece.now) self.old self.new }
@@ -268,7 +269,7 @@ impl Router {
         }
     }
 
-    /// Lets the reader know of agreement, where there is one.
+    /// Tells the reader of the agreement on a version, if there is one.
     fn agree(&mut self)
         ensures { self.new ≡ record self.old { reader = if self.old.machine.agreed then after_agreed self.old.reader else self.old.reader } }
     {

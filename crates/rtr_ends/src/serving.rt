@@ -27,9 +27,9 @@ pub enum Served {
     Limit,
 }
 
-/// Serves one connection: reads queries, in pieces of at most 4,096 bytes, and writes the cache's replies to them, until the input or
-/// the connection ends, or a device fails, or `limit` reads were made. What has been read is answered before the next read. Answers go
-/// out in pieces of up to 32,768 bytes. The connection is closed in every case.
+/// Serves one connection: reads queries in pieces of at most 4,096 bytes, and writes the cache's replies to them. It ends if the input or
+/// the connection ends, a device fails, or `limit` reads were made. What has been read is answered before the next read. Answers go out in
+/// pieces of up to 32,768 bytes. The connection is closed in every case.
 pub fn serve_stream<S: VersionStore, R: Read, W: Write>(
     cache: &mut Cache<S>,
     input: &mut Counted<R>,

@@ -27,8 +27,8 @@ impl TimingFault {
     }
 }
 
-/// The intervals that a cache sends its routers, in seconds (RFC 8210 section 6): when to ask again, when to try again after
-/// a failure, and when to drop what was committed.
+/// The intervals that a cache sends its routers, in seconds (RFC 8210 section 6). They say when to ask again, when to try again after a
+/// failure, and when to drop what was committed.
 #[derive(Clone, Copy, Debug, PartialEq, Eq)]
 pub struct Timing {
     refresh: u32,
