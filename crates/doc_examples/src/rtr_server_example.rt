@@ -1,5 +1,5 @@
 use rtr_ends::{Cache, Timing};
-use rtr_server::{Duplex, Gone, Server, Turn};
+use rtr_server::{CloseReason, Duplex, Server, Turn};
 use std::test::Fail;
 use vrps::{VersionLog, VrpSet};
 
@@ -15,7 +15,7 @@ fn a_client_is_served_until_its_bytes_end(rt: HostRuntime) -> Result<(), Fail> {
         input: query,
         output,
     })?;
-    assert!(rt; server.serve(client, 64) == Some(Turn::Gone(Gone::PeerClosed)));
+    assert!(rt; server.serve(client, 64) == Some(Turn::Gone(CloseReason::PeerClosed)));
     assert!(rt; server.clients() == 0);
     Ok(())
 }

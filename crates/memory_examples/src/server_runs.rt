@@ -1,6 +1,6 @@
 use crate::end_runs::{RESET_QUERY, SERIAL_QUERY, cache_from};
 use crate::telling::{V, W, begin, no_memory, push, tell, tell_bytes, twice};
-use rtr_server::{Client, Duplex, Gone, Server, Turn};
+use rtr_server::{Client, CloseReason, Duplex, Server, Turn};
 use std::alloc::Global;
 use std::io;
 use std::io::{ErrorKind, Read, Write};
@@ -90,7 +90,7 @@ fn word(turn: Option<Turn>) -> &'static str {
     match turn {
         None => "none",
         Some(Turn::WaitsToRead) => "WaitsToRead",
-        Some(Turn::Gone(Gone::CacheEnded)) => "Gone(CacheEnded)",
+        Some(Turn::Gone(CloseReason::CacheEnded)) => "Gone(CacheEnded)",
         Some(_) => "another turn",
     }
 }

@@ -6,7 +6,7 @@ use libc::net::{
     setsockopt,
 };
 use mio::net::TcpStream;
-use rtr_server::{Moved, Stream};
+use rtr_server::{Progress, Stream};
 use std::fmt::{self, Debug};
 use std::io::{ErrorKind, Read, Write};
 use std::os::fd::AsRawFd;
@@ -77,24 +77,24 @@ impl Stream for Line {
 
     ghost answers = { λ l. Option.None };
 
-    fn read(&mut self, buf: &mut [u8]) -> Moved {
+    fn read(&mut self, buf: &mut [u8]) -> Progress {
         match self.stream.read(buf) {
-            Ok(n) => Moved::Bytes(n),
+            Ok(n) => Progress::Bytes(n),
             Err(error) => match error.kind() {
-                ErrorKind::WouldBlock => Moved::Waits,
-                ErrorKind::Interrupted => Moved::Interrupted,
-                _ => Moved::Failed,
+                ErrorKind::WouldBlock => Progress::Waits,
+                ErrorKind::Interrupted => Progress::Interrupted,
+                _ => Progress::Failed,
             },
         }
     }
 
-    fn write(&mut self, buf: &[u8]) -> Moved {
+    fn write(&mut self, buf: &[u8]) -> Progress {
         match self.stream.write(buf) {
-            Ok(n) => Moved::Bytes(n),
+            Ok(n) => Progress::Bytes(n),
             Err(error) => match error.kind() {
-                ErrorKind::WouldBlock => Moved::Waits,
-                ErrorKind::Interrupted => Moved::Interrupted,
-                _ => Moved::Failed,
+                ErrorKind::WouldBlock => Progress::Waits,
+                ErrorKind::Interrupted => Progress::Interrupted,
+                _ => Progress::Failed,
             },
         }
     }

@@ -1,5 +1,5 @@
 //! The clients of a daemon, and which of them are to be served.
-use rtr_server::{Carried, Client, Turn};
+use rtr_server::{ByteCounts, Client, Turn};
 use std::alloc::{AllocError, Global};
 use std::collections::btree_map::Values;
 use std::collections::{BTreeMap, VecDeque};
@@ -15,7 +15,7 @@ pub(crate) struct Guest {
     /// Since when nothing could be written to it, where something is to be written.
     blocked: Option<u64>,
     /// How many bytes had gone when it was served last.
-    pub(crate) carried: Carried,
+    pub(crate) carried: ByteCounts,
     is_queued: bool,
 }
 
@@ -69,7 +69,7 @@ impl Guests {
             address,
             came: now,
             blocked: None,
-            carried: Carried {
+            carried: ByteCounts {
                 read: 0,
                 written: 0,
             },
@@ -164,7 +164,7 @@ impl Guests {
     }
 
     /// Notes what a turn came to: a client that cannot be written to is blocked since something was written to it last.
-    pub(crate) fn note(&mut self, line: usize, turn: Turn, carried: Carried, now: u64) {
+    pub(crate) fn note(&mut self, line: usize, turn: Turn, carried: ByteCounts, now: u64) {
         let Some(guest) = self.by_line.get_mut(&line) else {
             return;
         };
@@ -232,7 +232,7 @@ impl Guest {
 }
 
 /// Since when a client cannot be written to, after a turn.
-fn blocked_since(guest: &Guest, turn: Turn, carried: Carried, now: u64) -> Option<u64> {
+fn blocked_since(guest: &Guest, turn: Turn, carried: ByteCounts, now: u64) -> Option<u64> {
     match (turn, guest.blocked) {
         (Turn::WaitsToWrite, Some(since)) if carried.written == guest.carried.written => {
             Some(since)

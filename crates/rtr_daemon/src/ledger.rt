@@ -2,7 +2,7 @@
 use crate::service::Issue;
 use prefixes::{IpPrefix, Vrp};
 use rtr_pdu::Kind;
-use rtr_server::{Carried, Pdus};
+use rtr_server::{ByteCounts, PdusByKind};
 use status_pages::{ChangeStatus, PduCounts, Traffic};
 use std::alloc::{AllocError, Global};
 use std::collections::VecDeque;
@@ -47,7 +47,12 @@ impl BothWays {
     }
 
     /// With what went over one more connection.
-    pub(crate) fn and(self, carried: Carried, received: Pdus, sent: Pdus) -> BothWays {
+    pub(crate) fn and(
+        self,
+        carried: ByteCounts,
+        received: PdusByKind,
+        sent: PdusByKind,
+    ) -> BothWays {
         BothWays {
             received: with(self.received, carried.read, received),
             sent: with(self.sent, carried.written, sent),
@@ -138,7 +143,7 @@ impl Ledger {
 }
 
 /// How many PDUs there are of all types.
-pub(crate) fn total(pdus: Pdus) -> u64 {
+pub(crate) fn total(pdus: PdusByKind) -> u64 {
     let counts = counts_of(pdus);
     [
         counts.serial_notify,
@@ -156,7 +161,7 @@ pub(crate) fn total(pdus: Pdus) -> u64 {
     .fold(0u64, |sum, count| sum.saturating_add(*count))
 }
 
-fn counts_of(pdus: Pdus) -> PduCounts {
+fn counts_of(pdus: PdusByKind) -> PduCounts {
     PduCounts {
         serial_notify: pdus.of(Kind::SerialNotify),
         serial_query: pdus.of(Kind::SerialQuery),
@@ -190,7 +195,7 @@ fn no_traffic() -> Traffic {
 }
 
 /// Traffic, with so many bytes and these PDUs more.
-fn with(traffic: Traffic, bytes: u64, pdus: Pdus) -> Traffic {
+fn with(traffic: Traffic, bytes: u64, pdus: PdusByKind) -> Traffic {
     let (old, new) = (traffic.pdus, counts_of(pdus));
     Traffic {
         bytes: traffic.bytes.saturating_add(bytes),

@@ -7,7 +7,7 @@ use crate::surroundings::{Journal, Ports, Ready, Time};
 use crate::telling::with_seen;
 use daemon_parts::{Departure, Event, PeerReport};
 use rtr_pdu::Version;
-use rtr_server::{Carried, Client, Gone, Pdus, Report, Stream, Turn};
+use rtr_server::{ByteCounts, Client, CloseReason, PdusByKind, Report, Stream, Turn};
 use std::net::SocketAddr;
 use std::str;
 use vrps::VersionStore;
@@ -24,9 +24,9 @@ pub(crate) const FIRST_QUERY: u64 = 60_000;
 /// What is known of a client: how many bytes and PDUs went, and the version in which it speaks.
 #[derive(Clone, Copy)]
 pub(crate) struct Seen {
-    pub(crate) carried: Option<Carried>,
-    pub(crate) received: Option<Pdus>,
-    pub(crate) sent: Option<Pdus>,
+    pub(crate) carried: Option<ByteCounts>,
+    pub(crate) received: Option<PdusByKind>,
+    pub(crate) sent: Option<PdusByKind>,
     pub(crate) version: Option<Version>,
 }
 
@@ -228,13 +228,13 @@ fn text_of(report: &Report) -> &str {
 }
 
 /// The word for how a client went.
-fn why(how: Gone) -> &'static str {
+fn why(how: CloseReason) -> &'static str {
     match how {
-        Gone::PeerClosed => "closed",
-        Gone::Truncated => "truncated",
-        Gone::CacheEnded => "ended",
-        Gone::ReadFailed => "read-failed",
-        Gone::WriteFailed => "write-failed",
+        CloseReason::PeerClosed => "closed",
+        CloseReason::Truncated => "truncated",
+        CloseReason::CacheEnded => "ended",
+        CloseReason::ReadFailed => "read-failed",
+        CloseReason::WriteFailed => "write-failed",
     }
 }
 

@@ -7,9 +7,9 @@ use Rattle.rtr_server.specs.Streams.{Logged}
 use Rattle.rtr_server.specs.Turns.{AnswersStep, AnswersTurn, FitsBudget, LastIs, StepTold, ToldSo, after_read, after_write}
 use Rattle.rtr_server.specs.declared.stream.Call.{Call}
 use Rattle.rtr_server.specs.declared.stream.Call.TheVariants as calls
-use Rattle.rtr_server.specs.declared.stream.Moved.{Moved}
-use Rattle.rtr_server.specs.declared.stream.Moved.TheVariants.{Bytes, Waits, Interrupted, Failed}
-use Rattle.rtr_server.specs.declared.turn.Gone.TheVariants.{CacheEnded, PeerClosed, ReadFailed, Truncated, WriteFailed}
+use Rattle.rtr_server.specs.declared.stream.Progress.{Progress}
+use Rattle.rtr_server.specs.declared.stream.Progress.TheVariants.{Bytes, Waits, Interrupted, Failed}
+use Rattle.rtr_server.specs.declared.turn.CloseReason.TheVariants.{CacheEnded, PeerClosed, ReadFailed, Truncated, WriteFailed}
 use Rattle.rtr_server.specs.declared.turn.Turn.{Turn}
 use Rattle.rtr_server.specs.declared.turn.Turn.TheVariants.{Busy, Gone, WaitsToRead, WaitsToWrite}
 
@@ -26,7 +26,7 @@ logged_none None (Some y) e = absurd (cc)
 logged_none (Some x) (Some y) e = cc
 
 -- One read, or one write
-pub read_told : (moved : Moved) (within : Bool) (turn : Option Turn) → turn ≡ after_read moved within → StepTold turn (calls.Read moved ∷ [])
+pub read_told : (moved : Progress) (within : Bool) (turn : Option Turn) → turn ≡ after_read moved within → StepTold turn (calls.Read moved ∷ [])
 read_told moved within turn e = subst (λ o. StepTold o (calls.Read moved ∷ [])) (sym e) (by_moved moved)
   where
     at_end : (n : ℕ) (b : Bool) → n ≡ 0 → StepTold (Some (Gone (if b then Truncated else PeerClosed))) (calls.Read (Bytes n) ∷ [])
@@ -37,20 +37,20 @@ read_told moved within turn e = subst (λ o. StepTold o (calls.Read moved ∷ []
     by_zero n true is = at_end n within (eq_of n 0 is)
     by_zero n false is = refl
 
-    by_moved : (moved : Moved) → StepTold (after_read moved within) (calls.Read moved ∷ [])
+    by_moved : (moved : Progress) → StepTold (after_read moved within) (calls.Read moved ∷ [])
     by_moved (Bytes n) = by_zero n (n == 0) refl
     by_moved Waits = (omega arith, refl)
     by_moved Interrupted = refl
     by_moved Failed = (omega arith, refl)
 
-pub write_told : (moved : Moved) (turn : Option Turn) → turn ≡ after_write moved → StepTold turn (calls.Write moved ∷ [])
+pub write_told : (moved : Progress) (turn : Option Turn) → turn ≡ after_write moved → StepTold turn (calls.Write moved ∷ [])
 write_told moved turn e = subst (λ o. StepTold o (calls.Write moved ∷ [])) (sym e) (by_moved moved)
   where
     by_zero : (n : ℕ) (b : Bool) → (n == 0) ≡ b → StepTold (if b then Some (Gone WriteFailed) else None) (calls.Write (Bytes n) ∷ [])
     by_zero n true is = (omega arith, inl (ap (λ k. calls.Write (Bytes k)) (eq_of n 0 is)))
     by_zero n false is = refl
 
-    by_moved : (moved : Moved) → StepTold (after_write moved) (calls.Write moved ∷ [])
+    by_moved : (moved : Progress) → StepTold (after_write moved) (calls.Write moved ∷ [])
     by_moved (Bytes n) = by_zero n (n == 0) refl
     by_moved Waits = (omega arith, refl)
     by_moved Interrupted = refl

@@ -13,7 +13,7 @@ use Rattle.rtr_pdu.specs.Stream.{is_kind, length_of, type_of}
 use Rattle.rtr_pdu.proofs.ModeLaws.{length_of-append, type_of-append}
 use Rattle.rtr_pdu.specs.declared.kind.Kind.TheVariants as kinds
 use Rattle.vrps.specs.declared.serial.Serial.{Serial}
-use Rattle.rtr_server.specs.declared.tally.Pdus.{Pdus}
+use Rattle.rtr_server.specs.declared.tally.PdusByKind.{PdusByKind}
 use Rattle.rtr_server.specs.Reports.{Said, report_text, said_in}
 use Rattle.rtr_server.specs.Counting.{Counted, IsBetween, and_byte, and_many, and_pdu, and_pdus, and_tail, and_whole, capped, counted_on, grown, report_after, serial_after, tail_at, text_in, told_len}
 use Rattle.rtr_server.specs.Runs.{IsOnlyCounted, ShowsHeader, length_in, type_in}
@@ -69,7 +69,7 @@ tail_put at came b tail len low = by_test (nat_lt came at) refl
         ∙ ap (λ t. if t then grows else take (came - at) tail) (sym (lt_true at (capped (came + 1)) (omega (arith, behind, low))))
 
 -- A byte more came.
-pub grows : (pdus : Pdus) (serial : Option Serial) (report : Option Said) (front new tail behind : List ℕ) (at came next b : ℕ) (now : Counted)
+pub grows : (pdus : PdusByKind) (serial : Option Serial) (report : Option Said) (front new tail behind : List ℕ) (at came next b : ℕ) (now : Counted)
     → record { pdus = pdus; serial = serial; report = report; front = take came front; tail = take (came - tail_at front) tail; came = came } ≡ now → length front ≡ 12 → length tail ≡ 204
     → new ≡ (if nat_lt came 12 then slice_set front came b else front) → at ≡ tail_at new → at < 2 ^ 33
     → behind ≡ (if nat_lt came at then tail else if nat_lt (came - at) 204 then slice_set tail (came - at) b else tail) → next ≡ capped (came + 1)
@@ -100,7 +100,7 @@ grows pdus serial report front new tail behind at came next b now view len room 
         (λ i. more_tail (one i) (take (came - one i) tail)) ∙ ap (λ xs. more_tail (tail_at xs) (take (came - tail_at front) tail)) (sym all)
 
 -- where nothing came
-pub none_came : (pdus : Pdus) (serial : Option Serial) (report : Option Said) (front tail : List ℕ) (came : ℕ) (now : Counted)
+pub none_came : (pdus : PdusByKind) (serial : Option Serial) (report : Option Said) (front tail : List ℕ) (came : ℕ) (now : Counted)
     → record { pdus = pdus; serial = serial; report = report; front = take came front; tail = take (came - tail_at front) tail; came = came } ≡ now → came ≡ 0 → IsBetween now
 none_came pdus serial report front tail came now view none = record {
   no_front = ap (λ (x : Counted). x.front) (sym view) ∙ ap (λ n. take n front) none;

@@ -7,11 +7,11 @@ use Rattle.rtr_pdu.specs.declared.unit.Unit.TheVariants.{SerialNotify, SerialQue
 use Rattle.rtr_pdu.specs.declared.version.Version.TheVariants.{V0, V1}
 use Rattle.rtr_server.specs.Counting.{asks, capped, count_of, counted, has_query}
 use Rattle.rtr_server.specs.Runs.{PassesMany, ShowsHeader, length_in, type_in}
-use Rattle.rtr_server.specs.declared.tally.Pdus.{Pdus}
+use Rattle.rtr_server.specs.declared.tally.PdusByKind.{PdusByKind}
 use Rattle.rtr_server.proofs.CountingLaws.{passes_one}
 
 -- the counts of types 0 to 4 and 6 to 10
-abbrev these : List ℕ → Pdus
+abbrev these : List ℕ → PdusByKind
 these counts = record { counts = counts }
 
 -- An End of Data of version 1 has 24 bytes, and its serial stands behind the header.

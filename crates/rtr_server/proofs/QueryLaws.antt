@@ -14,7 +14,7 @@ use Rattle.rtr_ends.specs.Cache.{Gives, Notifies, Publishes, Takes, conn_takes, 
 use Rattle.rtr_ends.specs.CacheState.{CacheCall, CacheState, Close, Life, Notify, Open, Publish, Pull, Receive, can_notify_at, life, ran, serves}
 use Rattle.rtr_server.specs.Clients.{awaits, router_asked}
 use Rattle.rtr_server.specs.Counting.{Counted, CountsQueries, and_byte, and_pdu, and_whole, asks, capped, count_of, counted, counted_on, grown, has_query, is_whole, kind_of_prefix, none_counted, units_of}
-use Rattle.rtr_server.specs.declared.tally.Pdus.{Pdus}
+use Rattle.rtr_server.specs.declared.tally.PdusByKind.{PdusByKind}
 use Rattle.rtr_server.proofs.CountingLaws.{counted_both}
 use Rattle.rtr_server.proofs.UnitCounts.{counts_units}
 
@@ -45,7 +45,7 @@ set_stays (x ∷ xs) (suc j) zero v more h = h
 set_stays (x ∷ xs) (suc j) (suc k) v more h = set_stays xs j k v more h
 
 -- A query stays counted, where a PDU more is,
-query_and_pdu : (type : ℕ) (pdus : Pdus) → has_query pdus ≡ true → has_query (and_pdu type pdus) ≡ true
+query_and_pdu : (type : ℕ) (pdus : PdusByKind) → has_query pdus ≡ true → has_query (and_pdu type pdus) ≡ true
 query_and_pdu type pdus h =
     let more : 0 < capped (slice_index pdus.counts type + 1) = omega arith in
     one_stays (count_of pdus kinds.SerialQuery) (count_of pdus kinds.ResetQuery) (count_of (and_pdu type pdus) kinds.SerialQuery) (count_of (and_pdu type pdus) kinds.ResetQuery)

@@ -22,9 +22,9 @@ use Rattle.rtr_server.specs.Counting.{Counted, capped, counted, counted_on, none
 use Rattle.rtr_server.specs.Streams.{EmptiesSo, FillsSo, IsRoom, PullsInto, moved_count, room_of}
 use Rattle.rtr_server.proofs.CountingLaws.{counted_both}
 use Rattle.rtr_server.specs.Turns.{Anyhow, ClientState, ClientStep, EndsSo, Flow, Goes, GoesFrom, GoesOrEnds, HandsIn, HasRoom, IsIdle, IsOver, IsSettled, IsToWrite, MaySettle, MayStep, MaySteps, NoneDue, Notifies, Pulls, Reads, StandsSo, Writes, WritesFrom, and_read, and_written, after_read, after_write, and_received, can_be_told, client_after, client_of, consumed_of, settles, steps_after}
-use Rattle.rtr_server.specs.declared.stream.Moved.{Moved}
-use Rattle.rtr_server.specs.declared.stream.Moved.TheVariants.{Bytes, Waits, Interrupted, Failed}
-use Rattle.rtr_server.specs.declared.turn.Gone.TheVariants.{PeerClosed, Truncated, WriteFailed}
+use Rattle.rtr_server.specs.declared.stream.Progress.{Progress}
+use Rattle.rtr_server.specs.declared.stream.Progress.TheVariants.{Bytes, Waits, Interrupted, Failed}
+use Rattle.rtr_server.specs.declared.turn.CloseReason.TheVariants.{PeerClosed, Truncated, WriteFailed}
 use Rattle.rtr_server.specs.declared.turn.Slot.{Slot}
 use Rattle.rtr_server.specs.declared.turn.Traffic.{Traffic}
 use Rattle.rtr_server.specs.declared.turn.Turn.{Turn}
@@ -147,14 +147,14 @@ written_more t now more count sent bytes e is counts =
     λ i. f (n i) (counts i)
 
 -- as many bytes came as were answered
-filled_count : (b l : Option (List ℕ)) (moved : Moved) (unread : List ℕ) → FillsSo b l moved unread → length unread ≡ moved_count moved
+filled_count : (b l : Option (List ℕ)) (moved : Progress) (unread : List ℕ) → FillsSo b l moved unread → length unread ≡ moved_count moved
 filled_count b l (Bytes n) unread h = h.1
 filled_count b l Waits unread h = ap (λ bs. length bs) h.1
 filled_count b l Interrupted unread h = ap (λ bs. length bs) h.1
 filled_count b l Failed unread h = ap (λ bs. length bs) h.1
 
 -- bytes are read
-reads_on : (before left after had has still : Option (List ℕ)) (s : Serving) (old unread unwritten : List ℕ) (owed : Bool) (traffic : Traffic) (moved : Moved) → old ≡ []
+reads_on : (before left after had has still : Option (List ℕ)) (s : Serving) (old unread unwritten : List ℕ) (owed : Bool) (traffic : Traffic) (moved : Progress) → old ≡ []
     → Flow before left had has (record { serving = s; unread = old; unwritten = unwritten; owed = owed; traffic = traffic }) → FillsSo left after moved unread → Keeps has still
     → Flow before after had still (record { serving = s; unread = unread; unwritten = unwritten; owed = owed; traffic = and_read (length unread) traffic })
 reads_on before left after had has still s old unread unwritten owed traffic moved nothing flow fills keeps =
@@ -176,14 +176,14 @@ reads_on before left after had has still s old unread unwritten owed traffic mov
     none : Keeps left after → unread ≡ [] → Consumes before after (s.came ++ unread)
     none kept is = subst (λ x. Consumes before after (s.came ++ x)) (sym is) (subst (Consumes before after) (sym (append-nil s.came)) (Consumes-kept before left after s.came came kept))
 
-    by_moved : (moved : Moved) → FillsSo left after moved unread → Consumes before after (s.came ++ unread)
+    by_moved : (moved : Progress) → FillsSo left after moved unread → Consumes before after (s.came ++ unread)
     by_moved (Bytes n) h = Consumes-trans before left after s.came unread came h.0
     by_moved Waits h = none h.0 h.1
     by_moved Interrupted h = none h.0 h.1
     by_moved Failed h = none h.0 h.1
 
 -- bytes are written
-writes_on : (before left still had has wrote : Option (List ℕ)) (s : Serving) (unread old new : List ℕ) (owed : Bool) (traffic : Traffic) (moved : Moved)
+writes_on : (before left still had has wrote : Option (List ℕ)) (s : Serving) (unread old new : List ℕ) (owed : Bool) (traffic : Traffic) (moved : Progress)
     → Flow before left had has (record { serving = s; unread = unread; unwritten = old; owed = owed; traffic = traffic }) → EmptiesSo has wrote moved old new → Keeps left still
     → Flow before still had wrote (record { serving = s; unread = unread; unwritten = new; owed = owed; traffic = and_written (moved_count moved) (take (moved_count moved) old) traffic })
 writes_on before left still had has wrote s unread old new owed traffic moved flow empties keeps = by_moved moved empties
@@ -203,7 +203,7 @@ writes_on before left still had has wrote s unread old new owed traffic moved fl
       all_sent = flow.all_sent;
     }
 
-    by_moved : (moved : Moved) → EmptiesSo has wrote moved old new → Flow before still had wrote (record { serving = s; unread = unread; unwritten = new; owed = owed; traffic = and_written (moved_count moved) (take (moved_count moved) old) traffic })
+    by_moved : (moved : Progress) → EmptiesSo has wrote moved old new → Flow before still had wrote (record { serving = s; unread = unread; unwritten = new; owed = owed; traffic = and_written (moved_count moved) (take (moved_count moved) old) traffic })
     by_moved (Bytes n) h = record {
       read = came;
       written = flow.written ++ take n old;
@@ -220,7 +220,7 @@ writes_on before left still had has wrote s unread old new owed traffic moved fl
     by_moved Failed h = none h.0 h.1
 
 -- what a write takes from the front of what is to be written
-written_is : (had has : Option (List ℕ)) (moved : Moved) (old new : List ℕ) → EmptiesSo had has moved old new → drop (moved_count moved) old ≡ new
+written_is : (had has : Option (List ℕ)) (moved : Progress) (old new : List ℕ) → EmptiesSo had has moved old new → drop (moved_count moved) old ≡ new
 written_is had has (Bytes n) old new h = sym h.1
 written_is had has Waits old new h = sym h.1
 written_is had has Interrupted old new h = sym h.1
@@ -377,7 +377,7 @@ module _ {S T : Type 0} (holds : ℕ → Instance → S → Type 0) (remaining c
       record { steps = h.steps; may = h.may; now = h.now; leads = h.leads; shows = h.shows; flow = h.flow; so = λ none. record { all_written = none; none_due = h.so none; told = λ it. false_true (sym (same ∙ is) ∙ it) } }
 
   -- bytes are read
-  pub reads : (old : Slot T) (unread : List ℕ) (stream : T) (cache : Cache S) (moved : Moved) (within : Bool) (turn : Option Turn) → FillsSo (remaining old.stream) (remaining stream) moved unread → Keeps (contents old.stream) (contents stream)
+  pub reads : (old : Slot T) (unread : List ℕ) (stream : T) (cache : Cache S) (moved : Progress) (within : Bool) (turn : Option Turn) → FillsSo (remaining old.stream) (remaining stream) moved unread → Keeps (contents old.stream) (contents stream)
       → ((m : CacheState) → ShowsCache holds m cache → within ≡ is_within (m.at old.conn.0)) → turn ≡ after_read moved within → length unread ≤ MAX_UNIT_LEN
       → (traffic : Traffic) → traffic ≡ and_read (moved_count moved) old.traffic
       → GoesFrom holds remaining contents IsIdle old cache (record old { stream = stream; unread = unread; traffic = traffic }) cache (GoesOrEnds turn (remaining stream))
@@ -416,7 +416,7 @@ module _ {S T : Type 0} (holds : ℕ → Instance → S → Type 0) (remaining c
       by_zero n true is h = at_end within is_held (is_empty unread (h.1 ∙ eq_of n 0 is)) (h.2 (eq_of n 0 is))
       by_zero n false is h = tt
 
-      ends : (moved : Moved) → FillsSo (remaining old.stream) (remaining stream) moved unread → GoesOrEnds (after_read moved within) (remaining stream) now
+      ends : (moved : Progress) → FillsSo (remaining old.stream) (remaining stream) moved unread → GoesOrEnds (after_read moved within) (remaining stream) now
       ends (Bytes n) h = by_zero n (n == 0) refl h
       ends Waits h = stays_idle h.1
       ends Interrupted h = tt
@@ -429,7 +429,7 @@ module _ {S T : Type 0} (holds : ℕ → Instance → S → Type 0) (remaining c
       record { steps = Writes h.count ∷ []; may = (is, tt); now = s; leads = h.leads; shows = set_same holds m old.conn.0 (Some s.conn) cache stands.at stands.shows; flow = h.flow; so = h.so }
 
 -- bytes are written
-pub writes : {T : Type 0} (remaining contents : T → Option (List ℕ)) (old : Slot T) (new : List ℕ) (stream : T) (moved : Moved) (turn : Option Turn) → EmptiesSo (contents old.stream) (contents stream) moved old.unwritten new
+pub writes : {T : Type 0} (remaining contents : T → Option (List ℕ)) (old : Slot T) (new : List ℕ) (stream : T) (moved : Progress) (turn : Option Turn) → EmptiesSo (contents old.stream) (contents stream) moved old.unwritten new
     → Keeps (remaining old.stream) (remaining stream) → turn ≡ after_write moved
     → (traffic : Traffic) → traffic ≡ and_written (moved_count moved) (take (moved_count moved) old.unwritten) old.traffic
     → WritesFrom remaining contents IsToWrite old (record old { stream = stream; unwritten = new; traffic = traffic }) (GoesOrEnds turn (remaining stream))
@@ -455,7 +455,7 @@ writes remaining contents old new stream moved turn empties keeps turn_is traffi
     by_zero n true is h = still (h.1 ∙ ap (λ k. drop k old.unwritten) (eq_of n 0 is))
     by_zero n false is h = tt
 
-    ends : (moved : Moved) → EmptiesSo (contents old.stream) (contents stream) moved old.unwritten new → GoesOrEnds (after_write moved) (remaining stream) (with_bytes new)
+    ends : (moved : Progress) → EmptiesSo (contents old.stream) (contents stream) moved old.unwritten new → GoesOrEnds (after_write moved) (remaining stream) (with_bytes new)
     ends (Bytes n) h = by_zero n (n == 0) refl h
     ends Waits h = still h.1
     ends Interrupted h = tt

@@ -10,8 +10,8 @@ use Rattle.rtr_server.specs.Streams.{moved_by}
 use Rattle.rtr_server.specs.Turns.{Reads, ToldSo, Writes, FitsBudget, after_read, after_write, steps_after}
 use Rattle.rtr_server.specs.declared.server.AdmitFault.TheVariants as faults
 use Rattle.rtr_server.specs.declared.stream.Call.TheVariants as calls
-use Rattle.rtr_server.specs.declared.stream.Moved.TheVariants.{Bytes, Waits, Interrupted, Failed}
-use Rattle.rtr_server.specs.declared.turn.Gone.TheVariants.{PeerClosed, ReadFailed, Truncated, WriteFailed}
+use Rattle.rtr_server.specs.declared.stream.Progress.TheVariants.{Bytes, Waits, Interrupted, Failed}
+use Rattle.rtr_server.specs.declared.turn.CloseReason.TheVariants.{PeerClosed, ReadFailed, Truncated, WriteFailed}
 use Rattle.rtr_server.specs.declared.turn.Turn.TheVariants.{Busy, Gone, WaitsToRead, WaitsToWrite}
 
 numbers : (admit_fault_number faults.TooManyClients ≡ 1) × (admit_fault_number faults.Memory ≡ 2)

@@ -13,33 +13,33 @@ use Rattle.rtr_pdu.specs.Stream.{AreRead, IsPartial, is_kind, length_of, type_of
 use Rattle.rtr_pdu.specs.declared.kind.Kind.{Kind}
 use Rattle.rtr_pdu.specs.declared.kind.Kind.TheVariants as kinds
 use Rattle.rtr_server.specs.Reports.{Said, said_in}
-use Rattle.rtr_server.specs.declared.tally.Pdus.{Pdus}
+use Rattle.rtr_server.specs.declared.tally.PdusByKind.{PdusByKind}
 
 -- a count of 64 bits
 abbrev pub capped : ℕ → ℕ
 capped n = min n (2 ^ 64 - 1)
 
 -- how many PDUs of a type
-abbrev pub count_of : Pdus → Kind → ℕ
+abbrev pub count_of : PdusByKind → Kind → ℕ
 count_of pdus kind = slice_index pdus.counts (type_number kind)
 
 -- A query is among these PDUs: a Serial Query (RFC 8210 section 5.3) or a Reset Query (section 5.4).
-abbrev pub has_query : Pdus → Bool
+abbrev pub has_query : PdusByKind → Bool
 has_query pdus = nat_lt 0 (count_of pdus kinds.SerialQuery) || nat_lt 0 (count_of pdus kinds.ResetQuery)
 
 -- So many more of the type with this number. Numbers above ten stand for no type, and are not counted.
-abbrev pub and_pdus : ℕ → ℕ → Pdus → Pdus
+abbrev pub and_pdus : ℕ → ℕ → PdusByKind → PdusByKind
 and_pdus count type pdus = record { counts = slice_set pdus.counts type (capped (slice_index pdus.counts type + count)) }
 
 -- one more
-abbrev pub and_pdu : ℕ → Pdus → Pdus
+abbrev pub and_pdu : ℕ → PdusByKind → PdusByKind
 and_pdu type pdus = and_pdus 1 type pdus
 
 -- What was counted of bytes: their PDUs by type, the serial that the last End of Data carries, and what the last Error Report says. Of the PDU
 -- that stands last and has not come whole: how many bytes came, and the first twelve. If it is an Error Report, the tail has those behind the
 -- PDU that it encapsulates, at most 204: the length of the text, and the beginning of the text.
 pub record Counted : Type 0 where
-  pub pdus : Pdus
+  pub pdus : PdusByKind
   pub serial : Option Serial
   pub report : Option Said
   pub front : List ℕ

@@ -9,42 +9,42 @@ use Rattle.rtr_ends.specs.CacheState.{CacheState, ShowsCache, due_at, given}
 use Rattle.rtr_ends.specs.declared.cache.Cache.{Cache}
 use Rattle.rtr_server.specs.declared.stream.Call.{Call}
 use Rattle.rtr_server.specs.declared.stream.Call.TheVariants.{Read, Write}
-use Rattle.rtr_server.specs.declared.stream.Moved.{Moved}
-use Rattle.rtr_server.specs.declared.stream.Moved.TheVariants.{Bytes, Waits, Interrupted, Failed}
+use Rattle.rtr_server.specs.declared.stream.Progress.{Progress}
+use Rattle.rtr_server.specs.declared.stream.Progress.TheVariants.{Bytes, Waits, Interrupted, Failed}
 
 -- what an error of this kind says: that the stream would wait, that the call was interrupted, or that the stream failed
-abbrev pub moved_by : ErrorKind → Moved
+abbrev pub moved_by : ErrorKind → Progress
 moved_by WouldBlock = Waits
 moved_by kinds.Interrupted = Interrupted
 moved_by kind = Failed
 
 -- no more than there is room for
-abbrev pub IsWithin : ℕ → Moved → Type 0
+abbrev pub IsWithin : ℕ → Progress → Type 0
 IsWithin most (Bytes n) = n ≤ most
 IsWithin most Waits = ⊤
 IsWithin most Interrupted = ⊤
 IsWithin most Failed = ⊤
 
 -- A read took these bytes of what was left, none only at the end; or nothing.
-abbrev pub ReadsSo : Option (List ℕ) → Option (List ℕ) → Moved → List ℕ → Type 0
+abbrev pub ReadsSo : Option (List ℕ) → Option (List ℕ) → Progress → List ℕ → Type 0
 ReadsSo before left (Bytes n) buf = Consumes before left (take n buf) × (n ≡ 0 → 0 < length buf → IsAtEnd left)
 ReadsSo before left Waits buf = Keeps before left
 ReadsSo before left Interrupted buf = Keeps before left
 ReadsSo before left Failed buf = Keeps before left
 
 -- A write appended the beginning that it took, or nothing.
-abbrev pub WritesSo : Option (List ℕ) → Option (List ℕ) → Moved → List ℕ → Type 0
+abbrev pub WritesSo : Option (List ℕ) → Option (List ℕ) → Progress → List ℕ → Type 0
 WritesSo had has (Bytes n) buf = Appends had has (take n buf)
 WritesSo had has Waits buf = Keeps had has
 WritesSo had has Interrupted buf = Keeps had has
 WritesSo had has Failed buf = Keeps had has
 
 -- one read, which answered this
-abbrev pub a_read : Moved → List Call
+abbrev pub a_read : Progress → List Call
 a_read moved = Read moved ∷ []
 
 -- one write, which answered this
-abbrev pub a_write : Moved → List Call
+abbrev pub a_write : Progress → List Call
 a_write moved = Write moved ∷ []
 
 -- These were the calls made since and their answers, the last first, where all are known.
@@ -54,21 +54,21 @@ Logged since None (Some now) = ⊥
 Logged since (Some before) (Some now) = now ≡ since ++ before
 
 -- A read into an empty buffer leaves there what it took, and at the end nothing.
-abbrev pub FillsSo : Option (List ℕ) → Option (List ℕ) → Moved → List ℕ → Type 0
+abbrev pub FillsSo : Option (List ℕ) → Option (List ℕ) → Progress → List ℕ → Type 0
 FillsSo before left (Bytes n) unread = Consumes before left unread × (length unread ≡ n) × (n ≡ 0 → IsAtEnd left)
 FillsSo before left Waits unread = Keeps before left × (unread ≡ [])
 FillsSo before left Interrupted unread = Keeps before left × (unread ≡ [])
 FillsSo before left Failed unread = Keeps before left × (unread ≡ [])
 
 -- how many bytes went
-abbrev pub moved_count : Moved → ℕ
+abbrev pub moved_count : Progress → ℕ
 moved_count (Bytes n) = n
 moved_count Waits = 0
 moved_count Interrupted = 0
 moved_count Failed = 0
 
 -- A write takes what it took from the front of what is to be written.
-abbrev pub EmptiesSo : Option (List ℕ) → Option (List ℕ) → Moved → List ℕ → List ℕ → Type 0
+abbrev pub EmptiesSo : Option (List ℕ) → Option (List ℕ) → Progress → List ℕ → List ℕ → Type 0
 EmptiesSo had has (Bytes n) old new = Appends had has (take n old) × (new ≡ drop n old) × (n ≤ length old)
 EmptiesSo had has Waits old new = Keeps had has × (new ≡ old)
 EmptiesSo had has Interrupted old new = Keeps had has × (new ≡ old)

@@ -17,9 +17,9 @@ use Rattle.rtr_server.specs.Counting.{capped, counted, counted_on, none_counted}
 use Rattle.rtr_server.specs.Streams.{IsRoom, Logged}
 use Rattle.rtr_server.specs.declared.stream.Call.{Call}
 use Rattle.rtr_server.specs.declared.stream.Call.TheVariants as calls
-use Rattle.rtr_server.specs.declared.stream.Moved.{Moved}
-use Rattle.rtr_server.specs.declared.stream.Moved.TheVariants.{Bytes, Waits, Interrupted, Failed}
-use Rattle.rtr_server.specs.declared.turn.Gone.TheVariants.{CacheEnded, PeerClosed, ReadFailed, Truncated, WriteFailed}
+use Rattle.rtr_server.specs.declared.stream.Progress.{Progress}
+use Rattle.rtr_server.specs.declared.stream.Progress.TheVariants.{Bytes, Waits, Interrupted, Failed}
+use Rattle.rtr_server.specs.declared.turn.CloseReason.TheVariants.{CacheEnded, PeerClosed, ReadFailed, Truncated, WriteFailed}
 use Rattle.rtr_server.specs.declared.turn.Next.{Next}
 use Rattle.rtr_server.specs.declared.turn.Next.TheVariants.{Nothing, Read, Write}
 use Rattle.rtr_server.specs.declared.turn.Slot.{Slot}
@@ -274,13 +274,13 @@ pub record AnswersTurn (budget : ℕ) (turn : Turn) (before after : Option (List
   pub told : ToldSo turn since
 
 -- What a read or a write comes to: none where the turn goes on
-abbrev pub after_read : Moved → Bool → Option Turn
+abbrev pub after_read : Progress → Bool → Option Turn
 after_read (Bytes n) is_within = if n == 0 then Some (Gone (if is_within then Truncated else PeerClosed)) else None
 after_read Waits is_within = Some WaitsToRead
 after_read Interrupted is_within = None
 after_read Failed is_within = Some (Gone ReadFailed)
 
-abbrev pub after_write : Moved → Option Turn
+abbrev pub after_write : Progress → Option Turn
 after_write (Bytes n) = if n == 0 then Some (Gone WriteFailed) else None
 after_write Waits = Some WaitsToWrite
 after_write Interrupted = None

@@ -4,7 +4,7 @@
 //!
 //! ```rust
 //! use rtr_ends::{Cache, Timing};
-//! use rtr_server::{Duplex, Gone, Server, Turn};
+//! use rtr_server::{CloseReason, Duplex, Server, Turn};
 //! use vrps::{VersionLog, VrpSet};
 //!
 //! let store = VersionLog::new(rt.alloc(), 4660, 5, 16)?;
@@ -17,7 +17,7 @@
 //!     input: query,
 //!     output,
 //! })?;
-//! assert!(rt; server.serve(client, 64) == Some(Turn::Gone(Gone::PeerClosed)));
+//! assert!(rt; server.serve(client, 64) == Some(Turn::Gone(CloseReason::PeerClosed)));
 //! assert!(rt; server.clients() == 0);
 //! ```
 #![tactic(auto)]
@@ -31,7 +31,7 @@ mod tally;
 mod turn;
 
 pub use report::{REPORT_TEXT_LEN, Report};
-pub use server::{AdmitFault, Client, Server};
-pub use stream::{Call, Duplex, Moved, Stream};
-pub use tally::Pdus;
-pub use turn::{Carried, Gone, Parted, Turn};
+pub use server::{AdmitFault, Client, ClientId, Server};
+pub use stream::{Call, Duplex, Progress, Stream};
+pub use tally::PdusByKind;
+pub use turn::{ByteCounts, CloseReason, Parted, Turn};

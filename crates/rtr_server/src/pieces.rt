@@ -6,7 +6,7 @@ ghost use Rattle.rtr_ends.specs.CacheState.{CacheState, GivesBytes, ShowsCache, 
 ghost use Rattle.rtr_server.specs.Streams.{EmptiesSo, FillsSo, Logged, PullsInto, a_read, a_write, moved_count, room_of};
 ghost use Rattle.rtr_server.specs.Counting.{counted_on};
 
-use crate::stream::{Moved, Stream};
+use crate::stream::{Progress, Stream};
 use crate::tally::{Tally, count};
 use rtr_ends::{Cache, Conn};
 use rtr_pdu::MAX_UNIT_LEN;
@@ -53,7 +53,7 @@ impl Unread {
     }
 
     /// Reads a piece, where nothing is left of the last.
-    pub(crate) fn read<T: Stream>(&mut self, stream: &mut T) -> Moved
+    pub(crate) fn read<T: Stream>(&mut self, stream: &mut T) -> Progress
         requires { self.old ≡ [] }
         ensures fills { FillsSo (T.remaining stream.old) (T.remaining stream.new) result self.new }
         ensures room { length self.new ≤ 4096 }
@@ -63,7 +63,7 @@ impl Unread {
         let moved = stream.read(&mut self.bytes);
         self.from = 0;
         self.to = match moved {
-            Moved::Bytes(n) => n,
+            Progress::Bytes(n) => n,
             _ => 0,
         };
         moved
@@ -184,7 +184,7 @@ impl Unwritten {
     }
 
     /// Writes of it what the stream takes in one call, and counts that.
-    pub(crate) fn write<T: Stream>(&mut self, stream: &mut T, sent: &mut Tally) -> Moved
+    pub(crate) fn write<T: Stream>(&mut self, stream: &mut T, sent: &mut Tally) -> Progress
         ensures empties { EmptiesSo (T.contents stream.old) (T.contents stream.new) result self.old self.new }
         ensures keeps { Keeps (T.remaining stream.old) (T.remaining stream.new) }
         ensures logs { Logged (a_write result) (T.answers stream.old) (T.answers stream.new) }

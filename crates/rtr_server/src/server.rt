@@ -8,15 +8,15 @@ ghost use Rattle.rtr_server.specs.Clients.{AdmitsTo, Begun, GoesOnAfter, IsCount
 ghost use Rattle.rtr_server.specs.Turns.{no_traffic};
 
 use crate::stream::Stream;
-use crate::tally::Pdus;
-use crate::turn::{Carried, Parted, Slot, Turn};
+use crate::tally::PdusByKind;
+use crate::turn::{ByteCounts, Parted, Slot, Turn};
 use rtr_ends::{Cache, Conn};
 use rtr_pdu::Version;
 use std::alloc::{AllocError, Global};
 use thiserror::Error;
 use vrps::{Published, Serial, VersionStore, VrpSet};
 
-/// The number of a client. It has it until it is gone.
+/// The number of a client: that of its connection at the cache. It is the client's until the client is closed.
 #[derive(Clone, Copy, Debug, PartialEq, Eq)]
 pub struct Client(Conn);
 
@@ -28,6 +28,9 @@ impl Client {
         self.0.number()
     }
 }
+
+/// The same by the name that poll tokens and tables of connections use.
+pub type ClientId = Client;
 
 /// Why a stream was not admitted. The numbers are fixed.
 #[derive(Clone, Copy, Debug, PartialEq, Eq, Error)]
@@ -209,7 +212,7 @@ impl<S: VersionStore, T: Stream + Drop> Server<S, T> {
     }
 
     /// How many bytes went over a client's stream since it came, where there is such a client.
-    pub fn carried(&self, client: Client) -> Option<Carried>
+    pub fn carried(&self, client: Client) -> Option<ByteCounts>
         ensures { result ≡ option_map (λ slot. slot.traffic.carried) (slot_at self.now.slots.items client.0.0) }
     {
         match self.slots.get(client.0.number())? {
@@ -220,7 +223,7 @@ impl<S: VersionStore, T: Stream + Drop> Server<S, T> {
 
     /// The PDUs that came from a client, by type, where there is such a client: those of which its connection consumed as many bytes as their
     /// headers say. One in which a fault shows behind its header is among them.
-    pub fn received(&self, client: Client) -> Option<Pdus>
+    pub fn received(&self, client: Client) -> Option<PdusByKind>
         ensures { result ≡ option_map (λ slot. slot.traffic.received.pdus) (slot_at self.now.slots.items client.0.0) }
     {
         match self.slots.get(client.0.number())? {
@@ -230,7 +233,7 @@ impl<S: VersionStore, T: Stream + Drop> Server<S, T> {
     }
 
     /// The PDUs that were sent to a client, by type, where there is such a client: those that were written whole to its stream.
-    pub fn sent(&self, client: Client) -> Option<Pdus>
+    pub fn sent(&self, client: Client) -> Option<PdusByKind>
         ensures { result ≡ option_map (λ slot. slot.traffic.sent.pdus) (slot_at self.now.slots.items client.0.0) }
     {
         match self.slots.get(client.0.number())? {

@@ -7,9 +7,9 @@ ghost use Rattle.rtr_server.specs.Streams.{IsWithin, Logged, ReadsSo, WritesSo, 
 use std::io;
 use std::io::{ErrorKind, Read, Write};
 
-/// What one call of a stream came to.
+/// The outcome of one non-blocking call of a stream.
 #[derive(Clone, Copy, Debug, PartialEq, Eq)]
-pub enum Moved {
+pub enum Progress {
     /// So many bytes went. At a read none is the end, where there is room.
     Bytes(usize),
     /// The stream would wait.
@@ -20,14 +20,14 @@ pub enum Moved {
     Failed,
 }
 
-impl Moved {
+impl Progress {
     /// How many bytes went.
     pub(crate) fn count(self) -> u64
         ensures { result ≡ moved_count self }
     {
         match self {
-            Moved::Bytes(n) => n as u64,
-            Moved::Waits | Moved::Interrupted | Moved::Failed => 0,
+            Progress::Bytes(n) => n as u64,
+            Progress::Waits | Progress::Interrupted | Progress::Failed => 0,
         }
     }
 }
@@ -36,9 +36,9 @@ impl Moved {
 #[derive(Clone, Copy, Debug, PartialEq, Eq)]
 pub enum Call {
     /// A read.
-    Read(Moved),
+    Read(Progress),
     /// A write.
-    Write(Moved),
+    Write(Progress),
 }
 
 /// Both directions of a connection, whose calls do not wait. What is read changes nothing of what was written, nor the other way round.
@@ -55,14 +55,14 @@ pub trait Stream {
     ghost answers: { Self → Option (List Call) };
 
     /// Reads into the front of the buffer, as many bytes as it answers.
-    fn read(&mut self, buf: &mut [u8]) -> Moved
+    fn read(&mut self, buf: &mut [u8]) -> Progress
         ensures reads { ReadsSo (remaining self.old) (remaining self.new) result buf.new }
         ensures within { IsWithin (length buf.old) result }
         ensures keeps { Keeps (contents self.old) (contents self.new) }
         ensures logs { Logged (a_read result) (answers self.old) (answers self.new) };
 
     /// Writes from the front of the buffer, as many bytes as it answers.
-    fn write(&mut self, buf: &[u8]) -> Moved
+    fn write(&mut self, buf: &[u8]) -> Progress
         ensures writes { WritesSo (contents self.old) (contents self.new) result buf.now }
         ensures within { IsWithin (length buf.now) result }
         ensures keeps { Keeps (remaining self.old) (remaining self.new) }
@@ -80,13 +80,13 @@ pub struct Duplex<R, W> {
 }
 
 /// What an error of a device says.
-fn moved_of(error: &io::Error) -> Moved
+fn moved_of(error: &io::Error) -> Progress
     ensures { result ≡ moved_by (error_kind error.now) }
 {
     match error.kind() {
-        ErrorKind::WouldBlock => Moved::Waits,
-        ErrorKind::Interrupted => Moved::Interrupted,
-        _ => Moved::Failed,
+        ErrorKind::WouldBlock => Progress::Waits,
+        ErrorKind::Interrupted => Progress::Interrupted,
+        _ => Progress::Failed,
     }
 }
 
@@ -97,16 +97,16 @@ impl<R: Read, W: Write> Stream for Duplex<R, W> {
 
     ghost answers = { λ d. Option.None };
 
-    fn read(&mut self, buf: &mut [u8]) -> Moved {
+    fn read(&mut self, buf: &mut [u8]) -> Progress {
         match self.input.read(buf) {
-            Ok(n) => Moved::Bytes(n),
+            Ok(n) => Progress::Bytes(n),
             Err(error) => moved_of(&error),
         }
     }
 
-    fn write(&mut self, buf: &[u8]) -> Moved {
+    fn write(&mut self, buf: &[u8]) -> Progress {
         match self.output.write(buf) {
-            Ok(n) => Moved::Bytes(n),
+            Ok(n) => Progress::Bytes(n),
             Err(error) => moved_of(&error),
         }
     }

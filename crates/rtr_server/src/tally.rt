@@ -12,17 +12,17 @@ use vrps::Serial;
 
 /// How many PDUs of each type went one way, read off their headers (RFC 6810 section 5, RFC 8210 section 5). Counts stop at `u64::MAX`.
 #[derive(Clone, Copy, Debug, PartialEq, Eq)]
-pub struct Pdus {
+pub struct PdusByKind {
     /// By the numbers from 0 to 10 that may stand for a type in a header. Five stands for none.
     counts: [u64; 11],
 }
 
-impl Pdus {
+impl PdusByKind {
     /// None.
-    pub(crate) fn none() -> Pdus
+    pub(crate) fn none() -> PdusByKind
         ensures { result ≡ none_counted.pdus }
     {
-        Pdus { counts: [0; 11] }
+        PdusByKind { counts: [0; 11] }
     }
 
     /// How many PDUs of this type.
@@ -60,7 +60,7 @@ const TAIL: usize = 4 + REPORT_TEXT_LEN;
 /// an Error Report its tail: those behind the PDU that it encapsulates.
 #[derive(Debug, Drop)]
 pub(crate) struct Tally {
-    pdus: Pdus,
+    pdus: PdusByKind,
     serial: Option<Serial>,
     report: Option<Report>,
     front: [u8; FRONT],
@@ -83,7 +83,7 @@ impl Tally {
         ensures { result ≡ none_counted }
     {
         Tally {
-            pdus: Pdus::none(),
+            pdus: PdusByKind::none(),
             serial: None,
             report: None,
             front: [0; FRONT],
@@ -93,7 +93,7 @@ impl Tally {
     }
 
     /// The PDUs.
-    pub(crate) fn pdus(&self) -> Pdus
+    pub(crate) fn pdus(&self) -> PdusByKind
         ensures { result ≡ self.now.pdus }
     {
         self.pdus
@@ -229,7 +229,7 @@ pub(crate) fn count(tally: &mut Tally, piece: &[u8])
 }
 
 /// Counts a PDU of these first bytes, which has so many.
-fn note(pdus: &mut Pdus, serial: &mut Option<Serial>, front: &[u8], len: u64)
+fn note(pdus: &mut PdusByKind, serial: &mut Option<Serial>, front: &[u8], len: u64)
     requires header { 8 ≤ length front.now }
     requires room { 12 ≤ len → 12 ≤ length front.now }
     ensures pdus { pdus.new ≡ and_pdu (type_of front.now) pdus.old }

@@ -4,16 +4,16 @@ ghost use Rattle.rtr_server.specs.Turns.{Anyhow, AnswersTurn, AnswersStep, EndsS
 
 use crate::pieces::{Unread, Unwritten};
 use crate::report::Report;
-use crate::stream::{Moved, Stream};
-use crate::tally::{Pdus, Tally};
+use crate::stream::{Progress, Stream};
+use crate::tally::{PdusByKind, Tally};
 use rtr_ends::{Cache, Conn};
 use rtr_pdu::Version;
 use std::alloc::Global;
 use vrps::VersionStore;
 
-/// How a client went.
+/// Why a client was closed.
 #[derive(Clone, Copy, Debug, PartialEq, Eq)]
-pub enum Gone {
+pub enum CloseReason {
     /// Its bytes ended, at the end of a PDU.
     PeerClosed,
     /// They ended inside a PDU.
@@ -36,14 +36,14 @@ pub enum Turn {
     WaitsToWrite,
     /// As many calls of the stream were made as are allowed.
     Busy,
-    /// The client is not there any more.
-    Gone(Gone),
+    /// The client was closed, and its number is free.
+    Gone(CloseReason),
 }
 
-/// How many bytes went over a client's stream since it came. Counts stop at `u64::MAX`.
+/// How many bytes were read from and written to a client since it was admitted. Counts stop at `u64::MAX`.
 #[derive(Clone, Copy, Debug, PartialEq, Eq)]
-pub struct Carried {
-    /// Bytes that were read of it.
+pub struct ByteCounts {
+    /// Bytes that were read from it.
     pub read: u64,
     /// Bytes that were written to it.
     pub written: u64,
@@ -53,11 +53,11 @@ pub struct Carried {
 #[derive(Clone, Copy, Debug, PartialEq, Eq)]
 pub struct Parted {
     /// How many bytes went over its stream.
-    pub carried: Carried,
+    pub carried: ByteCounts,
     /// The PDUs that came from it, by type: an Error Report that ended its connection is among them.
-    pub received: Pdus,
+    pub received: PdusByKind,
     /// The PDUs that were sent to it, by type.
-    pub sent: Pdus,
+    pub sent: PdusByKind,
     /// The last Error Report that came from it. The cache ends the connection after it (RFC 8210 section 5.11), so this is why the router left.
     pub received_report: Option<Report>,
     /// The error code of the last Error Report that was sent to it (RFC 8210 section 12). After each but No Data Available (code 2) the cache
@@ -70,7 +70,7 @@ pub struct Parted {
 /// What is counted of a client: the bytes that went over its stream, the PDUs of what its connection consumed, and those of what was written.
 #[derive(Debug, Drop)]
 pub(crate) struct Traffic {
-    pub(crate) carried: Carried,
+    pub(crate) carried: ByteCounts,
     pub(crate) received: Tally,
     pub(crate) sent: Tally,
 }
@@ -81,7 +81,7 @@ impl Traffic {
         ensures { result ≡ no_traffic }
     {
         Traffic {
-            carried: Carried {
+            carried: ByteCounts {
                 read: 0,
                 written: 0,
             },
@@ -253,7 +253,7 @@ impl<T: Stream> Slot<T> {
         match self.prepare(cache) {
             Next::Write => self.write(),
             Next::Read => self.read(cache),
-            Next::Nothing => Some(Turn::Gone(Gone::CacheEnded)),
+            Next::Nothing => Some(Turn::Gone(CloseReason::CacheEnded)),
         }
     }
 
@@ -273,28 +273,28 @@ impl<T: Stream> Slot<T> {
 }
 
 /// What a read comes to: none where the turn goes on.
-fn after_read(moved: Moved, is_within: bool) -> Option<Turn>
+fn after_read(moved: Progress, is_within: bool) -> Option<Turn>
     ensures { result ≡ after_read moved is_within }
 {
     match moved {
-        Moved::Bytes(0) => Some(Turn::Gone(if is_within {
-            Gone::Truncated
+        Progress::Bytes(0) => Some(Turn::Gone(if is_within {
+            CloseReason::Truncated
         } else {
-            Gone::PeerClosed
+            CloseReason::PeerClosed
         })),
-        Moved::Bytes(_) | Moved::Interrupted => None,
-        Moved::Waits => Some(Turn::WaitsToRead),
-        Moved::Failed => Some(Turn::Gone(Gone::ReadFailed)),
+        Progress::Bytes(_) | Progress::Interrupted => None,
+        Progress::Waits => Some(Turn::WaitsToRead),
+        Progress::Failed => Some(Turn::Gone(CloseReason::ReadFailed)),
     }
 }
 
 /// What a write comes to: none where the turn goes on.
-fn after_write(moved: Moved) -> Option<Turn>
+fn after_write(moved: Progress) -> Option<Turn>
     ensures { result ≡ after_write moved }
 {
     match moved {
-        Moved::Bytes(0) | Moved::Failed => Some(Turn::Gone(Gone::WriteFailed)),
-        Moved::Bytes(_) | Moved::Interrupted => None,
-        Moved::Waits => Some(Turn::WaitsToWrite),
+        Progress::Bytes(0) | Progress::Failed => Some(Turn::Gone(CloseReason::WriteFailed)),
+        Progress::Bytes(_) | Progress::Interrupted => None,
+        Progress::Waits => Some(Turn::WaitsToWrite),
     }
 }

@@ -7,7 +7,7 @@ use crate::lines::{Line, Manner, PLAIN, cache_of, line, shared};
 use example_values::hex::bytes;
 use example_values::sets::V;
 use example_values::units::RESET_QUERY;
-use rtr_server::{Call, Client, Moved, Server, Stream, Turn};
+use rtr_server::{Call, Client, Progress, Server, Stream, Turn};
 use std::alloc::Global;
 use std::test::Fail;
 use vrps::VersionLog;
@@ -39,13 +39,13 @@ impl<T: Stream> Stream for Kept<T> {
 
     ghost answers = { λ k. told k.is_lost k.answers.items };
 
-    fn read(&mut self, buf: &mut [u8]) -> Moved {
+    fn read(&mut self, buf: &mut [u8]) -> Progress {
         let answer = self.stream.read(buf);
         note(&mut self.answers, &mut self.is_lost, Call::Read(answer));
         answer
     }
 
-    fn write(&mut self, buf: &[u8]) -> Moved {
+    fn write(&mut self, buf: &[u8]) -> Progress {
         let answer = self.stream.write(buf);
         note(&mut self.answers, &mut self.is_lost, Call::Write(answer));
         answer
@@ -67,7 +67,7 @@ fn turns_well(server: &mut Watched, client: Client, budget: u32) -> bool {
     match (turn, calls(server, client)) {
         (Some(Turn::Busy), Some((count, _))) => count == most,
         (Some(Turn::WaitsToRead), Some((count, last))) => {
-            count <= most && last == Some(Call::Read(Moved::Waits))
+            count <= most && last == Some(Call::Read(Progress::Waits))
         }
         _ => false,
     }

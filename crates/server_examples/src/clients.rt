@@ -6,7 +6,7 @@ use example_values::hex::bytes;
 use example_values::sets::{Rows, V, set_of};
 use example_values::units::{ANSWER, RESET_QUERY};
 use rtr_pdu::{Kind, Version};
-use rtr_server::{AdmitFault, Carried, Client, Gone, Turn};
+use rtr_server::{AdmitFault, ByteCounts, Client, CloseReason, Turn};
 use std::alloc::{AllocGlobal, Global};
 use std::io::ErrorKind;
 use std::process::Abort;
@@ -47,16 +47,19 @@ fn served(alloc: Global, manner: Manner, out: &Shared) -> Result<Option<Turn>, F
 fn carries_all(alloc: Global, manner: Manner) -> Result<bool, Fail> {
     let out = shared(alloc, &[])?;
     let last = served(alloc, manner, &out)?;
-    Ok(last == Some(Turn::Gone(Gone::PeerClosed)) && is_list(&out, bytes(TWO_ANSWERS).as_slice()))
+    Ok(
+        last == Some(Turn::Gone(CloseReason::PeerClosed))
+            && is_list(&out, bytes(TWO_ANSWERS).as_slice()),
+    )
 }
 
 /// Whether a line of this manner fails, or is closed, and carries a beginning of both answers.
 fn carries_a_beginning(alloc: Global, manner: Manner) -> Result<bool, Fail> {
     let out = shared(alloc, &[])?;
     let last = served(alloc, manner, &out)?;
-    let failed = last == Some(Turn::Gone(Gone::ReadFailed))
-        || last == Some(Turn::Gone(Gone::WriteFailed))
-        || last == Some(Turn::Gone(Gone::PeerClosed));
+    let failed = last == Some(Turn::Gone(CloseReason::ReadFailed))
+        || last == Some(Turn::Gone(CloseReason::WriteFailed))
+        || last == Some(Turn::Gone(CloseReason::PeerClosed));
     Ok(failed && is_front(&out, bytes(TWO_ANSWERS).as_slice()))
 }
 
@@ -118,7 +121,7 @@ fn first_goes(server: &mut Memory, first: Client, second: Client) -> bool {
 
 /// Whether a client that is served so often at first, which is too seldom, and then often enough, is answered, and all is counted.
 fn is_answered(server: &mut Memory, client: Client, out: &Shared) -> bool {
-    let carried = Carried {
+    let carried = ByteCounts {
         read: 8,
         written: 52,
     };
@@ -268,7 +271,7 @@ fn is_truncated(server: &mut Memory, alloc: Global, out: &Shared) -> Result<bool
         ..PLAIN
     };
     let client = client_of(server, alloc, &[1, 2, 0], ends, out)?;
-    Ok(server.serve(client, 9) == Some(Turn::Gone(Gone::Truncated)))
+    Ok(server.serve(client, 9) == Some(Turn::Gone(CloseReason::Truncated)))
 }
 
 /// Whether a client that sends what is no PDU has an answer, goes behind that, and is not there any more.
@@ -280,7 +283,7 @@ fn is_ended(server: &mut Memory, alloc: Global, out: &Shared) -> Result<bool, Fa
     let client = client_of(server, alloc, &[9; 8], waits, out)?;
     Ok(
         server.serve(client, 1) == Some(Turn::Busy)
-            && server.serve(client, 9) == Some(Turn::Gone(Gone::CacheEnded))
+            && server.serve(client, 9) == Some(Turn::Gone(CloseReason::CacheEnded))
             && len_of(out) > 8
             && server.serve(client, 9) == None
             && server.clients() == 0,

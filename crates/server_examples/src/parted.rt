@@ -4,7 +4,7 @@ use example_values::hex::bytes;
 use example_values::sets::V;
 use example_values::units::RESET_QUERY;
 use rtr_pdu::{Kind, Version};
-use rtr_server::{Carried, Client, Gone, Parted, Pdus, Report, Turn};
+use rtr_server::{ByteCounts, Client, CloseReason, Parted, PdusByKind, Report, Turn};
 use std::alloc::Global;
 use std::test::Fail;
 
@@ -12,7 +12,7 @@ use std::test::Fail;
 struct Leaving {
     sends: &'static str,
     stays_open: bool,
-    how: Gone,
+    how: CloseReason,
     /// Bytes read and written.
     carried: (u64, u64),
     version: Option<Version>,
@@ -41,7 +41,7 @@ const LEAVINGS: &[Leaving] = &[
     Leaving {
         sends: "01 02 0000 00000008 | 01 0a 0000 00000010 00000000 00000000",
         stays_open: true,
-        how: Gone::CacheEnded,
+        how: CloseReason::CacheEnded,
         carried: (24, 52),
         version: Some(Version::V1),
         received: &[(Kind::ResetQuery, 1), (Kind::ErrorReport, 1)],
@@ -53,7 +53,7 @@ const LEAVINGS: &[Leaving] = &[
     Leaving {
         sends: "00 0a 0002 00000010 00000000 00000000",
         stays_open: true,
-        how: Gone::CacheEnded,
+        how: CloseReason::CacheEnded,
         carried: (16, 0),
         version: Some(Version::V0),
         received: &[(Kind::ErrorReport, 1)],
@@ -65,7 +65,7 @@ const LEAVINGS: &[Leaving] = &[
     Leaving {
         sends: "01 02 0000 00000008 | 01 0a 0003 0000001a 00000008 0102000000000008 00000002 6e6f",
         stays_open: true,
-        how: Gone::CacheEnded,
+        how: CloseReason::CacheEnded,
         carried: (34, 52),
         version: Some(Version::V1),
         received: &[(Kind::ResetQuery, 1), (Kind::ErrorReport, 1)],
@@ -77,7 +77,7 @@ const LEAVINGS: &[Leaving] = &[
     Leaving {
         sends: "01 08 0000 00000008",
         stays_open: true,
-        how: Gone::CacheEnded,
+        how: CloseReason::CacheEnded,
         carried: (8, 24),
         version: Some(Version::V1),
         received: &[(Kind::CacheReset, 1)],
@@ -88,7 +88,7 @@ const LEAVINGS: &[Leaving] = &[
     Leaving {
         sends: RESET_QUERY,
         stays_open: false,
-        how: Gone::PeerClosed,
+        how: CloseReason::PeerClosed,
         carried: (8, 52),
         version: Some(Version::V1),
         received: &[(Kind::ResetQuery, 1)],
@@ -99,7 +99,7 @@ const LEAVINGS: &[Leaving] = &[
     Leaving {
         sends: "01 02 00",
         stays_open: false,
-        how: Gone::Truncated,
+        how: CloseReason::Truncated,
         carried: (3, 0),
         version: None,
         received: &[],
@@ -110,7 +110,7 @@ const LEAVINGS: &[Leaving] = &[
     Leaving {
         sends: "",
         stays_open: false,
-        how: Gone::PeerClosed,
+        how: CloseReason::PeerClosed,
         carried: (0, 0),
         version: None,
         received: &[],
@@ -131,7 +131,7 @@ fn told(list: &[(Kind, u64)], kind: Kind) -> u64 {
 }
 
 /// Whether the PDUs are these, and no others but prefixes.
-fn are(pdus: &Pdus, list: &[(Kind, u64)]) -> bool {
+fn are(pdus: &PdusByKind, list: &[(Kind, u64)]) -> bool {
     KINDS.iter().all(|kind| pdus.of(*kind) == told(list, *kind))
 }
 
@@ -149,7 +149,7 @@ fn says(report: &Option<Report>, expected: Option<(u16, &str)>) -> bool {
 /// Whether it is counted so.
 fn is_counted(parted: &Parted, leaving: &Leaving) -> bool {
     let (read, written) = leaving.carried;
-    parted.carried == Carried { read, written }
+    parted.carried == ByteCounts { read, written }
         && parted.version == leaving.version
         && are(&parted.received, leaving.received)
         && are(&parted.sent, leaving.sent)
@@ -158,7 +158,7 @@ fn is_counted(parted: &Parted, leaving: &Leaving) -> bool {
 }
 
 /// Serves a client to its end, call by call, and says how it went.
-fn end_of(server: &mut Memory, client: Client) -> Option<Gone> {
+fn end_of(server: &mut Memory, client: Client) -> Option<CloseReason> {
     for _call in 0..40 {
         if let Some(Turn::Gone(how)) = server.serve(client, 1) {
             return Some(how);

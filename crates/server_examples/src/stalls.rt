@@ -1,7 +1,7 @@
 //! A client that takes no byte, and one that takes few.
 use crate::lines::cache_of;
 use example_values::sets::V;
-use rtr_server::{Carried, Client, Duplex, Server, Turn};
+use rtr_server::{ByteCounts, Client, Duplex, Server, Turn};
 use std::alloc::Global;
 use std::cell::RefCell;
 use std::io;
@@ -59,7 +59,7 @@ fn widen(room: &Room, more: usize) -> bool {
 fn waits_with(server: &mut Tight, client: Client, room: &Room, more: usize, written: u64) -> bool {
     widen(room, more)
         && server.serve(client, 9) == Some(Turn::WaitsToWrite)
-        && server.carried(client) == Some(Carried { read: 8, written })
+        && server.carried(client) == Some(ByteCounts { read: 8, written })
 }
 
 /// A client whose answer has 52 bytes takes 20 of them, none in two turns, one, and none.
