@@ -7,20 +7,20 @@ use crate::server::Server;
 use crate::stream::Stream;
 use vrps::VersionStore;
 
-/// What went over the stream of each client of a server is what its connection's history says, so what was written to it is a beginning of
-/// the replies to what was read of it; a notify is owed to it exactly where its router awaits one; and it holds at most 4,096 bytes that
+/// What went over the stream of each client of a server is what its connection's history says. So what was written to it is a beginning of
+/// the replies to what was read from it. A notify is owed to it if and only if its router awaits one. It holds at most 4,096 bytes that
 /// were read and not consumed, and at most 32,768 that were pulled and not written. Each past that led to the server made it so.
 pub fn each_client_is_served<S: VersionStore, T: Stream>(server: &Server<S, T>)
     ensures { EachClientIsServed S.holds T.remaining T.contents server.now }
 {}
 
-/// Where memory runs out at a client's PDU, its connection ends, with an Error Report of code 1 (RFC 8210 section 12).
+/// If memory runs out at a client's PDU, its connection ends, with an Error Report of code 1 (RFC 8210 section 12).
 pub fn memory_ends_its_client()
     ensures { MemoryEnds }
 {}
 
-/// What is counted of bytes that are read as PDUs, and of the beginning of one more, are these PDUs: of each type as many as there are, the
-/// serial that the last End of Data among them carries, and what the last Error Report among them says.
+/// Bytes that are read as PDUs, and the beginning of one more, are counted as these PDUs. The counts are how many of each type there are,
+/// the serial of the last End of Data among them, and what the last Error Report among them says.
 pub fn counts_units()
     ensures { CountsUnits }
 {}
@@ -31,7 +31,7 @@ pub fn counts_reports()
     ensures { CountsReports }
 {}
 
-/// A query is counted exactly where one is among the PDUs that were read: no header and no other part of a query counts as one.
+/// A query is counted if and only if one is among the PDUs that were read. No header and no other part of a query counts as one.
 pub fn counts_queries()
     ensures { CountsQueries }
 {}

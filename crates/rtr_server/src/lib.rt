@@ -1,4 +1,4 @@
-//! One cache (RFC 6810, RFC 8210) and many routers, over streams that do not wait.
+//! One cache (RFC 6810, RFC 8210) and many routers, over non-blocking streams.
 //!
 //! For example, where `rt` is the runtime that `main` is handed:
 //!

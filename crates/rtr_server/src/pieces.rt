@@ -52,7 +52,7 @@ impl Unread {
         self.from == self.to
     }
 
-    /// Reads a piece, where nothing is left of the last.
+    /// Reads a piece, if nothing is left of the last.
     pub(crate) fn read<T: Stream>(&mut self, stream: &mut T) -> Progress
         requires { self.old ≡ [] }
         ensures fills { FillsSo (T.remaining stream.old) (T.remaining stream.new) result self.new }
@@ -149,7 +149,7 @@ impl Unwritten {
         self.from == self.to
     }
 
-    /// Asks for the large room, where what was pulled last filled the small one.
+    /// Asks for the large room, if what was pulled last filled the small one.
     fn make_room(&mut self)
         requires { self.old ≡ [] }
         ensures { self.new ≡ [] }
@@ -161,7 +161,7 @@ impl Unwritten {
         self.to = 0;
     }
 
-    /// Gives the large room back, where nothing is left of what was pulled.
+    /// Gives the large room back, if nothing is left of what was pulled.
     fn give_back(&mut self)
         ensures { self.new ≡ self.old }
     {
@@ -172,7 +172,7 @@ impl Unwritten {
         }
     }
 
-    /// Pulls what is due, where nothing is left to write, as far as there is room.
+    /// Pulls what is due, if nothing is left to write, as far as there is room.
     pub(crate) fn pull<S: VersionStore>(&mut self, cache: &mut Cache<S>, conn: Conn)
         requires { self.old ≡ [] }
         ensures { (m : CacheState) → ShowsCache S.holds m cache.old → PullsInto S.holds m conn.0 self.new cache.new }
@@ -199,7 +199,7 @@ impl Unwritten {
     }
 }
 
-/// A large room, or nothing where memory runs out.
+/// A large room, or none if memory runs out.
 fn large_room(alloc: Global) -> Vec<u8>
     ensures { length result.items ≤ 32768 }
 {
@@ -209,7 +209,7 @@ fn large_room(alloc: Global) -> Vec<u8>
     }
 }
 
-/// The large room, where there is one, else the small one.
+/// The large room if there is one, otherwise the small one.
 fn room_at_hand<'a>(small: &'a [u8; SMALL_ROOM], large: &'a Vec<u8>) -> &'a [u8]
     ensures { result.now ≡ room_of small.now large.now.items }
 {
@@ -220,7 +220,7 @@ fn room_at_hand<'a>(small: &'a [u8; SMALL_ROOM], large: &'a Vec<u8>) -> &'a [u8]
     }
 }
 
-/// Pulls what is due into the large room, where there is one, else into the small one.
+/// Pulls what is due into the large room if there is one, otherwise into the small one.
 fn pull_into<S: VersionStore>(
     small: &mut [u8; SMALL_ROOM],
     large: &mut Vec<u8>,

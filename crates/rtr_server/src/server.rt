@@ -82,8 +82,8 @@ impl<S: VersionStore, T: Stream + Drop> Server<S, T> {
         }
     }
 
-    /// Admits a client. Its number is the least that no client has. `TooManyClients` comes exactly where as many are there as may be; after
-    /// it and after `Memory` the stream is dropped, and all clients are as they were.
+    /// Admits a client. Its number is the least that no client has. It is `TooManyClients` if and only if as many clients are there as may
+    /// be. After that and after `Memory` the stream is dropped, and all clients are as they were.
     pub fn admit(&mut self, stream: T) -> Result<Client, AdmitFault>
         ensures admits { (p : Past) → ShowsServer S.holds T.remaining T.contents p self.old → AdmitsTo S.holds T.remaining T.contents p stream result self.old self.new }
         ensures parted { self.new.parted ≡ self.old.parted }
@@ -106,7 +106,7 @@ impl<S: VersionStore, T: Stream + Drop> Server<S, T> {
         }
     }
 
-    /// One turn of a client, and its end where it is gone.
+    /// One turn of a client, which is removed if it was closed.
     fn serve_one(&mut self, client: Client, budget: u32) -> Option<Turn>
         ensures others { KeepsOthers client.0.0 self.old.slots.items self.new.slots.items }
         ensures serves { Serves S.holds T.remaining T.contents T.answers budget client.0.0 (slot_at self.old.slots.items client.0.0) self.old.cache result (slot_at self.new.slots.items client.0.0) self.new.cache self.new.parted }
@@ -122,9 +122,9 @@ impl<S: VersionStore, T: Stream + Drop> Server<S, T> {
         turn
     }
 
-    /// One turn of a client, of at most `budget` calls of its stream: what was pulled is written, then more is pulled; where nothing is due,
-    /// what was read is handed in; where nothing is left of that, a piece is read. None where no client has the number. A number is free
-    /// again once its client is gone, and may go to another; `parted` has what was counted of it.
+    /// One turn of a client, of at most `budget` calls of its stream. What was pulled is written, then more is pulled. If nothing is due,
+    /// what was read is handed in. If nothing is left of that, a piece is read. The result is none if no client has the number. A number is
+    /// free again once its client is closed, and may go to another; `parted` has what was counted of it.
     pub fn serve(&mut self, client: Client, budget: u32) -> Option<Turn>
         ensures others { KeepsOthers client.0.0 self.old.slots.items self.new.slots.items }
         ensures serves { Serves S.holds T.remaining T.contents T.answers budget client.0.0 (slot_at self.old.slots.items client.0.0) self.old.cache result (slot_at self.new.slots.items client.0.0) self.new.cache self.new.parted }
@@ -148,10 +148,10 @@ impl<S: VersionStore, T: Stream + Drop> Server<S, T> {
         Ok(published)
     }
 
-    /// Publishes a set. Each client that has asked, whose connection goes on and has nothing due, is notified of a new version: the notify
-    /// stands behind what was pulled and is not written. A client that has asked and still has bytes due is notified as soon as nothing is due,
-    /// before anything more is handed in. A client that has not asked is not notified (RFC 8210 section 7): its first answer is of the current
-    /// version. Without memory nothing is published.
+    /// Publishes a set. Each client that has asked, whose connection is open and has nothing due, is notified of a new version. The notify
+    /// comes behind what was pulled and is not written. A client that has asked and still has bytes due is notified as soon as nothing is
+    /// due, before anything more is handed in. A client that has not asked is not notified (RFC 8210 section 7): its first answer is of the
+    /// current version. If memory runs out, nothing is published.
     pub fn publish(&mut self, set: VrpSet) -> Result<Published, AllocError>
         ensures publishes { (p : Past) → ShowsServer S.holds T.remaining T.contents p self.old → PublishesTo S.holds T.remaining T.contents p set result self.old self.new }
         ensures parted { self.new.parted ≡ self.old.parted }
@@ -201,7 +201,7 @@ impl<S: VersionStore, T: Stream + Drop> Server<S, T> {
         self.parted
     }
 
-    /// A client's stream, where there is such a client.
+    /// A client's stream, if there is such a client.
     pub fn stream(&self, client: Client) -> Option<&T>
         ensures { option_map (λ stream. stream.now) result ≡ option_map (λ slot. slot.stream) (slot_at self.now.slots.items client.0.0) }
     {
@@ -211,7 +211,7 @@ impl<S: VersionStore, T: Stream + Drop> Server<S, T> {
         }
     }
 
-    /// How many bytes went over a client's stream since it came, where there is such a client.
+    /// How many bytes went over a client's stream since it was admitted, if there is such a client.
     pub fn carried(&self, client: Client) -> Option<ByteCounts>
         ensures { result ≡ option_map (λ slot. slot.traffic.carried) (slot_at self.now.slots.items client.0.0) }
     {
@@ -221,8 +221,8 @@ impl<S: VersionStore, T: Stream + Drop> Server<S, T> {
         }
     }
 
-    /// The PDUs that came from a client, by type, where there is such a client: those of which its connection consumed as many bytes as their
-    /// headers say. One in which a fault shows behind its header is among them.
+    /// The PDUs that came from a client, by type, if there is such a client. These are the PDUs of which its connection consumed as many
+    /// bytes as their headers say. One in which a fault shows behind its header is among them.
     pub fn received(&self, client: Client) -> Option<PdusByKind>
         ensures { result ≡ option_map (λ slot. slot.traffic.received.pdus) (slot_at self.now.slots.items client.0.0) }
     {
@@ -232,7 +232,7 @@ impl<S: VersionStore, T: Stream + Drop> Server<S, T> {
         }
     }
 
-    /// The PDUs that were sent to a client, by type, where there is such a client: those that were written whole to its stream.
+    /// The PDUs that were sent to a client, by type, if there is such a client. These are the PDUs that were written whole to its stream.
     pub fn sent(&self, client: Client) -> Option<PdusByKind>
         ensures { result ≡ option_map (λ slot. slot.traffic.sent.pdus) (slot_at self.now.slots.items client.0.0) }
     {
@@ -254,8 +254,8 @@ impl<S: VersionStore, T: Stream + Drop> Server<S, T> {
         }
     }
 
-    /// The serial of the last End of Data (RFC 8210 section 5.8) that was sent to a client: of the version that its router has, where it took
-    /// all of its answers.
+    /// The serial of the last End of Data (RFC 8210 section 5.8) that was sent to a client. If its router accepted all of its answers, the
+    /// router has this version.
     pub fn last_serial(&self, client: Client) -> Option<Serial>
         ensures { result ≡ joined (option_map (λ slot. slot.traffic.sent.serial) (slot_at self.now.slots.items client.0.0)) }
     {
@@ -336,7 +336,7 @@ fn grow<T: Stream + Drop>(
     Ok(())
 }
 
-/// Puts a client under the number of its connection, where none is.
+/// Puts a client under the number of its connection, if none is there.
 fn put_at<T: Stream + Drop>(
     alloc: Global,
     slots: &mut Vec<Option<Box<Slot<T>>>>,

@@ -1,4 +1,4 @@
-//! Streams that do not wait.
+//! Non-blocking streams.
 ghost use Rattle.std.specs.Prelude.{◌≡◌, ℕ, ◌≤◌, List, Option, length};
 ghost use Rattle.std.specs.Io.KnownBytes.{Keeps};
 ghost use Rattle.std.specs.IoError.{error_kind};
@@ -10,9 +10,9 @@ use std::io::{ErrorKind, Read, Write};
 /// The outcome of one non-blocking call of a stream.
 #[derive(Clone, Copy, Debug, PartialEq, Eq)]
 pub enum Progress {
-    /// So many bytes went. At a read none is the end, where there is room.
+    /// So many bytes were read or written. At a read, zero bytes are the end of the input, if there is room.
     Bytes(usize),
-    /// The stream would wait.
+    /// The stream would block.
     Waits,
     /// The call was interrupted, and can be made again.
     Interrupted,
@@ -41,17 +41,17 @@ pub enum Call {
     Write(Progress),
 }
 
-/// Both directions of a connection, whose calls do not wait. What is read changes nothing of what was written, nor the other way round.
+/// Both directions of a connection, with non-blocking calls. What is read changes nothing of what was written, nor the other way round.
 pub trait Stream {
     ghost use Rattle.rtr_server.specs.declared.stream.Call.{Call};
 
-    /// What is left to be read, where that is known.
+    /// What is left to be read, if that is known.
     ghost remaining: { Self → Option (List ℕ) };
 
-    /// What was written, where that is known.
+    /// What was written, if that is known.
     ghost contents: { Self → Option (List ℕ) };
 
-    /// Its calls and what each answered, the last first, where that is known.
+    /// Its calls and what each answered, the last first, if that is known.
     ghost answers: { Self → Option (List Call) };
 
     /// Reads into the front of the buffer, as many bytes as it answers.

@@ -13,7 +13,7 @@ use vrps::Serial;
 /// How many PDUs of each type went one way, read off their headers (RFC 6810 section 5, RFC 8210 section 5). Counts stop at `u64::MAX`.
 #[derive(Clone, Copy, Debug, PartialEq, Eq)]
 pub struct PdusByKind {
-    /// By the numbers from 0 to 10 that may stand for a type in a header. Five stands for none.
+    /// By the numbers from 0 to 10 that may be a type in a header. Five is none.
     counts: [u64; 11],
 }
 
@@ -39,7 +39,7 @@ impl PdusByKind {
         self.of(Kind::SerialQuery) > 0 || self.of(Kind::ResetQuery) > 0
     }
 
-    /// Counts so many more of the type with this number. Numbers above ten stand for no type, and are not counted.
+    /// Counts so many more of the type with this number. Numbers above ten are no type, and are not counted.
     fn add(&mut self, kind: u8, count: u64)
         ensures { self.new ≡ and_pdus count kind self.old }
     {
@@ -56,8 +56,8 @@ const FRONT: usize = 12;
 /// The bytes that are kept of an Error Report behind the PDU that it encapsulates: the length of the text, and the beginning of the text.
 const TAIL: usize = 4 + REPORT_TEXT_LEN;
 
-/// What was counted of bytes that went one way. Of a PDU that has not come whole it keeps how many bytes came, the first of them, and if it is
-/// an Error Report its tail: those behind the PDU that it encapsulates.
+/// What was counted of bytes that went one way. Of a PDU that has not come whole it keeps how many bytes came, and the first of them. Of an
+/// Error Report it also keeps the tail: the bytes behind the PDU that it encapsulates.
 #[derive(Debug, Drop)]
 pub(crate) struct Tally {
     pdus: PdusByKind,
@@ -123,7 +123,7 @@ impl Tally {
         }
     }
 
-    /// A byte more came of the PDU that stands last.
+    /// One more byte came of the last PDU.
     fn grow(&mut self, byte: u8)
         ensures { self.new ≡ grown self.old byte }
     {
@@ -161,7 +161,7 @@ impl Tally {
         }
     }
 
-    /// Counts a PDU that stands whole in front of these bytes, where nothing came of another. It is no Error Report.
+    /// Counts a PDU that is whole in front of these bytes, if nothing came of another. It is no Error Report.
     fn add(&mut self, piece: &[u8], len: usize)
         requires none { self.old.came ≡ 0 }
         requires kind { ¬ (type_of piece.now ≡ 10) }
@@ -173,7 +173,7 @@ impl Tally {
         self.came = 0;
     }
 
-    /// Counts so many PDUs of a type, where nothing came of another. It is neither End of Data nor Error Report, of which more is kept.
+    /// Counts so many PDUs of a type, if nothing came of another. It is neither End of Data nor Error Report, of which more is kept.
     fn add_run(&mut self, kind: u8, count: u64)
         ensures { self.new ≡ and_many count kind self.old }
     {
@@ -181,7 +181,7 @@ impl Tally {
         self.came = 0;
     }
 
-    /// Counts the PDU that stands whole in front of these bytes, and those behind it that are like it, and answers what is left. The PDU is no
+    /// Counts the PDU that is whole in front of these bytes, and those behind it that are like it, and returns what is left. The PDU is no
     /// Error Report.
     fn pass<'a>(&mut self, piece: &'a [u8], len: usize) -> &'a [u8]
         requires none { IsBetween self.old }
@@ -202,7 +202,7 @@ impl Tally {
         rest
     }
 
-    /// Counts the PDUs in front, where the first is there whole and no Error Report, else a byte, and answers what is left.
+    /// Counts the PDUs in front if the first is whole and no Error Report, otherwise a byte, and returns what is left.
     fn next<'a>(&mut self, piece: &'a [u8]) -> &'a [u8]
         requires { 0 < length piece.now }
         ensures counts { counted_on self.old piece.now ≡ counted_on self.new result.now }
@@ -283,7 +283,7 @@ fn put(front: &mut [u8; FRONT], came: u64, byte: u8)
     }
 }
 
-/// Puts the next byte of a PDU of which so many came to its tail, which stands from this place on, if it is one of these.
+/// Puts the next byte of a PDU, of which so many came, into its tail, if the byte is in it. The tail begins at this place.
 fn put_behind(tail: &mut [u8; TAIL], at: u64, came: u64, byte: u8)
     ensures { tail.new ≡ (if nat_lt came at then tail.old else if nat_lt (came - at) 204 then slice_set tail.old (came - at) byte else tail.old) }
 {
@@ -332,7 +332,7 @@ fn header(bytes: &[u8]) -> u64
     BigEndian::read_u64(bytes)
 }
 
-/// Whether this header stands at a place of these bytes.
+/// Whether this header is at a place of these bytes.
 fn shows_at(bytes: &[u8], at: usize, head: u64) -> bool
     requires { at + 8 ≤ length bytes.now }
     ensures { result ≡ true → ShowsHeader head (drop at bytes.now) }
@@ -340,7 +340,7 @@ fn shows_at(bytes: &[u8], at: usize, head: u64) -> bool
     header(&bytes[at..]) == head
 }
 
-/// Whether a PDU of this length and this header stands whole in front of these bytes.
+/// Whether a PDU of this length and this header is whole in front of these bytes.
 fn is_alike(bytes: &[u8], len: usize, head: u64) -> bool
     requires { 8 ≤ len }
     ensures fits { result ≡ true → len ≤ length bytes.now }
@@ -349,7 +349,7 @@ fn is_alike(bytes: &[u8], len: usize, head: u64) -> bool
     bytes.len() >= len && shows_at(bytes, 0, head)
 }
 
-/// Whether four of them stand there.
+/// Whether four of them are there.
 fn are_four(bytes: &[u8], len: usize, head: u64) -> bool
     requires least { 8 ≤ len }
     requires most { len < 2 ^ 32 }
@@ -366,7 +366,7 @@ fn are_four(bytes: &[u8], len: usize, head: u64) -> bool
         && shows_at(bytes, 3 * len, head)
 }
 
-/// How many PDUs of this length and this header stand in front of these bytes, by fours, and what is left behind them.
+/// How many PDUs of this length and this header are in front of these bytes, by fours, and what is left behind them.
 fn fours_of(piece: &[u8], len: usize, head: u64) -> (u64, &[u8])
     requires told { len ≡ max (length_in head) 8 }
     requires kind { IsOnlyCounted (type_in head) }
@@ -382,7 +382,7 @@ fn fours_of(piece: &[u8], len: usize, head: u64) -> (u64, &[u8])
     (count, rest)
 }
 
-/// How many of them stand there one by one, and what is left behind them.
+/// How many of them are there one by one, and what is left behind them.
 fn ones_of(piece: &[u8], len: usize, head: u64) -> (u64, &[u8])
     requires told { len ≡ max (length_in head) 8 }
     requires kind { IsOnlyCounted (type_in head) }
@@ -398,7 +398,7 @@ fn ones_of(piece: &[u8], len: usize, head: u64) -> (u64, &[u8])
     (count, rest)
 }
 
-/// How many PDUs of the header of the first stand one behind the other in front of these bytes, and what is left behind them.
+/// How many PDUs with the header of the first follow one another in front of these bytes, and what is left behind them.
 fn run_of(piece: &[u8], len: usize) -> (u64, &[u8])
     requires told { len ≡ told_len piece.now }
     requires header { 8 ≤ length piece.now }
@@ -413,7 +413,7 @@ fn run_of(piece: &[u8], len: usize) -> (u64, &[u8])
     (1 + fours + ones, rest)
 }
 
-/// How many bytes the PDU in front has, where all of it is there and it is no Error Report.
+/// How many bytes the PDU in front has, if all of it is there and it is no Error Report.
 fn plain_in_front(piece: &[u8]) -> Option<usize>
     ensures { IfSome result (λ len. (len ≡ told_len piece.now) × (8 ≤ length piece.now) × (len ≤ length piece.now) × (¬ (type_of piece.now ≡ 10))) }
 {

@@ -102,12 +102,12 @@ pub(crate) struct Slot<T> {
     pub(crate) traffic: Traffic,
 }
 
-/// What is to be done with the stream next.
+/// What comes next at the stream.
 #[derive(Clone, Copy, Debug, PartialEq, Eq)]
 pub(crate) enum Next {
-    /// A piece is to be read.
+    /// Reading a piece.
     Read,
-    /// What was pulled is to be written.
+    /// Writing what was pulled.
     Write,
     /// Nothing: the connection has ended, and all is written.
     Nothing,
@@ -128,7 +128,7 @@ impl<T: Stream> Slot<T> {
         }
     }
 
-    /// Sends the notify that is owed, where it can be sent. It answers whether it did.
+    /// Sends the notify that is owed, if it can be sent. It returns whether it did.
     fn settle<S: VersionStore>(&mut self, cache: &mut Cache<S>) -> bool
         requires { self.old.unwritten ≡ [] }
         ensures goes { GoesFrom S.holds T.remaining T.contents NoneDue self.old cache.old self.new cache.new (settles result) }
@@ -143,7 +143,7 @@ impl<T: Stream> Slot<T> {
         is_sent
     }
 
-    /// Pulls what is due, where nothing is left to write.
+    /// Pulls what is due, if nothing is left to write.
     fn pull<S: VersionStore>(&mut self, cache: &mut Cache<S>)
         requires { self.old.unwritten ≡ [] }
         ensures goes { GoesFrom S.holds T.remaining T.contents Anyhow self.old cache.old self.new cache.new NoneDue }
@@ -153,7 +153,7 @@ impl<T: Stream> Slot<T> {
         self.unwritten.pull(cache, self.conn);
     }
 
-    /// Pulls the notify that is owed, where nothing is left to write and nothing is due.
+    /// Pulls the notify that is owed, if nothing is left to write and nothing is due.
     fn pull_owed<S: VersionStore>(&mut self, cache: &mut Cache<S>)
         ensures goes { GoesFrom S.holds T.remaining T.contents NoneDue self.old cache.old self.new cache.new MaySettle }
         ensures conn { self.new.conn ≡ self.old.conn }
@@ -168,7 +168,7 @@ impl<T: Stream> Slot<T> {
         }
     }
 
-    /// Pulls what is due, or the notify that is owed, where nothing is left to write.
+    /// Pulls what is due, or the notify that is owed, if nothing is left to write.
     fn fill<S: VersionStore>(&mut self, cache: &mut Cache<S>)
         ensures goes { GoesFrom S.holds T.remaining T.contents Anyhow self.old cache.old self.new cache.new MaySettle }
         ensures conn { self.new.conn ≡ self.old.conn }
@@ -181,7 +181,7 @@ impl<T: Stream> Slot<T> {
         }
     }
 
-    /// Hands in what was read, and answers how many bytes were consumed: none where the connection has ended.
+    /// Hands in what was read, and returns how many bytes were consumed: none if the connection has ended.
     fn take<S: VersionStore>(&mut self, cache: &mut Cache<S>) -> usize
         requires { 0 < length self.old.unread }
         ensures goes { GoesFrom S.holds T.remaining T.contents IsSettled self.old cache.old self.new cache.new (λ s. result ≡ 0 → IsOver s) }
@@ -193,7 +193,7 @@ impl<T: Stream> Slot<T> {
             .hand_in(cache, self.conn, &mut self.traffic.received)
     }
 
-    /// Hands in what was read, as far as nothing becomes due, and says what is to be done next.
+    /// Hands in what was read, as far as nothing becomes due, and returns what comes next.
     fn prepare<S: VersionStore>(&mut self, cache: &mut Cache<S>) -> Next
         ensures goes { GoesFrom S.holds T.remaining T.contents Anyhow self.old cache.old self.new cache.new (StandsFor result) }
         ensures conn { self.new.conn ≡ self.old.conn }
@@ -244,7 +244,7 @@ impl<T: Stream> Slot<T> {
         after_write(moved)
     }
 
-    /// One call of the stream, with what is to be done before.
+    /// One call of the stream, with what comes before it.
     fn step<S: VersionStore>(&mut self, cache: &mut Cache<S>) -> Option<Turn>
         ensures goes { GoesFrom S.holds T.remaining T.contents Anyhow self.old cache.old self.new cache.new (GoesOrEnds result (T.remaining self.new.stream)) }
         ensures conn { self.new.conn ≡ self.old.conn }
@@ -272,7 +272,7 @@ impl<T: Stream> Slot<T> {
     }
 }
 
-/// What a read comes to: none where the turn goes on.
+/// What a read comes to: none if the turn goes on.
 fn after_read(moved: Progress, is_within: bool) -> Option<Turn>
     ensures { result ≡ after_read moved is_within }
 {
@@ -288,7 +288,7 @@ fn after_read(moved: Progress, is_within: bool) -> Option<Turn>
     }
 }
 
-/// What a write comes to: none where the turn goes on.
+/// What a write comes to: none if the turn goes on.
 fn after_write(moved: Progress) -> Option<Turn>
     ensures { result ≡ after_write moved }
 {
