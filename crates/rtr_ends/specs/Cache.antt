@@ -156,8 +156,8 @@ ConnStops =
     (keep : ℕ) (t : Intervals) (i : Instance) (m : Taking) (b : ℕ) → judge (version_at m.conn (b ∷ [])) false (m.conn.held ++ b ∷ []) ≡ Begins →
     conn_stops (conn_byte keep t i m b).conn ≡ conn_stops m.conn
 
--- What happened on a connection is its history: what came by it is what was consumed, what was pulled is what was given, and
--- the connection is as they leave it.
+-- What happened on a connection is its history. What came by it is what was consumed, what was pulled is what was given, and the connection
+-- is as they leave it.
 pub record IsServed (keep : ℕ) (t : Intervals) (i : Instance) (s : Serving) : Type 0 where
   pub history : IsHistory keep t (opened i) s.moments s.came
   pub state : s.conn.state ≡ after_all keep t (opened i) s.moments

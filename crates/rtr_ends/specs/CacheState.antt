@@ -20,8 +20,8 @@ use Rattle.rtr_ends.specs.declared.cache.Conn.{Conn as Number}
 use Rattle.rtr_ends.specs.declared.peer.Peer.{Peer}
 use Rattle.rtr_ends.specs.declared.sender.Share.{Share}
 
--- how many versions before the current one are kept, the intervals that are sent, the instance that is published, and the
--- connections that are open or still to be closed, by their numbers
+-- How many versions before the current one are kept, the intervals that are sent, and the instance that is published. And by their numbers
+-- the connections that are open or have yet to be closed.
 pub record CacheState : Type 0 where
   pub keep : ℕ
   pub timing : Intervals
@@ -155,8 +155,8 @@ HandsOut old serial sets new =
     (taken_numbers new ≡ taken_numbers old)
     × ((set : VrpSet) → AllByRecursion (λ s. s ≡ set) sets → (c : ℕ) → Brings (record { serial = serial; set = set }) (peer_at old c) (peer_at new c))
 
--- What is called on a cache: a set is published; a connection is opened under a number or closed; a piece is handed in; bytes are
--- pulled; a router is notified.
+-- What is called on a cache. A set is published, a connection is opened under a number or closed, a piece is handed in, bytes are pulled,
+-- or a router is notified.
 pub data CacheCall : Type 0 where
   Publish : (set : VrpSet) → CacheCall
   Open : (c : ℕ) → CacheCall
@@ -205,8 +205,8 @@ IsCacheCall (Publish set) = IsVrpSet set
 IsCacheCall (Receive c wanting piece) = AreBytes piece
 IsCacheCall call = ⊤
 
--- After any calls on a new cache, each connection is as its own calls leave it, and they made its history: what came was consumed,
--- what was pulled is the beginning of its replies, and what is due is the rest of them.
+-- After any calls on a new cache, each connection is as its own calls leave it, and they made its history. What came was consumed, what was
+-- pulled is the beginning of its replies, and what is due is the rest of them.
 pub record IsLife (keep : ℕ) (t : Intervals) (i : Instance) (a : Option Conn) (l : Option Life) : Type 0 where
   pub same : a ≡ option_map (λ (x : Life). x.serving.conn) l
   pub now : IfSome l (λ x. x.serving.cache ≡ i)

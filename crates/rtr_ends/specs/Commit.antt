@@ -6,9 +6,9 @@ use Rattle.prefixes.specs.Payload.{Payload, vrp_cmp}
 use Rattle.vrps.specs.Change.{between}
 use Rattle.vrps.specs.VrpSet.{VrpSet, has, listing, set_of, union, without}
 
--- An answer with these records leads from base to new: base without the withdrawn, together with the announced. Each record
--- acts, and acts once: the withdrawn are distinct members of base (else code 6, Withdrawal of Unknown Record), the announced
--- distinct records outside it (else code 7, Duplicate Announcement Received). Where they are not, the answer leads nowhere.
+-- An answer with these records leads from base to new: base without the withdrawn, together with the announced. Each record acts, and acts
+-- once. The withdrawn are distinct members of base (else code 6, Withdrawal of Unknown Record). The announced are distinct records outside
+-- it (else code 7, Duplicate Announcement Received). If they are not, the answer leads nowhere.
 pub record Commits (base : VrpSet) (withdrawn announced : List Payload) (new : VrpSet) : Type 0 where
   pub known : AllByRecursion (λ v. has base v ≡ true) withdrawn
   pub withdrawn_once : IsDistinct (eq_by_cmp vrp_cmp) withdrawn

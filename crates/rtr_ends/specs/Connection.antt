@@ -17,9 +17,9 @@ use Rattle.rtr_pdu.specs.declared.unit.UnitFault.TheVariants as faults
 use Rattle.rtr_ends.specs.Answer.{Reply, and_on, and_end, answer, report, sent, sent_all, session_in}
 use Rattle.rtr_ends.specs.Timing.{Intervals}
 
--- What happens, as the cache is then: bytes were read as a PDU of a version; so they were, and memory for its answer ran out;
--- bytes show a fault where PDUs of a version are expected; the router is notified in a version, when these bytes of a PDU had
--- come; or this many of the bytes due were pulled.
+-- What happens, with the cache at that moment. Bytes were read as a PDU of a version, or they were and memory for its answer ran out. Bytes
+-- show a fault while PDUs of a version are expected. The router is notified in a version, when these bytes of a PDU had come. So many of
+-- the bytes due were pulled.
 pub data ConnMoment : Type 0 where
   Read : (version : Version) → (cache : Instance) → (unit : Unit) → (bytes : List ℕ) → ConnMoment
   Wanting : (version : Version) → (cache : Instance) → (unit : Unit) → (bytes : List ℕ) → ConnMoment
@@ -53,8 +53,8 @@ abbrev pub agreed_version : Bool → Version → Option Version
 agreed_version true version = Some version
 agreed_version false version = None
 
--- The code where bytes show another version than the one agreed on (RFC 8210 section 12): version 0 has no code 8, Unexpected
--- Protocol Version (RFC 6810 section 10); nor is there one before a version is agreed on (RFC 8210 section 7).
+-- The code if bytes show another version than the one agreed on (RFC 8210 section 12). Version 0 has no code 8, Unexpected Protocol Version
+-- (RFC 6810 section 10). There is none either before a version is agreed on (RFC 8210 section 7).
 abbrev pub version_code : Option Version → ℕ
 version_code (Some V1) = UNEXPECTED_VERSION
 version_code agreed = UNSUPPORTED_VERSION
@@ -127,8 +127,8 @@ abbrev pub spoken_in : Option Version → Version
 spoken_in None = V1
 spoken_in (Some version) = version
 
--- A connection between two moments: the cache as it was last, the version of its first header, once a PDU came, whether it has
--- ended, the bytes due, which were sent and not pulled yet, whether what was sent last is a notify, and what had come then of a PDU
+-- A connection between two moments: the cache at the last one, the version of its first header once a PDU came, and whether it has ended.
+-- `due`: the bytes that were sent and not pulled yet. And whether what was sent last is a notify, and what had come then of a PDU.
 pub record Connection : Type 0 where
   pub cache : Instance
   pub version : Option Version
@@ -137,8 +137,8 @@ pub record Connection : Type 0 where
   pub notified : Bool
   pub seen : List ℕ
 
--- What had come of a PDU when the router was notified is the beginning of one and the front of what comes, and no less than had
--- come when it was notified before.
+-- What had come of a PDU when the router was notified is the beginning of one and the front of what comes. It is no less than had come when
+-- the router was notified before.
 pub record HadCome (c : Connection) (coming held : List ℕ) : Type 0 where
   pub begins : IsPartial (version_in c.version held) held
   pub more : List ℕ
@@ -203,14 +203,14 @@ conn_after keep t c m =
       seen = seen_at m;
     }
 
--- What may be left of the bytes that came: nothing where the connection has ended or an answer is due, else the beginning of a
+-- What may be left of the bytes that came. That is nothing if the connection has ended or an answer is due, otherwise the beginning of a
 -- PDU in which no fault shows. A notify may be due in the middle of a PDU.
 abbrev pub MayHold : Connection → List ℕ → Type 0
 MayHold c bytes =
     MatchBool c.ended (bytes ≡ []) (IsPartial (version_in c.version bytes) bytes × ((bytes ≡ []) ⊎ ((c.due ≡ []) ⊎ (c.notified ≡ true))))
 
--- These moments, in their order, are the history of a connection on which these bytes came: each may come where it stands, and
--- the bytes are those that came by them and what may be left.
+-- These moments, in their order, are the history of a connection on which these bytes came. Each may come at its place, and the bytes are
+-- those that came by them and what may be left.
 abbrev pub IsHistory : ℕ → Intervals → Connection → List ConnMoment → List ℕ → Type 0
 IsHistory keep t c [] bytes = MayHold c bytes
 IsHistory keep t c (m ∷ later) bytes =

@@ -104,8 +104,8 @@ FetchReads limit before now (Ok outcomes.Limit) = now ≡ before + limit
 FetchReads limit before now (Ok outcomes.PeerClosed) = (before < now) × (now ≤ before + limit)
 FetchReads limit before now result = (before ≤ now) × (now ≤ before + limit)
 
--- How a piece was taken by a router that was where these calls led: all of it is consumed, or the link has ended; and all that was to be
--- pulled has gone out, or the writer failed.
+-- How a piece was consumed by a router that was where these calls led. All of it is consumed, or the link has ended; and all bytes to be
+-- pulled have gone out, or the writer failed.
 abbrev pub TakesSo : Router → List ℕ → List ℕ → Option (List ℕ) → Option (List ℕ) → Result ⊤ Failed → Type 0
 TakesSo r unread sent had has (Ok done) = (r.out ≡ []) × (0 < length unread → is_reading r.link ≡ false) × Appends had has sent
 TakesSo r unread sent had has (Err failed) = GoesOutInPart had has sent

@@ -14,10 +14,11 @@ use Rattle.rtr_ends.specs.Transcript.{Question, AskReset, AskSerial, query, Begu
 use Rattle.rtr_ends.specs.Timing.{default_intervals}
 use Rattle.rtr_ends.specs.RouterLink.{Link, Closed, Idle, Asked, Answering, Ended}
 
--- What a router holds: the committed table and version, and the table before the latest commit; the mark that the next query must be a Reset Query; when an idle link
--- asks; whether code 2, No Data Available, and no commit brought a link to idle last; the greatest moment so far; the version of its
--- next connection, and that of its connection, or of the latest one; and of its connection the link, whether a version is agreed on,
--- the session of the latest Cache Response, what has come of a PDU, and the bytes to be pulled
+-- What a router holds. Of what it committed: the table and the version, the table before the latest commit, and the mark that the next
+-- query must be a Reset Query. Of time: when an idle link asks, and the greatest moment so far. `no_data`: whether code 2, No Data
+-- Available, and no commit brought a link to idle last. The version of its next connection, and that of its connection, or of the latest
+-- one. Of its connection: the link, whether a version is agreed on, and the session of the latest Cache Response. And what has come of a
+-- PDU, and the bytes to be pulled.
 pub record Router : Type 0 where
   pub table : VrpSet
   pub before : VrpSet
@@ -99,8 +100,8 @@ commit a version r = record r {
   link = Idle;
 }
 
--- An Error Report to the question that is outstanding: code 2, No Data Available, leaves the link idle; code 0, Corrupt Data, to
--- a Serial Query empties; all but 2 end the link.
+-- An Error Report to the question that is outstanding. Code 2, No Data Available, leaves the link idle. Code 0, Corrupt Data, to a Serial
+-- Query empties. All codes but 2 end the link.
 abbrev pub told_off : Question → ℕ → Router → Router
 told_off question code r =
     if code == NO_DATA_AVAILABLE then record r { link = Idle; due = Some (sum_of r.now (retry_of r.version)); no_data = true }

@@ -25,9 +25,9 @@ RouterStops =
     (m : Receiving) (b : ℕ) → judge m.router.spoken (not m.router.agreed) (m.router.held ++ b ∷ []) ≡ Begins →
     router_stops (router_byte m b).router ≡ router_stops m.router
 
--- What the transcript says of a link with this agreement and session of its connection, over this table: a closed link has no
--- connection; one that has ended has one, and no more is said of it; an idle one has no question outstanding; one that is asked has
--- that question waiting; and an answer has come as far as is staged, each record of it acting once.
+-- What the transcript says of a link with this agreement and session of its connection, over this table. A closed link has no connection. A
+-- link that has ended has one, and no more is said of it. An idle link has no question outstanding. A link that has asked has that question
+-- waiting. An answer has come as far as is staged, each record of it acting once.
 abbrev pub LinkTells : Link → Bool → Option ℕ → VrpSet → List Item → Type 0
 LinkTells Closed agreed session table items = (is_connected items ≡ false) × (agreed ≡ false) × (session ≡ None)
 LinkTells (Ended end) agreed session table items = is_connected items ≡ true
@@ -39,8 +39,8 @@ LinkTells (Answering a) agreed session table items =
     (is_connected items ≡ true) × (waiting items ≡ None) × (under_way items ≡ Some a) × (has_agreed items ≡ agreed) × (responded items ≡ session) × (agreed ≡ true)
     × (acts_once (base_of a.question table) a.withdrawn a.announced ≡ true)
 
--- What a router holds, when it asks, the greatest moment it was given and the version of its latest connection are those of its
--- transcript, and its link is as that says.
+-- What a router holds, when it asks, the greatest moment it was given and the version of its latest connection are those of its transcript.
+-- Its link is as the transcript says.
 pub record IsKept (r : Router) (items : List Item) : Type 0 where
   pub table : r.table ≡ (kept items).table
   pub before : r.before ≡ (kept items).before
@@ -109,8 +109,8 @@ is_cut Closed = true
 is_cut (Ended ends.Expired) = true
 is_cut link = false
 
--- The bytes that a router gave on its latest connection, those to be pulled, and those dropped where it was cut are its questions and
--- then its report, if there is one.
+-- Consider the bytes that a router gave on its latest connection, those to be pulled, and those dropped if it was cut. They are its
+-- questions and then its report, if there is one.
 pub record HasSaid (r : Router) (items : List Item) (given : List ℕ) : Type 0 where
   pub report : List ℕ
   pub reported : SaysLast r.link r.spoken report

@@ -47,10 +47,10 @@ AllOut s had has = (s.conn.state.due ≡ []) × Appends had has s.given
 abbrev pub ConnectionGoesOn : Serving → List ℕ → Type 0
 ConnectionGoesOn s unread = (unread ≡ []) × (s.conn.state.ended ≡ false)
 
--- How a stream ended whose connection stands so, where these bytes were read and not consumed and this is left of the input: at the
--- end of the input, at a PDU's end or inside a PDU; by a reply that ended the connection, which consumes nothing after it; after so
--- many reads as were allowed; or where a device failed. Where the writer did, a beginning of what was pulled has gone out. Without
--- memory for a connection nothing was read or written.
+-- How a stream ended whose connection is so, if these bytes were read and not consumed and this is left of the input. It ended at the end
+-- of the input, at a PDU's end or inside a PDU. Or a reply ended the connection, which consumes nothing after it. Or as many reads were
+-- made as are allowed, or a device failed. If the writer failed, a beginning of what was pulled has gone out. Without memory for a
+-- connection nothing was read or written.
 abbrev pub EndsSo : Serving → List ℕ → Option (List ℕ) → Option (List ℕ) → Option (List ℕ) → Result Served StreamFault → Type 0
 EndsSo s unread left had has (Ok PeerClosed) = AllOut s had has × ConnectionGoesOn s unread × (s.conn.held ≡ []) × IsAtEnd left
 EndsSo s unread left had has (Ok Truncated) = AllOut s had has × ConnectionGoesOn s unread × (0 < length s.conn.held) × IsAtEnd left
@@ -60,8 +60,8 @@ EndsSo s unread left had has (Err ReadFailed) = AllOut s had has × ConnectionGo
 EndsSo s unread left had has (Err WriteFailed) = GoesOutInPart had has s.given
 EndsSo s unread left had has (Err Memory) = (unread ≡ []) × (s.came ≡ []) × (s.given ≡ [])
 
--- One connection that was opened at this cache: what was read, in so many calls of at most 4,096 bytes each, was consumed but for what
--- is reported; that made the connection's history (`IsServed`), by which what it pulled is its replies; and so it ended.
+-- One connection that was opened at this cache. What was read, in so many calls of at most 4,096 bytes each, was consumed but for what is
+-- reported. That made the connection's history (`IsServed`), by which what it pulled is its replies. And so it ended.
 pub record ServesConnection (m : CacheState) (before left : Option (List ℕ)) (reads : ℕ) (had has : Option (List ℕ)) (result : Result Served StreamFault) : Type 0 where
   pub calls : List ConnCall
   pub turns : AllByRecursion IsTurn calls
@@ -82,8 +82,8 @@ ReadsWithin limit before now (Ok Limit) = now ≡ before + limit
 ReadsWithin limit before now (Ok served) = (before < now) × (now ≤ before + limit)
 ReadsWithin limit before now (Err fault) = (before ≤ now) × (now ≤ before + limit)
 
--- How the piece of a connection that stood after these calls was answered: all of it is consumed, or the connection has ended; and all
--- that became due has gone out, or the writer failed.
+-- How the piece of a connection was answered, after these calls. All of it is consumed, or the connection has ended; and all that became
+-- due has gone out, or the writer failed.
 abbrev pub AnswersSo : Serving → List ℕ → List ℕ → Option (List ℕ) → Option (List ℕ) → Result ⊤ Failed → Type 0
 AnswersSo s unread sent had has (Ok done) = (s.conn.state.due ≡ []) × (0 < length unread → s.conn.state.ended ≡ true) × Appends had has sent
 AnswersSo s unread sent had has (Err failed) = GoesOutInPart had has sent

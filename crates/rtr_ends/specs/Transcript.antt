@@ -25,9 +25,8 @@ abbrev pub query : Question → Unit
 query AskReset = ResetQuery
 query (AskSerial session serial) = SerialQuery session serial
 
--- What happens at a router: a moment is given; a connection is made, of a version; a question is put; a PDU is read, or it is and
--- memory for it runs out; bytes show a fault; the world refuses an event because memory ran out; the connection is closed; the router is
--- a new one.
+-- What happens at a router. A moment is given, a connection is made, of a version, or closed, or a question is put. A PDU is read, or it is
+-- and memory for it runs out, or bytes show a fault. The world refuses an event because memory ran out. The router is a new one.
 pub data Item : Type 0 where
   At : (now : ℕ) → Item
   Opened : (version : Version) → Item
@@ -233,8 +232,8 @@ at_end_of_data (Some a) version k =
     else k)
     else nothing
 
--- What a PDU that is read changes: an End of Data; after agreement a notify of another session than the connection's; a Cache
--- Response to a Serial Query, of another session; code 0, Corrupt Data, to a Serial Query
+-- What a PDU that is read changes. That is an End of Data, or one of three that drop what is kept. The three are: a notify of another
+-- session than the connection's after agreement, a Cache Response of another session to a Serial Query, and code 0, Corrupt Data, to one.
 abbrev pub kept_unit : Unit → List Item → Kept → Kept
 kept_unit (EndOfData session serial refresh retry expire) items k =
     at_end_of_data (under_way items) (record { version = spoken items; session = session; serial = serial; moment = moment items; intervals = bounded refresh retry expire }) k
