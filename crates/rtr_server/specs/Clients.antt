@@ -170,8 +170,8 @@ pub record Begun : Type 0 where
   pub before : Option (List ℕ)
   pub had : Option (List ℕ)
 
--- What happened to a server: how its cache was made, how many clients may be there at most, what was called on the cache since, the last
--- first, and how the stream of each client came, by their numbers
+-- What happened to a server: how its cache was made, how many clients may be there at most, and what was called on the cache since, the
+-- last first. And by their numbers how the stream of each client came.
 pub record Past : Type 0 where
   pub keep : ℕ
   pub timing : Intervals
@@ -187,8 +187,8 @@ made p = without_conns p.keep p.timing p.first
 abbrev pub present : Past → CacheState
 present p = ran p.calls (made p)
 
--- A client stands under the number of its connection; what went over its stream since it came is what went over that; it is owed a
--- notify exactly where its router awaits one; and its two buffers have room.
+-- A client is kept under the number of its connection. What went over its stream since it came is what went over that. It is owed a notify
+-- if and only if its router awaits one, and its two buffers have room.
 abbrev pub ShowsClient : {T : Type 0} → (T → Option (List ℕ)) → (T → Option (List ℕ)) → Begun → ℕ → Option Life → Bool → Option (Slot T) → Type 0
 ShowsClient remaining contents b c (Some l) waits (Some slot) =
     (slot.conn.0 ≡ c) × Flow b.before (remaining slot.stream) b.had (contents slot.stream) (client_of l.serving slot) × (slot.is_owed ≡ waits) × HasRoom (client_of l.serving slot)
@@ -243,8 +243,8 @@ is_gone None = false
 is_gone (Some (Gone how)) = true
 is_gone (Some turn) = false
 
--- A stream of which this is left to be read, and to which this was written, came as a client, where fewer are there than may be, under the
--- least number that no connection has; all others are as they were.
+-- A stream of which this is left to be read, and to which this was written, came as a client, if fewer are there than may be. Its number is
+-- the least that no connection has, and all others are as they were.
 pub record Admits {S T : Type 0} (holds : ℕ → Instance → S → Type 0) (remaining contents : T → Option (List ℕ)) (p : Past) (stream : T) (c : ℕ) (old new : Server S T) : Type 0 where
   pub room : clients_in old.slots.items < p.most
   pub least : IsLeastFree (present p).at c

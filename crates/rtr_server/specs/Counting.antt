@@ -155,8 +155,8 @@ abbrev pub last_report : Option Said → List Unit → Option Said
 last_report last [] = last
 last_report last (u ∷ units) = last_report (report_of u last) units
 
--- What is counted of bytes that are read as these PDUs, with the beginning of one more: of each type as many as there are, the serial of the
--- last End of Data, and what the last Error Report says.
+-- What is counted of bytes that are read as these PDUs, with the beginning of one more. That is how many of each type there are, the serial
+-- of the last End of Data, and what the last Error Report says.
 abbrev pub CountsUnits : Type 0
 CountsUnits =
     (version : Version) (units : List Unit) (front rest : List ℕ) → AreRead version false units front → IsPartial version rest →
@@ -177,8 +177,8 @@ abbrev pub asks : List Unit → Bool
 asks [] = false
 asks (u ∷ units) = is_query u || asks units
 
--- Of bytes that are read as these PDUs, with the beginning of one more, a query is counted exactly where one is among the PDUs: a header or
--- another part of a query counts for nothing.
+-- In bytes that are read as these PDUs, with the beginning of one more, a query is counted if and only if one is among the PDUs. A header
+-- or another part of a query counts for nothing.
 abbrev pub CountsQueries : Type 0
 CountsQueries =
     (version : Version) (units : List Unit) (front rest : List ℕ) → AreRead version false units front → IsPartial version rest → has_query (counted (front ++ rest)).pdus ≡ asks units

@@ -7,7 +7,7 @@ pub record Said : Type 0 where
   pub code : ℕ
   pub text : List ℕ
 
--- The beginning of the text of a whole Error Report: behind its header stand the length of the PDU that it encapsulates, that PDU, the length
+-- The beginning of the text of a whole Error Report. Behind its header are the length of the PDU that it encapsulates, that PDU, the length
 -- of the text, and the text. It is empty if the two lengths and 16 do not add up to that of the Error Report.
 abbrev pub report_text : List ℕ → List ℕ
 report_text pdu =

@@ -27,8 +27,8 @@ use Rattle.rtr_server.specs.declared.turn.Traffic.{Traffic}
 use Rattle.rtr_server.specs.declared.turn.Turn.{Turn}
 use Rattle.rtr_server.specs.declared.turn.Turn.TheVariants.{Busy, Gone, WaitsToRead, WaitsToWrite}
 
--- A client: its connection, what was read of its stream and is not consumed, what was pulled and is not written, and whether it is owed
--- a notify, and what is counted of it
+-- A client: its connection, what was read of its stream and is not consumed, and what was pulled and is not written. And whether it is owed
+-- a notify, and what is counted of it.
 pub record ClientState : Type 0 where
   pub serving : Serving
   pub unread : List ℕ
@@ -36,8 +36,8 @@ pub record ClientState : Type 0 where
   pub owed : Bool
   pub traffic : Traffic
 
--- What is done for a client: what was read is handed in, where memory runs out at this PDU of it, if at any; of what is due so many bytes
--- are pulled at most; its router is notified; these bytes are read of its stream; so many are written to it.
+-- What is done for a client. What was read is handed in; memory runs out at this PDU of it, if at any. Of what is due so many bytes are
+-- pulled at most. Its router is notified. These bytes are read of its stream. So many are written to it.
 pub data ClientStep : Type 0 where
   HandsIn : (wanting : Option ℕ) → ClientStep
   Pulls : (most : ℕ) → ClientStep
@@ -119,8 +119,8 @@ IsToWrite s = 0 < length s.unwritten
 abbrev pub IsWanted : ℕ → Intervals → ClientState → ℕ → Type 0
 IsWanted keep t s unit = is_wanted_by_peer keep t s.serving.cache s.serving.conn s.unread unit ≡ true
 
--- When a step may be taken: nothing is handed in or read while anything is due, to be written, or owed and could be sent; nothing is read
--- before all that was read is consumed; nothing is pulled before all that was pulled is written, and then as far as there is room; and no
+-- When a step may be made. Nothing is handed in or read while anything is due, yet to be written, or owed and could be sent. Nothing is
+-- read before all that was read is consumed. Nothing is pulled before all that was pulled is written, and then as far as there is room. No
 -- router is notified that is owed no notify.
 abbrev pub MayStep : ℕ → Intervals → ClientStep → ClientState → Type 0
 MayStep keep t (HandsIn wanting) s = AreBytes s.unread × IsSettled s × IfSome wanting (IsWanted keep t s)
@@ -154,9 +154,9 @@ abbrev pub MaySteps : ℕ → Intervals → List ClientStep → ClientState → 
 MaySteps keep t [] s = ⊤
 MaySteps keep t (step ∷ steps) s = MayStep keep t step (steps_after keep t steps s) × MaySteps keep t steps s
 
--- What was read of the stream since it came is what its connection consumed, and then the bytes that are not consumed; what was pulled
--- is what was written to it, and then the bytes that are not written; so many are counted; and the PDUs that are counted are those of what
--- its connection consumed, and of what was written.
+-- What was read of the stream since it came is what its connection consumed, and then the bytes that are not consumed. What was pulled is
+-- what was written to it, and then the bytes that are not written. So many are counted. The PDUs that are counted are those of what its
+-- connection consumed, and of what was written.
 pub record Flow (before left had has : Option (List ℕ)) (s : ClientState) : Type 0 where
   pub read : Consumes before left (s.serving.came ++ s.unread)
   pub written : List ℕ
@@ -177,8 +177,8 @@ pub record StandsSo {S : Type 0} (holds : ℕ → Instance → S → Type 0) (m 
   pub at : m.at c ≡ Some s.conn
   pub now : s.cache ≡ m.cache
 
--- Steps were taken, each of which could be, and they led from a client to what the slot is with this connection, and its stream; so it
--- is, and all else at the cache is as it was.
+-- Steps were made, each of which could be. They led from a client to what the slot is with this connection, and its stream. So it is, and
+-- all else at the cache is as it was.
 pub record Goes {S T : Type 0} (holds : ℕ → Instance → S → Type 0) (remaining contents : T → Option (List ℕ)) (m : CacheState) (c : ℕ) (before had : Option (List ℕ)) (start : ClientState) (new : Slot T) (cache : Cache S) (So : ClientState → Type 0) : Type 0 where
   pub steps : List ClientStep
   pub may : MaySteps m.keep m.timing steps start
@@ -216,9 +216,9 @@ StandsFor Write s = IsToWrite s
 StandsFor Read s = IsIdle s
 StandsFor Nothing s = IsOver s
 
--- What a turn came to is so, where this is left of the stream: it waits to read where nothing is due or left, and to write where something
--- is left to be written; the stream ended where nothing is due or left, at the end of a PDU or inside one; the cache ended the connection,
--- and its last report is written; or a call failed.
+-- When a turn comes to its result, if this is left of the stream. It waits to read if nothing is due or left, and to write if something is
+-- left to be written. The stream ended while nothing was due or left, at the end of a PDU or inside one. Or the cache ended the connection,
+-- and its last report is written. Or a call failed.
 abbrev pub EndsSo : Turn → Option (List ℕ) → ClientState → Type 0
 EndsSo WaitsToRead left s = IsIdle s
 EndsSo WaitsToWrite left s = IsToWrite s
@@ -238,8 +238,8 @@ abbrev pub LastIs : Call → List Call → Type 0
 LastIs call [] = ⊥
 LastIs call (last ∷ earlier) = last ≡ call
 
--- What the last call of the stream was and answered, where a turn came to this: a read or a write that would wait, a read at the end, or one
--- that failed. A write that takes nothing is a failure.
+-- What the last call of the stream was and answered, if a turn came to this. It is a read or a write that would block, a read at the end,
+-- or a call that failed. A write of no byte is a failure.
 abbrev pub ToldSo : Turn → List Call → Type 0
 ToldSo WaitsToRead answers = LastIs (calls.Read Waits) answers
 ToldSo WaitsToWrite answers = LastIs (calls.Write Waits) answers
@@ -266,7 +266,8 @@ pub record AnswersStep (turn : Option Turn) (before after : Option (List Call)) 
   pub logged : Logged since before after
   pub told : StepTold turn since
 
--- So they go on in a turn: at most as many calls were made as are allowed, exactly as many where it is Busy, and the last said what it came to.
+-- So they go on in a turn. At most as many calls were made as are allowed, exactly as many if it is Busy, and the last says what the turn
+-- came to.
 pub record AnswersTurn (budget : ℕ) (turn : Turn) (before after : Option (List Call)) : Type 0 where
   pub since : List Call
   pub logged : Logged since before after
