@@ -1,4 +1,4 @@
-"""What the comparisons of payloads with pyasn1 share: elements of DER, and the program's answer to a file."""
+"""Elements of DER for all scripts, and for the comparisons with pyasn1 the program's answer to a file."""
 
 import subprocess
 import tempfile
@@ -11,6 +11,11 @@ def element(number, content):
         return bytes([number, length]) + content
     octets = length.to_bytes((length.bit_length() + 7) // 8, "big")
     return bytes([number, 128 + len(octets)]) + octets + content
+
+
+def integer(value):
+    """The INTEGER of a value that is not negative."""
+    return element(2, value.to_bytes(value.bit_length() // 8 + 1, "big"))
 
 
 class Judge:

@@ -17,7 +17,7 @@ import sys
 import tempfile
 import time
 
-from der import element
+from der import element, integer
 
 ENTRY = '{"asn":64496,"maxLength":24,"prefix":"192.0.2.0/24"}'
 ROAS = [
@@ -81,10 +81,6 @@ FORMS = {
     "payloads": (r"\[.*\]\n", r"\[.*\]\n|refused word\n"),
 }
 ERRORS = {2: "rpkirtr: bad words\n", 3: "rpkirtr: device failed\n"}
-
-
-def integer(value):
-    return element(2, value.to_bytes(value.bit_length() // 8 + 1, "big"))
 
 
 def written_roa(lines):

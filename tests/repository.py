@@ -9,14 +9,10 @@ import ipaddress
 import os
 import subprocess
 
-from der import element
+from der import element, integer
 
 HOST = "rpki.example.net/repo"
 URI = f"rsync://{HOST}"
-
-
-def integer(value):
-    return element(2, value.to_bytes(value.bit_length() // 8 + 1, "big"))
 
 
 def sequence(*parts):

@@ -10,7 +10,7 @@ import ipaddress
 import random
 import sys
 
-from der import Judge, element
+from der import Judge, element, integer
 from pyasn1.codec.der import decoder, encoder
 from pyasn1.type import namedtype, tag, univ
 
@@ -49,10 +49,6 @@ class Attestation(univ.Sequence):
 
 
 WIDTHS = {b"\x00\x01": 32, b"\x00\x02": 128}
-
-
-def integer(value):
-    return element(2, value.to_bytes(value.bit_length() // 8 + 1, "big"))
 
 
 def bits(address, length, width):

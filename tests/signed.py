@@ -10,7 +10,7 @@ import os
 import subprocess
 import sys
 
-from der import element
+from der import element, integer
 
 HOST = "rsync://rpki.example.net/repo"
 BEGIN = datetime.datetime.now(datetime.timezone.utc) - datetime.timedelta(days=1)
@@ -24,10 +24,6 @@ ROAS = {
 
 def sequence(*parts):
     return element(0x30, b"".join(parts))
-
-
-def integer(number):
-    return element(2, number.to_bytes(number.bit_length() // 8 + 1, "big"))
 
 
 def oid(text):
