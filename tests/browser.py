@@ -15,15 +15,16 @@ import sys
 import tempfile
 import time
 
-import daemon
+import checks
+from checks import expect
+from common import put
+from daemon.shared import SLURM
+from log import running
+from rtr import Router
+from web import got
 
 RECORDS = [(f"{ipaddress.ip_address(10 * 2**24 + 256 * it)}/24", 24, 64496 + it % 7) for it in range(20000)]
 RECORDS += [(f"2001:db8:{it:x}::/48", 48, 64500) for it in range(6000)]
-EXCEPTIONS = {
-    "slurmVersion": 1,
-    "validationOutputFilters": {"prefixFilters": [], "bgpsecFilters": []},
-    "locallyAddedAssertions": {"prefixAssertions": [], "bgpsecAssertions": []},
-}
 
 
 def export(records):
@@ -39,7 +40,7 @@ def picture(port, folder, name, width, height, is_dark):
     dark = ["--blink-settings=preferredColorScheme=0"] if is_dark else []
     words = ["--headless=new", "--no-sandbox", "--disable-gpu", "--hide-scrollbars", f"--window-size={width},{height}", f"--screenshot={to}", *dark]
     subprocess.run(["chromium", *words, f"http://127.0.0.1:{port}/"], stdout=subprocess.DEVNULL, stderr=subprocess.DEVNULL, timeout=60)
-    daemon.differs(f"a picture {to}", os.path.exists(to), True)
+    expect(f"a picture {to}", os.path.exists(to), True)
 
 
 def pictures(port, folder, name):
@@ -50,46 +51,45 @@ def pictures(port, folder, name):
 
 def checked(port):
     """What promtool finds in the metrics."""
-    text = daemon.got(port, "/metrics")[2]
+    text = got(port, "/metrics")[2]
     found = subprocess.run(["promtool", "check", "metrics"], input=text, capture_output=True, text=True, timeout=60)
-    daemon.differs("what promtool finds", (found.returncode, found.stdout, found.stderr), (0, "", ""))
+    expect("what promtool finds", (found.returncode, found.stdout, found.stderr), (0, "", ""))
 
 
 def main(program, folder):
-    daemon.program, folder, choice = os.path.abspath(program), os.path.abspath(folder), random.Random(3)
+    program, folder, choice = os.path.abspath(program), os.path.abspath(folder), random.Random(3)
+    checks.begin("browser")
     os.makedirs(folder, exist_ok=True)
     for command in "chromium", "promtool":
         if not shutil.which(command):
             sys.exit(f"{command} is not installed")
     with tempfile.TemporaryDirectory() as place:
         os.chdir(place)
-        daemon.put("rpki-client.json", export(RECORDS[:24000]))
-        daemon.put("slurm.json", json.dumps(EXCEPTIONS))
+        put("rpki-client.json", export(RECORDS[:24000]))
+        put("slurm.json", SLURM)
         words = ["--vrps", "rpki-client.json", "--slurm", "slurm.json", "--listen", "127.0.0.1:0", "--status", "127.0.0.1:0", "--check", "1", "--clients", "400"]
-        with daemon.running(*words) as ours:
-            at = int(ours.wait("listening")["address"].rpartition(":")[2])
-            port = int(ours.wait("status")["address"].rpartition(":")[2])
-            ours.wait("ready")
+        with running(program, *words) as ours:
+            at, port = ours.serves()
             checked(port)
             pictures(port, folder, "none")
-            routers = [daemon.Router(at), daemon.Router(at, version=0), daemon.Router(at)]
+            routers = [Router(at), Router(at, version=0), Router(at)]
             for router in routers[:2]:
                 router.catch_up()
             for version in range(12):
-                daemon.put("rpki-client.json", export(RECORDS[: 24000 + choice.randrange(-900, 1900)]))
+                put("rpki-client.json", export(RECORDS[: 24000 + choice.randrange(-900, 1900)]))
                 ours.wait("published")
                 if version < 11:
                     routers[0].catch_up()
-            daemon.put("slurm.json", "{")
+            put("slurm.json", "{")
             ours.wait("refused")
             pictures(port, folder, "three")
-            routers += [daemon.Router(at) for _ in range(297)]
+            routers += [Router(at) for _ in range(297)]
             for router in routers[3:200]:
                 router.catch_up()
             checked(port)
             pictures(port, folder, "many")
         os.chdir("/")
-    sys.exit(1 if daemon.failed else 0)
+    sys.exit(1 if checks.failures else 0)
 
 
 if __name__ == "__main__":

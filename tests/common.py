@@ -1,0 +1,45 @@
+"""What the scripts of tests/ and bench/ share: ports, connections to a server that may not listen yet, and files."""
+import os
+import socket
+import time
+
+# How long anything that must come may take, in seconds.
+PATIENCE = 30
+
+
+def free_port():
+    """A port of 127.0.0.1 at which nothing listens."""
+    with socket.create_server(("127.0.0.1", 0)) as it:
+        return it.getsockname()[1]
+
+
+def connected(port, seconds=PATIENCE, timeout=PATIENCE):
+    """A connection to a port of 127.0.0.1. It is tried for so many seconds until the server listens."""
+    end = time.monotonic() + seconds
+    while True:
+        try:
+            return socket.create_connection(("127.0.0.1", port), timeout)
+        except ConnectionRefusedError:
+            if time.monotonic() > end:
+                raise
+            time.sleep(0.02)
+
+
+def received(peer, count):
+    """So many bytes of a connection, or those before its end."""
+    found = b""
+    while len(found) < count and (piece := peer.recv(count - len(found))):
+        found += piece
+    return found
+
+
+def write(path, content):
+    """Writes a file, and returns its whole path."""
+    with open(path, "wb" if isinstance(content, bytes) else "w") as it:
+        it.write(content)
+    return os.path.abspath(path)
+
+
+def put(path, content):
+    """Replaces a file in one step, as validators do."""
+    os.replace(write(f"{path}.new", content), path)

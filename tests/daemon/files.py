@@ -1,0 +1,181 @@
+"""Files: what is refused, what is read again, what expires, and how old it is."""
+import json
+import os
+import socket
+import subprocess
+import time
+
+from checks import expect
+from common import PATIENCE, put
+from daemon.shared import EXCEPTIONS, FIRST, SECOND, SLURM, entry_of, part, text_of
+from log import running, unescaped
+from rtr import Router
+from web import metrics_of
+
+
+@part
+def refused_files(given):
+    """A file that is refused changes nothing that is served. It is reported once, at its second look, and is accepted again."""
+    put("list.json", text_of(FIRST))
+    with running(given.program, "--vrps", "list.json", "--listen", "127.0.0.1:0", "--check", "1") as daemon:
+        port = daemon.listens()
+        for text in "[{", "", '{"roas": 1}':
+            put("list.json", text)
+            daemon.wait("refused", file="list.json")
+            expect("what is served meanwhile", Router(port).catch_up(), set(FIRST))
+            put("list.json", text_of(FIRST))
+            daemon.wait("taken", file="list.json")
+        os.remove("list.json")
+        daemon.wait("refused", file="list.json")
+        put("list.json", text_of(FIRST))
+        daemon.wait("taken", file="list.json")
+        os.remove("list.json")
+        os.mkdir("list.json")
+        daemon.wait("refused", file="list.json")
+        expect("what is served with a folder in its place", Router(port).catch_up(), set(FIRST))
+        os.rmdir("list.json")
+        put("list.json", text_of(SECOND))
+        daemon.wait("taken", file="list.json")
+        daemon.wait("published", records=2)
+        expect("what is served behind", Router(port).catch_up(), set(SECOND))
+        refusals = [it for it in daemon.said if " refused " in it]
+        expect("how often a refusal is told", len(refusals), 5)
+
+
+@part
+def sources(given):
+    """Several files, local exceptions, and entries that expire."""
+    put("list.json", text_of(FIRST))
+    until = int(time.time()) + 4
+    export = {"metadata": {"generated": until}, "roas": [{"asn": "AS64500", "prefix": "203.0.113.0/24", "maxLength": 24, "ta": "x", "expires": until}]}
+    put("export.json", json.dumps(export))
+    slurm = {
+        "slurmVersion": 1,
+        "validationOutputFilters": {"prefixFilters": [{"asn": 64497}], "bgpsecFilters": []},
+        "locallyAddedAssertions": {"prefixAssertions": [{"asn": 64501, "prefix": "10.0.0.0/8", "maxPrefixLength": 9}], "bgpsecAssertions": []},
+    }
+    put("slurm.json", json.dumps(slurm))
+    kept = {it for it in FIRST if it[2] != 64497} | {("10.0.0.0/8", 9, 64501)}
+    with running(given.program, "--vrps", "list.json", "--vrps", "export.json", "--slurm", "slurm.json", "--listen", "[::1]:0", "--listen", "127.0.0.1:0", "--check", "1") as daemon:
+        port = daemon.listens()
+        router = Router(port, family=socket.AF_INET6)
+        expect("all sources", router.catch_up(), kept | {("203.0.113.0/24", 24, 64500)})
+        daemon.wait("published", withdrawn=1)
+        router.wait_notify()
+        expect("an entry that has expired", router.catch_up(), kept)
+        put("slurm.json", "{}")
+        daemon.wait("refused", file="slurm.json")
+        slurm["validationOutputFilters"]["prefixFilters"] = []
+        put("slurm.json", json.dumps(slurm))
+        daemon.wait("published", announced=1)
+        router.wait_notify()
+        expect("other exceptions", router.catch_up(), kept | set(FIRST))
+
+
+@part
+def pipe_for_a_file(given):
+    """A pipe in the place of a file is refused. The daemon does not block on it."""
+    put("list.json", text_of(FIRST))
+    with running(given.program, "--vrps", "list.json", "--listen", "127.0.0.1:0", "--check", "1") as daemon:
+        port = daemon.listens()
+        os.mkfifo("pipe")
+        os.replace("pipe", "list.json")
+        daemon.wait("refused", file="list.json")
+        expect("what is served with a pipe in its place", Router(port).catch_up(), set(FIRST))
+        put("list.json", text_of(SECOND))
+        daemon.wait("taken", file="list.json")
+        daemon.wait("published", records=len(SECOND))
+        expect("what is served after the pipe", Router(port).catch_up(), set(SECOND))
+
+
+@part
+def large_file(given):
+    """A file of more bytes than --max-size is refused, at the start too."""
+    small, large = text_of(FIRST), text_of(SECOND) + " " * 1000
+    most = str(len(small))
+    put("list.json", small)
+    with running(given.program, "--vrps", "list.json", "--listen", "127.0.0.1:0", "--check", "1", "--max-size", most) as daemon:
+        port = daemon.listens()
+        put("list.json", large)
+        daemon.wait("refused", file="list.json", reason="it cannot be read: it has more bytes than --max-size allows")
+        expect("what is served with a file that is too large", Router(port).catch_up(), set(FIRST))
+        put("list.json", text_of(SECOND))
+        daemon.wait("taken", file="list.json")
+    put("list.json", large)
+    words = [given.program, "--vrps", "list.json", "--listen", "127.0.0.1:0", "--max-size", most]
+    status = subprocess.run(words, stdin=subprocess.DEVNULL, capture_output=True, timeout=PATIENCE)
+    expect("a start with a file that is too large", (status.returncode, b"--max-size" in status.stderr), (3, True))
+
+
+@part
+def old_by_its_file(given):
+    """The age of a file without a time of its own is that of the file in the file system. So it is if the time is in milliseconds."""
+    for text in text_of(FIRST), json.dumps({"metadata": {"generated": int(time.time() * 1000)}, "roas": json.loads(text_of(FIRST))}):
+        put("list.json", text)
+        put("slurm.json", SLURM)
+        for name in "list.json", "slurm.json":
+            os.utime(name, (time.time() - 7200,) * 2)
+        words = ["--vrps", "list.json", "--slurm", "slurm.json", "--listen", "127.0.0.1:0", "--check", "1", "--max-age"]
+        with running(given.program, *words, "3600", "--stop-when-old") as daemon:
+            expect("the age of a file", 7200 <= int(daemon.wait("old", file="list.json")["age"]) < 7200 + PATIENCE, True)
+            expect("the end of the daemon", daemon.status(), 1)
+        with running(given.program, *words, "3600") as daemon:
+            port = daemon.port()
+            daemon.wait("old", file="list.json")
+            daemon.wait("ready")
+            os.utime("list.json")
+            daemon.wait("fresh", file="list.json")
+            expect("what is served of it", Router(port).catch_up(), set(FIRST))
+
+
+@part
+def expired_of_bad_files(given):
+    """Entries leave at the second of their expiry, even if their file is refused or missing. Of two entries of one record the later expiry counts."""
+    until = int(time.time()) + 5
+    put("bad.json", json.dumps({"roas": [entry_of("192.0.2.0/24", 24, 64496, expires=until), entry_of("198.51.100.0/24", 26, 64497)]}))
+    put("gone.json", json.dumps({"roas": [entry_of("203.0.113.0/24", 24, 64499, expires=until), entry_of("10.0.0.0/8", 8, 64500, expires=until), entry_of("10.0.0.0/8", 8, 64500, expires=until + 3600)]}))
+    with running(given.program, "--vrps", "bad.json", "--vrps", "gone.json", "--listen", "127.0.0.1:0", "--check", "1", "--status", "127.0.0.1:0") as daemon:
+        at, port = daemon.serves()
+        router = Router(at)
+        lasting = {("198.51.100.0/24", 26, 64497), ("10.0.0.0/8", 8, 64500)}
+        expect("before the expiry", router.catch_up(), lasting | {("192.0.2.0/24", 24, 64496), ("203.0.113.0/24", 24, 64499)})
+        put("bad.json", '{"roas":[')
+        os.unlink("gone.json")
+        daemon.wait("refused", file="bad.json")
+        daemon.wait("refused", file="gone.json")
+        daemon.wait("expired", file="bad.json", entries=1)
+        daemon.wait("expired", file="gone.json", entries=1)
+        daemon.wait("published", withdrawn=2, records=2)
+        router.wait_notify()
+        expect("entries that have expired, of a file that is bad and one that is gone", router.catch_up(), lasting)
+        told = metrics_of(port)
+        expect("expired entries in the metrics", [told.get(f'rpkirtrd_file_expired_entries{{file="{it}"}}') for it in ("bad.json", "gone.json")], [1, 1])
+        put("bad.json", json.dumps({"roas": [entry_of("198.51.100.0/24", 26, 64497)]}))
+        daemon.wait("taken", file="bad.json")
+        expect("expired entries of a file that is taken again", metrics_of(port).get('rpkirtrd_file_expired_entries{file="bad.json"}'), 0)
+
+
+@part
+def refusals_in_words(given):
+    """A refusal names the entry, the member and its value; a name that is there twice; or the line and the column."""
+    good = json.dumps({"roas": [entry_of(*FIRST[0])]})
+    put("export.json", good)
+    put("slurm.json", SLURM)
+    spoiled = [
+        ("export.json", json.dumps({"roas": [entry_of(*FIRST[0]), entry_of("::ffff:0:0/96x", 96, 1)]}), 'entry 1 of roas: prefix "::ffff:0:0/96x" is no prefix (fault 3)'),
+        ("export.json", '{"roas":[],"roas":[]}', "roas stands twice in the file (fault 6)"),
+        ("export.json", '{\n"roas":[,]}', "not JSON at line 2, column 9 (fault 1)"),
+        ("slurm.json", json.dumps({**EXCEPTIONS, "slurmVersion": 2}), "slurmVersion is 2, and not 1 (fault 3)"),
+        ("slurm.json", SLURM.replace('"bgpsecFilters": []', '"prefixFilters": []'), '"prefixFilters" stands twice in validationOutputFilters (fault 8)'),
+    ]
+    with running(given.program, "--vrps", "export.json", "--slurm", "slurm.json", "--listen", "127.0.0.1:0", "--check", "1") as daemon:
+        daemon.wait("ready")
+        for file, text, reason in spoiled:
+            put(file, text)
+            expect(f"{file} with {text}", unescaped(daemon.wait("refused", file=file)["reason"]), reason)
+            put(file, good if file == "export.json" else SLURM)
+            daemon.wait("taken", file=file)
+    for text, words, status, said in [(spoiled[0][1], [], 1, spoiled[0][2]), (spoiled[0][1], ["--test"], 1, spoiled[0][2]), (good, ["--test"], 0, "stopped reason=")]:
+        put("export.json", text)
+        ran = subprocess.run([given.program, "--vrps", "export.json", "--slurm", "slurm.json", "--listen", "127.0.0.1:0", *words], stdin=subprocess.DEVNULL, capture_output=True, text=True, timeout=PATIENCE)
+        expect(f"a start {words} with {text}", (ran.returncode, said in ran.stderr), (status, True))

@@ -1,0 +1,215 @@
+"""The pages, and their visitors."""
+import concurrent.futures
+import contextlib
+import email.utils
+import http.client
+import ipaddress
+import json
+import random
+import socket
+import subprocess
+import time
+
+from checks import expect
+from common import PATIENCE, put
+from daemon.shared import FIRST, part, text_of
+from log import running
+from rtr import Router
+from web import got, metrics_of, raw_answer, validity
+
+
+def state_of(prefix, asn, records):
+    """The state of a route by RFC 6811 section 2, and the covering records in their three kinds."""
+    route, kinds = ipaddress.ip_network(prefix), {"matched": [], "unmatched_as": [], "unmatched_length": []}
+    for text, most, origin in records:
+        network = ipaddress.ip_network(text)
+        if network.version == route.version and route.subnet_of(network):
+            kind = "unmatched_length" if route.prefixlen > most else "matched" if origin == asn != 0 else "unmatched_as"
+            kinds[kind].append((text, most, origin))
+    state = "valid" if kinds["matched"] else "invalid" if any(kinds.values()) else "not-found"
+    return state, {kind: sorted(found) for kind, found in kinds.items()}
+
+
+@part
+def pages(given):
+    """The pages and the metrics, with visitors of all kinds beside routers."""
+    near = [(f"192.0.{it}.0/24", 24 + it % 3, 64496 + it % 5) for it in range(8)] + [("192.0.0.0/16", 20, 64496), ("192.0.2.0/24", 26, 0), ("2001:db8::/32", 48, 64498)]
+    put("list.json", text_of(near))
+    words = ["--vrps", "list.json", "--listen", "127.0.0.1:0", "--check", "1", "--session", "4660", "--start", "5", "--status", "127.0.0.1:0"]
+    with running(given.program, *words) as daemon:
+        at, port = daemon.serves()
+        routers = [Router(at), Router(at, version=0)]
+        for router in routers:
+            router.catch_up()
+        told = metrics_of(port)
+        wanted = {'rpkirtrd_vrps{family="ipv4"}': 10, 'rpkirtrd_vrps{family="ipv6"}': 1, "rpkirtrd_serial": 5, 'rpkirtrd_session{version="1"}': 4660, "rpkirtrd_clients": 2}
+        wanted |= {'rpkirtrd_pdus_total{type="reset_query",direction="received"}': 2, 'rpkirtrd_pdus_total{type="ipv4_prefix",direction="sent"}': 20}
+        expect("the metrics", {name: told.get(name) for name in wanted}, wanted)
+        routers.pop().close()
+        daemon.wait("client-gone")
+        told = metrics_of(port)
+        expect("the metrics behind a client", (told["rpkirtrd_clients"], told['rpkirtrd_pdus_total{type="ipv4_prefix",direction="sent"}']), (1, 20))
+        listed = json.loads(got(port, "/vrps.json")[2])
+        expect("the payload list", {(it["prefix"], it["maxLength"], it["asn"]) for it in listed}, set(near))
+        choice = random.Random(7)
+        for _ in range(200):
+            length = choice.randrange(16, 29)
+            prefix = str(ipaddress.ip_network((0xC0000000 | choice.randrange(8) << 8 | choice.randrange(256), length), strict=False))
+            asn = choice.choice([0, 64496, 64497, 64499])
+            expect(f"the state of {prefix} {asn}", validity(port, prefix, asn), state_of(prefix, asn, near))
+        page = got(port, "/")
+        expect("the page", (page[0], page[1]["content-type"], "4660" in page[2], "<script" in page[2]), (200, "text/html; charset=utf-8", True, False))
+        expect("the date of an answer", abs(email.utils.parsedate_to_datetime(page[1]["date"]).timestamp() - time.time()) < 30, True)
+        for target, method, status in ("/nothing", "GET", 404), ("/metrics", "POST", 405), ("/validity?asn=1", "GET", 400), ("/metrics", "HEAD", 200):
+            expect(f"{method} {target}", got(port, target, method)[0], status)
+        strange_visitors(port)
+        crowded(at, port, daemon)
+        put("list.json", text_of(near[:5]))
+        daemon.wait("published", serial=6)
+        expect("the next payload list", len(json.loads(got(port, "/vrps.json")[2])), 5)
+        expect("the metrics of the next version", metrics_of(port)["rpkirtrd_serial"], 6)
+
+
+def strange_visitors(port):
+    """Requests that are cut, huge, slow or pipelined, and visitors that send none."""
+    expect("a request that is cut", raw_answer(port, b"GET /metrics HT")[:12], b"HTTP/1.1 400")
+    huge = raw_answer(port, b"GET /" + b"x" * 20000 + b" HTTP/1.1\r\nHost: x\r\n\r\n")
+    expect("a request that is huge", huge[:12] in (b"HTTP/1.1 414", b"HTTP/1.1 431", b"HTTP/1.1 400", b""), True)
+    expect("rubbish", raw_answer(port, bytes(range(128, 256)))[:12] in (b"HTTP/1.1 400", b""), True)
+    request = b"GET /nothing HTTP/1.1\r\nHost: x\r\n\r\n"
+    expect("three requests at once", raw_answer(port, request * 3).count(b"HTTP/1.1 404"), 3)
+    expect("a request byte by byte", raw_answer(port, *(request[it : it + 1] for it in range(len(request)))).count(b"HTTP/1.1 404"), 1)
+    silent = [socket.create_connection(("127.0.0.1", port), PATIENCE) for _ in range(80)]
+    expect("visitors too many", sum(is_closed(it) for it in silent), 16)
+    for it in silent:
+        it.close()
+    end = time.time() + PATIENCE
+    while time.time() < end:
+        with contextlib.suppress(OSError, http.client.HTTPException):
+            if got(port, "/metrics")[0] == 200:
+                return
+    expect("a visitor behind these", "closed", "answered")
+
+
+def is_closed(it):
+    """Whether the other end has closed the connection."""
+    it.settimeout(0.02)
+    try:
+        return it.recv(1) == b""
+    except TimeoutError:
+        return False
+    except OSError:
+        return True
+
+
+def asked_anew(router):
+    """How many records a router has after three Reset Queries."""
+    for _ in range(3):
+        router.session = None
+        router.ask()
+    return len(router.table)
+
+
+def crowded(at, port, daemon):
+    """A thousand requests while a hundred routers ask for the whole table."""
+    routers = [Router(at) for _ in range(100)]
+    with concurrent.futures.ThreadPoolExecutor(8) as visitors, concurrent.futures.ThreadPoolExecutor(8) as crowd:
+        answers = [visitors.submit(got, port, choice) for choice in ["/metrics", "/", "/vrps.json", "/validity?asn=64496&prefix=192.0.2.0/24"] * 250]
+        tables = [crowd.submit(asked_anew, router) for router in routers]
+        expect("the answers of a crowd", {it.result()[0] for it in answers}, {200})
+        expect("the tables beside a crowd", {it.result() for it in tables}, {11})
+    for router in routers:
+        router.close()
+    for _ in routers:
+        daemon.wait("client-gone")
+
+
+@part
+def silent_visitor(given):
+    """A visitor of the pages that sends nothing is closed after half a minute."""
+    put("silent.json", text_of(FIRST))
+    with running(given.program, "--vrps", "silent.json", "--listen", "127.0.0.1:0", "--status", "127.0.0.1:0") as daemon:
+        port = daemon.port("status")
+        daemon.wait("ready")
+        began = time.time()
+        with contextlib.closing(socket.create_connection(("127.0.0.1", port), 60)) as it, contextlib.suppress(OSError):
+            it.recv(1)
+        expect("how long a silent visitor stays", 29 < time.time() - began < 40, True)
+
+
+@part
+def early_visitors(given):
+    """Before the first version is published the pages answer 503, and never an empty list."""
+    put("list.json", text_of(FIRST))
+    early = 0
+    for _ in range(20):
+        with running(given.program, "--vrps", "list.json", "--listen", "127.0.0.1:0", "--status", "127.0.0.1:0") as daemon:
+            port = daemon.port("status")
+            status, headers, body = got(port, "/vrps.json")
+            if status == 503:
+                early += 1
+                expect("how long to wait", headers.get("retry-after"), "1")
+                found = got(port, "/validity?asn=64496&prefix=192.0.2.0%2F24")[0]
+                expect("a route before the first version", found in (503, 200), True)
+            else:
+                expect("the list", (status, len(json.loads(body))), (200, len(FIRST)))
+            daemon.wait("ready")
+            expect("the list then", len(json.loads(got(port, "/vrps.json")[2])), len(FIRST))
+            if early == 3:
+                return
+    expect("answers before the first version", early, 3)
+
+
+@part
+def reasons(given):
+    """Why a route is invalid: its length if a record of its own AS covers it, and else its AS."""
+    put("list.json", text_of([("192.0.2.0/24", 24, 64496), ("10.0.0.0/16", 16, 1), ("10.0.0.0/16", 24, 2)]))
+    with running(given.program, "--vrps", "list.json", "--listen", "127.0.0.1:0", "--status", "127.0.0.1:0") as daemon:
+        port = daemon.port("status")
+        daemon.wait("ready")
+        for prefix, asn, reason in [("192.0.2.0/25", 64511, "as"), ("192.0.2.0/25", 64496, "length"), ("10.0.1.0/24", 1, "length"), ("10.0.1.0/25", 2, "length"), ("10.0.1.0/24", 3, "as")]:
+            body = got(port, f"/validity?asn={asn}&prefix={prefix.replace('/', '%2F')}")[2]
+            told = json.loads(body)["validated_route"]["validity"]
+            expect(f"why {prefix} of AS{asn} is invalid", (told["state"], told.get("reason")), ("invalid", reason))
+
+
+@part
+def narrowed(given):
+    """Records of length 0 are left out with --leave-out-length-0, and counted."""
+    wide = [("0.0.0.0/0", 0, 64496), ("::/0", 48, 64498)]
+    put("list.json", text_of(FIRST + wide))
+    for words, records, left_out in ([], FIRST + wide, 0), (["--leave-out-length-0"], FIRST, 2):
+        with running(given.program, "--vrps", "list.json", "--listen", "127.0.0.1:0", "--status", "127.0.0.1:0", *words) as daemon:
+            at, port = daemon.serves()
+            expect(f"what is served with {words}", Router(at).catch_up(), set(records))
+            expect(f"what is left out with {words}", metrics_of(port)["rpkirtrd_left_out_vrps"], left_out)
+
+
+@part(needs="rpkirtr")
+def routes(given):
+    """The states of routes at random, by the pages and by the command `route`."""
+    choice = random.Random(given.seed)
+    base = [choice.getrandbits(32) for _ in range(40)]
+    drawn = lambda: (choice.choice(base) ^ choice.getrandbits(choice.randrange(1, 16)), choice.randrange(8, 33))
+    network = lambda address, length: str(ipaddress.ip_network((address, length), strict=False))
+    records = set()
+    while len(records) < 2000:
+        address, length = drawn()
+        records.add((network(address, length), choice.randrange(length, 33), choice.choice([0, 64496, 64497, 64498])))
+    put("routes.json", text_of(sorted(records)))
+    with running(given.program, "--vrps", "routes.json", "--listen", "127.0.0.1:0", "--status", "127.0.0.1:0") as daemon:
+        port = daemon.port("status")
+        daemon.wait("ready")
+        put("list", got(port, "/vrps.json")[2])
+        asked = [(network(*drawn()), choice.choice([0, 64496, 64497, 64498])) for _ in range(given.routes)]
+        with concurrent.futures.ThreadPoolExecutor(4) as pool:
+            found = list(pool.map(lambda it: validity(port, *it)[0], asked))
+            wanted = list(pool.map(lambda it: state_printed(given, it), asked))
+    expect(f"states of routes (seed {given.seed})", [it for it in zip(asked, found, wanted) if it[1] != it[2]], [])
+    print(f"routes: {len(asked)}, of which {wanted.count('valid')} are valid and {wanted.count('invalid')} invalid", flush=True)
+
+
+def state_printed(given, route):
+    """The state that the command `route` prints."""
+    words = [given.rpkirtr, "route", "--vrps", "list", route[0], str(route[1])]
+    return subprocess.run(words, stdin=subprocess.DEVNULL, capture_output=True, text=True, timeout=PATIENCE).stdout.strip()

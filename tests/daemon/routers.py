@@ -1,0 +1,94 @@
+"""What routers are sent: the table in both versions, changes, notifies, and Error Reports."""
+from checks import expect
+from common import PATIENCE, put
+from daemon.shared import FIRST, SECOND, part, text_of
+from log import running, unescaped
+from rtr import CACHE_RESET, RESPONSE, Router, error_report, reset_query, serial_query
+from web import metrics_of
+
+
+@part
+def tables(given):
+    """The whole table in both versions of the protocol, and changes on the same connection."""
+    put("list.json", text_of(FIRST))
+    with running(given.program, "--vrps", "list.json", "--listen", "127.0.0.1:0", "--session", "4660", "--session0", "4661", "--start", "5", "--check", "1", "--keep", "2") as daemon:
+        port = daemon.listens()
+        one, zero = Router(port), Router(port, version=0)
+        for router, session in (one, 4660), (zero, 4661):
+            expect("the first answer", (router.ask(), router.session, router.serial, router.table), (RESPONSE, session, 5, set(FIRST)))
+        raw = Router(port)
+        raw.socket.sendall(reset_query())
+        wanted = "0103123400000008" + "010400000000001401181800c00002000000fbf0" + "010400000000001401181a00c63364000000fbf1"
+        wanted += "01060000000000200120300020010db80000000000000000000000000000fbf2" + "01071234000000180000000500000e100000025800001c20"
+        expect("the bytes of an answer", raw.receive(len(wanted) // 2).hex(), wanted)
+        put("list.json", text_of(SECOND))
+        expect("what is published", daemon.wait("published", serial=6)["announced"], "1")
+        for router in one, zero:
+            expect("the notify", router.wait_notify(), 6)
+            expect("the change", (router.ask(), router.serial, router.table), (RESPONSE, 6, set(SECOND)))
+        for serial in range(7, 10):
+            put("list.json", text_of(FIRST if serial % 2 else SECOND))
+            daemon.wait("published", serial=serial)
+        expect("a serial that is not kept", (raw_serial(port, 4660, 5), raw_serial(port, 4660, 7)), (CACHE_RESET, RESPONSE))
+        expect("the end by a signal", daemon.end(), -15)
+
+
+def raw_serial(port, session, serial):
+    router = Router(port)
+    router.session, router.serial, router.table = session, serial, set(FIRST) | set(SECOND)
+    router.socket.sendall(serial_query(session, serial))
+    return router.unit()[0]
+
+
+@part
+def asked_first(given):
+    """A router is notified only after its first whole query."""
+    put("list.json", text_of(FIRST))
+    with running(given.program, "--vrps", "list.json", "--listen", "127.0.0.1:0", "--check", "1") as daemon:
+        port = daemon.listens()
+        silent, half, router = Router(port), Router(port), Router(port)
+        half.socket.sendall(bytes.fromhex("0102000000"))
+        router.catch_up()
+        put("list.json", text_of(SECOND))
+        router.wait_notify()
+        for what, other in ("silent", silent), ("that sent half a query", half):
+            other.socket.settimeout(2)
+            try:
+                found = other.socket.recv(100)
+            except TimeoutError:
+                found = None
+            expect(f"what a router {what} is sent", found, None)
+            other.socket.settimeout(PATIENCE)
+        half.socket.sendall(bytes.fromhex("000008"))
+        expect("the answer to the whole query", half.answer(), RESPONSE)
+        expect("the table of a router that asked late", half.table, set(SECOND))
+        put("list.json", text_of(FIRST))
+        half.wait_notify()
+        expect("the next table", half.catch_up(), set(FIRST))
+
+
+@part
+def last_words(given):
+    """An Error Report of a router is counted, though its connection ends by it."""
+    put("list.json", text_of(FIRST))
+    with running(given.program, "--vrps", "list.json", "--listen", "127.0.0.1:0", "--status", "127.0.0.1:0") as daemon:
+        at, port = daemon.serves()
+        router = Router(at)
+        router.catch_up()
+        router.socket.sendall(error_report(3))
+        report = daemon.wait("error-report")
+        expect("a report without a text", [report[it] for it in ("direction", "code", "name", "text")], ["received", "3", "Invalid Request", ""])
+        daemon.wait("client-gone")
+        told = metrics_of(port)
+        expect("the Error Reports that are counted", told['rpkirtrd_pdus_total{type="error_report",direction="received"}'], 1)
+        expect("the bytes that are counted", told['rpkirtrd_bytes_total{direction="received"}'], 8 + 16)
+        router = Router(at)
+        router.catch_up()
+        said = "no such record \x1b[2J ".encode() + b"x" * 300
+        router.socket.sendall(error_report(6, bytes(8), said))
+        report = daemon.wait("error-report", direction="received", code=6)
+        expect("the text of a report", (report["name"], unescaped(report["text"])), ("Withdrawal of Unknown Record", said[:200].decode()))
+        router = Router(at)
+        router.send(99, 0)
+        report = daemon.wait("error-report", direction="sent")
+        expect("a report that the cache sent", (report["code"], report["name"]), ("5", "Unsupported PDU Type"))
