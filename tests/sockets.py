@@ -3,8 +3,8 @@
 
 usage: tests/sockets.py PROGRAM [SHIM]
 
-SHIM is what tests/accepting.c was compiled to; without it no call for a connection fails. The other end of each connection stands
-here, or is the program itself. It exits with 1 where something differs, and says what."""
+SHIM is what tests/accepting.c was compiled to; without it no call for a connection fails. The other end of each connection is a function
+here, or the program itself. It exits with 1 if something differs, and prints the part and the line."""
 import errno
 import os
 import socket
@@ -15,51 +15,22 @@ import tempfile
 import threading
 import time
 
-BAD, DEVICE = "rpkirtr: bad words\n", "rpkirtr: device failed\n"
-ENTRY = '{"asn":64496,"maxLength":24,"prefix":"192.0.2.0/24"}'
-RESET = bytes.fromhex("0102000000000008")
-QUERY = bytes.fromhex("010112340000000c00000005")
-BEGIN, END = bytes.fromhex("0103123400000008"), bytes.fromhex("01071234000000180000000500000e100000025800001c20")
-ANNOUNCED = bytes.fromhex("010400000000001401181800c00002000000fbf0")
+import checks
+from cases.shared import ANNOUNCEMENT, BAD, CACHE_RESPONSE, DEVICE, END_OF_DATA, ENTRY, LIST, RESET_QUERY, SERIAL_QUERY
+from checks import expect
+from common import connected, free_port, received, write
+
+RESET, QUERY = bytes.fromhex(RESET_QUERY), bytes.fromhex(SERIAL_QUERY)
+BEGIN, ANNOUNCED, END = bytes.fromhex(CACHE_RESPONSE), bytes.fromhex(ANNOUNCEMENT), bytes.fromhex(END_OF_DATA)
 ANSWER = BEGIN + ANNOUNCED + END
 NO_DATA = bytes.fromhex("010a000200000018000000080102000000000008" + "00000000")
 
-program, shim, failed = "", "", 0
+program, shim = "", ""
 
 
-def differs(what, found, wanted):
-    global failed
-    if found != wanted:
-        failed += 1
-        print(f"{what}: {found} in place of {wanted}"[:2000])
-
-
-def expect(words, status, output, errors=""):
+def runs(words, status, output, errors=""):
     ran = subprocess.run([program, *words.split(" ")], stdin=subprocess.DEVNULL, stdout=subprocess.PIPE, stderr=subprocess.PIPE, timeout=60)
-    differs(words, (ran.returncode, ran.stdout.decode(), ran.stderr.decode()), (status, output, errors))
-
-
-def free_port():
-    with socket.socket() as it:
-        it.bind(("127.0.0.1", 0))
-        return it.getsockname()[1]
-
-
-def receive(peer, count):
-    """So many bytes, or those before the end."""
-    found = b""
-    while len(found) < count and (piece := peer.recv(count - len(found))):
-        found += piece
-    return found
-
-
-def dial(port):
-    for _turn in range(200):
-        try:
-            return socket.create_connection(("127.0.0.1", port), timeout=20)
-        except ConnectionRefusedError:
-            time.sleep(0.02)
-    sys.exit("no listener")
+    expect(words, (ran.returncode, ran.stdout.decode(), ran.stderr.decode()), (status, output, errors))
 
 
 def served(clients, status=0, output=None, errors="", extra=""):
@@ -68,25 +39,25 @@ def served(clients, status=0, output=None, errors="", extra=""):
     words = f"serve --port {port} --session 4660 --start 5 --vrps v.json --connections {len(clients)}{extra}"
     with subprocess.Popen([program, *words.split(" ")], stdin=subprocess.DEVNULL, stdout=subprocess.PIPE, stderr=subprocess.PIPE) as ran:
         for client in clients:
-            with dial(port) as peer:
+            with connected(port) as peer:
                 client(peer)
         out, err = ran.communicate(timeout=60)
-    differs(words, (ran.returncode, out.decode(), err.decode()), (status, f"served {len(clients)}\n" if output is None else output, errors))
+    expect(words, (ran.returncode, out.decode(), err.decode()), (status, f"served {len(clients)}\n" if output is None else output, errors))
 
 
 def asks_once(peer):
     peer.sendall(RESET)
     peer.shutdown(socket.SHUT_WR)
-    differs("the answer to a Reset Query", receive(peer, 1000), ANSWER)
+    expect("the answer to a Reset Query", received(peer, 1000), ANSWER)
 
 
 def asks_in_version_0(session):
     def asks(peer):
         peer.sendall(bytes.fromhex("0002000000000008"))
         answer = bytes.fromhex(f"0003{session}00000008") + b"\0" + ANSWER[9:28] + bytes.fromhex(f"0007{session}0000000c00000005")
-        differs("the answer to a Reset Query of version 0", receive(peer, len(answer)), answer)
+        expect("the answer to a Reset Query of version 0", received(peer, len(answer)), answer)
         peer.sendall(RESET)
-        differs("the report on version 1", receive(peer, 1000), bytes.fromhex("000a00040000001800000008010200000000000800000000"))
+        expect("the report on version 1", received(peer, 1000), bytes.fromhex("000a00040000001800000008010200000000000800000000"))
 
     return asks
 
@@ -95,15 +66,15 @@ def waits_for_its_answers(peer):
     peer.sendall(RESET[:3])
     time.sleep(0.02)
     peer.sendall(RESET[3:])
-    differs("the first answer", receive(peer, len(ANSWER)), ANSWER)
+    expect("the first answer", received(peer, len(ANSWER)), ANSWER)
     peer.sendall(QUERY)
-    differs("the second answer", receive(peer, len(BEGIN + END)), BEGIN + END)
+    expect("the second answer", received(peer, len(BEGIN + END)), BEGIN + END)
 
 
 def asks_twice_at_once(peer):
     peer.sendall(RESET + QUERY)
     peer.shutdown(socket.SHUT_WR)
-    differs("two answers", receive(peer, 1000), ANSWER + BEGIN + END)
+    expect("two answers", received(peer, 1000), ANSWER + BEGIN + END)
 
 
 def closes_within_a_unit(peer):
@@ -112,7 +83,7 @@ def closes_within_a_unit(peer):
 
 def sends_what_no_router_sends(peer):
     peer.sendall(bytes.fromhex("0108000000000008"))
-    differs("the report", receive(peer, 1000), bytes.fromhex("010a00030000001800000008010800000000000800000000"))
+    expect("the report", received(peer, 1000), bytes.fromhex("010a00030000001800000008010800000000000800000000"))
 
 
 def in_two_pieces(size):
@@ -121,29 +92,29 @@ def in_two_pieces(size):
         peer.sendall(RESET[:size])
         time.sleep(0.01)
         peer.sendall(RESET[size:])
-        differs(f"the answer to a query in pieces of {size} and {8 - size}", receive(peer, len(ANSWER)), ANSWER)
+        expect(f"the answer to a query in pieces of {size} and {8 - size}", received(peer, len(ANSWER)), ANSWER)
 
     return asks
 
 
 def sends_rubbish(peer):
     peer.sendall(bytes(range(200, 256)))
-    differs("the code of the report", receive(peer, 1000)[:4], bytes.fromhex("010a0004"))
+    expect("the code of the report", received(peer, 1000)[:4], bytes.fromhex("010a0004"))
 
 
 def sends_on_behind_a_fault(peer):
     """What the cache reads no more does not take its report back: the connection ends, and is not reset."""
     peer.sendall(bytes.fromhex("0108000000000008") + bytes(200_000))
     try:
-        differs("the report, and the end", receive(peer, 1000), bytes.fromhex("010a00030000001800000008010800000000000800000000"))
+        expect("the report, and the end", received(peer, 1000), bytes.fromhex("010a00030000001800000008010800000000000800000000"))
     except ConnectionResetError:
-        differs("the end behind a report", "a reset", "the end")
+        expect("the end behind a report", "a reset", "the end")
 
 
 def hangs_up(peer):
     """Resets the connection in the middle of an answer."""
     peer.sendall(RESET)
-    receive(peer, 4)
+    received(peer, 4)
     peer.setsockopt(socket.SOL_SOCKET, socket.SO_LINGER, struct.pack("ii", 1, 0))
 
 
@@ -157,17 +128,17 @@ def serves():
     served([asks_in_version_0("1234"), asks_once, asks_in_version_0("1234")])
     served([asks_in_version_0("0777"), asks_once], extra=" --session0 1911")
     served([waits_for_its_answers, closes_within_a_unit, asks_twice_at_once, sends_what_no_router_sends, asks_once])
-    expect("serve --port 0 --session 4660 --start 5 --vrps v.json --connections 0", 0, "served 0\n")
-    expect("serve --port 0 --session 4660 --start 5 --vrps gone --connections 0", 3, "", DEVICE)
-    expect("serve --port 0 --session 4660 --start 5 --vrps bad --connections 0", 1, "refused list\n")
+    runs("serve --port 0 --session 4660 --start 5 --vrps v.json --connections 0", 0, "served 0\n")
+    runs("serve --port 0 --session 4660 --start 5 --vrps gone --connections 0", 3, "", DEVICE)
+    runs("serve --port 0 --session 4660 --start 5 --vrps bad --connections 0", 1, "refused list\n")
     for words in ("--port 65536 --session 1", "--port 0 --session 65536", "--port -1 --session 1", "--port 00 --session 1", "--session 1", "--port 0 --session 1 --session0 65536"):
-        expect(f"serve {words} --start 5 --vrps v.json --connections 0", 2, "", BAD)
-    expect("serve --port 0 --session 1 --start 4294967296 --vrps v.json --connections 0", 2, "", BAD)
-    expect("serve --port 0 --session 1 --start 5 --vrps v.json --connections 4294967296", 2, "", BAD)
+        runs(f"serve {words} --start 5 --vrps v.json --connections 0", 2, "", BAD)
+    runs("serve --port 0 --session 1 --start 4294967296 --vrps v.json --connections 0", 2, "", BAD)
+    runs("serve --port 0 --session 1 --start 5 --vrps v.json --connections 4294967296", 2, "", BAD)
     with socket.socket() as taken:
         taken.bind(("127.0.0.1", 0))
         taken.listen()
-        expect(f"serve --port {taken.getsockname()[1]} --session 4660 --start 5 --vrps bad --connections 0", 3, "", DEVICE)
+        runs(f"serve --port {taken.getsockname()[1]} --session 4660 --start 5 --vrps bad --connections 0", 3, "", DEVICE)
 
 
 def fetched(reply, status, output, errors="", cut=0, question=RESET, extra=""):
@@ -180,7 +151,7 @@ def fetched(reply, status, output, errors="", cut=0, question=RESET, extra=""):
         def answer():
             peer, _address = listener.accept()
             with peer:
-                differs("the question, in one piece", peer.recv(1000), question)
+                expect("the question, in one piece", peer.recv(1000), question)
                 peer.setsockopt(socket.IPPROTO_TCP, socket.TCP_NODELAY, 1)
                 peer.sendall(reply[:cut])
                 time.sleep(0.005 if cut else 0)
@@ -191,7 +162,7 @@ def fetched(reply, status, output, errors="", cut=0, question=RESET, extra=""):
 
         other = threading.Thread(target=answer)
         other.start()
-        expect(f"fetch --port {listener.getsockname()[1]}{extra}", status, output, errors)
+        runs(f"fetch --port {listener.getsockname()[1]}{extra}", status, output, errors)
         other.join(20)
 
 
@@ -215,9 +186,9 @@ def fetches():
         fetched(response + b"\0" + ANNOUNCED[1:] + end, 0, f"committed 1911 5\n[{ENTRY}]\n", cut=cut, **in_version_0)
     fetched(ANSWER, 1, "ended 1\n", **in_version_0)
     fetched(ANSWER, 0, f"committed 4660 5\n[{ENTRY}]\n", extra=" --rtr-version 1")
-    expect(f"fetch --port {free_port()}", 3, "", DEVICE)
+    runs(f"fetch --port {free_port()}", 3, "", DEVICE)
     for words in ("fetch", "fetch --port", "fetch --port x", "fetch --port 65536", "fetch --port 1 --port 1", "fetch 1"):
-        expect(words, 2, "", BAD)
+        runs(words, 2, "", BAD)
 
 
 def both():
@@ -225,20 +196,20 @@ def both():
     port = free_port()
     words = f"serve --port {port} --session 4660 --session0 1911 --start 5 --vrps many.json --connections 3"
     with subprocess.Popen([program, *words.split(" ")], stdin=subprocess.DEVNULL, stdout=subprocess.PIPE) as ran:
-        dial(port).close()
-        expect(f"fetch --port {port}", 0, f"committed 4660 5\n{MANY}\n")
-        expect(f"fetch --port {port} --rtr-version 0", 0, f"committed 1911 5\n{MANY}\n")
-        differs(words, (ran.communicate(timeout=60)[0].decode(), ran.returncode), ("served 3\n", 0))
+        connected(port).close()
+        runs(f"fetch --port {port}", 0, f"committed 4660 5\n{MANY}\n")
+        runs(f"fetch --port {port} --rtr-version 0", 0, f"committed 1911 5\n{MANY}\n")
+        expect(words, (ran.communicate(timeout=60)[0].decode(), ran.returncode), ("served 3\n", 0))
 
 
 def loops():
     for route, state in (("192.0.2.0/24 64496", "valid"), ("192.0.2.0/25 64496", "invalid"), ("198.51.100.0/24 none", "not-found")):
-        expect(f"loop --session 4660 --start 5 --vrps v.json {route}", 0, f"committed 4660 5\n{state}\n")
-    expect("loop --session 1 --start 4294967295 --vrps many.json 10.0.7.0/24 1", 0, "committed 1 4294967295\nvalid\n")
-    expect("loop --session 1 --start 5 --vrps gone 10.0.0.0/33 1", 1, "refused word\n")
-    expect("loop --session 1 --start 5 --vrps gone 10.0.0.0/8 1", 3, "", DEVICE)
-    expect("loop --session 1 --start 5 --vrps bad 10.0.0.0/8 1", 1, "refused list\n")
-    expect("loop --session 1 --start 5 --vrps bad 10.0.0.0/8", 2, "", BAD)
+        runs(f"loop --session 4660 --start 5 --vrps v.json {route}", 0, f"committed 4660 5\n{state}\n")
+    runs("loop --session 1 --start 4294967295 --vrps many.json 10.0.7.0/24 1", 0, "committed 1 4294967295\nvalid\n")
+    runs("loop --session 1 --start 5 --vrps gone 10.0.0.0/33 1", 1, "refused word\n")
+    runs("loop --session 1 --start 5 --vrps gone 10.0.0.0/8 1", 3, "", DEVICE)
+    runs("loop --session 1 --start 5 --vrps bad 10.0.0.0/8 1", 1, "refused list\n")
+    runs("loop --session 1 --start 5 --vrps bad 10.0.0.0/8", 2, "", BAD)
 
 
 def closed_streams():
@@ -254,18 +225,18 @@ def closed_streams():
                 with peer:
                     peer.sendall(ANSWER)
                     peer.shutdown(socket.SHUT_WR)
-                    differs(f"what a cache receives, {closed}", receive(peer, 1000), RESET)
+                    expect(f"what a cache receives, {closed}", received(peer, 1000), RESET)
             except TimeoutError:
-                differs(f"a connection, {closed}", "none", "one")
+                expect(f"a connection, {closed}", "none", "one")
             ran.communicate(timeout=60)
-            differs(f"status of fetch, {closed}", ran.returncode, 3 if "1>&-" in closed else 0)
+            expect(f"status of fetch, {closed}", ran.returncode, 3 if "1>&-" in closed else 0)
     for closed in ("0<&-", "1>&-", "2>&-", "0<&- 1>&-", "0<&- 1>&- 2>&-"):
         port = free_port()
         script = f'exec "$0" serve --port {port} --session 4660 --start 5 --vrps v.json --connections 1 {closed}'
         with subprocess.Popen(["sh", "-c", script, program], stdin=subprocess.DEVNULL, stdout=subprocess.DEVNULL, stderr=subprocess.DEVNULL) as ran:
-            with dial(port) as peer:
+            with connected(port) as peer:
                 asks_once(peer)
-        differs(f"status of serve, {closed}", ran.returncode, 3 if "1>&-" in closed else 0)
+        expect(f"status of serve, {closed}", ran.returncode, 3 if "1>&-" in closed else 0)
 
 
 def failed_accepts():
@@ -279,22 +250,23 @@ def failed_accepts():
         given = {**os.environ, "LD_PRELOAD": shim, "FAIL": " ".join(map(str, faults))}
         with subprocess.Popen([program, *words.split(" ")], env=given, stdin=subprocess.DEVNULL, stdout=subprocess.PIPE, stderr=subprocess.PIPE) as ran:
             if status == 0:
-                with dial(port) as peer:
+                with connected(port) as peer:
                     asks_once(peer)
             out, err = ran.communicate(timeout=60)
-        differs(f"{words}, where accept fails with {faults}", (ran.returncode, out.decode(), err.decode()), (status, output, errors))
+        expect(f"{words}, where accept fails with {faults}", (ran.returncode, out.decode(), err.decode()), (status, output, errors))
 
 
 MANY = "[" + ",".join('{"asn":1,"maxLength":24,"prefix":"10.%d.%d.0/24"}' % (n // 256, n % 256) for n in range(5000)) + "]"
 
 if __name__ == "__main__":
-    program, shim = os.path.abspath(sys.argv[1]), "".join(map(os.path.abspath, sys.argv[2:]))
+    program, shim, failed = os.path.abspath(sys.argv[1]), "".join(map(os.path.abspath, sys.argv[2:])), 0
     with tempfile.TemporaryDirectory() as folder:
         os.chdir(folder)
-        for name, text in (("v.json", f"[{ENTRY}]"), ("many.json", MANY), ("bad", "{}")):
-            with open(name, "w", encoding="utf-8") as it:
-                it.write(text)
+        for name, text in (("v.json", LIST), ("many.json", MANY), ("bad", "{}")):
+            write(name, text)
         for part in (serves, fetches, both, loops, *([failed_accepts] if shim else []), closed_streams):
+            checks.begin(part.__name__)
             part()
+            failed += len(checks.failures)
         os.chdir("/")
     sys.exit(1 if failed else 0)
