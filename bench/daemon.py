@@ -7,18 +7,19 @@ With 500,000 records, or as many as are said: 100 routers that connect at once u
 takes of memory; a version of 1,000 changes, from the first notify until each of these has it; 10 routers beside 100 that read one byte
 and no more. All routers stand in one process, so what they take is in each wall time; the processor time is the server's own. StayRTR is asked by
 one router. It prints a table in Markdown."""
+import contextlib
 import os
 import resource
 import selectors
 import shutil
 import socket
-import struct
 import subprocess
 import sys
 import tempfile
 import time
 
 import measure
+import rtr
 
 SENDER = """
 import selectors, socket, sys
@@ -147,7 +148,7 @@ def main(daemon, count=500_000):
         for it in slow:
             it.close()
         time.sleep(1)
-        query = struct.pack(">BBHII", 1, 1, 4660, 12, serial_of(port))
+        query = rtr.serial_query(4660, serial_of(port))
         before = resident(ours.pid)
         crowd = Crowd(port, 1000)
         crowd.take(8 + 24, query)
@@ -171,16 +172,9 @@ def main(daemon, count=500_000):
 
 def serial_of(port):
     """The present serial of the cache."""
-    with measure.connected(port) as it:
-        it.sendall(struct.pack(">BBHII", 1, 1, 4660, 12, 0))
-        it.sendall(measure.RESET)
-        held = b""
-        while True:
-            held += it.recv(1 << 20)
-            at = held[-24:]
-            if len(at) == 24 and at[:4] == bytes.fromhex("01071234") and at[4:8] == bytes.fromhex("00000018"):
-                return struct.unpack(">I", at[8:12])[0]
-            held = held[-24:]
+    with contextlib.closing(rtr.Router(port)) as router:
+        router.ask()
+        return router.serial
 
 
 def of_stayrtr(found, size):

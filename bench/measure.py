@@ -15,7 +15,6 @@ import platform
 import random
 import shutil
 import socket
-import struct
 import subprocess
 import sys
 import tempfile
@@ -24,12 +23,15 @@ import time
 
 TOP = os.path.realpath(f"{os.path.dirname(os.path.abspath(__file__))}/..")
 sys.path.insert(0, f"{TOP}/tests")
-from der import element
+import common
+import rtr
+from common import free_port, write
+from der import element, integer
 
 # Shares of prefix lengths, of families and of AS numbers, roughly those of the global table.
 IPV4 = {24: 62, 23: 9, 22: 11, 21: 4, 20: 5, 19: 4, 18: 2, 17: 1, 16: 2}
 IPV6 = {48: 52, 32: 18, 44: 9, 40: 7, 36: 6, 46: 4, 29: 2, 33: 2}
-RESET = bytes.fromhex("0102000000000008")
+RESET = rtr.reset_query()
 SERIAL, SESSION = 5, 4660
 
 
@@ -55,12 +57,6 @@ def text_of(record):
     return f"{ipaddress.IPv4Address(address) if family == 4 else ipaddress.IPv6Address(address)}/{length}"
 
 
-def write(name, content):
-    with open(name, "wb" if isinstance(content, bytes) else "w") as it:
-        it.write(content)
-    return os.path.abspath(name)
-
-
 def listed(found):
     return json.dumps([{"asn": it[4], "maxLength": it[3], "prefix": text_of(it)} for it in found], separators=(",", ":"))
 
@@ -72,18 +68,8 @@ def exported(found):
 
 def answer(found):
     """The answer to a Reset Query (RFC 8210 sections 5.5 to 5.8)."""
-    parts = [struct.pack(">BBHI", 1, 3, SESSION, 8)]
-    for family, address, length, longest, asn in found:
-        if family == 4:
-            parts.append(struct.pack(">BBHIBBBBII", 1, 4, 0, 20, 1, length, longest, 0, address, asn))
-        else:
-            parts.append(struct.pack(">BBHIBBBB16sI", 1, 6, 0, 32, 1, length, longest, 0, address.to_bytes(16, "big"), asn))
-    return b"".join([*parts, struct.pack(">BBHIIIII", 1, 7, SESSION, 24, SERIAL, 3600, 600, 7200)])
-
-
-def free_port():
-    with socket.create_server(("127.0.0.1", 0)) as it:
-        return it.getsockname()[1]
+    parts = (rtr.prefix_pdu(address.to_bytes(4 if family == 4 else 16, "big"), length, longest, asn) for family, address, length, longest, asn in found)
+    return b"".join([rtr.cache_response(SESSION), *parts, rtr.end_of_data(SESSION, SERIAL)])
 
 
 def best(measure):
@@ -91,11 +77,8 @@ def best(measure):
 
 
 def connected(port):
-    while True:
-        try:
-            return socket.create_connection(("127.0.0.1", port))
-        except OSError:
-            time.sleep(0.05)
+    """A connection that blocks, to a server that may read for minutes before it listens."""
+    return common.connected(port, 600, None)
 
 
 def asked(port, size, times=1):
@@ -200,10 +183,6 @@ def measured(program, count):
     if shutil.which("rtrclient"):
         figures["router, rtrclient"] = best(lambda: timed(["rtrclient", "-e", "-t", "csv", "-o", "roa.csv", "tcp", "127.0.0.1", plain_sender(data)]))
     return figures
-
-
-def integer(value):
-    return element(2, value.to_bytes(value.bit_length() // 8 + 1, "big"))
 
 
 def decoded(program):
