@@ -17,30 +17,20 @@ import pwd
 import random
 import re
 import shutil
-import socket
 import subprocess
 import sys
 import tempfile
 import time
 
+import log
 import repository
+from common import free_port, put, write
 
 FIRST = [("192.0.2.0/24", 24, 64496), ("198.51.100.0/24", 26, 64497), ("203.0.113.0/25", 25, 0), ("2001:db8::/32", 48, 64498)]
 SECOND = [("192.0.2.0/24", 25, 64496), ("198.51.100.0/24", 26, 64499), ("2001:db8::/32", 48, 64498), ("2001:db8:1::/48", 48, 4200000000)]
 
 # How long a peer may take until its table is the one that is served, in seconds.
 PATIENCE = 45
-
-
-def free_port():
-    with socket.create_server(("127.0.0.1", 0)) as it:
-        return it.getsockname()[1]
-
-
-def write(name, text):
-    with open(name, "w") as it:
-        it.write(text)
-    return os.path.abspath(name)
 
 
 def said(*words, seconds=10):
@@ -380,48 +370,26 @@ ROUTERS = {
 # ---- the daemon
 
 
-def put(records):
-    """Replaces the daemon's file at once, as validators do."""
-    os.replace(write("daemon.new", exported(records)), "daemon.json")
-
-
-def awaited_log(word, count):
-    """Waits until the daemon's log has so many lines of this event, and returns the values of the last one."""
-    end = time.time() + PATIENCE
-    while time.time() < end:
-        with open("rpkirtrd.log") as it:
-            lines = [line for line in it if f" {word} " in line or line.rstrip().endswith(f" {word}")]
-        if len(lines) >= count:
-            return dict(re.findall(r"(\S+)=(\S+)", lines[-1]))
-        time.sleep(0.1)
-    raise SystemExit(f"the daemon's log has no {count} lines {word}")
-
-
-def came():
-    with open("rpkirtrd.log") as it:
-        return sum(" client-came " in line for line in it)
-
-
 def followed(program):
     """All routers at once: what each holds of the first list, and of the next on the connection that it has; and whether one keeps its table
     while the daemon is started again."""
-    put(FIRST)
+    put("daemon.json", exported(FIRST))
     port, rows = free_port(), {}
     words = [program, "--vrps", "daemon.json", "--listen", f"127.0.0.1:{port}", "--check", "1"]
     with contextlib.ExitStack() as stack:
-        with running(*words):
-            awaited_log("ready", 1)
+        with log.running(*words) as daemon:
+            daemon.wait("ready")
             views = {name: (stack.enter_context(peer(port)), counts) for name, (_, command, peer, counts) in DAEMON_ROUTERS.items() if shutil.which(command)}
             for name, (view, counts) in views.items():
                 rows[name] = [compared(name, view, FIRST, counts)]
             stay = {name: it for name, it in views.items() if name not in ASKS_ONCE}
-            before = came()
-            put(SECOND)
-            awaited_log("published", 2)
+            before = daemon.count("client-came")
+            put("daemon.json", exported(SECOND))
+            daemon.wait("published")
             for name, (view, counts) in stay.items():
                 rows[name].append(compared(name, view, SECOND, counts))
-            if came() != before:
-                print(f"{came() - before} routers connected again")
+            if again := daemon.count("client-came") - before:
+                print(f"{again} routers connected again")
                 rows = {name: [*row, "DIFFERS"] for name, row in rows.items()}
             for name, (view, counts) in views.items():
                 if name in ASKS_ONCE:
@@ -434,8 +402,8 @@ def followed(program):
 def restarted(words, view):
     """Whether a router holds its table all the time while the daemon is started again, and comes over to its next list."""
     shown, begun = [], time.time()
-    with running(*words):
-        put(FIRST)
+    with log.running(*words):
+        put("daemon.json", exported(FIRST))
         while time.time() < begun + PATIENCE:
             shown.append(view())
             if shown[-1] == sorted(FIRST):
