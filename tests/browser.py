@@ -21,7 +21,7 @@ from common import put
 from daemon.shared import SLURM
 from log import running
 from rtr import Router
-from web import got
+from web import linted
 
 RECORDS = [(f"{ipaddress.ip_address(10 * 2**24 + 256 * it)}/24", 24, 64496 + it % 7) for it in range(20000)]
 RECORDS += [(f"2001:db8:{it:x}::/48", 48, 64500) for it in range(6000)]
@@ -51,9 +51,7 @@ def pictures(port, folder, name):
 
 def checked(port):
     """What promtool finds in the metrics."""
-    text = got(port, "/metrics")[2]
-    found = subprocess.run(["promtool", "check", "metrics"], input=text, capture_output=True, text=True, timeout=60)
-    expect("what promtool finds", (found.returncode, found.stdout, found.stderr), (0, "", ""))
+    expect("what promtool finds", linted(port), (0, "", ""))
 
 
 def main(program, folder):

@@ -3,6 +3,7 @@ import contextlib
 import http.client
 import json
 import socket
+import subprocess
 
 from common import PATIENCE
 
@@ -19,6 +20,12 @@ def metrics_of(port):
     """The metrics by their names and labels."""
     lines = got(port, "/metrics")[2].splitlines()
     return {name: float(value) for name, value in (it.rsplit(" ", 1) for it in lines if not it.startswith("#"))}
+
+
+def linted(port):
+    """The status, the output and the errors of `promtool check metrics` on the metrics."""
+    found = subprocess.run(["promtool", "check", "metrics"], input=got(port, "/metrics")[2], capture_output=True, text=True, timeout=60)
+    return found.returncode, found.stdout, found.stderr
 
 
 def validity(port, prefix, asn):

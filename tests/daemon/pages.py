@@ -6,16 +6,17 @@ import http.client
 import ipaddress
 import json
 import random
+import shutil
 import socket
 import subprocess
 import time
 
 from checks import expect
 from common import PATIENCE, put
-from daemon.shared import FIRST, part, text_of
+from daemon.shared import FIRST, Skipped, part, text_of
 from log import running
 from rtr import Router
-from web import got, metrics_of, raw_answer, validity
+from web import got, linted, metrics_of, raw_answer, validity
 
 
 def state_of(prefix, asn, records):
@@ -171,6 +172,23 @@ def reasons(given):
             body = got(port, f"/validity?asn={asn}&prefix={prefix.replace('/', '%2F')}")[2]
             told = json.loads(body)["validated_route"]["validity"]
             expect(f"why {prefix} of AS{asn} is invalid", (told["state"], told.get("reason")), ("invalid", reason))
+
+
+@part
+def linted_metrics(given):
+    """The metrics are as Prometheus reads them, with 0, 1 and 300 routers."""
+    if not shutil.which("promtool"):
+        raise Skipped("there is no command promtool")
+    put("list.json", text_of(FIRST))
+    with running(given.program, "--vrps", "list.json", "--listen", "127.0.0.1:0", "--status", "127.0.0.1:0", "--clients", "300") as daemon:
+        at, port = daemon.serves()
+        routers = []
+        for count in 0, 1, 300:
+            routers += [Router(at, version=it % 2) for it in range(len(routers), count)]
+            for router in routers:
+                expect("the table of a router", router.catch_up(), set(FIRST))
+            expect(f"the number of {count} routers", metrics_of(port)["rpkirtrd_clients"], count)
+            expect(f"what promtool finds with {count} routers", linted(port), (0, "", ""))
 
 
 @part

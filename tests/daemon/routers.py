@@ -1,8 +1,12 @@
 """What routers are sent: the table in both versions, changes, notifies, and Error Reports."""
+import json
+import select
+import time
+
 from checks import expect
 from common import PATIENCE, put
-from daemon.shared import FIRST, SECOND, part, text_of
-from log import running, unescaped
+from daemon.shared import FIRST, SECOND, entry_of, part, text_of
+from log import running, unescaped, values_of
 from rtr import CACHE_RESET, RESPONSE, Router, error_report, reset_query, serial_query
 from web import metrics_of
 
@@ -65,6 +69,46 @@ def asked_first(given):
         put("list.json", text_of(FIRST))
         half.wait_notify()
         expect("the next table", half.catch_up(), set(FIRST))
+
+
+@part
+def early_routers(given):
+    """A router that asks before the first version is accepted after it, and gets the whole table. It gets no Error Report."""
+    early = 0
+    for _ in range(20):
+        with running(given.program, "--vrps", "list.json", "--listen", "127.0.0.1:0") as daemon:
+            port = daemon.port()
+            routers = [Router(port), Router(port, version=0)]
+            for router in routers:
+                router.socket.sendall(reset_query(router.version))
+            early += not daemon.count("ready")
+            for router in routers:
+                expect("the answer to an early query", (router.answer(), router.table), (RESPONSE, set(FIRST)))
+            daemon.wait("client-came")
+            expect("the last events", [values_of(line)["event"] for line in daemon.said[-2:]], ["ready", "client-came"])
+            if early == 3:
+                return
+    expect("queries before the first version", early, 3)
+
+
+@part
+def paced(given):
+    """Notifies come at most once a second, though the list changes ten times a second and an entry expires in each."""
+    begin = int(time.time()) + 4
+    put("export.json", json.dumps({"roas": [entry_of(f"10.0.{it}.0/24", 24, 64500, expires=begin + it) for it in range(8)]}))
+    with running(given.program, "--vrps", "list.json", "--vrps", "export.json", "--listen", "127.0.0.1:0", "--check", "1") as daemon:
+        router = Router(daemon.listens())
+        router.catch_up()
+        serials, moments, asn = [], [], 64496
+        while time.time() < begin + 8:
+            asn += 1
+            put("list.json", text_of([("192.0.2.0/24", 24, asn)]))
+            if select.select([router.socket], [], [], 0.1)[0]:
+                serials.append(router.wait_notify())
+                moments.append(time.monotonic())
+        span = moments[-1] - moments[0]
+        expect("the serials of the notifies", serials, sorted(set(serials)))
+        expect(f"{len(serials)} notifies in {span:.2f} seconds, and at most one a second", 4 <= len(serials) - 1 <= span + 0.5, True)
 
 
 @part
