@@ -1,6 +1,6 @@
 #!/usr/bin/env bash
-# The daemon over sockets, half a minute, with a soak of twenty seconds: tests/daemon.py has the routers and the visitors. Where there is a C compiler, each
-# request for memory of a daemon is refused in turn.
+# The daemon over sockets, a minute, with a soak of twenty seconds: tests/daemon has the parts. If there is a C compiler, each request for
+# memory of a daemon is refused in turn.
 set -u
 top=$(cd "$(dirname "${BASH_SOURCE[0]}")/.." && pwd) || exit 1
 folder=$(mktemp -d) || exit 1
