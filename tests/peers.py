@@ -154,18 +154,19 @@ protocol rpki cache {{
     roa6 {{ table r6; }};
     remote 127.0.0.1 port {port};
     retry keep 1;
-    refresh keep 2;
+    refresh keep {refresh};
     expire keep 600;
 }}
 """
 
 
 @contextlib.contextmanager
-def bird(port, own="bird"):
-    name = write(f"{own}.conf", BIRD.format(port=port))
+def bird(port, own="bird", refresh=2):
+    name = write(f"{own}.conf", BIRD.format(port=port, refresh=refresh))
     with running("bird", "-f", "-c", name, "-s", f"{own}.ctl", "-P", f"{own}.pid"):
-        tables = lambda: "".join(said("birdc", "-s", f"{own}.ctl", "show", "route", "table", it) for it in ("r4", "r6"))
-        yield lambda: records_in(r"(?m)^(\S+)/(\d+)-(\d+) AS(\d+)", tables())
+        # (one command, as the tables may change between two)
+        tables = ["birdc", "-s", f"{own}.ctl", "show", "route", "table", "r4", "table", "r6"]
+        yield lambda: records_in(r"(?m)^(\S+)/(\d+)-(\d+) AS(\d+)", said(*tables))
 
 
 FRR = """log stdout
@@ -216,8 +217,10 @@ def openbgpd(port):
         yield view
 
 
-def second_bird(port):
-    return bird(port, "second")
+def notified_bird(own):
+    """A BIRD that asks by itself once an hour, so notifies alone tell it of changes. If its refresh timer ends while it handles a notify, it
+    closes the connection (BIRD 2)."""
+    return lambda port: bird(port, own, 3600)
 
 
 def counted(records):
@@ -415,7 +418,7 @@ def restarted(words, view):
     return "DIFFERS"
 
 
-DAEMON_ROUTERS = {**ROUTERS, "second bird": ("bird2", "bird", second_bird, False)}
+DAEMON_ROUTERS = {**ROUTERS, "bird": ("bird2", "bird", notified_bird("bird"), False), "second bird": ("bird2", "bird", notified_bird("second"), False)}
 
 # These connect anew each time.
 ASKS_ONCE = {"rtrclient", "rtrdump", "rtrdump v0"}
