@@ -43,10 +43,10 @@ class NoLine(Exception):
 class Daemon:
     """A daemon in the background. Its log is read line by line."""
 
-    def __init__(self, program, *words, limit=None, env=None, told=None):
+    def __init__(self, program, *words, limit=None, env=None, inherited=None):
         before = (lambda: resource.setrlimit(resource.RLIMIT_NOFILE, (limit, limit))) if limit else None
         streams = {"stdin": subprocess.DEVNULL, "stdout": subprocess.PIPE, "stderr": subprocess.PIPE}
-        more = {"env": {**os.environ, **env}, "pass_fds": [told]} if env else {}
+        more = {"env": {**os.environ, **env}, "pass_fds": [inherited]} if env else {}
         self.words = words
         self.ran = subprocess.Popen([program, *words], **streams, **more, preexec_fn=before)
         # all lines so far, how many of them were read here, and whether the log has ended

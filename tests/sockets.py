@@ -103,12 +103,12 @@ def sends_rubbish(peer):
 
 
 def sends_on_behind_a_fault(peer):
-    """What the cache reads no more does not take its report back: the connection ends, and is not reset."""
+    """Bytes that the cache does not read do not take its report back: the connection ends, and is not reset."""
     peer.sendall(bytes.fromhex("0108000000000008") + bytes(200_000))
     try:
         expect("the report, and the end", received(peer, 1000), bytes.fromhex("010a00030000001800000008010800000000000800000000"))
     except ConnectionResetError:
-        expect("the end behind a report", "a reset", "the end")
+        expect("the end after a report", "a reset", "the end")
 
 
 def hangs_up(peer):

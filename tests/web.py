@@ -31,9 +31,9 @@ def linted(port):
 def validity(port, prefix, asn):
     """What the page says of a route: its state, and the covering records in their three kinds."""
     status, _, body = got(port, f"/validity?asn={asn}&prefix={prefix.replace('/', '%2F')}")
-    told = json.loads(body)["validated_route"]["validity"] if status == 200 else None
+    judged = json.loads(body)["validated_route"]["validity"] if status == 200 else None
     record = lambda it: (it["prefix"], int(it["max_length"]), int(it["asn"].removeprefix("AS")))
-    return told and (told["state"], {kind: sorted(map(record, them)) for kind, them in told["VRPs"].items()})
+    return judged and (judged["state"], {kind: sorted(map(record, them)) for kind, them in judged["VRPs"].items()})
 
 
 def raw_answer(port, *pieces):

@@ -37,9 +37,9 @@ def refused_files(given):
         put("list.json", text_of(SECOND))
         daemon.wait("taken", file="list.json")
         daemon.wait("published", records=2)
-        expect("what is served behind", Router(port).catch_up(), set(SECOND))
+        expect("what is served afterwards", Router(port).catch_up(), set(SECOND))
         refusals = [it for it in daemon.said if " refused " in it]
-        expect("how often a refusal is told", len(refusals), 5)
+        expect("how many refusals are reported", len(refusals), 5)
 
 
 @part
@@ -148,8 +148,8 @@ def expired_of_bad_files(given):
         daemon.wait("published", withdrawn=2, records=2)
         router.wait_notify()
         expect("entries that have expired, of a file that is bad and one that is gone", router.catch_up(), lasting)
-        told = metrics_of(port)
-        expect("expired entries in the metrics", [told.get(f'rpkirtrd_file_expired_entries{{file="{it}"}}') for it in ("bad.json", "gone.json")], [1, 1])
+        metrics = metrics_of(port)
+        expect("expired entries in the metrics", [metrics.get(f'rpkirtrd_file_expired_entries{{file="{it}"}}') for it in ("bad.json", "gone.json")], [1, 1])
         put("bad.json", json.dumps({"roas": [entry_of("198.51.100.0/24", 26, 64497)]}))
         daemon.wait("taken", file="bad.json")
         expect("expired entries of a file that is taken again", metrics_of(port).get('rpkirtrd_file_expired_entries{file="bad.json"}'), 0)

@@ -66,7 +66,7 @@ def full_descriptors(given):
         expect("one too many", last.socket.recv(100), b"")
         routers.pop().close()
         daemon.wait("client-gone")
-        expect("one more behind", Router(port).catch_up(), set(FIRST))
+        expect("one more afterwards", Router(port).catch_up(), set(FIRST))
 
 
 @part

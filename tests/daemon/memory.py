@@ -28,9 +28,9 @@ def refused_once(given, number):
     """A daemon of which this request is refused. It returns whether one was."""
     name = f"memory-{number}.json"
     put(name, text_of(FIRST))
-    with tempfile.TemporaryFile() as told:
-        env = {"LD_PRELOAD": given.shim, "REFUSE": str(number), "TOLD": str(told.fileno())}
-        with running(given.program, "--vrps", name, "--listen", "127.0.0.1:0", "--check", "1", "--session", "4660", env=env, told=told.fileno()) as daemon:
+    with tempfile.TemporaryFile() as refusals:
+        env = {"LD_PRELOAD": given.shim, "REFUSE": str(number), "TOLD": str(refusals.fileno())}
+        with running(given.program, "--vrps", name, "--listen", "127.0.0.1:0", "--check", "1", "--session", "4660", env=env, inherited=refusals.fileno()) as daemon:
             at = daemon.find("listening")
             if at is None or daemon.find("ready") is None:
                 expect(f"request {number}: the end", (daemon.status(), "out of memory" in "".join(daemon.said[-1:])), (4, True))
@@ -40,7 +40,7 @@ def refused_once(given, number):
                 put(name, text_of(SECOND))
                 daemon.wait("published", records=len(SECOND))
                 expect(f"request {number}: the next list", held(port), set(SECOND))
-        return os.fstat(told.fileno()).st_size > 0
+        return os.fstat(refusals.fileno()).st_size > 0
 
 
 def held(port):

@@ -42,14 +42,14 @@ def pages(given):
         routers = [Router(at), Router(at, version=0)]
         for router in routers:
             router.catch_up()
-        told = metrics_of(port)
+        metrics = metrics_of(port)
         wanted = {'rpkirtrd_vrps{family="ipv4"}': 10, 'rpkirtrd_vrps{family="ipv6"}': 1, "rpkirtrd_serial": 5, 'rpkirtrd_session{version="1"}': 4660, "rpkirtrd_clients": 2}
         wanted |= {'rpkirtrd_pdus_total{type="reset_query",direction="received"}': 2, 'rpkirtrd_pdus_total{type="ipv4_prefix",direction="sent"}': 20}
-        expect("the metrics", {name: told.get(name) for name in wanted}, wanted)
+        expect("the metrics", {name: metrics.get(name) for name in wanted}, wanted)
         routers.pop().close()
         daemon.wait("client-gone")
-        told = metrics_of(port)
-        expect("the metrics behind a client", (told["rpkirtrd_clients"], told['rpkirtrd_pdus_total{type="ipv4_prefix",direction="sent"}']), (1, 20))
+        metrics = metrics_of(port)
+        expect("the metrics after a client", (metrics["rpkirtrd_clients"], metrics['rpkirtrd_pdus_total{type="ipv4_prefix",direction="sent"}']), (1, 20))
         listed = json.loads(got(port, "/vrps.json")[2])
         expect("the payload list", {(it["prefix"], it["maxLength"], it["asn"]) for it in listed}, set(near))
         choice = random.Random(7)
@@ -89,7 +89,7 @@ def strange_visitors(port):
         with contextlib.suppress(OSError, http.client.HTTPException):
             if got(port, "/metrics")[0] == 200:
                 return
-    expect("a visitor behind these", "closed", "answered")
+    expect("a visitor after these", "closed", "answered")
 
 
 def is_closed(it):
@@ -170,8 +170,8 @@ def reasons(given):
         daemon.wait("ready")
         for prefix, asn, reason in [("192.0.2.0/25", 64511, "as"), ("192.0.2.0/25", 64496, "length"), ("10.0.1.0/24", 1, "length"), ("10.0.1.0/25", 2, "length"), ("10.0.1.0/24", 3, "as")]:
             body = got(port, f"/validity?asn={asn}&prefix={prefix.replace('/', '%2F')}")[2]
-            told = json.loads(body)["validated_route"]["validity"]
-            expect(f"why {prefix} of AS{asn} is invalid", (told["state"], told.get("reason")), ("invalid", reason))
+            judged = json.loads(body)["validated_route"]["validity"]
+            expect(f"why {prefix} of AS{asn} is invalid", (judged["state"], judged.get("reason")), ("invalid", reason))
 
 
 @part

@@ -97,8 +97,8 @@ def two_points(given):
         put_point(6, hour, 64496, [("192.0.2.0/24", 25)], name="one")
         daemon.wait("refused", file="one")
         expect("an older manifest of one", router.catch_up(), {("192.0.2.0/24", 24, 64496), ("198.51.100.0/24", 25, 64497)})
-        told = metrics_of(port)
-        expect("refused points in the metrics", [told.get(it) for it in ('rpkirtrd_file_refused{file="one"}', 'rpkirtrd_file_refused{file="two"}', 'rpkirtrd_reloads_total{result="refused"}')], [1, 0, 1])
+        metrics = metrics_of(port)
+        expect("refused points in the metrics", [metrics.get(it) for it in ('rpkirtrd_file_refused{file="one"}', 'rpkirtrd_file_refused{file="two"}', 'rpkirtrd_reloads_total{result="refused"}')], [1, 0, 1])
 
 
 @part

@@ -28,9 +28,9 @@ def restarts(given):
                 router.session, router.serial = names[-1]
                 expect("a serial from before the restart", router.ask(), CACHE_RESET)
             router.catch_up()
-            expect("the table behind a restart", router.table, set(records))
+            expect("the table after a restart", router.table, set(records))
             names.append((router.session, router.serial))
-            expect("the session told", int(started["session"]), router.session)
+            expect("the session in the log", int(started["session"]), router.session)
             daemon.end()
     with contextlib.suppress(OSError), open("/etc/machine-id") as it:
         if it.read().strip() not in ("", "uninitialized"):

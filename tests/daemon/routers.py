@@ -123,9 +123,9 @@ def last_words(given):
         report = daemon.wait("error-report")
         expect("a report without a text", [report[it] for it in ("direction", "code", "name", "text")], ["received", "3", "Invalid Request", ""])
         daemon.wait("client-gone")
-        told = metrics_of(port)
-        expect("the Error Reports that are counted", told['rpkirtrd_pdus_total{type="error_report",direction="received"}'], 1)
-        expect("the bytes that are counted", told['rpkirtrd_bytes_total{direction="received"}'], 8 + 16)
+        metrics = metrics_of(port)
+        expect("the Error Reports that are counted", metrics['rpkirtrd_pdus_total{type="error_report",direction="received"}'], 1)
+        expect("the bytes that are counted", metrics['rpkirtrd_bytes_total{direction="received"}'], 8 + 16)
         router = Router(at)
         router.catch_up()
         said = "no such record \x1b[2J ".encode() + b"x" * 300
