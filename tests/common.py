@@ -14,7 +14,7 @@ def free_port():
 
 
 def connected(port, seconds=PATIENCE, timeout=PATIENCE):
-    """A connection to a port of 127.0.0.1. It is tried for so many seconds until the server listens."""
+    """Connects to a port of 127.0.0.1. If nothing listens there yet, it tries again, for `seconds` at most."""
     end = time.monotonic() + seconds
     while True:
         try:
@@ -26,7 +26,7 @@ def connected(port, seconds=PATIENCE, timeout=PATIENCE):
 
 
 def received(peer, count):
-    """So many bytes of a connection, or those before its end."""
+    """Reads `count` bytes of a connection, or fewer if it ends before."""
     found = b""
     while len(found) < count and (piece := peer.recv(count - len(found))):
         found += piece
@@ -34,7 +34,7 @@ def received(peer, count):
 
 
 def write(path, content):
-    """Writes a file, and returns its whole path."""
+    """Writes a file, and returns its absolute path."""
     with open(path, "wb" if isinstance(content, bytes) else "w") as it:
         it.write(content)
     return os.path.abspath(path)

@@ -36,7 +36,8 @@ class NoLine(Exception):
     """A line did not come in the log of a daemon."""
 
     def __init__(self, daemon, event, values):
-        super().__init__(f"no line {event} {values} in {PATIENCE} seconds")
+        end = "before the log ended" if daemon.is_over else f"in {PATIENCE} seconds"
+        super().__init__(f"no line {event} {values} {end}")
         self.daemon = daemon
 
 
@@ -49,7 +50,7 @@ class Daemon:
         more = {"env": {**os.environ, **env}, "pass_fds": [inherited]} if env else {}
         self.words = words
         self.ran = subprocess.Popen([program, *words], **streams, **more, preexec_fn=before)
-        # all lines so far, how many of them were read here, and whether the log has ended
+        # all lines so far, how many of them find() has passed, and whether the log has ended
         self.lines, self.at, self.is_over, self.changed = [], 0, False, threading.Condition()
         threading.Thread(target=self.follow, daemon=True).start()
         latest.daemon = self
@@ -74,7 +75,7 @@ class Daemon:
             return self.lines[self.at - 1]
 
     def find(self, event, within=PATIENCE, **values):
-        """The values of the next line of this event with these values, or None if no such line comes within so many seconds."""
+        """The next line of this event with these values, as a dict, or None if none comes in `within` seconds."""
         end = time.monotonic() + within
         while (line := self.next_line(end)) is not None:
             found = values_of(line)
@@ -83,7 +84,7 @@ class Daemon:
         return None
 
     def wait(self, event, **values):
-        """The values of the next line of this event with these values."""
+        """The next line of this event with these values, as a dict. It raises NoLine if none comes."""
         if found := self.find(event, **values):
             return found
         raise NoLine(self, event, values)
@@ -106,7 +107,7 @@ class Daemon:
 
     @property
     def said(self):
-        """The lines that were read here so far."""
+        """The lines that find() has passed."""
         return self.lines[: self.at]
 
     def count(self, event):

@@ -34,7 +34,7 @@ def runs(words, status, output, errors=""):
 
 
 def served(clients, status=0, output=None, errors="", extra=""):
-    """Serves so many clients, one after the other."""
+    """Serves these clients, one after the other."""
     port = free_port()
     words = f"serve --port {port} --session 4660 --start 5 --vrps v.json --connections {len(clients)}{extra}"
     with subprocess.Popen([program, *words.split(" ")], stdin=subprocess.DEVNULL, stdout=subprocess.PIPE, stderr=subprocess.PIPE) as ran:
