@@ -81,9 +81,11 @@ def main(program, folder):
             put("slurm.json", "{")
             ours.wait("refused")
             pictures(port, folder, "three")
-            routers += [Router(at) for _ in range(297)]
-            for router in routers[3:200]:
-                router.catch_up()
+            # (a router that has not asked within a minute is closed)
+            for _ in range(197):
+                routers.append(Router(at))
+                routers[-1].catch_up()
+            routers += [Router(at) for _ in range(100)]
             checked(port)
             pictures(port, folder, "many")
         os.chdir("/")
