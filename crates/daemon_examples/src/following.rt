@@ -27,7 +27,7 @@ const PLAN: Plan = Plan {
     max_age: None,
     stops_when_old: false,
     once: false,
-    gates: 1,
+    listeners: 1,
     clients: 2,
 };
 

@@ -2,7 +2,7 @@
 use crate::wires::{Router, Shared, Wire, is_list, shared, wire};
 use daemon_parts::{Event, LogForm, write_event};
 use payload_commands::Directory;
-use rtr_daemon::{Accepted, Disk, Journal, Ports, Ready, Stamp, Time};
+use rtr_daemon::{Accepted, Disk, EventLog, Ready, Sockets, Stamp, Time};
 use std::alloc::{AllocError, Global};
 use std::collections::VecDeque;
 use std::io;
@@ -40,7 +40,7 @@ pub(crate) struct Stage {
     arriving: VecDeque<Wire>,
     untold: usize,
     /// How many lines were taken.
-    lines: usize,
+    connections: usize,
     /// What each router has got.
     got: Vec<Shared>,
     pub(crate) log: Vec<u8>,
@@ -60,7 +60,7 @@ impl Stage {
             millis: 0,
             arriving: VecDeque::new(alloc),
             untold: 0,
-            lines: 0,
+            connections: 0,
             got: Vec::new(alloc),
             log: Vec::new(alloc),
         }
@@ -121,8 +121,8 @@ impl Time for Stage {
     }
 }
 
-impl Journal for Stage {
-    fn tell(&mut self, seconds: u64, event: &Event<'_>) {
+impl EventLog for Stage {
+    fn log(&mut self, seconds: u64, event: &Event<'_>) {
         let _ = write_event(&mut self.log, LogForm::Text, seconds, event);
     }
 }
@@ -157,7 +157,7 @@ impl Disk for Stage {
     }
 }
 
-impl Ports<Wire> for Stage {
+impl Sockets<Wire> for Stage {
     fn wait(&mut self, millis: u64) -> io::Result<()> {
         if self.untold == 0 {
             self.millis = self.millis.saturating_add(millis);
@@ -170,10 +170,10 @@ impl Ports<Wire> for Stage {
             return None;
         }
         self.untold -= 1;
-        Some(Ready::Gate(0))
+        Some(Ready::Listener(0))
     }
 
-    fn accept(&mut self, _gate: usize) -> Accepted<Wire> {
+    fn accept(&mut self, _listener: usize) -> Accepted<Wire> {
         match self.accepting {
             Accepting::Well => {}
             Accepting::NoRoom => return Accepted::NoRoom,
@@ -181,14 +181,14 @@ impl Ports<Wire> for Stage {
                 return Accepted::Failed(io::Error::from(ErrorKind::PermissionDenied));
             }
         }
-        let Some(line) = self.arriving.pop_front() else {
-            return Accepted::Waits;
+        let Some(stream) = self.arriving.pop_front() else {
+            return Accepted::WouldBlock;
         };
-        let number = self.lines;
-        self.lines = number.saturating_add(1);
-        Accepted::Line {
-            line,
-            number,
+        let token = self.connections;
+        self.connections = token.saturating_add(1);
+        Accepted::Connection {
+            stream,
+            token,
             address: SocketAddr::from(([192, 0, 2, 1], 179)),
         }
     }

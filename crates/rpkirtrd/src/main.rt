@@ -1,12 +1,12 @@
 //! The daemon: it reads its words, opens its sockets, and serves turn by turn.
 #![tactic(auto)]
 
-mod desk;
-mod host;
-mod line;
+mod connection;
 mod names;
 mod running;
-mod shelf;
+mod status_endpoint;
+mod system;
+mod version_cache;
 
 use running::{out_of_memory, run_words};
 use std::io::Write;

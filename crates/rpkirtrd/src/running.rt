@@ -1,11 +1,11 @@
 //! Running the daemon.
-use crate::desk::Desk;
-use crate::host::{Host, HostFault};
-use crate::line::Line;
+use crate::connection::Connection;
 use crate::names::{Named, names_of};
+use crate::status_endpoint::StatusEndpoint;
+use crate::system::{SocketFault, System};
 use daemon_parts::{Event, VersionNames};
 use daemon_words::{Asked, Settings, WordsFault, read_words};
-use rtr_daemon::{Daemon, End, Journal, Paths, Plan, Ports, Refusal, StartFault, Time};
+use rtr_daemon::{Daemon, End, EventLog, Paths, Plan, Refusal, Sockets, StartFault, Time};
 use rtr_ends::Cache;
 use rtr_server::Server;
 use status_server::MAX_VISITORS;
@@ -67,11 +67,11 @@ fn judge<R: Files + Net + Clock + RandomSource + AllocGlobal + Clone + Drop, E: 
     settings: Settings,
     err: &mut E,
 ) -> u8 {
-    match Host::open(rt, err, settings.log, settings.max_size, &[]) {
+    match System::open(rt, err, settings.log, settings.max_size, &[]) {
         Err(fault) => refuse_sockets(&fault, err),
-        Ok(mut host) => match open(rt, settings, &mut host) {
-            Err(fault) => refuse_start(&fault, &mut host),
-            Ok(daemon) => stop(daemon.judged(), &mut host),
+        Ok(mut system) => match open(rt, settings, &mut system) {
+            Err(fault) => refuse_start(&fault, &mut system),
+            Ok(daemon) => stop(daemon.judged(), &mut system),
         },
     }
 }
@@ -83,11 +83,11 @@ fn serve<R: Files + Net + Clock + RandomSource + AllocGlobal + Clone + Drop, E: 
     err: &mut E,
 ) -> u8 {
     let addresses = settings.listen.as_slice();
-    match Host::open(rt, err, settings.log, settings.max_size, addresses) {
+    match System::open(rt, err, settings.log, settings.max_size, addresses) {
         Err(fault) => refuse_sockets(&fault, err),
-        Ok(mut host) => match desk_of(rt, settings.status, &mut host) {
-            Err(fault) => host.refuse_sockets(&fault),
-            Ok(desk) => begin(rt, settings, desk, &mut host),
+        Ok(mut system) => match endpoint_of(rt, settings.status, &mut system) {
+            Err(fault) => system.refuse_sockets(&fault),
+            Ok(endpoint) => begin(rt, settings, endpoint, &mut system),
         },
     }
 }
@@ -96,59 +96,59 @@ fn serve<R: Files + Net + Clock + RandomSource + AllocGlobal + Clone + Drop, E: 
 fn begin<R: Files + Net + Clock + RandomSource + AllocGlobal + Clone + Drop, E: Write>(
     rt: &R,
     settings: Settings,
-    desk: Option<Desk>,
-    host: &mut Host<'_, R, E>,
+    endpoint: Option<StatusEndpoint>,
+    system: &mut System<'_, R, E>,
 ) -> u8 {
-    if let Err(error) = wait_for_clock(host) {
-        return fail(&error, host);
+    if let Err(error) = wait_for_clock(system) {
+        return fail(&error, system);
     }
-    match open(rt, settings, host) {
-        Err(fault) => refuse_start(&fault, host),
-        Ok(daemon) => go_on(daemon, desk, host),
+    match open(rt, settings, system) {
+        Err(fault) => refuse_start(&fault, system),
+        Ok(daemon) => go_on(daemon, endpoint, system),
     }
 }
 
 /// Waits until the clock is in the year 2020 or later, and reports once that it does. What is made of the start, serials among it, would else be
 /// earlier than that of the run before.
-fn wait_for_clock<W: Time + Journal + Ports<Line>>(world: &mut W) -> io::Result<()> {
-    let mut is_told = false;
+fn wait_for_clock<W: Time + EventLog + Sockets<Connection>>(env: &mut W) -> io::Result<()> {
+    let mut is_logged = false;
     for _second in 0..u64::MAX {
-        let now = world.seconds();
+        let now = env.seconds();
         if now >= YEAR_2020 {
             return Ok(());
         }
-        if !is_told {
+        if !is_logged {
             let reason = "the clock is before the year 2020: nothing is served until it is set";
-            world.tell(now, &Event::Warning { reason });
-            is_told = true;
+            env.log(now, &Event::Warning { reason });
+            is_logged = true;
         }
-        world.wait(1000)?;
+        env.wait(1000)?;
     }
     Ok(())
 }
 
 /// The desk of the pages on the daemon's state, where they are wanted at an address.
-fn desk_of<R: Files + Net + Clock + RandomSource + AllocGlobal + Clone + Drop, E: Write>(
+fn endpoint_of<R: Files + Net + Clock + RandomSource + AllocGlobal + Clone + Drop, E: Write>(
     rt: &R,
     address: Option<SocketAddr>,
-    host: &mut Host<'_, R, E>,
-) -> Result<Option<Desk>, HostFault> {
+    system: &mut System<'_, R, E>,
+) -> Result<Option<StatusEndpoint>, SocketFault> {
     match address {
-        Some(address) => Ok(Some(desk_at(rt, address, host)?)),
+        Some(address) => Ok(Some(endpoint_at(rt, address, system)?)),
         None => Ok(None),
     }
 }
 
 /// The desk at an address.
-fn desk_at<R: Files + Net + Clock + RandomSource + AllocGlobal + Clone + Drop, E: Write>(
+fn endpoint_at<R: Files + Net + Clock + RandomSource + AllocGlobal + Clone + Drop, E: Write>(
     rt: &R,
     address: SocketAddr,
-    host: &mut Host<'_, R, E>,
-) -> Result<Desk, HostFault> {
+    system: &mut System<'_, R, E>,
+) -> Result<StatusEndpoint, SocketFault> {
     let keys = RandomState::new(rt)?;
-    match Desk::open(host, keys, address) {
-        Ok(desk) => Ok(desk),
-        Err(error) => Err(HostFault {
+    match StatusEndpoint::open(system, keys, address) {
+        Ok(endpoint) => Ok(endpoint),
+        Err(error) => Err(SocketFault {
             address: Some(address),
             error,
         }),
@@ -156,7 +156,7 @@ fn desk_at<R: Files + Net + Clock + RandomSource + AllocGlobal + Clone + Drop, E
 }
 
 /// Reports which socket cannot be had, with the status.
-pub fn refuse_sockets<E: Write>(fault: &HostFault, err: &mut E) -> u8 {
+pub fn refuse_sockets<E: Write>(fault: &SocketFault, err: &mut E) -> u8 {
     let status = if fault.error.kind() == ErrorKind::OutOfMemory {
         4
     } else {
@@ -173,21 +173,21 @@ pub fn refuse_sockets<E: Write>(fault: &HostFault, err: &mut E) -> u8 {
 fn open<R: Files + Net + Clock + RandomSource + AllocGlobal + Clone + Drop, E: Write>(
     rt: &R,
     settings: Settings,
-    host: &mut Host<'_, R, E>,
-) -> Result<Daemon<VersionLog, Line>, StartFault> {
+    system: &mut System<'_, R, E>,
+) -> Result<Daemon<VersionLog, Connection>, StartFault> {
     let alloc = rt.alloc();
-    let start = host.seconds();
+    let start = system.seconds();
     let Named { names, is_random } = match names_of(rt, &settings, start) {
         Ok(named) => named,
         Err(error) => return Err(name_fault(alloc, error)),
     };
-    let most = client_limit(&settings, start, host);
+    let most = client_limit(&settings, start, system);
     let plan = plan_of(&settings, most);
     let Ok(server) = server_of(alloc, &settings, names, most) else {
         return Err(StartFault::memory());
     };
-    tell_start(names, start, host);
-    warn(&settings, is_random, start, host);
+    log_start(names, start, system);
+    warn(&settings, is_random, start, system);
     let Settings {
         vrps,
         points,
@@ -199,7 +199,7 @@ fn open<R: Files + Net + Clock + RandomSource + AllocGlobal + Clone + Drop, E: W
         slurm,
         points,
     };
-    Daemon::open(alloc, plan, names, server, paths, host)
+    Daemon::open(alloc, plan, names, server, paths, system)
 }
 
 /// Why the names cannot be had: memory, or the system's random source.
@@ -214,16 +214,16 @@ fn name_fault(alloc: Global, error: io::Error) -> StartFault {
 }
 
 /// Reports what an operator should know of these settings.
-fn warn<J: Journal>(settings: &Settings, is_random: bool, now: u64, journal: &mut J) {
+fn warn<J: EventLog>(settings: &Settings, is_random: bool, now: u64, events: &mut J) {
     if is_random {
         let reason =
             "/etc/machine-id names no machine: the session is random at each start; --session sets it";
-        journal.tell(now, &Event::Warning { reason });
+        events.log(now, &Event::Warning { reason });
     }
     if settings.check < NOTIFY_SECONDS {
         let reason =
             "with --check below 60 routers may be notified more than once a minute (RFC 8210 section 8.2)";
-        journal.tell(now, &Event::Warning { reason });
+        events.log(now, &Event::Warning { reason });
     }
 }
 
@@ -233,7 +233,7 @@ fn server_of(
     settings: &Settings,
     names: VersionNames,
     most: usize,
-) -> Result<Server<VersionLog, Line>, AllocError> {
+) -> Result<Server<VersionLog, Connection>, AllocError> {
     let store = VersionLog::new(alloc, names.session, names.serial, settings.keep)?;
     let cache = Cache::new_both(alloc, store, names.session0, settings.timing);
     Ok(Server::new(alloc, cache, most))
@@ -248,13 +248,13 @@ fn plan_of(settings: &Settings, most: usize) -> Plan {
         max_age: settings.max_age,
         stops_when_old: settings.stop_when_old,
         once: settings.once,
-        gates: settings.listen.len(),
+        listeners: settings.listen.len(),
         clients: most,
     }
 }
 
 /// How many clients there may be: as many as are asked for, and as the system gives descriptors.
-fn client_limit<J: Journal>(settings: &Settings, now: u64, journal: &mut J) -> usize {
+fn client_limit<J: EventLog>(settings: &Settings, now: u64, events: &mut J) -> usize {
     let visitors = if settings.status.is_some() {
         MAX_VISITORS
     } else {
@@ -266,7 +266,7 @@ fn client_limit<J: Journal>(settings: &Settings, now: u64, journal: &mut J) -> u
         .max(1);
     let asked = settings.clients;
     if asked > most {
-        journal.tell(
+        events.log(
             now,
             &Event::Limited {
                 clients: most as u64,
@@ -288,46 +288,46 @@ fn descriptors() -> usize {
     usize::try_from(limit.rlim_cur).unwrap_or(usize::MAX)
 }
 
-fn tell_start<J: Journal>(names: VersionNames, now: u64, journal: &mut J) {
-    journal.tell(now, &Event::Started(names));
+fn log_start<J: EventLog>(names: VersionNames, now: u64, events: &mut J) {
+    events.log(now, &Event::Started(names));
 }
 
 /// Reports why there is no start, with the status.
 fn refuse_start<R: Files + Net + Clock + AllocGlobal, E: Write>(
     fault: &StartFault,
-    host: &mut Host<'_, R, E>,
+    system: &mut System<'_, R, E>,
 ) -> u8 {
-    host.refuse(fault);
+    system.refuse(fault);
     fault.refusal.status()
 }
 
 /// Serves until there is an end.
 fn go_on<R: Files + Net + Clock + RandomSource + AllocGlobal + Clone + Drop, E: Write>(
-    daemon: Daemon<VersionLog, Line>,
-    desk: Option<Desk>,
-    host: &mut Host<'_, R, E>,
+    daemon: Daemon<VersionLog, Connection>,
+    endpoint: Option<StatusEndpoint>,
+    system: &mut System<'_, R, E>,
 ) -> u8 {
     let mut daemon = daemon;
-    let mut desk = desk;
+    let mut endpoint = endpoint;
     for _turn in 0..u64::MAX {
-        match daemon.turn(host) {
+        match daemon.turn(system) {
             Ok(None) => {
-                if let Some(desk) = &mut desk {
-                    desk.turn(&daemon, host);
+                if let Some(endpoint) = &mut endpoint {
+                    endpoint.turn(&daemon, system);
                 }
             }
-            Ok(Some(end)) => return stop(end, host),
-            Err(error) => return fail(&error, host),
+            Ok(Some(end)) => return stop(end, system),
+            Err(error) => return fail(&error, system),
         }
     }
     0
 }
 
 /// Reports why the daemon ends, with the status.
-fn stop<W: Time + Journal>(end: End, world: &mut W) -> u8 {
+fn stop<W: Time + EventLog>(end: End, env: &mut W) -> u8 {
     let reason = reason_of(end);
-    let now = world.seconds();
-    world.tell(now, &Event::Stopped { reason });
+    let now = env.seconds();
+    env.log(now, &Event::Stopped { reason });
     match end {
         End::Once | End::Test => 0,
         End::Old => 1,
@@ -343,9 +343,9 @@ fn reason_of(end: End) -> &'static str {
 }
 
 /// Reports that waiting failed, with the status.
-fn fail<W: Time + Journal>(error: &io::Error, world: &mut W) -> u8 {
-    let now = world.seconds();
-    world.tell(
+fn fail<W: Time + EventLog>(error: &io::Error, env: &mut W) -> u8 {
+    let now = env.seconds();
+    env.log(
         now,
         &Event::Stopped {
             reason: "the system does not say what is ready",

@@ -9,8 +9,8 @@ use Rattle.rtr_ends.specs.CacheState.{CacheCall, Open}
 use Rattle.rtr_server.specs.Clients.{Past, ShowsServer, present}
 use Rattle.sources.specs.Served.{ExportTaken, ServesAt, SlurmTaken}
 use Rattle.sources.specs.declared.sources.Sources.{Sources}
-use Rattle.rtr_daemon.specs.declared.following.Source.{Source}
-use Rattle.rtr_daemon.specs.declared.following.Source.TheVariants.{Export, Slurm}
+use Rattle.rtr_daemon.specs.declared.watched_file.Source.{Source}
+use Rattle.rtr_daemon.specs.declared.watched_file.Source.TheVariants.{Export, Slurm}
 use Rattle.rtr_daemon.specs.declared.refusal.Refusal.{Refusal}
 use Rattle.rtr_daemon.specs.declared.service.Service.{Service}
 

@@ -3,15 +3,15 @@ ghost use Rattle.std.specs.Prelude.{◌≡◌, IfOk};
 ghost use Rattle.rtr_server.specs.Clients.{Past, ShowsServer};
 ghost use Rattle.rtr_daemon.specs.Serving.{Follows, GoesOn, LeadsToService};
 
-use crate::arrivals::Gates;
-use crate::following::{Followed, Look, Source};
-use crate::guests::Guests;
-use crate::ledger::{Families, Ledger};
-use crate::looking::{Offering, offer, take, tell_expired};
+use crate::accepting::Listeners;
+use crate::client_table::ClientTable;
+use crate::clients::FIRST_QUERY;
+use crate::environment::{Disk, EventLog, Sockets, Time};
+use crate::polling::{WatchedPoint, log_expired, offer, take};
 use crate::refusal::{Refusal, StartFault};
-use crate::service::{Issue, Service};
-use crate::serving::FIRST_QUERY;
-use crate::surroundings::{Disk, Journal, Ports, Time};
+use crate::service::{PublishReport, Service};
+use crate::statistics::{Families, Statistics};
+use crate::watched_file::{Look, Source, WatchedFile};
 use daemon_parts::{Event, Pace, Publication, VersionNames};
 use rtr_server::{Server, Stream};
 use sources::Sources;
@@ -54,7 +54,7 @@ pub struct Plan {
     /// Whether it ends when the first client has gone.
     pub once: bool,
     /// How many gates there are.
-    pub gates: usize,
+    pub listeners: usize,
     /// How many clients there may be at once.
     pub clients: usize,
 }
@@ -77,11 +77,11 @@ pub struct Daemon<S, T> {
     pub(crate) plan: Plan,
     pub(crate) names: VersionNames,
     pub(crate) service: Service<S, T>,
-    pub(crate) guests: Guests,
-    pub(crate) gates: Gates,
-    pub(crate) files: Vec<Followed>,
-    pub(crate) points: Vec<Offering>,
-    pub(crate) ledger: Ledger,
+    pub(crate) clients: ClientTable,
+    pub(crate) listeners: Listeners,
+    pub(crate) files: Vec<WatchedFile>,
+    pub(crate) points: Vec<WatchedPoint>,
+    pub(crate) statistics: Statistics,
     /// When it was opened, in seconds since 1970.
     pub(crate) started: u64,
     /// When it was opened, in milliseconds of the steady clock.
@@ -106,18 +106,18 @@ pub struct Daemon<S, T> {
 impl<S: VersionStore + Drop, T: Stream + Drop> Daemon<S, T> {
     /// A daemon over a server to whose cache nothing was published. It reads all files, and answers the first that it cannot take. The first version is
     /// published in a later second than this, and no router is taken in before.
-    pub fn open<W: Disk + Time + Journal>(
+    pub fn open<W: Disk + Time + EventLog>(
         alloc: Global,
         plan: Plan,
         names: VersionNames,
         server: Server<S, T>,
         sources: Paths,
-        world: &mut W,
+        env: &mut W,
     ) -> Result<Daemon<S, T>, StartFault>
         ensures { IfOk result (λ daemon. (p : Past) → ShowsServer S.holds T.remaining T.contents p server → LeadsToService S.holds T.remaining T.contents p daemon.service) }
     {
-        let now = world.seconds();
-        let millis = world.millis();
+        let now = env.seconds();
+        let millis = env.millis();
         let Paths {
             files,
             slurm,
@@ -125,22 +125,22 @@ impl<S: VersionStore + Drop, T: Stream + Drop> Daemon<S, T> {
         } = sources;
         let held = sources_of(alloc, files.len(), plan.leaves_out_length_0)?;
         let mut service = Service::new(server, held);
-        let mut followed = all_followed(alloc, files, slurm)?;
-        let mut offered = all_offered(alloc, points)?;
-        read_all(&mut followed, &mut service, alloc, now, world)?;
-        read_points(&mut offered, &mut service, alloc, now, world)?;
-        let gates = Gates::new(alloc, plan.gates)?;
-        let ledger = Ledger::new(alloc)?;
+        let mut followed = watched_files(alloc, files, slurm)?;
+        let mut offered = watched_points(alloc, points)?;
+        read_all(&mut followed, &mut service, alloc, now, env)?;
+        read_points(&mut offered, &mut service, alloc, now, env)?;
+        let listeners = Listeners::new(alloc, plan.listeners)?;
+        let statistics = Statistics::new(alloc)?;
         let mut daemon = Daemon {
             alloc,
             plan,
             names,
             service,
-            guests: Guests::new(alloc),
-            gates,
+            clients: ClientTable::new(alloc),
+            listeners,
             files: followed,
             points: offered,
-            ledger,
+            statistics,
             started: now,
             opened: millis,
             pace: Pace::after(now),
@@ -152,29 +152,29 @@ impl<S: VersionStore + Drop, T: Stream + Drop> Daemon<S, T> {
             next_round: millis,
             held_until: millis,
         };
-        daemon.judge_ages(world);
+        daemon.judge_ages(env);
         Ok(daemon)
     }
 
     /// One turn: it waits until something is ready or due, and does it. It answers why the daemon is to end, where it is.
-    pub fn turn<W: Ports<T> + Disk + Time + Journal>(
+    pub fn turn<W: Sockets<T> + Disk + Time + EventLog>(
         &mut self,
-        world: &mut W,
+        env: &mut W,
     ) -> io::Result<Option<End>>
         ensures { GoesOn S.holds T.remaining T.contents self.old.service self.new.service }
     {
-        let wait = self.wait(world.millis());
-        world.wait(wait)?;
-        self.take_ready(world);
-        self.accept_waiting(world);
-        self.serve_all(world);
-        self.do_what_is_due(world);
+        let wait = self.wait(env.millis());
+        env.wait(wait)?;
+        self.take_ready(env);
+        self.accept_pending(env);
+        self.serve_all(env);
+        self.do_what_is_due(env);
         Ok(self.end())
     }
 
     /// How long the next turn may wait, in milliseconds.
     fn wait(&self, now: u64) -> u64 {
-        if !self.guests.is_idle() {
+        if !self.clients.is_idle() {
             return 0;
         }
         self.next_moment(now).saturating_sub(now)
@@ -183,30 +183,30 @@ impl<S: VersionStore + Drop, T: Stream + Drop> Daemon<S, T> {
     /// When something is due next, in milliseconds of the steady clock.
     fn next_moment(&self, now: u64) -> u64 {
         let mut next = self.next_check;
-        if self.guests.has_blocked() || (self.service.is_owed() && self.held_until <= now) {
+        if self.clients.has_blocked() || (self.service.is_owed() && self.held_until <= now) {
             next = next.min(self.next_round);
         }
-        if let Some(deadline) = self.guests.first_deadline(FIRST_QUERY) {
+        if let Some(deadline) = self.clients.first_deadline(FIRST_QUERY) {
             next = next.min(deadline);
         }
-        match self.gates.next_try() {
+        match self.listeners.next_try() {
             Some(next_try) if self.is_ready => next.min(next_try),
             _ => next,
         }
     }
 
     /// Does what is due by the clock.
-    fn do_what_is_due<W: Disk + Time + Journal>(&mut self, world: &mut W)
+    fn do_what_is_due<W: Disk + Time + EventLog>(&mut self, env: &mut W)
         ensures { GoesOn S.holds T.remaining T.contents self.old.service self.new.service }
     {
-        let now = world.millis();
-        self.check(now, world);
-        self.go_round(now, world);
-        self.drop_silent(now, world);
+        let now = env.millis();
+        self.check(now, env);
+        self.go_round(now, env);
+        self.drop_silent(now, env);
     }
 
     /// Looks at the files, where it is time for that.
-    fn check<W: Disk + Time + Journal>(&mut self, now: u64, world: &mut W)
+    fn check<W: Disk + Time + EventLog>(&mut self, now: u64, env: &mut W)
         ensures { GoesOn S.holds T.remaining T.contents self.old.service self.new.service }
     {
         if now < self.next_check {
@@ -215,23 +215,23 @@ impl<S: VersionStore + Drop, T: Stream + Drop> Daemon<S, T> {
         self.next_check = now.saturating_add(self.plan.check);
         self.next_round = now;
         self.held_until = now;
-        self.judge_clock(now, world);
-        self.follow_all(world);
-        self.offer_all(world);
-        self.judge_ages(world);
+        self.judge_clock(now, env);
+        self.follow_all(env);
+        self.offer_all(env);
+        self.judge_ages(env);
     }
 
     /// Closes those that take nothing, and publishes, where it is time for that.
-    fn go_round<W: Time + Journal>(&mut self, now: u64, world: &mut W)
+    fn go_round<W: Time + EventLog>(&mut self, now: u64, env: &mut W)
         ensures { GoesOn S.holds T.remaining T.contents self.old.service self.new.service }
     {
         if now < self.next_round {
             return;
         }
         self.next_round = now.saturating_add(SOON);
-        self.guests.wake_blocked();
-        self.drop_stalled(world);
-        self.publish_owed(world);
+        self.clients.wake_blocked();
+        self.drop_stalled(env);
+        self.publish_owed(env);
     }
 
     /// The second by which versions are paced, at a moment of the steady clock: that of the start, and those that have passed since. So a clock that is
@@ -242,79 +242,85 @@ impl<S: VersionStore + Drop, T: Stream + Drop> Daemon<S, T> {
     }
 
     /// Publishes what is owed, where the last version is of an earlier second.
-    fn publish_owed<W: Time + Journal>(&mut self, world: &mut W)
+    fn publish_owed<W: Time + EventLog>(&mut self, env: &mut W)
         ensures { GoesOn S.holds T.remaining T.contents self.old.service self.new.service }
     {
-        let now = world.seconds();
+        let now = env.seconds();
         if !self.service.is_owed() {
             return;
         }
-        let began = world.millis();
+        let began = env.millis();
         if began < self.held_until || !self.pace.may_publish(self.paced(began)) {
             return;
         }
         match self.service.publish(now) {
-            Ok(issue) => self.note_issue(issue, now, began, world),
-            Err(refusal) => self.note_failure(&refusal, now, world),
+            Ok(report) => self.note_published(report, now, began, env),
+            Err(refusal) => self.note_failure(&refusal, now, env),
         }
     }
 
     /// Notes what was published, and notifies all routers.
-    fn note_issue<W: Time + Journal>(&mut self, issue: Issue, now: u64, began: u64, world: &mut W)
+    fn note_published<W: Time + EventLog>(
+        &mut self,
+        report: PublishReport,
+        now: u64,
+        began: u64,
+        env: &mut W,
+    )
         ensures { self.new.service ≡ self.old.service }
     {
-        self.note_left_out(issue.left_out, now, world);
-        let Published::New(serial) = issue.published else {
+        self.note_left_out(report.left_out, now, env);
+        let Published::New(serial) = report.published else {
             return;
         };
         let second = self.paced(began);
         self.pace.published(second);
-        self.note_version(serial, issue, now);
-        self.guests.wake_all();
-        let milliseconds = world.millis().saturating_sub(began);
-        world.tell(
+        self.note_version(serial, report, now);
+        self.clients.wake_all();
+        let milliseconds = env.millis().saturating_sub(began);
+        env.log(
             now,
             &Event::Published(Publication {
                 session: self.names.session,
                 serial: serial.0,
-                announced: issue.announced,
-                withdrawn: issue.withdrawn,
-                records: issue.records,
+                announced: report.announced,
+                withdrawn: report.withdrawn,
+                records: report.records,
                 milliseconds,
             }),
         );
         if !self.is_ready {
             self.is_ready = true;
-            world.tell(now, &Event::Ready);
+            env.log(now, &Event::Ready);
         }
     }
 
     /// Reports how many records are left out, if they are not as many as before.
-    fn note_left_out<W: Journal>(&mut self, records: u64, now: u64, world: &mut W)
+    fn note_left_out<W: EventLog>(&mut self, records: u64, now: u64, env: &mut W)
         ensures { self.new.service ≡ self.old.service }
     {
-        if self.ledger.leave_out(records) {
-            world.tell(now, &Event::LeftOut { records });
+        if self.statistics.leave_out(records) {
+            env.log(now, &Event::LeftOut { records });
         }
     }
 
     /// Notes what was published for those who ask.
-    fn note_version(&mut self, serial: Serial, issue: Issue, now: u64)
+    fn note_version(&mut self, serial: Serial, report: PublishReport, now: u64)
         ensures { self.new.service ≡ self.old.service }
     {
         if let Some((_serial, set)) = self.service.server().current() {
             let families = Families::of(set.as_slice());
-            self.ledger.published(serial.0, now, issue, families);
+            self.statistics.published(serial.0, now, report, families);
         }
     }
 
     /// Reports that nothing could be published. It is tried again when files are looked at next.
-    fn note_failure<W: Journal>(&mut self, refusal: &Refusal, now: u64, world: &mut W)
+    fn note_failure<W: EventLog>(&mut self, refusal: &Refusal, now: u64, env: &mut W)
         ensures { self.new.service ≡ self.old.service }
     {
         self.held_until = self.next_check;
         if let Ok(reason) = refusal.to_string(self.alloc) {
-            world.tell(
+            env.log(
                 now,
                 &Event::Failed {
                     what: "publication",
@@ -325,14 +331,14 @@ impl<S: VersionStore + Drop, T: Stream + Drop> Daemon<S, T> {
     }
 
     /// Reports that the clock was set back, by more than before.
-    fn judge_clock<W: Time + Journal>(&mut self, millis: u64, world: &mut W)
+    fn judge_clock<W: Time + EventLog>(&mut self, millis: u64, env: &mut W)
         ensures { self.new.service ≡ self.old.service }
     {
-        let now = world.seconds();
+        let now = env.seconds();
         let behind = self.paced(millis).saturating_sub(now);
         let is_news = behind > self.clock_behind.saturating_add(1);
         if is_news {
-            world.tell(now, &Event::Clock { behind });
+            env.log(now, &Event::Clock { behind });
         }
         if is_news || behind < self.clock_behind {
             self.clock_behind = behind;
@@ -340,14 +346,14 @@ impl<S: VersionStore + Drop, T: Stream + Drop> Daemon<S, T> {
     }
 
     /// Reports which exports are older than they may be, and which are not any more.
-    fn judge_ages<W: Time + Journal>(&mut self, world: &mut W)
+    fn judge_ages<W: Time + EventLog>(&mut self, env: &mut W)
         ensures { self.new.service ≡ self.old.service }
     {
         let Some(most) = self.plan.max_age else {
             return;
         };
-        let now = world.seconds();
-        if is_any_old(&mut self.files, self.service.sources(), most, now, world) {
+        let now = env.seconds();
+        if is_any_old(&mut self.files, self.service.sources(), most, now, env) {
             self.is_old = true;
         }
     }
@@ -375,19 +381,19 @@ impl<S: VersionStore + Drop, T: Stream + Drop> Daemon<S, T> {
 }
 
 /// Whether an export is older than so many seconds. Of each it is reported where that is news.
-fn is_any_old<W: Journal>(
-    files: &mut Vec<Followed>,
+fn is_any_old<W: EventLog>(
+    files: &mut Vec<WatchedFile>,
     sources: &Sources,
     most: u64,
     now: u64,
-    world: &mut W,
+    env: &mut W,
 ) -> bool {
     let mut is_old = false;
     for file in files.iter_mut() {
         if let Some(built) = built_of(file, sources, now) {
             let age = now.saturating_sub(built);
             if file.set_old(age > most) {
-                tell_age(file.path.as_str(), age, most, now, world);
+                log_age(file.path.as_str(), age, most, now, env);
             }
             is_old = is_old || age > most;
         }
@@ -396,7 +402,7 @@ fn is_any_old<W: Journal>(
 }
 
 /// When what an export has was made: as it says itself, unless it says none or one that is too far ahead, and then when the file was modified.
-pub(crate) fn built_of(file: &Followed, sources: &Sources, now: u64) -> Option<u64> {
+pub(crate) fn built_of(file: &WatchedFile, sources: &Sources, now: u64) -> Option<u64> {
     let Source::Export(number) = file.source else {
         return None;
     };
@@ -407,11 +413,11 @@ pub(crate) fn built_of(file: &Followed, sources: &Sources, now: u64) -> Option<u
 }
 
 /// Reports that an export is older than it may be, or is not any more.
-fn tell_age<W: Journal>(file: &str, age: u64, most: u64, now: u64, world: &mut W) {
+fn log_age<W: EventLog>(file: &str, age: u64, most: u64, now: u64, env: &mut W) {
     if age > most {
-        world.tell(now, &Event::Old { file, age });
+        env.log(now, &Event::Old { file, age });
     } else {
-        world.tell(now, &Event::Fresh { file, age });
+        env.log(now, &Event::Fresh { file, age });
     }
 }
 
@@ -425,43 +431,43 @@ fn sources_of(alloc: Global, files: usize, leaves_out: bool) -> Result<Sources, 
 }
 
 /// The files that are followed: exports, and then local exceptions, if there are any.
-fn all_followed(
+fn watched_files(
     alloc: Global,
     files: Vec<String>,
     slurm: Option<String>,
-) -> Result<Vec<Followed>, AllocError> {
+) -> Result<Vec<WatchedFile>, AllocError> {
     let mut followed = Vec::new(alloc);
     for path in files {
         let source = Source::Export(followed.len());
-        followed.push(Followed::new(path, source))?;
+        followed.push(WatchedFile::new(path, source))?;
     }
     if let Some(path) = slurm {
-        followed.push(Followed::new(path, Source::Slurm))?;
+        followed.push(WatchedFile::new(path, Source::Slurm))?;
     }
     Ok(followed)
 }
 
-fn all_offered(alloc: Global, points: Vec<String>) -> Result<Vec<Offering>, AllocError> {
+fn watched_points(alloc: Global, points: Vec<String>) -> Result<Vec<WatchedPoint>, AllocError> {
     let mut offered = Vec::new(alloc);
     for path in points {
-        offered.push(Offering::new(path))?;
+        offered.push(WatchedPoint::new(path))?;
     }
     Ok(offered)
 }
 
 /// Reads each file, and takes it.
-fn read_all<S: VersionStore, T: Stream + Drop, W: Disk + Journal>(
-    files: &mut Vec<Followed>,
+fn read_all<S: VersionStore, T: Stream + Drop, W: Disk + EventLog>(
+    files: &mut Vec<WatchedFile>,
     service: &mut Service<S, T>,
     alloc: Global,
     now: u64,
-    world: &mut W,
+    env: &mut W,
 ) -> Result<(), StartFault>
     ensures { GoesOn S.holds T.remaining T.contents service.old service.new }
 {
     for file in files.iter_mut() {
-        match read_one(file, service, alloc, now, world) {
-            Ok(expired) => tell_expired(file.path.as_str(), expired, now, world),
+        match read_one(file, service, alloc, now, env) {
+            Ok(expired) => log_expired(file.path.as_str(), expired, now, env),
             Err(refusal) => return Err(StartFault::of(file.path.as_str(), alloc, refusal)),
         }
     }
@@ -470,18 +476,18 @@ fn read_all<S: VersionStore, T: Stream + Drop, W: Disk + Journal>(
 
 /// Reads a file, takes it, and answers how many of its entries had expired. What changes while it is read is read again, a few times.
 fn read_one<S: VersionStore, T: Stream + Drop, W: Disk>(
-    file: &mut Followed,
+    file: &mut WatchedFile,
     service: &mut Service<S, T>,
     alloc: Global,
     now: u64,
-    world: &mut W,
+    env: &mut W,
 ) -> Result<u64, Refusal>
     ensures goes { GoesOn S.holds T.remaining T.contents service.old service.new }
     ensures follows { Follows file.old.source now service.old.sources service.new.sources }
 {
     for _time in 0..16u8 {
-        match file.look(world, false) {
-            Look::Same | Look::Unstable | Look::RefusedBefore => {}
+        match file.look(env, false) {
+            Look::Unchanged | Look::Unstable | Look::RefusedBefore => {}
             Look::Failed(error) => return Err(Refusal::Device(error)),
             Look::Read(stamp, bytes) => {
                 let expired = take(service, file.source, bytes.as_slice(), alloc, now)?;
@@ -494,16 +500,16 @@ fn read_one<S: VersionStore, T: Stream + Drop, W: Disk>(
 }
 
 fn read_points<S: VersionStore, T: Stream + Drop, W: Disk>(
-    points: &mut Vec<Offering>,
+    points: &mut Vec<WatchedPoint>,
     service: &mut Service<S, T>,
     alloc: Global,
     now: u64,
-    world: &mut W,
+    env: &mut W,
 ) -> Result<(), StartFault>
     ensures { GoesOn S.holds T.remaining T.contents service.old service.new }
 {
     for point in points.iter_mut() {
-        match offer(service, point.path.as_str(), alloc, now, world) {
+        match offer(service, point.path.as_str(), alloc, now, env) {
             Ok(held) => {
                 let _ = point.take(held, now);
             }

@@ -1,5 +1,5 @@
 //! A cache that goes on: routers come and go, files change, and what is served follows them. [`Daemon`] does what is due, turn by turn; what it
-//! sees of sockets, files, time and log are the traits [`Ports`], [`Disk`], [`Time`] and [`Journal`].
+//! sees of sockets, files, time and log are the traits [`Sockets`], [`Disk`], [`Time`] and [`EventLog`].
 //!
 //! For example, where `rt` is the runtime that `main` is handed:
 //!
@@ -17,27 +17,27 @@
 //! let text = br#"[{"asn":64496,"prefix":"192.0.2.0/24","maxLength":24}]"#;
 //! service.take_export(0, text, 1_700_000_000)?;
 //! assert!(rt; service.is_owed());
-//! let issue = service.publish(1_700_000_000)?;
-//! assert!(rt; issue.records == 1);
+//! let report = service.publish(1_700_000_000)?;
+//! assert!(rt; report.records == 1);
 //! assert!(rt; !service.is_owed());
 //! ```
 #![tactic(auto)]
 
-mod arrivals;
-mod counting;
+mod accepting;
+mod client_table;
+mod clients;
 mod daemon;
-mod following;
-mod guests;
-mod ledger;
-mod looking;
+mod environment;
+mod polling;
 mod refusal;
 mod refusals;
 mod service;
-mod serving;
-mod surroundings;
-mod telling;
+mod set_changes;
+mod statistics;
+mod status;
+mod watched_file;
 
 pub use daemon::{Daemon, End, Paths, Plan};
+pub use environment::{Accepted, Disk, EventLog, Ready, Sockets, Stamp, Time};
 pub use refusal::{FileFault, Refusal, StartFault};
-pub use service::{Issue, Service};
-pub use surroundings::{Accepted, Disk, Journal, Ports, Ready, Stamp, Time};
+pub use service::{PublishReport, Service};

@@ -1,6 +1,6 @@
 //! What is known of a source's refusals, and when they are reported.
+use crate::environment::Stamp;
 use crate::refusal::Refusal;
-use crate::surroundings::Stamp;
 
 /// How many looks in a row may refuse a source that looks otherwise each time before that is reported.
 const UNREPORTED: u8 = 2;

@@ -4,8 +4,8 @@ ghost use Rattle.rtr_server.specs.Clients.{AdmitsTo, KeepsOthers, Past, Serves, 
 ghost use Rattle.sources.specs.Served.{ExportTaken, SlurmTaken};
 ghost use Rattle.rtr_daemon.specs.Serving.{GoesOn, IsServedAt, Issues, KeepsSources, ShowsService, TakesSo};
 
-use crate::counting::compared;
 use crate::refusal::Refusal;
+use crate::set_changes::change_counts;
 use daemon_parts::moment_at;
 use payload_commands::Directory;
 use points::{Offered, PointFault};
@@ -166,7 +166,7 @@ impl<S: VersionStore, T: Stream + Drop> Service<S, T> {
     }
 
     /// Publishes what the sources have at a moment in seconds since 1970. Where that cannot be had it stays owed, and what is served stays.
-    pub fn publish(&mut self, now: u64) -> Result<Issue, Refusal>
+    pub fn publish(&mut self, now: u64) -> Result<PublishReport, Refusal>
         ensures goes { GoesOn S.holds T.remaining T.contents self.old self.new }
         ensures issues { IfOk result (λ _. Issues S.holds T.remaining T.contents now self.old self.new) }
         ensures done { IfOk result (λ _. self.new.is_owed ≡ false) }
@@ -175,13 +175,13 @@ impl<S: VersionStore, T: Stream + Drop> Service<S, T> {
         ensures sources { self.new.sources ≡ self.old.sources }
     {
         let Served { set, left_out } = self.served(now)?;
-        let counts = compared(self.set(), &set);
+        let counts = change_counts(self.set(), &set);
         let records = set.len() as u64;
         match self.server.publish(set) {
             Err(_) => Err(Refusal::Set(SetFault::Memory)),
             Ok(published) => {
                 self.is_owed = false;
-                Ok(Issue {
+                Ok(PublishReport {
                     published,
                     announced: counts.announced,
                     withdrawn: counts.withdrawn,
@@ -203,7 +203,7 @@ impl<S: VersionStore, T: Stream + Drop> Service<S, T> {
 
 /// What was published.
 #[derive(Clone, Copy, Debug, PartialEq, Eq)]
-pub struct Issue {
+pub struct PublishReport {
     /// The version, where it is a new one.
     pub published: Published,
     /// How many records it announces.

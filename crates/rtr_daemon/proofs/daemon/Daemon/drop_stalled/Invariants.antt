@@ -2,5 +2,5 @@
 use Rattle.rtr_daemon.specs.Serving.{GoesOn}
 use Rattle.rtr_daemon.proofs.daemon.Daemon.drop_stalled.Given as goal
 
-abbrev pub invariant-loop-line : goal.invariant-loop-line
-invariant-loop-line g l = GoesOn g.S.VersionStore.holds g.T.Stream.remaining g.T.Stream.contents l.initial.self.service l.self.service
+abbrev pub invariant-loop-token : goal.invariant-loop-token
+invariant-loop-token g l = GoesOn g.S.VersionStore.holds g.T.Stream.remaining g.T.Stream.contents l.initial.self.service l.self.service

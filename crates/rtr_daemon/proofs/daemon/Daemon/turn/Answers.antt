@@ -5,6 +5,6 @@ use Rattle.rtr_daemon.proofs.daemon.Daemon.turn.Goals as goal
 
 pub returns : goal.returns
 returns g c =
-    then_on g.S.VersionStore.holds g.T.Stream.remaining g.T.Stream.contents c.args.self.now.service c.accept_waiting.new.self.service c.do_what_is_due.new.self.service
-    (subst (λ s. GoesOn g.S.VersionStore.holds g.T.Stream.remaining g.T.Stream.contents s c.accept_waiting.new.self.service) c.take_ready.ensures c.accept_waiting.ensures.goes)
-    (then_on g.S.VersionStore.holds g.T.Stream.remaining g.T.Stream.contents c.accept_waiting.new.self.service c.serve_all.new.self.service c.do_what_is_due.new.self.service c.serve_all.ensures c.do_what_is_due.ensures)
+    then_on g.S.VersionStore.holds g.T.Stream.remaining g.T.Stream.contents c.args.self.now.service c.accept_pending.new.self.service c.do_what_is_due.new.self.service
+    (subst (λ s. GoesOn g.S.VersionStore.holds g.T.Stream.remaining g.T.Stream.contents s c.accept_pending.new.self.service) c.take_ready.ensures c.accept_pending.ensures.goes)
+    (then_on g.S.VersionStore.holds g.T.Stream.remaining g.T.Stream.contents c.accept_pending.new.self.service c.serve_all.new.self.service c.do_what_is_due.new.self.service c.serve_all.ensures c.do_what_is_due.ensures)

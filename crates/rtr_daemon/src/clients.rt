@@ -3,8 +3,8 @@ ghost use Rattle.std.specs.Prelude.{◌≡◌};
 ghost use Rattle.rtr_daemon.specs.Serving.{GoesOn};
 
 use crate::daemon::Daemon;
-use crate::surroundings::{Journal, Ports, Ready, Time};
-use crate::telling::with_seen;
+use crate::environment::{EventLog, Ready, Sockets, Time};
+use crate::status::with_counters;
 use daemon_parts::{Departure, Event, PeerReport};
 use rtr_pdu::Version;
 use rtr_server::{ByteCounts, Client, CloseReason, PdusByKind, Report, Stream, Turn};
@@ -23,7 +23,7 @@ pub(crate) const FIRST_QUERY: u64 = 60_000;
 
 /// What is known of a client: how many bytes and PDUs went, and the version in which it speaks.
 #[derive(Clone, Copy)]
-pub(crate) struct Seen {
+pub(crate) struct ClientCounters {
     pub(crate) carried: Option<ByteCounts>,
     pub(crate) received: Option<PdusByKind>,
     pub(crate) sent: Option<PdusByKind>,
@@ -32,40 +32,40 @@ pub(crate) struct Seen {
 
 impl<S: VersionStore, T: Stream + Drop> Daemon<S, T> {
     /// Notes what is ready.
-    pub(crate) fn take_ready<W: Ports<T>>(&mut self, world: &mut W)
+    pub(crate) fn take_ready<W: Sockets<T>>(&mut self, env: &mut W)
         ensures { self.new.service ≡ self.old.service }
     {
         for _ready in 0..READY {
-            match world.next() {
+            match env.next() {
                 None => return,
-                Some(Ready::Gate(gate)) => self.gates.note(gate, true),
-                Some(Ready::Line(line)) => self.guests.wake(line),
+                Some(Ready::Listener(listener)) => self.listeners.note(listener, true),
+                Some(Ready::Connection(token)) => self.clients.wake(token),
             }
         }
     }
 
     /// Serves each client that is to be served, once.
-    pub(crate) fn serve_all<W: Time + Journal>(&mut self, world: &mut W)
+    pub(crate) fn serve_all<W: Time + EventLog>(&mut self, env: &mut W)
         ensures { GoesOn S.holds T.remaining T.contents self.old.service self.new.service }
     {
-        for _client in 0..self.guests.waiting() {
-            self.serve_next(world);
+        for _client in 0..self.clients.waiting() {
+            self.serve_next(env);
         }
     }
 
     /// Serves the client that is to be served next.
-    fn serve_next<W: Time + Journal>(&mut self, world: &mut W)
+    fn serve_next<W: Time + EventLog>(&mut self, env: &mut W)
         ensures { GoesOn S.holds T.remaining T.contents self.old.service self.new.service }
     {
-        if let Some((line, client)) = self.guests.next() {
-            self.serve(line, client, world);
+        if let Some((token, client)) = self.clients.next() {
+            self.serve(token, client, env);
         }
     }
 
     /// What is known of a client.
-    pub(crate) fn seen(&self, client: Client) -> Seen {
+    pub(crate) fn counters(&self, client: Client) -> ClientCounters {
         let server = self.service.server();
-        Seen {
+        ClientCounters {
             carried: server.carried(client),
             received: server.received(client),
             sent: server.sent(client),
@@ -74,15 +74,15 @@ impl<S: VersionStore, T: Stream + Drop> Daemon<S, T> {
     }
 
     /// What was counted of the client that left last.
-    fn seen_last(&self) -> Seen {
+    fn last_counters(&self) -> ClientCounters {
         match self.service.server().parted() {
-            None => Seen {
+            None => ClientCounters {
                 carried: None,
                 received: None,
                 sent: None,
                 version: None,
             },
-            Some(parted) => Seen {
+            Some(parted) => ClientCounters {
                 carried: Some(parted.carried),
                 received: Some(parted.received),
                 sent: Some(parted.sent),
@@ -92,44 +92,44 @@ impl<S: VersionStore, T: Stream + Drop> Daemon<S, T> {
     }
 
     /// One turn of a client.
-    fn serve<W: Time + Journal>(&mut self, line: usize, client: Client, world: &mut W)
+    fn serve<W: Time + EventLog>(&mut self, token: usize, client: Client, env: &mut W)
         ensures { GoesOn S.holds T.remaining T.contents self.old.service self.new.service }
     {
         match self.service.serve(client, BUDGET) {
             None => {}
-            Some(Turn::Gone(how)) => self.part(line, why(how), world),
+            Some(Turn::Gone(how)) => self.part(token, why(how), env),
             Some(turn) => {
-                if let Some(carried) = self.seen(client).carried {
-                    self.guests.note(line, turn, carried, world.millis());
+                if let Some(carried) = self.counters(client).carried {
+                    self.clients.note(token, turn, carried, env.millis());
                 }
                 if turn == Turn::Busy {
-                    self.guests.wake(line);
+                    self.clients.wake(token);
                 }
             }
         }
     }
 
     /// Parts from the client that left last.
-    fn part<W: Time + Journal>(&mut self, line: usize, why: &str, world: &mut W)
+    fn part<W: Time + EventLog>(&mut self, token: usize, why: &str, env: &mut W)
         ensures { self.new.service ≡ self.old.service }
     {
-        let Some(guest) = self.guests.remove(line) else {
+        let Some(entry) = self.clients.remove(token) else {
             return;
         };
-        let seen = self.seen_last();
-        let carried = seen.carried.unwrap_or(guest.carried);
-        self.gates.end_rests();
+        let counters = self.last_counters();
+        let carried = counters.carried.unwrap_or(entry.carried);
+        self.listeners.resume_all();
         self.has_parted = true;
-        self.ledger.gone = with_seen(self.ledger.gone, &seen);
-        let stayed = world.millis().saturating_sub(guest.came) / 1000;
-        let now = world.seconds();
-        self.tell_reports(guest.address, now, world);
-        world.tell(
+        self.statistics.gone = with_counters(self.statistics.gone, &counters);
+        let stayed = env.millis().saturating_sub(entry.came) / 1000;
+        let now = env.seconds();
+        self.log_error_reports(entry.address, now, env);
+        env.log(
             now,
             &Event::ClientGone(Departure {
-                address: guest.address,
+                address: entry.address,
                 why,
-                version: seen.version.map(number_of),
+                version: counters.version.map(number_of),
                 read: carried.read,
                 written: carried.written,
                 seconds: stayed,
@@ -138,7 +138,7 @@ impl<S: VersionStore, T: Stream + Drop> Daemon<S, T> {
     }
 
     /// Reports the last Error Report that the client that left last had sent, and the last that it was sent.
-    fn tell_reports<W: Journal>(&self, address: SocketAddr, now: u64, world: &mut W) {
+    fn log_error_reports<W: EventLog>(&self, address: SocketAddr, now: u64, env: &mut W) {
         let Some(parted) = self.service.server().parted() else {
             return;
         };
@@ -149,7 +149,7 @@ impl<S: VersionStore, T: Stream + Drop> Daemon<S, T> {
                 code: report.code(),
                 text: text_of(report),
             };
-            world.tell(now, &Event::ErrorReport(report));
+            env.log(now, &Event::ErrorReport(report));
         }
         if let Some(code) = parted.sent_report {
             let report = PeerReport {
@@ -158,64 +158,64 @@ impl<S: VersionStore, T: Stream + Drop> Daemon<S, T> {
                 code,
                 text: "",
             };
-            world.tell(now, &Event::ErrorReport(report));
+            env.log(now, &Event::ErrorReport(report));
         }
     }
 
     /// Drops the clients that have sent no whole query within their time.
-    pub(crate) fn drop_silent<W: Time + Journal>(&mut self, now: u64, world: &mut W)
+    pub(crate) fn drop_silent<W: Time + EventLog>(&mut self, now: u64, env: &mut W)
         ensures { GoesOn S.holds T.remaining T.contents self.old.service self.new.service }
     {
         for _client in 0..u64::MAX {
-            match self.guests.next_overdue(now, FIRST_QUERY) {
+            match self.clients.next_overdue(now, FIRST_QUERY) {
                 None => return,
-                Some(line) => self.drop_if_silent(line, world),
+                Some(token) => self.drop_if_silent(token, env),
             }
         }
     }
 
-    fn drop_if_silent<W: Time + Journal>(&mut self, line: usize, world: &mut W)
+    fn drop_if_silent<W: Time + EventLog>(&mut self, token: usize, env: &mut W)
         ensures { GoesOn S.holds T.remaining T.contents self.old.service self.new.service }
     {
-        if let Some((client, _address)) = self.guests.at(line) {
+        if let Some((client, _address)) = self.clients.at(token) {
             if !self.service.server().has_asked(client) {
-                self.drop_line(line, "no-query", world);
+                self.drop_connection(token, "no-query", env);
             }
         }
     }
 
     /// Drops the clients that took no byte for too long.
-    pub(crate) fn drop_stalled<W: Time + Journal>(&mut self, world: &mut W)
+    pub(crate) fn drop_stalled<W: Time + EventLog>(&mut self, env: &mut W)
         ensures { GoesOn S.holds T.remaining T.contents self.old.service self.new.service }
     {
-        let now = world.millis();
-        let Ok(lines) = self.guests.stalled(self.alloc, now, self.plan.stall) else {
+        let now = env.millis();
+        let Ok(tokens) = self.clients.stalled(self.alloc, now, self.plan.stall) else {
             return;
         };
-        for line in lines {
-            self.drop_stalled_line(line, world);
+        for token in tokens {
+            self.drop_stalled_client(token, env);
         }
     }
 
-    fn drop_stalled_line<W: Time + Journal>(&mut self, line: usize, world: &mut W)
+    fn drop_stalled_client<W: Time + EventLog>(&mut self, token: usize, env: &mut W)
         ensures { GoesOn S.holds T.remaining T.contents self.old.service self.new.service }
     {
-        if let Some((_client, address)) = self.guests.at(line) {
-            let now = world.seconds();
-            world.tell(now, &Event::Stalled { address });
+        if let Some((_client, address)) = self.clients.at(token) {
+            let now = env.seconds();
+            env.log(now, &Event::Stalled { address });
         }
-        self.drop_line(line, "stalled", world);
+        self.drop_connection(token, "stalled", env);
     }
 
     /// Drops the client of a line, for this reason.
-    fn drop_line<W: Time + Journal>(&mut self, line: usize, why: &str, world: &mut W)
+    fn drop_connection<W: Time + EventLog>(&mut self, token: usize, why: &str, env: &mut W)
         ensures { GoesOn S.holds T.remaining T.contents self.old.service self.new.service }
     {
-        let Some((client, _address)) = self.guests.at(line) else {
+        let Some((client, _address)) = self.clients.at(token) else {
             return;
         };
         self.service.drop_client(client);
-        self.part(line, why, world);
+        self.part(token, why, env);
     }
 }
 

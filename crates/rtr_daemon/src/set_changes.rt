@@ -5,15 +5,15 @@ use vrps::VrpSet;
 
 /// How many records come and go.
 #[derive(Clone, Copy, Debug, PartialEq, Eq)]
-pub(crate) struct Counts {
+pub(crate) struct ChangeCounts {
     pub(crate) announced: u64,
     pub(crate) withdrawn: u64,
 }
 
 /// How many records come and go from one set to another. Both are walked once, side by side.
-pub(crate) fn compared(before: Option<&VrpSet>, after: &VrpSet) -> Counts {
+pub(crate) fn change_counts(before: Option<&VrpSet>, after: &VrpSet) -> ChangeCounts {
     match before {
-        None => Counts {
+        None => ChangeCounts {
             announced: after.len() as u64,
             withdrawn: 0,
         },
@@ -21,9 +21,9 @@ pub(crate) fn compared(before: Option<&VrpSet>, after: &VrpSet) -> Counts {
     }
 }
 
-fn differences(before: &[Vrp], after: &[Vrp]) -> Counts {
+fn differences(before: &[Vrp], after: &[Vrp]) -> ChangeCounts {
     let (mut old, mut new) = (before, after);
-    let mut found = Counts {
+    let mut found = ChangeCounts {
         announced: 0,
         withdrawn: 0,
     };
@@ -50,8 +50,8 @@ fn differences(before: &[Vrp], after: &[Vrp]) -> Counts {
 }
 
 /// The counts with what is left of one list when the other is walked.
-fn with_rest(found: Counts, old: &[Vrp], new: &[Vrp]) -> Counts {
-    Counts {
+fn with_rest(found: ChangeCounts, old: &[Vrp], new: &[Vrp]) -> ChangeCounts {
+    ChangeCounts {
         announced: found.announced.saturating_add(new.len() as u64),
         withdrawn: found.withdrawn.saturating_add(old.len() as u64),
     }

@@ -1,6 +1,6 @@
 use Rattle.std.proofs.Common.{◌∙◌}
 use Rattle.rtr_daemon.proofs.ServiceLaws.{then_on}
-use Rattle.rtr_daemon.proofs.looking.offer_each.Goals as goal
+use Rattle.rtr_daemon.proofs.polling.offer_each.Goals as goal
 
 pub loop-point-preserved : goal.loop-point-preserved
 loop-point-preserved g c = record {

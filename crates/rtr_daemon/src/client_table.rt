@@ -7,7 +7,7 @@ use std::net::{IpAddr, SocketAddr};
 
 /// A client: its number at the server, where it comes from, and since when it cannot be written to.
 #[derive(Debug, Drop)]
-pub(crate) struct Guest {
+pub(crate) struct ClientEntry {
     pub(crate) client: Client,
     pub(crate) address: SocketAddr,
     /// When it came, in milliseconds of the steady clock.
@@ -21,8 +21,8 @@ pub(crate) struct Guest {
 
 /// All clients by the numbers of their lines, and those that are to be served, in their order.
 #[derive(Debug, Drop)]
-pub(crate) struct Guests {
-    by_line: BTreeMap<usize, Guest>,
+pub(crate) struct ClientTable {
+    by_token: BTreeMap<usize, ClientEntry>,
     queue: VecDeque<usize>,
     /// How many cannot be written to.
     blocked: usize,
@@ -32,10 +32,10 @@ pub(crate) struct Guests {
     by_address: BTreeMap<IpAddr, u64>,
 }
 
-impl Guests {
-    pub(crate) fn new(alloc: Global) -> Guests {
-        Guests {
-            by_line: BTreeMap::new(alloc),
+impl ClientTable {
+    pub(crate) fn new(alloc: Global) -> ClientTable {
+        ClientTable {
+            by_token: BTreeMap::new(alloc),
             queue: VecDeque::new(alloc),
             blocked: 0,
             newcomers: VecDeque::new(alloc),
@@ -56,15 +56,15 @@ impl Guests {
     /// Takes in a client, which is to be served.
     pub(crate) fn add(
         &mut self,
-        line: usize,
+        token: usize,
         client: Client,
         address: SocketAddr,
         now: u64,
     ) -> Result<(), AllocError> {
-        self.queue.reserve(self.by_line.len().saturating_add(1))?;
+        self.queue.reserve(self.by_token.len().saturating_add(1))?;
         self.newcomers.reserve(1)?;
         self.count(address)?;
-        let guest = Guest {
+        let entry = ClientEntry {
             client,
             address,
             came: now,
@@ -75,12 +75,12 @@ impl Guests {
             },
             is_queued: false,
         };
-        if self.by_line.insert(line, guest).is_err() {
+        if self.by_token.insert(token, entry).is_err() {
             self.discount(address);
             return Err(AllocError);
         }
-        let _ = self.newcomers.push_back((line, now));
-        self.wake(line);
+        let _ = self.newcomers.push_back((token, now));
+        self.wake(token);
         Ok(())
     }
 
@@ -114,7 +114,7 @@ impl Guests {
 
     /// When the first of those of which it is not known yet that they asked has been there for so long.
     pub(crate) fn first_deadline(&self, patience: u64) -> Option<u64> {
-        let (_line, came) = self.newcomers.front()?;
+        let (_token, came) = self.newcomers.front()?;
         Some(came.saturating_add(patience))
     }
 
@@ -124,80 +124,80 @@ impl Guests {
         if now < deadline {
             return None;
         }
-        let (line, _came) = self.newcomers.pop_front()?;
-        Some(line)
+        let (token, _came) = self.newcomers.pop_front()?;
+        Some(token)
     }
 
     /// Has the client of a line served.
-    pub(crate) fn wake(&mut self, line: usize) {
-        if let Some(guest) = self.by_line.get_mut(&line) {
-            if !guest.is_queued {
-                guest.is_queued = self.queue.push_back(line).is_ok();
+    pub(crate) fn wake(&mut self, token: usize) {
+        if let Some(entry) = self.by_token.get_mut(&token) {
+            if !entry.is_queued {
+                entry.is_queued = self.queue.push_back(token).is_ok();
             }
         }
     }
 
     /// Has all served.
     pub(crate) fn wake_all(&mut self) {
-        for (line, guest) in self.by_line.iter_mut() {
-            if !guest.is_queued {
-                guest.is_queued = self.queue.push_back(*line).is_ok();
+        for (token, entry) in self.by_token.iter_mut() {
+            if !entry.is_queued {
+                entry.is_queued = self.queue.push_back(*token).is_ok();
             }
         }
     }
 
     /// Has those served that cannot be written to.
     pub(crate) fn wake_blocked(&mut self) {
-        for (line, guest) in self.by_line.iter_mut() {
-            if guest.blocked.is_some() && !guest.is_queued {
-                guest.is_queued = self.queue.push_back(*line).is_ok();
+        for (token, entry) in self.by_token.iter_mut() {
+            if entry.blocked.is_some() && !entry.is_queued {
+                entry.is_queued = self.queue.push_back(*token).is_ok();
             }
         }
     }
 
     /// The line and the client that is to be served next.
     pub(crate) fn next(&mut self) -> Option<(usize, Client)> {
-        let line = self.queue.pop_front()?;
-        let guest = self.by_line.get_mut(&line)?;
-        guest.is_queued = false;
-        Some((line, guest.client))
+        let token = self.queue.pop_front()?;
+        let entry = self.by_token.get_mut(&token)?;
+        entry.is_queued = false;
+        Some((token, entry.client))
     }
 
     /// Notes what a turn came to: a client that cannot be written to is blocked since something was written to it last.
-    pub(crate) fn note(&mut self, line: usize, turn: Turn, carried: ByteCounts, now: u64) {
-        let Some(guest) = self.by_line.get_mut(&line) else {
+    pub(crate) fn note(&mut self, token: usize, turn: Turn, carried: ByteCounts, now: u64) {
+        let Some(entry) = self.by_token.get_mut(&token) else {
             return;
         };
-        let was_blocked = guest.blocked.is_some();
-        guest.blocked = blocked_since(guest, turn, carried, now);
-        guest.carried = carried;
+        let was_blocked = entry.blocked.is_some();
+        entry.blocked = blocked_since(entry, turn, carried, now);
+        entry.carried = carried;
         if was_blocked {
             self.blocked = self.blocked.saturating_sub(1);
         }
-        if guest.blocked.is_some() {
+        if entry.blocked.is_some() {
             self.blocked = self.blocked.saturating_add(1);
         }
     }
 
     /// All of them, by the numbers of their lines.
-    pub(crate) fn iter(&self) -> Values<'_, usize, Guest> {
-        self.by_line.values()
+    pub(crate) fn iter(&self) -> Values<'_, usize, ClientEntry> {
+        self.by_token.values()
     }
 
     /// The client of a line, and where it comes from.
-    pub(crate) fn at(&self, line: usize) -> Option<(Client, SocketAddr)> {
-        let guest = self.by_line.get(&line)?;
-        Some((guest.client, guest.address))
+    pub(crate) fn at(&self, token: usize) -> Option<(Client, SocketAddr)> {
+        let entry = self.by_token.get(&token)?;
+        Some((entry.client, entry.address))
     }
 
     /// Takes out the client of a line.
-    pub(crate) fn remove(&mut self, line: usize) -> Option<Guest> {
-        let guest = self.by_line.remove(&line)?;
-        if guest.blocked.is_some() {
+    pub(crate) fn remove(&mut self, token: usize) -> Option<ClientEntry> {
+        let entry = self.by_token.remove(&token)?;
+        if entry.blocked.is_some() {
             self.blocked = self.blocked.saturating_sub(1);
         }
-        self.discount(guest.address);
-        Some(guest)
+        self.discount(entry.address);
+        Some(entry)
     }
 
     /// Whether there are clients that cannot be written to.
@@ -212,17 +212,17 @@ impl Guests {
         now: u64,
         stall: u64,
     ) -> Result<Vec<usize>, AllocError> {
-        let mut lines = Vec::new(alloc);
-        for (line, guest) in self.by_line.iter() {
-            if guest.is_stalled(now, stall) {
-                lines.push(*line)?;
+        let mut tokens = Vec::new(alloc);
+        for (token, entry) in self.by_token.iter() {
+            if entry.is_stalled(now, stall) {
+                tokens.push(*token)?;
             }
         }
-        Ok(lines)
+        Ok(tokens)
     }
 }
 
-impl Guest {
+impl ClientEntry {
     fn is_stalled(&self, now: u64, stall: u64) -> bool {
         match self.blocked {
             Some(since) => now.saturating_sub(since) >= stall,
@@ -232,9 +232,9 @@ impl Guest {
 }
 
 /// Since when a client cannot be written to, after a turn.
-fn blocked_since(guest: &Guest, turn: Turn, carried: ByteCounts, now: u64) -> Option<u64> {
-    match (turn, guest.blocked) {
-        (Turn::WaitsToWrite, Some(since)) if carried.written == guest.carried.written => {
+fn blocked_since(entry: &ClientEntry, turn: Turn, carried: ByteCounts, now: u64) -> Option<u64> {
+    match (turn, entry.blocked) {
+        (Turn::WaitsToWrite, Some(since)) if carried.written == entry.carried.written => {
             Some(since)
         }
         (Turn::WaitsToWrite, _) => Some(now),

@@ -1,6 +1,6 @@
 //! Files that are followed.
+use crate::environment::{Disk, Stamp};
 use crate::refusals::Refusals;
-use crate::surroundings::{Disk, Stamp};
 use std::io;
 
 /// What a file is for.
@@ -14,7 +14,7 @@ pub enum Source {
 
 /// A file, and what is known of it.
 #[derive(Debug, Drop)]
-pub(crate) struct Followed {
+pub(crate) struct WatchedFile {
     pub(crate) path: String,
     pub(crate) source: Source,
     /// How it looked when it was taken last.
@@ -34,7 +34,7 @@ pub(crate) struct Followed {
 #[derive(Debug, Drop)]
 pub(crate) enum Look {
     /// There is nothing new.
-    Same,
+    Unchanged,
     /// It changed while it was read.
     Unstable,
     /// It looks as it did when it was refused.
@@ -45,9 +45,9 @@ pub(crate) enum Look {
     Failed(io::Error),
 }
 
-impl Followed {
-    pub(crate) fn new(path: String, source: Source) -> Followed {
-        Followed {
+impl WatchedFile {
+    pub(crate) fn new(path: String, source: Source) -> WatchedFile {
+        WatchedFile {
             path,
             source,
             taken: None,
@@ -61,26 +61,26 @@ impl Followed {
 
     /// Looks whether there is something new, and reads it then; with `anew` also where it looks as it did when it was taken. What changes while
     /// it is read is looked at again the next time.
-    pub(crate) fn look<W: Disk>(&self, world: &mut W, anew: bool) -> Look {
-        let before = match world.stamp(self.path.as_str()) {
+    pub(crate) fn look<W: Disk>(&self, env: &mut W, anew: bool) -> Look {
+        let before = match env.stamp(self.path.as_str()) {
             Ok(stamp) => stamp,
             Err(error) => return Look::Failed(error),
         };
         if self.was_taken(before) && !anew {
-            return Look::Same;
+            return Look::Unchanged;
         }
         if self.refusals.stays(before) {
             return Look::RefusedBefore;
         }
-        self.read(world, before)
+        self.read(env, before)
     }
 
-    fn read<W: Disk>(&self, world: &mut W, before: Stamp) -> Look {
-        let bytes = match world.read(self.path.as_str()) {
+    fn read<W: Disk>(&self, env: &mut W, before: Stamp) -> Look {
+        let bytes = match env.read(self.path.as_str()) {
             Ok(bytes) => bytes,
             Err(error) => return Look::Failed(error),
         };
-        match world.stamp(self.path.as_str()) {
+        match env.stamp(self.path.as_str()) {
             Ok(after) if after == before => Look::Read(before, bytes),
             Ok(_) => Look::Unstable,
             Err(error) => Look::Failed(error),

@@ -16,25 +16,25 @@ const SEND_ROOM: i32 = 262_144;
 
 /// A connection, whose calls do not wait.
 #[derive(Drop)]
-pub struct Line {
+pub struct Connection {
     stream: TcpStream,
 }
 
 /// The number of its descriptor.
-impl Debug for Line {
+impl Debug for Connection {
     fn fmt<W: fmt::Write>(&self, f: &mut fmt::Formatter<W>) -> fmt::Result {
-        write!(f, "Line({})", self.stream.as_raw_fd())
+        write!(f, "Connection({})", self.stream.as_raw_fd())
     }
 }
 
-impl Line {
+impl Connection {
     /// The line of a socket that was accepted: small writes go out at once, what the system keeps of unread bytes is bounded, and a peer that
     /// has vanished is noticed. `None` if the socket cannot be prepared.
-    pub fn of(stream: TcpStream) -> Option<Line> {
+    pub fn of(stream: TcpStream) -> Option<Connection> {
         if stream.set_nodelay(true).is_err() || !is_bounded(&stream) || !is_kept_alive(&stream) {
             return None;
         }
-        Some(Line { stream })
+        Some(Connection { stream })
     }
 
     /// The socket.
@@ -68,7 +68,7 @@ fn takes_option(stream: &TcpStream, level: i32, name: i32, value: i32) -> bool
     status == 0
 }
 
-impl Stream for Line {
+impl Stream for Connection {
     ghost use Rattle.std.specs.Prelude.{Option};
 
     ghost remaining = { λ l. Option.None };

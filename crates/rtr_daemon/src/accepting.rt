@@ -3,7 +3,7 @@ ghost use Rattle.std.specs.Prelude.{◌≡◌, false};
 ghost use Rattle.rtr_daemon.specs.Serving.{GoesOn};
 
 use crate::daemon::Daemon;
-use crate::surroundings::{Accepted, Journal, Ports, Time};
+use crate::environment::{Accepted, EventLog, Sockets, Time};
 use daemon_parts::Event;
 use rtr_server::{AdmitFault, Stream};
 use std::alloc::{AllocError, Global};
@@ -15,88 +15,85 @@ use vrps::VersionStore;
 const AT_ONCE: usize = 1024;
 
 /// How long a gate rests at which no connection can be taken, in milliseconds.
-const REST: u64 = 1000;
+const PAUSE: u64 = 1000;
 
 /// A gate: whether a connection may wait there, and until when it rests.
 #[derive(Debug, Drop)]
-struct Gate {
-    waits: bool,
-    rests_until: Option<u64>,
+struct Listener {
+    pending: bool,
+    paused_until: Option<u64>,
 }
 
 /// The gates. Moments are in milliseconds of the steady clock.
 #[derive(Debug, Drop)]
-pub(crate) struct Gates {
-    gates: Vec<Gate>,
+pub(crate) struct Listeners {
+    listeners: Vec<Listener>,
     /// Whether it was reported that connections cannot be taken, since one was.
     is_reported: bool,
 }
 
-impl Gate {
+impl Listener {
     /// Whether a connection may wait that is to be tried now.
-    fn is_waiting(&self, now: u64) -> bool {
-        self.waits && self.next_try() <= now
+    fn has_pending(&self, now: u64) -> bool {
+        self.pending && self.next_try() <= now
     }
 
     /// From when on it is tried.
     fn next_try(&self) -> u64 {
-        match self.rests_until {
+        match self.paused_until {
             Some(until) => until,
             None => 0,
         }
     }
 }
 
-impl Gates {
+impl Listeners {
     /// So many gates. At each a connection may wait.
-    pub(crate) fn new(alloc: Global, count: usize) -> Result<Gates, AllocError> {
-        let mut gates = Vec::with_capacity(alloc, count)?;
-        for _gate in 0..count {
-            gates.push(Gate {
-                waits: true,
-                rests_until: None,
+    pub(crate) fn new(alloc: Global, count: usize) -> Result<Listeners, AllocError> {
+        let mut listeners = Vec::with_capacity(alloc, count)?;
+        for _listener in 0..count {
+            listeners.push(Listener {
+                pending: true,
+                paused_until: None,
             })?;
         }
-        Ok(Gates {
-            gates,
+        Ok(Listeners {
+            listeners,
             is_reported: false,
         })
     }
 
     /// Notes whether a connection may wait at a gate.
-    pub(crate) fn note(&mut self, gate: usize, waits: bool) {
-        if let Some(it) = self.gates.get_mut(gate) {
-            it.waits = waits;
+    pub(crate) fn note(&mut self, listener: usize, pending: bool) {
+        if let Some(it) = self.listeners.get_mut(listener) {
+            it.pending = pending;
         }
     }
 
     /// Lets a gate rest until a moment.
-    fn rest(&mut self, gate: usize, until: u64) {
-        if let Some(it) = self.gates.get_mut(gate) {
-            it.rests_until = Some(until);
+    fn pause(&mut self, listener: usize, until: u64) {
+        if let Some(it) = self.listeners.get_mut(listener) {
+            it.paused_until = Some(until);
         }
     }
 
     /// A client has gone: there may be room again.
-    pub(crate) fn end_rests(&mut self) {
-        for gate in self.gates.iter_mut() {
-            gate.rests_until = None;
+    pub(crate) fn resume_all(&mut self) {
+        for listener in self.listeners.iter_mut() {
+            listener.paused_until = None;
         }
-    }
-
-    /// Whether a connection may wait that is to be tried now.
-    pub(crate) fn has_waiting(&self, now: u64) -> bool {
-        self.gates.iter().any(|it| it.is_waiting(now))
     }
 
     /// When the next gate at which a connection may wait is to be tried.
     pub(crate) fn next_try(&self) -> Option<u64> {
-        let waiting = self.gates.iter().filter(|it| it.waits);
+        let waiting = self.listeners.iter().filter(|it| it.pending);
         waiting.map(|it| it.next_try()).min()
     }
 
-    fn is_waiting(&self, gate: usize, now: u64) -> bool {
-        self.gates.get(gate).is_some_and(|it| it.is_waiting(now))
+    fn has_pending(&self, listener: usize, now: u64) -> bool {
+        self.listeners
+            .get(listener)
+            .is_some_and(|it| it.has_pending(now))
     }
 
     /// That connections cannot be taken is to be reported, if it was not since one was taken. It answers whether it is.
@@ -109,128 +106,134 @@ impl Gates {
 
 impl<S: VersionStore, T: Stream + Drop> Daemon<S, T> {
     /// Takes the connections that wait at the gates, once a version is published.
-    pub(crate) fn accept_waiting<W: Ports<T> + Time + Journal>(&mut self, world: &mut W)
+    pub(crate) fn accept_pending<W: Sockets<T> + Time + EventLog>(&mut self, env: &mut W)
         ensures goes { GoesOn S.holds T.remaining T.contents self.old.service self.new.service }
         ensures before { self.old.is_ready ≡ false → self.new.service ≡ self.old.service }
     {
         if !self.is_ready {
             return;
         }
-        for gate in 0..self.gates.gates.len() {
-            self.accept_at(gate, world);
+        for listener in 0..self.listeners.listeners.len() {
+            self.accept_from(listener, env);
         }
     }
 
     /// Takes connections at a gate, as long as some wait there.
-    fn accept_at<W: Ports<T> + Time + Journal>(&mut self, gate: usize, world: &mut W)
+    fn accept_from<W: Sockets<T> + Time + EventLog>(&mut self, listener: usize, env: &mut W)
         ensures { GoesOn S.holds T.remaining T.contents self.old.service self.new.service }
     {
         for _connection in 0..AT_ONCE {
-            if !self.gates.is_waiting(gate, world.millis()) {
+            if !self.listeners.has_pending(listener, env.millis()) {
                 return;
             }
-            self.accept_one(gate, world);
+            self.accept_one(listener, env);
         }
     }
 
     /// Takes a connection at a gate, if one waits there.
-    fn accept_one<W: Ports<T> + Time + Journal>(&mut self, gate: usize, world: &mut W)
+    fn accept_one<W: Sockets<T> + Time + EventLog>(&mut self, listener: usize, env: &mut W)
         ensures { GoesOn S.holds T.remaining T.contents self.old.service self.new.service }
     {
-        match world.accept(gate) {
-            Accepted::Line {
-                line,
-                number,
+        match env.accept(listener) {
+            Accepted::Connection {
+                stream,
+                token,
                 address,
             } => {
-                self.gates.is_reported = false;
-                self.admit(line, number, address, world);
+                self.listeners.is_reported = false;
+                self.admit(stream, token, address, env);
             }
-            Accepted::Waits => self.gates.note(gate, false),
+            Accepted::WouldBlock => self.listeners.note(listener, false),
             Accepted::Again => {}
-            Accepted::NoRoom => self.rest(gate, &Event::NoDescriptor, world),
-            Accepted::Failed(error) => self.note_failed(gate, &error, world),
+            Accepted::NoRoom => self.pause(listener, &Event::NoDescriptor, env),
+            Accepted::Failed(error) => self.note_accept_failure(listener, &error, env),
         }
     }
 
     /// Admits a client, if its address has not as many as it may have.
-    fn admit<W: Time + Journal>(
+    fn admit<W: Time + EventLog>(
         &mut self,
         stream: T,
-        line: usize,
+        token: usize,
         address: SocketAddr,
-        world: &mut W,
+        env: &mut W,
     )
         ensures { GoesOn S.holds T.remaining T.contents self.old.service self.new.service }
     {
-        let clients = self.guests.of_address(address);
+        let clients = self.clients.of_address(address);
         match self.plan.clients_per_address {
             Some(most) if clients >= most => {
-                let now = world.seconds();
-                world.tell(now, &Event::AddressFull { address, clients });
+                let now = env.seconds();
+                env.log(now, &Event::AddressFull { address, clients });
             }
-            _ => self.admit_within(stream, line, address, world),
+            _ => self.admit_within(stream, token, address, env),
         }
     }
 
     /// Admits a client whose address may have one more.
-    fn admit_within<W: Time + Journal>(
+    fn admit_within<W: Time + EventLog>(
         &mut self,
         stream: T,
-        line: usize,
+        token: usize,
         address: SocketAddr,
-        world: &mut W,
+        env: &mut W,
     )
         ensures { GoesOn S.holds T.remaining T.contents self.old.service self.new.service }
     {
-        let now = world.seconds();
+        let now = env.seconds();
         match self.service.admit(stream) {
             Err(AdmitFault::TooManyClients) => {
                 let clients = self.service.server().clients() as u64;
-                world.tell(now, &Event::Full { address, clients });
+                env.log(now, &Event::Full { address, clients });
             }
-            Err(AdmitFault::Memory) => world.tell(now, &Event::Memory { what: "a client" }),
+            Err(AdmitFault::Memory) => env.log(now, &Event::Memory { what: "a client" }),
             Ok(client) => {
                 if self
-                    .guests
-                    .add(line, client, address, world.millis())
+                    .clients
+                    .add(token, client, address, env.millis())
                     .is_err()
                 {
                     self.service.drop_client(client);
-                    world.tell(now, &Event::Memory { what: "a client" });
+                    env.log(now, &Event::Memory { what: "a client" });
                 } else {
-                    self.ledger.came();
-                    world.tell(now, &Event::ClientCame { address });
+                    self.statistics.came();
+                    env.log(now, &Event::ClientCame { address });
                 }
             }
         }
     }
 
     /// Lets a gate rest at which a connection may wait and none can be taken. That is reported once, until one is taken.
-    fn rest<W: Time + Journal>(&mut self, gate: usize, event: &Event<'_>, world: &mut W)
+    fn pause<W: Time + EventLog>(&mut self, listener: usize, event: &Event<'_>, env: &mut W)
         ensures { self.new.service ≡ self.old.service }
     {
-        self.gates.rest(gate, world.millis().saturating_add(REST));
-        if self.gates.mark_reported() {
-            let now = world.seconds();
-            world.tell(now, event);
+        self.listeners
+            .pause(listener, env.millis().saturating_add(PAUSE));
+        if self.listeners.mark_reported() {
+            let now = env.seconds();
+            env.log(now, event);
         }
     }
 
     /// The same where the system gives another reason.
-    fn note_failed<W: Time + Journal>(&mut self, gate: usize, error: &io::Error, world: &mut W)
+    fn note_accept_failure<W: Time + EventLog>(
+        &mut self,
+        listener: usize,
+        error: &io::Error,
+        env: &mut W,
+    )
         ensures { self.new.service ≡ self.old.service }
     {
         match error.to_string(self.alloc) {
-            Ok(reason) => self.rest(
-                gate,
+            Ok(reason) => self.pause(
+                listener,
                 &Event::Failed {
                     what: "accept",
                     reason: reason.as_str(),
                 },
-                world,
+                env,
             ),
-            Err(_) => self.rest(gate, &Event::Memory { what: "a client" }, world),
+            Err(_) => self.pause(listener, &Event::Memory { what: "a client" }, env),
         }
     }
 }

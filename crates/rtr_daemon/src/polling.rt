@@ -3,12 +3,12 @@ ghost use Rattle.std.specs.Prelude.{◌≡◌, true};
 ghost use Rattle.rtr_daemon.specs.Serving.{Follows, GoesOn, TakenAs, TakesSo};
 
 use crate::daemon::Daemon;
-use crate::following::{Followed, Look, Source};
-use crate::ledger::Ledger;
+use crate::environment::{Disk, EventLog, Stamp, Time};
 use crate::refusal::Refusal;
 use crate::refusals::Refusals;
 use crate::service::Service;
-use crate::surroundings::{Disk, Journal, Stamp, Time};
+use crate::statistics::Statistics;
+use crate::watched_file::{Look, Source, WatchedFile};
 use daemon_parts::Event;
 use payloads::decode_manifest;
 use rtr_server::Stream;
@@ -17,26 +17,26 @@ use vrps::VersionStore;
 
 /// What a publication point holds: until which second since 1970 it is used, and how many objects its manifest lists.
 #[derive(Clone, Copy, Debug)]
-pub(crate) struct Held {
+pub(crate) struct PointState {
     next_update: u64,
     objects: u64,
 }
 
 /// A directory that is offered to the publication point of its name.
 #[derive(Debug, Drop)]
-pub(crate) struct Offering {
+pub(crate) struct WatchedPoint {
     pub(crate) path: String,
     /// When it was taken last, or was what its point holds, in seconds since 1970.
     pub(crate) taken_at: Option<u64>,
-    held: Option<Held>,
+    held: Option<PointState>,
     /// How many objects its point held that are past their manifest's nextUpdate, as of the last look.
     pub(crate) expired: u64,
     pub(crate) refusals: Refusals,
 }
 
-impl Offering {
-    pub(crate) fn new(path: String) -> Offering {
-        Offering {
+impl WatchedPoint {
+    pub(crate) fn new(path: String) -> WatchedPoint {
+        WatchedPoint {
             path,
             taken_at: None,
             held: None,
@@ -46,7 +46,7 @@ impl Offering {
     }
 
     /// It was taken, or is what its point holds. It answers whether a refusal was reported before.
-    pub(crate) fn take(&mut self, held: Option<Held>, now: u64) -> bool {
+    pub(crate) fn take(&mut self, held: Option<PointState>, now: u64) -> bool {
         self.taken_at = Some(now);
         self.held = held;
         self.refusals.clear()
@@ -64,13 +64,13 @@ impl Offering {
 }
 
 /// What is to be reported after a look at a file.
-pub(crate) enum News {
+pub(crate) enum PollResult {
     /// Nothing.
-    Nothing,
+    Unchanged,
     /// Why it was refused.
     Refused,
     /// It was taken: whether after a refusal that was reported, and how many of its entries had expired.
-    Taken { again: bool, expired: u64 },
+    Loaded { again: bool, expired: u64 },
 }
 
 /// Takes what a file holds, and answers how many of its entries had expired.
@@ -98,9 +98,9 @@ pub(crate) fn take<S: VersionStore, T: Stream + Drop>(
 }
 
 /// What a manifest says of its point.
-fn held_of(alloc: Global, manifest: &[u8]) -> Option<Held> {
+fn point_state(alloc: Global, manifest: &[u8]) -> Option<PointState> {
     let manifest = decode_manifest(alloc, manifest).ok()?;
-    Some(Held {
+    Some(PointState {
         next_update: manifest.next_update().seconds(),
         objects: manifest.files().len() as u64,
     })
@@ -112,19 +112,19 @@ pub(crate) fn offer<S: VersionStore, T: Stream + Drop, W: Disk>(
     path: &str,
     alloc: Global,
     now: u64,
-    world: &mut W,
-) -> Result<Option<Held>, Refusal>
+    env: &mut W,
+) -> Result<Option<PointState>, Refusal>
     ensures goes { GoesOn S.holds T.remaining T.contents service.old service.new }
     ensures server { service.new.server ≡ service.old.server }
 {
-    match world.directory(path) {
+    match env.directory(path) {
         Err(error) => {
             service.owe();
             Err(Refusal::Device(error))
         }
         Ok(directory) => {
             let _offered = service.offer(&directory, alloc, now)?;
-            Ok(held_of(alloc, directory.manifest()))
+            Ok(point_state(alloc, directory.manifest()))
         }
     }
 }
@@ -144,7 +144,7 @@ fn expired_of<S: VersionStore, T: Stream + Drop>(
 /// Notes how many records of a file have expired since it was taken, and whether these are more than at the look before. They are not served any
 /// more, whatever has become of the file: if they are not as many as before, a version is pending.
 fn note_expired<S: VersionStore, T: Stream + Drop>(
-    file: &mut Followed,
+    file: &mut WatchedFile,
     service: &mut Service<S, T>,
     now: u64,
 ) -> bool
@@ -162,41 +162,41 @@ fn note_expired<S: VersionStore, T: Stream + Drop>(
 }
 
 /// Notes whether what a file holds was taken, and answers what is to be reported.
-fn note(file: &mut Followed, stamp: Stamp, taken: Result<u64, Refusal>, now: u64) -> News {
+fn note(file: &mut WatchedFile, stamp: Stamp, taken: Result<u64, Refusal>, now: u64) -> PollResult {
     match taken {
-        Ok(expired) => News::Taken {
+        Ok(expired) => PollResult::Loaded {
             again: file.take(stamp, now, expired),
             expired,
         },
-        Err(refusal) => news_if(file.refusals.add(Some(stamp), refusal)),
+        Err(refusal) => refused_if(file.refusals.add(Some(stamp), refusal)),
     }
 }
 
-fn news_if(is_news: bool) -> News {
+fn refused_if(is_news: bool) -> PollResult {
     if is_news {
-        News::Refused
+        PollResult::Refused
     } else {
-        News::Nothing
+        PollResult::Unchanged
     }
 }
 
 /// Looks at a file, and takes what is new.
 fn follow<S: VersionStore, T: Stream + Drop, W: Disk>(
-    file: &mut Followed,
+    file: &mut WatchedFile,
     service: &mut Service<S, T>,
     alloc: Global,
     now: u64,
-    world: &mut W,
-) -> News
+    env: &mut W,
+) -> PollResult
     ensures goes { GoesOn S.holds T.remaining T.contents service.old service.new }
     ensures server { service.new.server ≡ service.old.server }
     ensures follows { Follows file.old.source now service.old.sources service.new.sources }
 {
-    match file.look(world, file.is_taken_after(now)) {
-        Look::Same => News::Nothing,
-        Look::Unstable => news_if(file.refusals.add(None, Refusal::Changing)),
-        Look::RefusedBefore => news_if(file.refusals.mark_reported()),
-        Look::Failed(error) => news_if(file.refusals.add(None, Refusal::Device(error))),
+    match file.look(env, file.is_taken_after(now)) {
+        Look::Unchanged => PollResult::Unchanged,
+        Look::Unstable => refused_if(file.refusals.add(None, Refusal::Changing)),
+        Look::RefusedBefore => refused_if(file.refusals.mark_reported()),
+        Look::Failed(error) => refused_if(file.refusals.add(None, Refusal::Device(error))),
         Look::Read(stamp, bytes) => {
             let taken = take(service, file.source, bytes.as_slice(), alloc, now);
             note(file, stamp, taken, now)
@@ -206,91 +206,91 @@ fn follow<S: VersionStore, T: Stream + Drop, W: Disk>(
 
 impl<S: VersionStore, T: Stream + Drop> Daemon<S, T> {
     /// Looks at all files.
-    pub(crate) fn follow_all<W: Disk + Time + Journal>(&mut self, world: &mut W)
+    pub(crate) fn follow_all<W: Disk + Time + EventLog>(&mut self, env: &mut W)
         ensures goes { GoesOn S.holds T.remaining T.contents self.old.service self.new.service }
         ensures server { self.new.service.server ≡ self.old.service.server }
     {
         follow_each(
             &mut self.files,
             &mut self.service,
-            &mut self.ledger,
+            &mut self.statistics,
             self.alloc,
-            world,
+            env,
         );
     }
 
     /// Offers all directories.
-    pub(crate) fn offer_all<W: Disk + Time + Journal>(&mut self, world: &mut W)
+    pub(crate) fn offer_all<W: Disk + Time + EventLog>(&mut self, env: &mut W)
         ensures goes { GoesOn S.holds T.remaining T.contents self.old.service self.new.service }
         ensures server { self.new.service.server ≡ self.old.service.server }
     {
         offer_each(
             &mut self.points,
             &mut self.service,
-            &mut self.ledger,
+            &mut self.statistics,
             self.alloc,
-            world,
+            env,
         );
     }
 }
 
 /// Looks at each file, takes what is new, and reports what came of it.
-fn follow_each<S: VersionStore, T: Stream + Drop, W: Disk + Time + Journal>(
-    files: &mut Vec<Followed>,
+fn follow_each<S: VersionStore, T: Stream + Drop, W: Disk + Time + EventLog>(
+    files: &mut Vec<WatchedFile>,
     service: &mut Service<S, T>,
-    ledger: &mut Ledger,
+    statistics: &mut Statistics,
     alloc: Global,
-    world: &mut W,
+    env: &mut W,
 )
     ensures goes { GoesOn S.holds T.remaining T.contents service.old service.new }
     ensures server { service.new.server ≡ service.old.server }
 {
     for file in files.iter_mut() {
-        let now = world.seconds();
-        let began = world.millis();
-        let news = follow(file, service, alloc, now, world);
-        note_news(ledger, &news, world.millis().saturating_sub(began));
-        tell_news(alloc, file, news, now, world);
+        let now = env.seconds();
+        let began = env.millis();
+        let polled = follow(file, service, alloc, now, env);
+        count_poll(statistics, &polled, env.millis().saturating_sub(began));
+        log_poll(alloc, file, polled, now, env);
         if note_expired(file, service, now) {
-            tell_expired(file.path.as_str(), file.all_expired(), now, world);
+            log_expired(file.path.as_str(), file.all_expired(), now, env);
         }
     }
 }
 
 /// Offers each directory, and reports what came of it.
-fn offer_each<S: VersionStore, T: Stream + Drop, W: Disk + Time + Journal>(
-    points: &mut Vec<Offering>,
+fn offer_each<S: VersionStore, T: Stream + Drop, W: Disk + Time + EventLog>(
+    points: &mut Vec<WatchedPoint>,
     service: &mut Service<S, T>,
-    ledger: &mut Ledger,
+    statistics: &mut Statistics,
     alloc: Global,
-    world: &mut W,
+    env: &mut W,
 )
     ensures goes { GoesOn S.holds T.remaining T.contents service.old service.new }
     ensures server { service.new.server ≡ service.old.server }
 {
     for point in points.iter_mut() {
-        let now = world.seconds();
-        let offered = offer(service, point.path.as_str(), alloc, now, world);
-        note_offer(alloc, point, offered, now, ledger, world);
+        let now = env.seconds();
+        let offered = offer(service, point.path.as_str(), alloc, now, env);
+        note_offer(alloc, point, offered, now, statistics, env);
         if point.note_expired(now) {
-            tell_expired(point.path.as_str(), point.expired, now, world);
+            log_expired(point.path.as_str(), point.expired, now, env);
         }
     }
 }
 
 /// Reports what became of an offer, where that is news.
-fn note_offer<W: Journal>(
+fn note_offer<W: EventLog>(
     alloc: Global,
-    point: &mut Offering,
-    offered: Result<Option<Held>, Refusal>,
+    point: &mut WatchedPoint,
+    offered: Result<Option<PointState>, Refusal>,
     now: u64,
-    ledger: &mut Ledger,
-    world: &mut W,
+    statistics: &mut Statistics,
+    env: &mut W,
 ) {
     match offered {
         Ok(held) => {
             if point.take(held, now) {
-                world.tell(
+                env.log(
                     now,
                     &Event::Taken {
                         file: point.path.as_str(),
@@ -300,75 +300,81 @@ fn note_offer<W: Journal>(
         }
         Err(refusal) => {
             if point.refusals.add(None, refusal) {
-                ledger.refused();
-                tell_point(alloc, point, now, world);
+                statistics.refused();
+                log_refused_point(alloc, point, now, env);
             }
         }
     }
 }
 
 /// Counts what came of a look at a file, which took so many milliseconds.
-fn note_news(ledger: &mut Ledger, news: &News, milliseconds: u64) {
-    match news {
-        News::Nothing => {}
-        News::Refused => ledger.refused(),
-        News::Taken { .. } => ledger.took(milliseconds),
+fn count_poll(statistics: &mut Statistics, polled: &PollResult, milliseconds: u64) {
+    match polled {
+        PollResult::Unchanged => {}
+        PollResult::Refused => statistics.refused(),
+        PollResult::Loaded { .. } => statistics.took(milliseconds),
     }
 }
 
 /// Reports what came of a look at a file.
-fn tell_news<W: Journal>(alloc: Global, file: &Followed, news: News, now: u64, world: &mut W) {
+fn log_poll<W: EventLog>(
+    alloc: Global,
+    file: &WatchedFile,
+    polled: PollResult,
+    now: u64,
+    env: &mut W,
+) {
     let path = file.path.as_str();
-    match news {
-        News::Nothing => {}
-        News::Refused => tell_refused(alloc, file, now, world),
-        News::Taken { again, expired } => {
+    match polled {
+        PollResult::Unchanged => {}
+        PollResult::Refused => log_refused_file(alloc, file, now, env),
+        PollResult::Loaded { again, expired } => {
             if again {
-                world.tell(now, &Event::Taken { file: path });
+                env.log(now, &Event::Taken { file: path });
             }
-            tell_expired(path, expired, now, world);
+            log_expired(path, expired, now, env);
         }
     }
 }
 
 /// Reports how many entries of a source have expired, if some have.
-pub(crate) fn tell_expired<W: Journal>(file: &str, entries: u64, now: u64, world: &mut W) {
+pub(crate) fn log_expired<W: EventLog>(file: &str, entries: u64, now: u64, env: &mut W) {
     if entries > 0 {
-        world.tell(now, &Event::Expired { file, entries });
+        env.log(now, &Event::Expired { file, entries });
     }
 }
 
 /// Reports why a publication point was refused last.
-fn tell_point<W: Journal>(alloc: Global, point: &Offering, now: u64, world: &mut W) {
+fn log_refused_point<W: EventLog>(alloc: Global, point: &WatchedPoint, now: u64, env: &mut W) {
     if let Some(refusal) = point.refusals.last() {
-        tell_refusal(alloc, point.path.as_str(), refusal, now, world);
+        log_refusal(alloc, point.path.as_str(), refusal, now, env);
     }
 }
 
 /// Reports why a file was refused last.
-fn tell_refused<W: Journal>(alloc: Global, file: &Followed, now: u64, world: &mut W) {
+fn log_refused_file<W: EventLog>(alloc: Global, file: &WatchedFile, now: u64, env: &mut W) {
     if let Some(refusal) = file.refusals.last() {
-        tell_refusal(alloc, file.path.as_str(), refusal, now, world);
+        log_refusal(alloc, file.path.as_str(), refusal, now, env);
     }
 }
 
 /// Reports why something is refused.
-pub(crate) fn tell_refusal<W: Journal>(
+pub(crate) fn log_refusal<W: EventLog>(
     alloc: Global,
     file: &str,
     refusal: &Refusal,
     now: u64,
-    world: &mut W,
+    env: &mut W,
 ) {
     match refusal.to_string(alloc) {
-        Ok(reason) => world.tell(
+        Ok(reason) => env.log(
             now,
             &Event::Refused {
                 file,
                 reason: reason.as_str(),
             },
         ),
-        Err(_) => world.tell(
+        Err(_) => env.log(
             now,
             &Event::Refused {
                 file,

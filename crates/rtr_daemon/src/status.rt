@@ -1,11 +1,11 @@
 //! What a daemon reports of itself.
+use crate::client_table::ClientEntry;
+use crate::clients::{ClientCounters, number_of};
 use crate::daemon::{Daemon, built_of};
-use crate::following::Followed;
-use crate::guests::Guest;
-use crate::ledger::{BothWays, total};
-use crate::looking::Offering;
+use crate::polling::WatchedPoint;
 use crate::refusal::Refusal;
-use crate::serving::{Seen, number_of};
+use crate::statistics::{TrafficTotals, total};
+use crate::watched_file::WatchedFile;
 use rtr_server::Stream;
 use status_pages::{ClientStatus, ClientTraffic, FileStatus, Status};
 use std::alloc::{AllocError, Global};
@@ -29,19 +29,19 @@ impl<S: VersionStore, T: Stream + Drop> Daemon<S, T> {
             session: self.names.session,
             session0: self.names.session0,
             serial: self.serial(),
-            ipv4: self.ledger.families.ipv4,
-            ipv6: self.ledger.families.ipv6,
-            left_out: self.ledger.left_out,
-            changes: self.ledger.changes(self.alloc)?,
+            ipv4: self.statistics.families.ipv4,
+            ipv6: self.statistics.families.ipv6,
+            left_out: self.statistics.left_out,
+            changes: self.statistics.changes(self.alloc)?,
             files: self.file_statuses(now)?,
             clients: self.client_statuses(now, millis)?,
             client_limit: self.plan.clients as u64,
-            clients_ever: self.ledger.clients,
+            clients_ever: self.statistics.clients,
             received: traffic.received,
             sent: traffic.sent,
-            reloads_taken: self.ledger.taken,
-            reloads_refused: self.ledger.refused,
-            reload_milliseconds: self.ledger.took,
+            reloads_taken: self.statistics.taken,
+            reloads_refused: self.statistics.refused,
+            reload_milliseconds: self.statistics.took,
         })
     }
 
@@ -54,10 +54,10 @@ impl<S: VersionStore, T: Stream + Drop> Daemon<S, T> {
     }
 
     /// What went over all connections since the start.
-    fn traffic(&self) -> BothWays {
-        let mut sum = self.ledger.gone;
-        for guest in self.guests.iter() {
-            sum = with_seen(sum, &self.seen(guest.client));
+    fn traffic(&self) -> TrafficTotals {
+        let mut sum = self.statistics.gone;
+        for entry in self.clients.iter() {
+            sum = with_counters(sum, &self.counters(entry.client));
         }
         sum
     }
@@ -74,7 +74,7 @@ impl<S: VersionStore, T: Stream + Drop> Daemon<S, T> {
         Ok(found)
     }
 
-    fn file_status(&self, file: &Followed, now: u64) -> Result<FileStatus, AllocError> {
+    fn file_status(&self, file: &WatchedFile, now: u64) -> Result<FileStatus, AllocError> {
         Ok(FileStatus {
             path: file.path.clone()?,
             built: built_of(file, self.service.sources(), now),
@@ -88,45 +88,45 @@ impl<S: VersionStore, T: Stream + Drop> Daemon<S, T> {
     /// Of all clients.
     fn client_statuses(&self, now: u64, millis: u64) -> Result<Vec<ClientStatus>, AllocError> {
         let mut found = Vec::new(self.alloc);
-        for guest in self.guests.iter() {
-            found.push(self.client_status(guest, now, millis))?;
+        for entry in self.clients.iter() {
+            found.push(self.client_status(entry, now, millis))?;
         }
         Ok(found)
     }
 
-    fn client_status(&self, guest: &Guest, now: u64, millis: u64) -> ClientStatus {
-        let seen = self.seen(guest.client);
-        let carried = seen.carried.unwrap_or(guest.carried);
+    fn client_status(&self, entry: &ClientEntry, now: u64, millis: u64) -> ClientStatus {
+        let counters = self.counters(entry.client);
+        let carried = counters.carried.unwrap_or(entry.carried);
         ClientStatus {
-            address: guest.address,
-            version: seen.version.map(number_of),
+            address: entry.address,
+            version: counters.version.map(number_of),
             serial: self
                 .service
                 .server()
-                .last_serial(guest.client)
+                .last_serial(entry.client)
                 .map(number_in),
-            since: now.saturating_sub(millis.saturating_sub(guest.came) / 1000),
+            since: now.saturating_sub(millis.saturating_sub(entry.came) / 1000),
             received: ClientTraffic {
                 bytes: carried.read,
-                pdus: seen.received.map(total).unwrap_or(0),
+                pdus: counters.received.map(total).unwrap_or(0),
             },
             sent: ClientTraffic {
                 bytes: carried.written,
-                pdus: seen.sent.map(total).unwrap_or(0),
+                pdus: counters.sent.map(total).unwrap_or(0),
             },
         }
     }
 }
 
 /// A sum, with what is known of one more client.
-pub(crate) fn with_seen(sum: BothWays, seen: &Seen) -> BothWays {
-    match (seen.carried, seen.received, seen.sent) {
+pub(crate) fn with_counters(sum: TrafficTotals, counters: &ClientCounters) -> TrafficTotals {
+    match (counters.carried, counters.received, counters.sent) {
         (Some(carried), Some(received), Some(sent)) => sum.and(carried, received, sent),
         _ => sum,
     }
 }
 
-fn point_status(alloc: Global, point: &Offering) -> Result<FileStatus, AllocError> {
+fn point_status(alloc: Global, point: &WatchedPoint) -> Result<FileStatus, AllocError> {
     Ok(FileStatus {
         path: point.path.clone()?,
         built: None,

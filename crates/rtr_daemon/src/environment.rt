@@ -8,25 +8,25 @@ use std::net::SocketAddr;
 #[derive(Clone, Copy, Debug, PartialEq, Eq)]
 pub enum Ready {
     /// At this gate a connection may wait.
-    Gate(usize),
+    Listener(usize),
     /// On the line of this number bytes may have come, or there may be room again.
-    Line(usize),
+    Connection(usize),
 }
 
 /// What came at a gate.
 #[derive(Debug, Drop)]
 pub enum Accepted<L> {
     /// A connection. No other line has had its number.
-    Line {
-        /// The connection, whose calls do not wait.
-        line: L,
-        /// The number by which it is reported to be ready.
-        number: usize,
+    Connection {
+        /// The connection, which is non-blocking.
+        stream: L,
+        /// The poll token under which it is reported as ready.
+        token: usize,
         /// Where it comes from.
         address: SocketAddr,
     },
     /// None waits.
-    Waits,
+    WouldBlock,
     /// One that was given up before it was taken; another may wait.
     Again,
     /// One may wait, and cannot be taken now, as the system has no descriptor or no memory left.
@@ -36,7 +36,7 @@ pub enum Accepted<L> {
 }
 
 /// The sockets, whose connections are such streams.
-pub trait Ports<L> {
+pub trait Sockets<L> {
     /// Waits until something is ready, for so many milliseconds at most.
     fn wait(&mut self, millis: u64) -> io::Result<()>;
 
@@ -44,7 +44,7 @@ pub trait Ports<L> {
     fn next(&mut self) -> Option<Ready>;
 
     /// Takes a connection at a gate.
-    fn accept(&mut self, gate: usize) -> Accepted<L>;
+    fn accept(&mut self, listener: usize) -> Accepted<L>;
 }
 
 /// What distinguishes one state of a file from another.
@@ -82,7 +82,7 @@ pub trait Time {
 }
 
 /// The log.
-pub trait Journal {
+pub trait EventLog {
     /// Writes a line. What cannot be written is lost.
-    fn tell(&mut self, seconds: u64, event: &Event<'_>);
+    fn log(&mut self, seconds: u64, event: &Event<'_>);
 }

@@ -1,7 +1,7 @@
 //! Visitors of the pages on the daemon's state.
-use crate::host::{Call, Host};
-use crate::line::{Line, is_bounded};
-use crate::shelf::Shelf;
+use crate::connection::{Connection, is_bounded};
+use crate::system::{HttpReady, System};
+use crate::version_cache::VersionCache;
 use bytes::Bytes;
 use daemon_words::VERSION;
 use mio::net::{TcpListener, TcpStream};
@@ -24,7 +24,7 @@ use vrps::VersionLog;
 const BUDGET: u32 = 8;
 
 /// How many things that are ready are looked at in one turn.
-const CALLS: usize = 65_536;
+const READY: usize = 65_536;
 
 /// How many connections are taken in one turn.
 const AT_ONCE: usize = 64;
@@ -34,23 +34,23 @@ const SOON: u64 = 1000;
 
 /// Where visitors are received, and those that are there.
 #[derive(Drop)]
-pub struct Desk {
+pub struct StatusEndpoint {
     alloc: Global,
     listener: TcpListener,
     visitors: Visitors<TcpStream>,
     /// The lines of visitors that are to be served.
     queue: VecDeque<usize>,
     /// Whether a connection may wait.
-    waits: bool,
-    shelf: Shelf,
+    pending: bool,
+    version_cache: VersionCache,
 }
 
 /// How many visitors are there, and how many of them are to be served.
-impl Debug for Desk {
+impl Debug for StatusEndpoint {
     fn fmt<W: fmt::Write>(&self, f: &mut fmt::Formatter<W>) -> fmt::Result {
         write!(
             f,
-            "Desk({:?}, {} to be served)",
+            "StatusEndpoint({:?}, {} to be served)",
             self.visitors,
             self.queue.len()
         )
@@ -59,14 +59,14 @@ impl Debug for Desk {
 
 /// What is asked of the daemon at a moment.
 #[derive(Drop)]
-struct Teller<'a> {
-    daemon: &'a Daemon<VersionLog, Line>,
-    shelf: Shelf,
+struct Snapshot<'a> {
+    daemon: &'a Daemon<VersionLog, Connection>,
+    version_cache: VersionCache,
     now: u64,
     millis: u64,
 }
 
-impl Told for Teller<'_> {
+impl Told for Snapshot<'_> {
     fn now(&mut self) -> u64 {
         self.now
     }
@@ -76,52 +76,53 @@ impl Told for Teller<'_> {
     }
 
     fn list(&mut self) -> Result<Option<Bytes>, AllocError> {
-        self.shelf.list(self.daemon.server().current())
+        self.version_cache.list(self.daemon.server().current())
     }
 
     fn validity(&mut self, route: &Route) -> Result<Option<Validity>, AllocError> {
-        self.shelf.validity(self.daemon.server().current(), route)
+        self.version_cache
+            .validity(self.daemon.server().current(), route)
     }
 }
 
-impl Desk {
+impl StatusEndpoint {
     /// A desk at which visitors are awaited at an address.
     pub fn open<R: Files + std::net::Net + Clock + AllocGlobal, E: Write>(
-        host: &mut Host<'_, R, E>,
+        system: &mut System<'_, R, E>,
         keys: RandomState,
         address: SocketAddr,
-    ) -> std::io::Result<Desk> {
-        let alloc = host.alloc();
-        Ok(Desk {
+    ) -> std::io::Result<StatusEndpoint> {
+        let alloc = system.alloc();
+        Ok(StatusEndpoint {
             alloc,
-            listener: host.listen_for_visitors(address)?,
+            listener: system.listen_for_http(address)?,
             visitors: Visitors::new(alloc, keys),
             queue: VecDeque::new(alloc),
-            waits: true,
-            shelf: Shelf::new(alloc),
+            pending: true,
+            version_cache: VersionCache::new(alloc),
         })
     }
 
     /// Takes in those that come, serves those that are ready, and lets those go whose time is over.
     pub fn turn<R: Files + Clock + AllocGlobal, E: Write>(
         &mut self,
-        daemon: &Daemon<VersionLog, Line>,
-        host: &mut Host<'_, R, E>,
+        daemon: &Daemon<VersionLog, Connection>,
+        system: &mut System<'_, R, E>,
     ) {
-        self.take_calls(host);
-        self.accept(host);
-        let (now, millis) = (host.seconds(), host.millis());
-        self.shelf.drop_old(daemon.server().current());
+        self.note_ready(system);
+        self.accept(system);
+        let (now, millis) = (system.seconds(), system.millis());
+        self.version_cache.drop_old(daemon.server().current());
         self.serve(daemon, now, millis);
         self.visitors.expire(millis);
-        host.wait_at_most(self.patience());
+        system.wait_at_most(self.wait_limit());
     }
 
     /// How long the next turn may wait for the routers' sake.
-    fn patience(&self) -> u64 {
+    fn wait_limit(&self) -> u64 {
         if !self.queue.is_empty() {
             0
-        } else if self.waits || !self.visitors.is_empty() {
+        } else if self.pending || !self.visitors.is_empty() {
             SOON
         } else {
             u64::MAX
@@ -129,72 +130,72 @@ impl Desk {
     }
 
     /// Notes what is ready.
-    fn take_calls<R, E>(&mut self, host: &mut Host<'_, R, E>) {
-        for _call in 0..CALLS {
-            match host.next_call() {
+    fn note_ready<R, E>(&mut self, system: &mut System<'_, R, E>) {
+        for _ready in 0..READY {
+            match system.next_http_ready() {
                 None => return,
-                Some(Call::Desk) => self.waits = true,
-                Some(Call::Visitor(line)) => self.wake(line),
+                Some(HttpReady::Listener) => self.pending = true,
+                Some(HttpReady::Connection(token)) => self.wake(token),
             }
         }
     }
 
-    fn wake(&mut self, line: usize) {
-        if self.visitors.has(line) && !self.queue.contains(&line) {
-            let _ = self.queue.push_back(line);
+    fn wake(&mut self, token: usize) {
+        if self.visitors.has(token) && !self.queue.contains(&token) {
+            let _ = self.queue.push_back(token);
         }
     }
 
     /// Takes connections, as long as some wait. Where one cannot be taken it is tried again within a second.
-    fn accept<R: Clock + AllocGlobal, E: Write>(&mut self, host: &mut Host<'_, R, E>) {
+    fn accept<R: Clock + AllocGlobal, E: Write>(&mut self, system: &mut System<'_, R, E>) {
         for _connection in 0..AT_ONCE {
-            if !self.waits {
+            if !self.pending {
                 return;
             }
             match self.listener.accept() {
-                Ok((stream, _address)) => self.take_in(stream, host),
-                Err(e) if e.kind() == ErrorKind::WouldBlock => self.waits = false,
+                Ok((stream, _address)) => self.admit(stream, system),
+                Err(e) if e.kind() == ErrorKind::WouldBlock => self.pending = false,
                 Err(_) => return,
             }
         }
     }
 
     /// Takes in a visitor; where it cannot be had its connection is closed.
-    fn take_in<R: Clock + AllocGlobal, E: Write>(
+    fn admit<R: Clock + AllocGlobal, E: Write>(
         &mut self,
         stream: TcpStream,
-        host: &mut Host<'_, R, E>,
+        system: &mut System<'_, R, E>,
     ) {
         let mut stream = stream;
         if !is_bounded(&stream) {
             return;
         }
-        if let Some(line) = host.register_visitor(&mut stream) {
-            if self.visitors.admit(line, stream, host.millis()).is_ok() {
-                self.wake(line);
+        if let Some(token) = system.register_http(&mut stream) {
+            if self.visitors.admit(token, stream, system.millis()).is_ok() {
+                self.wake(token);
             }
         }
     }
 
     /// Serves each visitor that is to be served, once, with what the daemon is now.
-    fn serve(&mut self, daemon: &Daemon<VersionLog, Line>, now: u64, millis: u64) {
-        let shelf = mem::replace(&mut self.shelf, Shelf::new(self.alloc));
-        let mut teller = Teller {
+    fn serve(&mut self, daemon: &Daemon<VersionLog, Connection>, now: u64, millis: u64) {
+        let version_cache = mem::replace(&mut self.version_cache, VersionCache::new(self.alloc));
+        let mut snapshot = Snapshot {
             daemon,
-            shelf,
+            version_cache,
             now,
             millis,
         };
-        self.serve_all(&mut teller);
-        let Teller { shelf, .. } = teller;
-        self.shelf = shelf;
+        self.serve_all(&mut snapshot);
+        let Snapshot { version_cache, .. } = snapshot;
+        self.version_cache = version_cache;
     }
 
-    fn serve_all(&mut self, teller: &mut Teller<'_>) {
+    fn serve_all(&mut self, snapshot: &mut Snapshot<'_>) {
         for _visitor in 0..self.queue.len() {
-            if let Some(line) = self.queue.pop_front() {
-                if self.visitors.serve(line, teller, BUDGET) == Some(Visit::Busy) {
-                    self.wake(line);
+            if let Some(token) = self.queue.pop_front() {
+                if self.visitors.serve(token, snapshot, BUDGET) == Some(Visit::Busy) {
+                    self.wake(token);
                 }
             }
         }

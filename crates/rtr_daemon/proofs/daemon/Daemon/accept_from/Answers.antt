@@ -1,5 +1,5 @@
 use Rattle.rtr_daemon.proofs.ServiceLaws.{then_on}
-use Rattle.rtr_daemon.proofs.daemon.Daemon.accept_at.Goals as goal
+use Rattle.rtr_daemon.proofs.daemon.Daemon.accept_from.Goals as goal
 
 pub loop-connection-preserved : goal.loop-connection-preserved
 loop-connection-preserved g c =

@@ -1,5 +1,5 @@
 //! What a daemon has counted since it started.
-use crate::service::Issue;
+use crate::service::PublishReport;
 use prefixes::{IpPrefix, Vrp};
 use rtr_pdu::Kind;
 use rtr_server::{ByteCounts, PdusByKind};
@@ -32,28 +32,23 @@ impl Families {
 
 /// What went over connections in both directions.
 #[derive(Clone, Copy, Debug, PartialEq, Eq)]
-pub(crate) struct BothWays {
+pub(crate) struct TrafficTotals {
     pub(crate) received: Traffic,
     pub(crate) sent: Traffic,
 }
 
-impl BothWays {
+impl TrafficTotals {
     /// Nothing.
-    pub(crate) fn none() -> BothWays {
-        BothWays {
+    pub(crate) fn none() -> TrafficTotals {
+        TrafficTotals {
             received: no_traffic(),
             sent: no_traffic(),
         }
     }
 
     /// With what went over one more connection.
-    pub(crate) fn and(
-        self,
-        carried: ByteCounts,
-        received: PdusByKind,
-        sent: PdusByKind,
-    ) -> BothWays {
-        BothWays {
+    pub(crate) fn and(self, carried: ByteCounts, received: PdusByKind, sent: PdusByKind) -> TrafficTotals {
+        TrafficTotals {
             received: with(self.received, carried.read, received),
             sent: with(self.sent, carried.written, sent),
         }
@@ -62,14 +57,14 @@ impl BothWays {
 
 /// The counts of a daemon, and its last versions.
 #[derive(Debug, Drop)]
-pub(crate) struct Ledger {
+pub(crate) struct Statistics {
     changes: VecDeque<ChangeStatus>,
     /// How many records of each family are served.
     pub(crate) families: Families,
     /// How many clients were taken in.
     pub(crate) clients: u64,
     /// What went over the connections of clients that have gone.
-    pub(crate) gone: BothWays,
+    pub(crate) gone: TrafficTotals,
     /// How many records of length 0 are left out.
     pub(crate) left_out: u64,
     /// How many times a file was taken.
@@ -80,13 +75,13 @@ pub(crate) struct Ledger {
     pub(crate) took: Option<u64>,
 }
 
-impl Ledger {
-    pub(crate) fn new(alloc: Global) -> Result<Ledger, AllocError> {
-        Ok(Ledger {
+impl Statistics {
+    pub(crate) fn new(alloc: Global) -> Result<Statistics, AllocError> {
+        Ok(Statistics {
             changes: VecDeque::with_capacity(alloc, CHANGES)?,
             families: Families { ipv4: 0, ipv6: 0 },
             clients: 0,
-            gone: BothWays::none(),
+            gone: TrafficTotals::none(),
             left_out: 0,
             taken: 0,
             refused: 0,
@@ -118,7 +113,13 @@ impl Ledger {
     }
 
     /// A version was published, of these records. Of the versions before the last ones nothing is kept.
-    pub(crate) fn published(&mut self, serial: u32, at: u64, issue: Issue, families: Families) {
+    pub(crate) fn published(
+        &mut self,
+        serial: u32,
+        at: u64,
+        report: PublishReport,
+        families: Families,
+    ) {
         self.families = families;
         if self.changes.len() >= CHANGES {
             let _oldest = self.changes.pop_front();
@@ -126,9 +127,9 @@ impl Ledger {
         let _ = self.changes.push_back(ChangeStatus {
             serial,
             at,
-            announced: issue.announced,
-            withdrawn: issue.withdrawn,
-            records: issue.records,
+            announced: report.announced,
+            withdrawn: report.withdrawn,
+            records: report.records,
         });
     }
 

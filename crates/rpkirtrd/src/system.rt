@@ -1,11 +1,11 @@
 //! What the daemon sees of the system: sockets over `mio`, files, clocks, and standard error.
-use crate::line::Line;
+use crate::connection::Connection;
 use crate::running::refuse_sockets;
 use daemon_parts::{Event, LogForm, write_event};
 use mio::net::{TcpListener, TcpStream};
 use mio::{Events, Interest, Poll, Token};
 use payload_commands::{Directory, read_directories};
-use rtr_daemon::{Accepted, Disk, Journal, Ports, Ready, Stamp, StartFault, Time};
+use rtr_daemon::{Accepted, Disk, EventLog, Ready, Sockets, Stamp, StartFault, Time};
 use std::alloc::Global;
 use std::collections::VecDeque;
 use std::fmt::{self, Debug};
@@ -23,29 +23,29 @@ const EVENTS: usize = 1024;
 const LINE_ROOM: usize = 4096;
 
 /// The number of the first line; gates have those below.
-const FIRST_LINE: usize = 65_536;
+const FIRST_CONNECTION: usize = 65_536;
 
 /// The number of the gate of visitors, the last one below the lines.
-const DESK: usize = 65_535;
+const STATUS_TOKEN: usize = 65_535;
 
 /// The number of the first visitor, behind all lines.
-const FIRST_VISITOR: usize = 4_611_686_018_427_387_904;
+const FIRST_HTTP_CONNECTION: usize = 4_611_686_018_427_387_904;
 
 /// The errors of `accept` that say that the system, or this process, has no descriptor or no memory left: ENOMEM, ENFILE, EMFILE, ENOBUFS.
 const SHORTAGES: [i32; 4] = [12, 23, 24, 105];
 
 /// What may be ready for the pages on the daemon's state.
 #[derive(Clone, Copy, Debug, PartialEq, Eq)]
-pub enum Call {
+pub enum HttpReady {
     /// A visitor may wait.
-    Desk,
+    Listener,
     /// From the visitor of this number bytes may have come, or there may be room again.
-    Visitor(usize),
+    Connection(usize),
 }
 
 /// The system.
 #[derive(Drop)]
-pub struct Host<'a, R, E> {
+pub struct System<'a, R, E> {
     rt: &'a R,
     err: &'a mut E,
     form: LogForm,
@@ -53,12 +53,12 @@ pub struct Host<'a, R, E> {
     poll: Poll,
     events: Events,
     ready: VecDeque<Ready>,
-    calls: VecDeque<Call>,
+    http_ready: VecDeque<HttpReady>,
     listeners: Vec<TcpListener>,
-    next_line: usize,
-    next_visitor: usize,
+    next_token: usize,
+    next_http_token: usize,
     /// How long the next wait may be for the visitors' sake, in milliseconds.
-    patience: u64,
+    wait_limit: u64,
     began: Instant,
     seconds: u64,
     millis: u64,
@@ -66,11 +66,11 @@ pub struct Host<'a, R, E> {
 }
 
 /// How many addresses it listens at, and how much is ready.
-impl<R, E> Debug for Host<'_, R, E> {
+impl<R, E> Debug for System<'_, R, E> {
     fn fmt<W: fmt::Write>(&self, f: &mut fmt::Formatter<W>) -> fmt::Result {
         write!(
             f,
-            "Host({} listeners, {} ready)",
+            "System({} listeners, {} ready)",
             self.listeners.len(),
             self.ready.len()
         )
@@ -79,23 +79,23 @@ impl<R, E> Debug for Host<'_, R, E> {
 
 /// Why the sockets cannot be had: an address, if it was one, and what of it.
 #[derive(Debug, Drop)]
-pub struct HostFault {
+pub struct SocketFault {
     /// The address.
     pub address: Option<SocketAddr>,
     /// What of it.
     pub error: io::Error,
 }
 
-impl From<io::Error> for HostFault {
-    fn from(error: io::Error) -> HostFault {
-        HostFault {
+impl From<io::Error> for SocketFault {
+    fn from(error: io::Error) -> SocketFault {
+        SocketFault {
             address: None,
             error,
         }
     }
 }
 
-impl<'a, R: Files + Net + Clock + AllocGlobal, E: Write> Host<'a, R, E> {
+impl<'a, R: Files + Net + Clock + AllocGlobal, E: Write> System<'a, R, E> {
     /// The system, with a gate at each of these addresses. No file is read that has more bytes than `max_size`.
     pub fn open(
         rt: &'a R,
@@ -103,9 +103,9 @@ impl<'a, R: Files + Net + Clock + AllocGlobal, E: Write> Host<'a, R, E> {
         form: LogForm,
         max_size: u64,
         addresses: &[SocketAddr],
-    ) -> Result<Host<'a, R, E>, HostFault> {
+    ) -> Result<System<'a, R, E>, SocketFault> {
         let poll = Poll::new(rt)?;
-        let mut host: Host<'a, R, E> = Host {
+        let mut system: System<'a, R, E> = System {
             rt,
             err,
             form,
@@ -113,36 +113,36 @@ impl<'a, R: Files + Net + Clock + AllocGlobal, E: Write> Host<'a, R, E> {
             poll,
             events: Events::with_capacity(rt.alloc(), EVENTS).map_err(io::Error::from)?,
             ready: VecDeque::with_capacity(rt.alloc(), EVENTS).map_err(io::Error::from)?,
-            calls: VecDeque::with_capacity(rt.alloc(), EVENTS).map_err(io::Error::from)?,
+            http_ready: VecDeque::with_capacity(rt.alloc(), EVENTS).map_err(io::Error::from)?,
             listeners: Vec::new(rt.alloc()),
-            next_line: FIRST_LINE,
-            next_visitor: FIRST_VISITOR,
-            patience: u64::MAX,
+            next_token: FIRST_CONNECTION,
+            next_http_token: FIRST_HTTP_CONNECTION,
+            wait_limit: u64::MAX,
             began: Instant::now(rt)?,
             seconds: 0,
             millis: 0,
             text: Vec::with_capacity(rt.alloc(), LINE_ROOM).map_err(io::Error::from)?,
         };
         for address in addresses {
-            if let Err(error) = host.listen(*address) {
-                return Err(HostFault {
+            if let Err(error) = system.listen(*address) {
+                return Err(SocketFault {
                     address: Some(*address),
                     error,
                 });
             }
         }
-        Ok(host)
+        Ok(system)
     }
 
     /// Reports on standard error which socket cannot be had, with the status.
-    pub fn refuse_sockets(&mut self, fault: &HostFault) -> u8 {
+    pub fn refuse_sockets(&mut self, fault: &SocketFault) -> u8 {
         refuse_sockets(fault, self.err)
     }
 
     /// Reports on standard error why the daemon does not start. A path is in quotes if a character of it would break the line.
     pub fn refuse(&mut self, fault: &StartFault) {
         if self.form == LogForm::Json {
-            return self.tell_refusal(fault);
+            return self.log_refusal(fault);
         }
         let _ = match &fault.path {
             Some(path) if path.chars().any(char::is_control) => {
@@ -154,15 +154,15 @@ impl<'a, R: Files + Net + Clock + AllocGlobal, E: Write> Host<'a, R, E> {
     }
 
     /// The same as a line of the log.
-    fn tell_refusal(&mut self, fault: &StartFault) {
+    fn log_refusal(&mut self, fault: &StartFault) {
         let now = self.seconds();
         let Ok(reason) = fault.refusal.to_string(self.rt.alloc()) else {
-            return self.tell(now, &Event::Memory { what: "the start" });
+            return self.log(now, &Event::Memory { what: "the start" });
         };
         let reason = reason.as_str();
         match &fault.path {
-            Some(file) => self.tell(now, &Event::Refused { file, reason }),
-            None => self.tell(now, &Event::Stopped { reason }),
+            Some(file) => self.log(now, &Event::Refused { file, reason }),
+            None => self.log(now, &Event::Stopped { reason }),
         }
     }
 
@@ -171,15 +171,15 @@ impl<'a, R: Files + Net + Clock + AllocGlobal, E: Write> Host<'a, R, E> {
         let (listener, address) = self.bind(address, Token(self.listeners.len()))?;
         self.listeners.push(listener)?;
         let now = self.seconds();
-        self.tell(now, &Event::Listening { address });
+        self.log(now, &Event::Listening { address });
         Ok(())
     }
 
     /// Opens the gate of visitors, and reports where it is.
-    pub fn listen_for_visitors(&mut self, address: SocketAddr) -> io::Result<TcpListener> {
-        let (listener, address) = self.bind(address, Token(DESK))?;
+    pub fn listen_for_http(&mut self, address: SocketAddr) -> io::Result<TcpListener> {
+        let (listener, address) = self.bind(address, Token(STATUS_TOKEN))?;
         let now = self.seconds();
-        self.tell(now, &Event::Status { address });
+        self.log(now, &Event::Status { address });
         Ok(listener)
     }
 
@@ -194,14 +194,14 @@ impl<'a, R: Files + Net + Clock + AllocGlobal, E: Write> Host<'a, R, E> {
     }
 }
 
-impl<'a, R: AllocGlobal, E> Host<'a, R, E> {
+impl<'a, R: AllocGlobal, E> System<'a, R, E> {
     /// The allocator.
     pub fn alloc(&self) -> Global {
         self.rt.alloc()
     }
 }
 
-impl<'a, R: Clock + AllocGlobal, E: Write> Time for Host<'a, R, E> {
+impl<'a, R: Clock + AllocGlobal, E: Write> Time for System<'a, R, E> {
     /// Where the clock cannot be read, what it said last.
     fn seconds(&mut self) -> u64 {
         if let Ok(now) = SystemTime::now(self.rt) {
@@ -219,8 +219,8 @@ impl<'a, R: Clock + AllocGlobal, E: Write> Time for Host<'a, R, E> {
     }
 }
 
-impl<'a, R: Clock + AllocGlobal, E: Write> Journal for Host<'a, R, E> {
-    fn tell(&mut self, seconds: u64, event: &Event<'_>) {
+impl<'a, R: Clock + AllocGlobal, E: Write> EventLog for System<'a, R, E> {
+    fn log(&mut self, seconds: u64, event: &Event<'_>) {
         self.text.clear();
         if write_event(&mut self.text, self.form, seconds, event).is_ok() {
             let _ = self.err.write_all(self.text.as_slice());
@@ -228,7 +228,7 @@ impl<'a, R: Clock + AllocGlobal, E: Write> Journal for Host<'a, R, E> {
     }
 }
 
-impl<'a, R: Files + AllocGlobal + Clone + Drop, E: Write> Disk for Host<'a, R, E> {
+impl<'a, R: Files + AllocGlobal + Clone + Drop, E: Write> Disk for System<'a, R, E> {
     fn stamp(&mut self, path: &str) -> io::Result<Stamp> {
         let found = fs::metadata(self.rt, path)?;
         Ok(Stamp {
@@ -260,20 +260,20 @@ impl<'a, R: Files + AllocGlobal + Clone + Drop, E: Write> Disk for Host<'a, R, E
     }
 }
 
-impl<'a, R: AllocGlobal, E: Write> Ports<Line> for Host<'a, R, E> {
+impl<'a, R: AllocGlobal, E: Write> Sockets<Connection> for System<'a, R, E> {
     fn wait(&mut self, millis: u64) -> io::Result<()> {
-        let wait = Duration::from_millis(millis.min(self.patience));
+        let wait = Duration::from_millis(millis.min(self.wait_limit));
         self.poll.poll(&mut self.events, Some(wait))?;
         for event in self.events.iter() {
             let Token(token) = event.token();
-            if token == DESK {
-                self.calls.push_back(Call::Desk)?;
-            } else if token >= FIRST_VISITOR {
-                self.calls.push_back(Call::Visitor(token))?;
-            } else if token >= FIRST_LINE {
-                self.ready.push_back(Ready::Line(token))?;
+            if token == STATUS_TOKEN {
+                self.http_ready.push_back(HttpReady::Listener)?;
+            } else if token >= FIRST_HTTP_CONNECTION {
+                self.http_ready.push_back(HttpReady::Connection(token))?;
+            } else if token >= FIRST_CONNECTION {
+                self.ready.push_back(Ready::Connection(token))?;
             } else {
-                self.ready.push_back(Ready::Gate(token))?;
+                self.ready.push_back(Ready::Listener(token))?;
             }
         }
         Ok(())
@@ -283,13 +283,13 @@ impl<'a, R: AllocGlobal, E: Write> Ports<Line> for Host<'a, R, E> {
         self.ready.pop_front()
     }
 
-    fn accept(&mut self, gate: usize) -> Accepted<Line> {
-        let Some(listener) = self.listeners.get(gate) else {
-            return Accepted::Waits;
+    fn accept(&mut self, listener: usize) -> Accepted<Connection> {
+        let Some(socket) = self.listeners.get(listener) else {
+            return Accepted::WouldBlock;
         };
-        match listener.accept() {
-            Ok((stream, address)) => self.take_in(stream, address),
-            Err(e) if e.kind() == ErrorKind::WouldBlock => Accepted::Waits,
+        match socket.accept() {
+            Ok((stream, address)) => self.register_connection(stream, address),
+            Err(e) if e.kind() == ErrorKind::WouldBlock => Accepted::WouldBlock,
             Err(e) if is_of_one(e.kind()) => Accepted::Again,
             Err(e) if is_shortage(&e) => Accepted::NoRoom,
             Err(e) => Accepted::Failed(e),
@@ -297,48 +297,52 @@ impl<'a, R: AllocGlobal, E: Write> Ports<Line> for Host<'a, R, E> {
     }
 }
 
-impl<'a, R, E> Host<'a, R, E> {
+impl<'a, R, E> System<'a, R, E> {
     /// The next of what is ready for the pages.
-    pub fn next_call(&mut self) -> Option<Call> {
-        self.calls.pop_front()
+    pub fn next_http_ready(&mut self) -> Option<HttpReady> {
+        self.http_ready.pop_front()
     }
 
     /// Bounds the next waits, in milliseconds.
     pub fn wait_at_most(&mut self, millis: u64) {
-        self.patience = millis;
+        self.wait_limit = millis;
     }
 
-    /// Has a visitor's connection reported when it is ready, and answers its number; None where that cannot be had.
-    pub fn register_visitor(&mut self, stream: &mut TcpStream) -> Option<usize> {
-        let number = self.next_visitor;
-        self.next_visitor = number.saturating_add(1);
+    /// Has a visitor's connection reported when it is ready, and answers its token; None where that cannot be had.
+    pub fn register_http(&mut self, stream: &mut TcpStream) -> Option<usize> {
+        let token = self.next_http_token;
+        self.next_http_token = token.saturating_add(1);
         let both = Interest::READABLE | Interest::WRITABLE;
-        let registered = self.poll.registry().register(stream, Token(number), both);
+        let registered = self.poll.registry().register(stream, Token(token), both);
         if registered.is_ok() {
-            Some(number)
+            Some(token)
         } else {
             None
         }
     }
 
     /// Has a connection reported when it is ready.
-    fn take_in(&mut self, stream: TcpStream, address: SocketAddr) -> Accepted<Line> {
-        let Some(mut line) = Line::of(stream) else {
+    fn register_connection(
+        &mut self,
+        stream: TcpStream,
+        address: SocketAddr,
+    ) -> Accepted<Connection> {
+        let Some(mut connection) = Connection::of(stream) else {
             return Accepted::Again;
         };
-        let number = self.next_line;
-        self.next_line = number.saturating_add(1);
+        let token = self.next_token;
+        self.next_token = token.saturating_add(1);
         let both = Interest::READABLE | Interest::WRITABLE;
         let registry = self.poll.registry();
         if registry
-            .register(line.socket(), Token(number), both)
+            .register(connection.socket(), Token(token), both)
             .is_err()
         {
             return Accepted::Again;
         }
-        Accepted::Line {
-            line,
-            number,
+        Accepted::Connection {
+            stream: connection,
+            token,
             address: SocketAddr::new(address.ip().to_canonical(), address.port()),
         }
     }

@@ -1,7 +1,7 @@
 -- So far the service went on, and its server is as it was.
 use Rattle.std.proofs.Common.{◌≡◌}
 use Rattle.rtr_daemon.specs.Serving.{GoesOn}
-use Rattle.rtr_daemon.proofs.looking.follow_each.Given as goal
+use Rattle.rtr_daemon.proofs.polling.follow_each.Given as goal
 
 abbrev pub invariant-loop-file : goal.invariant-loop-file
 invariant-loop-file g l = record {

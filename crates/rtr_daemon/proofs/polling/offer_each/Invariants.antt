@@ -1,7 +1,7 @@
 -- So far the service went on, and its server is as it was.
 use Rattle.std.proofs.Common.{◌≡◌}
 use Rattle.rtr_daemon.specs.Serving.{GoesOn}
-use Rattle.rtr_daemon.proofs.looking.offer_each.Given as goal
+use Rattle.rtr_daemon.proofs.polling.offer_each.Given as goal
 
 abbrev pub invariant-loop-point : goal.invariant-loop-point
 invariant-loop-point g l = record {

@@ -8,11 +8,11 @@ use std::fmt::{self, Debug};
 use vrps::{OriginIndex, Serial, VrpSet};
 
 /// A version: its serial, and its set.
-type Version<'a> = Option<(Serial, &'a VrpSet)>;
+type CurrentVersion<'a> = Option<(Serial, &'a VrpSet)>;
 
 /// The payload list of a version, and the index of its routes, each as soon as it was asked for.
 #[derive(Drop)]
-pub struct Shelf {
+pub struct VersionCache {
     alloc: Global,
     /// The serial of which it has something.
     serial: Option<u32>,
@@ -21,16 +21,16 @@ pub struct Shelf {
 }
 
 /// The serial of which it has something.
-impl Debug for Shelf {
+impl Debug for VersionCache {
     fn fmt<W: fmt::Write>(&self, f: &mut fmt::Formatter<W>) -> fmt::Result {
-        write!(f, "Shelf({:?})", self.serial)
+        write!(f, "VersionCache({:?})", self.serial)
     }
 }
 
-impl Shelf {
+impl VersionCache {
     /// Nothing was asked for yet.
-    pub fn new(alloc: Global) -> Shelf {
-        Shelf {
+    pub fn new(alloc: Global) -> VersionCache {
+        VersionCache {
             alloc,
             serial: None,
             list: None,
@@ -39,7 +39,7 @@ impl Shelf {
     }
 
     /// Drops what is of an older version.
-    pub fn drop_old(&mut self, version: Version<'_>) {
+    pub fn drop_old(&mut self, version: CurrentVersion<'_>) {
         let serial = match version {
             Some((Serial(serial), _set)) => Some(serial),
             None => None,
@@ -52,7 +52,7 @@ impl Shelf {
     }
 
     /// The payload list of the version, as text, if there is a version.
-    pub fn list(&mut self, version: Version<'_>) -> Result<Option<Bytes>, AllocError> {
+    pub fn list(&mut self, version: CurrentVersion<'_>) -> Result<Option<Bytes>, AllocError> {
         self.drop_old(version);
         let Some((_serial, set)) = version else {
             return Ok(None);
@@ -68,7 +68,7 @@ impl Shelf {
     /// What the version says of a route, if there is a version.
     pub fn validity(
         &mut self,
-        version: Version<'_>,
+        version: CurrentVersion<'_>,
         route: &Route,
     ) -> Result<Option<Validity>, AllocError> {
         self.drop_old(version);

@@ -1,6 +1,0 @@
--- So far the service went on.
-use Rattle.rtr_daemon.specs.Serving.{GoesOn}
-use Rattle.rtr_daemon.proofs.daemon.Daemon.accept_waiting.Given as goal
-
-abbrev pub invariant-loop-gate : goal.invariant-loop-gate
-invariant-loop-gate g l = GoesOn g.S.VersionStore.holds g.T.Stream.remaining g.T.Stream.contents l.initial.self.service l.self.service
