@@ -2,7 +2,7 @@
 use crate::wires::{Router, Shared, Wire, is_list, shared, wire};
 use daemon_parts::{Event, LogForm, write_event};
 use payload_commands::Directory;
-use rtr_daemon::{Accepted, Disk, EventLog, Ready, Sockets, Stamp, Time};
+use rtr_daemon::{AcceptResult, Disk, EventLog, Ready, Sockets, Stamp, Time};
 use std::alloc::{AllocError, Global};
 use std::collections::VecDeque;
 use std::io;
@@ -173,20 +173,20 @@ impl Sockets<Wire> for Stage {
         Some(Ready::Listener(0))
     }
 
-    fn accept(&mut self, _listener: usize) -> Accepted<Wire> {
+    fn accept(&mut self, _listener: usize) -> AcceptResult<Wire> {
         match self.accepting {
             Accepting::Well => {}
-            Accepting::NoRoom => return Accepted::NoRoom,
+            Accepting::NoRoom => return AcceptResult::NoRoom,
             Accepting::Fails => {
-                return Accepted::Failed(io::Error::from(ErrorKind::PermissionDenied));
+                return AcceptResult::Failed(io::Error::from(ErrorKind::PermissionDenied));
             }
         }
         let Some(stream) = self.arriving.pop_front() else {
-            return Accepted::WouldBlock;
+            return AcceptResult::WouldBlock;
         };
         let token = self.connections;
         self.connections = token.saturating_add(1);
-        Accepted::Connection {
+        AcceptResult::Connection {
             stream,
             token,
             address: SocketAddr::from(([192, 0, 2, 1], 179)),

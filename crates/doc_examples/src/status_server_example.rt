@@ -1,4 +1,4 @@
-use status_server::{VISIT_MILLIS, Visitors};
+use status_server::{CONNECTION_MILLIS, HttpConnections};
 use std::hash::RandomState;
 use std::io;
 use std::io::{ErrorKind, Read, Write};
@@ -26,11 +26,11 @@ impl Write for Silent {
 
 #[test]
 fn a_visitor_has_30_seconds(rt: HostRuntime) -> Result<(), Fail> {
-    let mut visitors = Visitors::new(rt.alloc(), RandomState::new(&rt)?);
-    visitors.admit(7, Silent, 0)?;
-    visitors.expire(VISIT_MILLIS - 1);
-    assert!(rt; visitors.has(7));
-    visitors.expire(VISIT_MILLIS);
-    assert!(rt; visitors.is_empty());
+    let mut connections = HttpConnections::new(rt.alloc(), RandomState::new(&rt)?);
+    connections.admit(7, Silent, 0)?;
+    connections.expire(CONNECTION_MILLIS - 1);
+    assert!(rt; connections.has(7));
+    connections.expire(CONNECTION_MILLIS);
+    assert!(rt; connections.is_empty());
     Ok(())
 }

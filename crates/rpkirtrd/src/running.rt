@@ -5,10 +5,10 @@ use crate::status_endpoint::StatusEndpoint;
 use crate::system::{SocketFault, System};
 use daemon_parts::{Event, VersionNames};
 use daemon_words::{Asked, Settings, WordsFault, read_words};
-use rtr_daemon::{Daemon, End, EventLog, Paths, Plan, Refusal, Sockets, StartFault, Time};
+use rtr_daemon::{Daemon, EventLog, Paths, Plan, Refusal, Sockets, StartFault, StopReason, Time};
 use rtr_ends::Cache;
 use rtr_server::Server;
-use status_server::MAX_VISITORS;
+use status_server::MAX_CONNECTIONS;
 use std::alloc::{AllocError, Global};
 use std::hash::RandomState;
 use std::io::{self, ErrorKind, Write};
@@ -255,14 +255,14 @@ fn plan_of(settings: &Settings, most: usize) -> Plan {
 
 /// How many clients there may be: as many as are asked for, and as the system gives descriptors.
 fn client_limit<J: EventLog>(settings: &Settings, now: u64, events: &mut J) -> usize {
-    let visitors = if settings.status.is_some() {
-        MAX_VISITORS
+    let http_connections = if settings.status.is_some() {
+        MAX_CONNECTIONS
     } else {
         0
     };
     let most = descriptors()
         .saturating_sub(OWN_DESCRIPTORS)
-        .saturating_sub(visitors)
+        .saturating_sub(http_connections)
         .max(1);
     let asked = settings.clients;
     if asked > most {
@@ -324,21 +324,21 @@ fn go_on<R: Files + Net + Clock + RandomSource + AllocGlobal + Clone + Drop, E: 
 }
 
 /// Reports why the daemon ends, with the status.
-fn stop<W: Time + EventLog>(end: End, env: &mut W) -> u8 {
+fn stop<W: Time + EventLog>(end: StopReason, env: &mut W) -> u8 {
     let reason = reason_of(end);
     let now = env.seconds();
     env.log(now, &Event::Stopped { reason });
     match end {
-        End::Once | End::Test => 0,
-        End::Old => 1,
+        StopReason::Once | StopReason::Test => 0,
+        StopReason::Old => 1,
     }
 }
 
-fn reason_of(end: End) -> &'static str {
+fn reason_of(end: StopReason) -> &'static str {
     match end {
-        End::Once => "the client has gone",
-        End::Test => "all files can be taken, and with --test nothing is served",
-        End::Old => "an export is older than --max-age",
+        StopReason::Once => "the client has gone",
+        StopReason::Test => "all files can be taken, and with --test nothing is served",
+        StopReason::Old => "an export is older than --max-age",
     }
 }
 

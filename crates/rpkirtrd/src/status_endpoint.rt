@@ -8,7 +8,7 @@ use mio::net::{TcpListener, TcpStream};
 use prefixes::Route;
 use rtr_daemon::{Daemon, Time};
 use status_pages::{Status, Validity};
-use status_server::{Told, Visit, Visitors};
+use status_server::{HttpConnections, Progress, StatusSource};
 use std::alloc::{AllocError, Global};
 use std::collections::VecDeque;
 use std::fmt::{self, Debug};
@@ -37,7 +37,7 @@ const SOON: u64 = 1000;
 pub struct StatusEndpoint {
     alloc: Global,
     listener: TcpListener,
-    visitors: Visitors<TcpStream>,
+    connections: HttpConnections<TcpStream>,
     /// The lines of visitors that are to be served.
     queue: VecDeque<usize>,
     /// Whether a connection may wait.
@@ -51,7 +51,7 @@ impl Debug for StatusEndpoint {
         write!(
             f,
             "StatusEndpoint({:?}, {} to be served)",
-            self.visitors,
+            self.connections,
             self.queue.len()
         )
     }
@@ -66,7 +66,7 @@ struct Snapshot<'a> {
     millis: u64,
 }
 
-impl Told for Snapshot<'_> {
+impl StatusSource for Snapshot<'_> {
     fn now(&mut self) -> u64 {
         self.now
     }
@@ -96,7 +96,7 @@ impl StatusEndpoint {
         Ok(StatusEndpoint {
             alloc,
             listener: system.listen_for_http(address)?,
-            visitors: Visitors::new(alloc, keys),
+            connections: HttpConnections::new(alloc, keys),
             queue: VecDeque::new(alloc),
             pending: true,
             version_cache: VersionCache::new(alloc),
@@ -114,7 +114,7 @@ impl StatusEndpoint {
         let (now, millis) = (system.seconds(), system.millis());
         self.version_cache.drop_old(daemon.server().current());
         self.serve(daemon, now, millis);
-        self.visitors.expire(millis);
+        self.connections.expire(millis);
         system.wait_at_most(self.wait_limit());
     }
 
@@ -122,7 +122,7 @@ impl StatusEndpoint {
     fn wait_limit(&self) -> u64 {
         if !self.queue.is_empty() {
             0
-        } else if self.pending || !self.visitors.is_empty() {
+        } else if self.pending || !self.connections.is_empty() {
             SOON
         } else {
             u64::MAX
@@ -141,7 +141,7 @@ impl StatusEndpoint {
     }
 
     fn wake(&mut self, token: usize) {
-        if self.visitors.has(token) && !self.queue.contains(&token) {
+        if self.connections.has(token) && !self.queue.contains(&token) {
             let _ = self.queue.push_back(token);
         }
     }
@@ -171,7 +171,11 @@ impl StatusEndpoint {
             return;
         }
         if let Some(token) = system.register_http(&mut stream) {
-            if self.visitors.admit(token, stream, system.millis()).is_ok() {
+            if self
+                .connections
+                .admit(token, stream, system.millis())
+                .is_ok()
+            {
                 self.wake(token);
             }
         }
@@ -194,7 +198,7 @@ impl StatusEndpoint {
     fn serve_all(&mut self, snapshot: &mut Snapshot<'_>) {
         for _visitor in 0..self.queue.len() {
             if let Some(token) = self.queue.pop_front() {
-                if self.visitors.serve(token, snapshot, BUDGET) == Some(Visit::Busy) {
+                if self.connections.serve(token, snapshot, BUDGET) == Some(Progress::Busy) {
                     self.wake(token);
                 }
             }

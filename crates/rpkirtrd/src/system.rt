@@ -5,7 +5,7 @@ use daemon_parts::{Event, LogForm, write_event};
 use mio::net::{TcpListener, TcpStream};
 use mio::{Events, Interest, Poll, Token};
 use payload_commands::{Directory, read_directories};
-use rtr_daemon::{Accepted, Disk, EventLog, Ready, Sockets, Stamp, StartFault, Time};
+use rtr_daemon::{AcceptResult, Disk, EventLog, Ready, Sockets, Stamp, StartFault, Time};
 use std::alloc::Global;
 use std::collections::VecDeque;
 use std::fmt::{self, Debug};
@@ -283,16 +283,16 @@ impl<'a, R: AllocGlobal, E: Write> Sockets<Connection> for System<'a, R, E> {
         self.ready.pop_front()
     }
 
-    fn accept(&mut self, listener: usize) -> Accepted<Connection> {
+    fn accept(&mut self, listener: usize) -> AcceptResult<Connection> {
         let Some(socket) = self.listeners.get(listener) else {
-            return Accepted::WouldBlock;
+            return AcceptResult::WouldBlock;
         };
         match socket.accept() {
             Ok((stream, address)) => self.register_connection(stream, address),
-            Err(e) if e.kind() == ErrorKind::WouldBlock => Accepted::WouldBlock,
-            Err(e) if is_of_one(e.kind()) => Accepted::Again,
-            Err(e) if is_shortage(&e) => Accepted::NoRoom,
-            Err(e) => Accepted::Failed(e),
+            Err(e) if e.kind() == ErrorKind::WouldBlock => AcceptResult::WouldBlock,
+            Err(e) if is_of_one(e.kind()) => AcceptResult::Again,
+            Err(e) if is_shortage(&e) => AcceptResult::NoRoom,
+            Err(e) => AcceptResult::Failed(e),
         }
     }
 }
@@ -326,9 +326,9 @@ impl<'a, R, E> System<'a, R, E> {
         &mut self,
         stream: TcpStream,
         address: SocketAddr,
-    ) -> Accepted<Connection> {
+    ) -> AcceptResult<Connection> {
         let Some(mut connection) = Connection::of(stream) else {
-            return Accepted::Again;
+            return AcceptResult::Again;
         };
         let token = self.next_token;
         self.next_token = token.saturating_add(1);
@@ -338,9 +338,9 @@ impl<'a, R, E> System<'a, R, E> {
             .register(connection.socket(), Token(token), both)
             .is_err()
         {
-            return Accepted::Again;
+            return AcceptResult::Again;
         }
-        Accepted::Connection {
+        AcceptResult::Connection {
             stream: connection,
             token,
             address: SocketAddr::new(address.ip().to_canonical(), address.port()),

@@ -3,7 +3,7 @@ ghost use Rattle.std.specs.Prelude.{◌≡◌, false};
 ghost use Rattle.rtr_daemon.specs.Serving.{GoesOn};
 
 use crate::daemon::Daemon;
-use crate::environment::{Accepted, EventLog, Sockets, Time};
+use crate::environment::{AcceptResult, EventLog, Sockets, Time};
 use daemon_parts::Event;
 use rtr_server::{AdmitFault, Stream};
 use std::alloc::{AllocError, Global};
@@ -135,7 +135,7 @@ impl<S: VersionStore, T: Stream + Drop> Daemon<S, T> {
         ensures { GoesOn S.holds T.remaining T.contents self.old.service self.new.service }
     {
         match env.accept(listener) {
-            Accepted::Connection {
+            AcceptResult::Connection {
                 stream,
                 token,
                 address,
@@ -143,10 +143,10 @@ impl<S: VersionStore, T: Stream + Drop> Daemon<S, T> {
                 self.listeners.is_reported = false;
                 self.admit(stream, token, address, env);
             }
-            Accepted::WouldBlock => self.listeners.note(listener, false),
-            Accepted::Again => {}
-            Accepted::NoRoom => self.pause(listener, &Event::NoDescriptor, env),
-            Accepted::Failed(error) => self.note_accept_failure(listener, &error, env),
+            AcceptResult::WouldBlock => self.listeners.note(listener, false),
+            AcceptResult::Again => {}
+            AcceptResult::NoRoom => self.pause(listener, &Event::NoDescriptor, env),
+            AcceptResult::Failed(error) => self.note_accept_failure(listener, &error, env),
         }
     }
 

@@ -61,7 +61,7 @@ pub struct Plan {
 
 /// Why a daemon has come to its end.
 #[derive(Clone, Copy, Debug, PartialEq, Eq)]
-pub enum End {
+pub enum StopReason {
     /// The one client that it was for has gone.
     Once,
     /// An export is older than it may be.
@@ -160,7 +160,7 @@ impl<S: VersionStore + Drop, T: Stream + Drop> Daemon<S, T> {
     pub fn turn<W: Sockets<T> + Disk + Time + EventLog>(
         &mut self,
         env: &mut W,
-    ) -> io::Result<Option<End>>
+    ) -> io::Result<Option<StopReason>>
         ensures { GoesOn S.holds T.remaining T.contents self.old.service self.new.service }
     {
         let wait = self.wait(env.millis());
@@ -359,17 +359,17 @@ impl<S: VersionStore + Drop, T: Stream + Drop> Daemon<S, T> {
     }
 
     /// How a daemon ends that is to judge its files alone.
-    pub fn judged(&self) -> End {
-        self.end().unwrap_or(End::Test)
+    pub fn judged(&self) -> StopReason {
+        self.end().unwrap_or(StopReason::Test)
     }
 
     /// Why the daemon is to end, where it is.
-    fn end(&self) -> Option<End> {
+    fn end(&self) -> Option<StopReason> {
         if self.plan.once && self.has_parted {
-            return Some(End::Once);
+            return Some(StopReason::Once);
         }
         if self.plan.stops_when_old && self.is_old {
-            return Some(End::Old);
+            return Some(StopReason::Old);
         }
         None
     }

@@ -15,7 +15,7 @@ pub enum Ready {
 
 /// What came at a gate.
 #[derive(Debug, Drop)]
-pub enum Accepted<L> {
+pub enum AcceptResult<L> {
     /// A connection. No other line has had its number.
     Connection {
         /// The connection, which is non-blocking.
@@ -44,7 +44,7 @@ pub trait Sockets<L> {
     fn next(&mut self) -> Option<Ready>;
 
     /// Takes a connection at a gate.
-    fn accept(&mut self, listener: usize) -> Accepted<L>;
+    fn accept(&mut self, listener: usize) -> AcceptResult<L>;
 }
 
 /// What distinguishes one state of a file from another.

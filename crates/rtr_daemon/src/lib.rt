@@ -37,7 +37,7 @@ mod statistics;
 mod status;
 mod watched_file;
 
-pub use daemon::{Daemon, End, Paths, Plan};
-pub use environment::{Accepted, Disk, EventLog, Ready, Sockets, Stamp, Time};
+pub use daemon::{Daemon, Paths, Plan, StopReason};
+pub use environment::{AcceptResult, Disk, EventLog, Ready, Sockets, Stamp, Time};
 pub use refusal::{FileFault, Refusal, StartFault};
 pub use service::{PublishReport, Service};

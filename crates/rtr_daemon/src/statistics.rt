@@ -3,7 +3,7 @@ use crate::service::PublishReport;
 use prefixes::{IpPrefix, Vrp};
 use rtr_pdu::Kind;
 use rtr_server::{ByteCounts, PdusByKind};
-use status_pages::{ChangeStatus, PduCounts, Traffic};
+use status_pages::{ChangeStatus, PdusByType, TotalTraffic};
 use std::alloc::{AllocError, Global};
 use std::collections::VecDeque;
 
@@ -33,8 +33,8 @@ impl Families {
 /// What went over connections in both directions.
 #[derive(Clone, Copy, Debug, PartialEq, Eq)]
 pub(crate) struct TrafficTotals {
-    pub(crate) received: Traffic,
-    pub(crate) sent: Traffic,
+    pub(crate) received: TotalTraffic,
+    pub(crate) sent: TotalTraffic,
 }
 
 impl TrafficTotals {
@@ -162,8 +162,8 @@ pub(crate) fn total(pdus: PdusByKind) -> u64 {
     .fold(0u64, |sum, count| sum.saturating_add(*count))
 }
 
-fn counts_of(pdus: PdusByKind) -> PduCounts {
-    PduCounts {
+fn counts_of(pdus: PdusByKind) -> PdusByType {
+    PdusByType {
         serial_notify: pdus.of(Kind::SerialNotify),
         serial_query: pdus.of(Kind::SerialQuery),
         reset_query: pdus.of(Kind::ResetQuery),
@@ -177,10 +177,10 @@ fn counts_of(pdus: PdusByKind) -> PduCounts {
     }
 }
 
-fn no_traffic() -> Traffic {
-    Traffic {
+fn no_traffic() -> TotalTraffic {
+    TotalTraffic {
         bytes: 0,
-        pdus: PduCounts {
+        pdus: PdusByType {
             serial_notify: 0,
             serial_query: 0,
             reset_query: 0,
@@ -196,11 +196,11 @@ fn no_traffic() -> Traffic {
 }
 
 /// Traffic, with so many bytes and these PDUs more.
-fn with(traffic: Traffic, bytes: u64, pdus: PdusByKind) -> Traffic {
+fn with(traffic: TotalTraffic, bytes: u64, pdus: PdusByKind) -> TotalTraffic {
     let (old, new) = (traffic.pdus, counts_of(pdus));
-    Traffic {
+    TotalTraffic {
         bytes: traffic.bytes.saturating_add(bytes),
-        pdus: PduCounts {
+        pdus: PdusByType {
             serial_notify: old.serial_notify.saturating_add(new.serial_notify),
             serial_query: old.serial_query.saturating_add(new.serial_query),
             reset_query: old.reset_query.saturating_add(new.reset_query),

@@ -3,6 +3,8 @@
 #![tactic(auto)]
 
 #[cfg(test)]
+mod http_connections;
+#[cfg(test)]
 mod metrics;
 #[cfg(test)]
 mod pages;
@@ -12,7 +14,5 @@ mod queries;
 mod validities;
 #[cfg(test)]
 mod values;
-#[cfg(test)]
-mod visits;
 #[cfg(test)]
 mod wires;

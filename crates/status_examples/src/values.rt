@@ -1,6 +1,6 @@
 //! What a cache may be.
 use status_pages::{
-    ChangeStatus, ClientStatus, ClientTraffic, FileStatus, PduCounts, Status, Traffic,
+    ChangeStatus, ClientStatus, ClientTraffic, FileStatus, PdusByType, Status, TotalTraffic,
 };
 use std::alloc::{AllocError, Global};
 use std::net::{IpAddr, Ipv4Addr, Ipv6Addr, SocketAddr};
@@ -8,7 +8,7 @@ use std::net::{IpAddr, Ipv4Addr, Ipv6Addr, SocketAddr};
 /// 2026-11-26T00:37:00Z.
 pub(crate) const NOW: u64 = 1_795_653_420;
 
-const NO_PDUS: PduCounts = PduCounts {
+const NO_PDUS: PdusByType = PdusByType {
     serial_notify: 0,
     serial_query: 0,
     reset_query: 0,
@@ -39,11 +39,11 @@ pub(crate) fn empty(alloc: Global) -> Status {
         clients: Vec::new(alloc),
         client_limit: 256,
         clients_ever: 0,
-        received: Traffic {
+        received: TotalTraffic {
             bytes: 0,
             pdus: NO_PDUS,
         },
-        sent: Traffic {
+        sent: TotalTraffic {
             bytes: 0,
             pdus: NO_PDUS,
         },

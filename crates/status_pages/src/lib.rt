@@ -36,7 +36,7 @@ pub use page::write_page;
 pub use query::read_query;
 pub use query_fault::QueryFault;
 pub use status::{
-    ChangeStatus, ClientStatus, ClientTraffic, FileStatus, PduCounts, Status, Traffic,
+    ChangeStatus, ClientStatus, ClientTraffic, FileStatus, PdusByType, Status, TotalTraffic,
 };
 pub use validity::Validity;
 pub use validity_text::write_validity;

@@ -1,6 +1,6 @@
 //! What a cache is, in the text form of Prometheus.
 
-use crate::status::{FileStatus, PduCounts, Status, Traffic};
+use crate::status::{FileStatus, PdusByType, Status, TotalTraffic};
 use crate::text::{write_decimal, write_label, write_texts};
 use std::io::{self, Write};
 
@@ -186,7 +186,7 @@ fn write_seconds<W: Write>(out: &mut W, milliseconds: u64) -> io::Result<()> {
 
 /// Which number of a file is given.
 #[derive(Clone, Copy, PartialEq, Eq)]
-enum Told {
+enum FileMetric {
     Age,
     Taken,
     Refused,
@@ -195,13 +195,13 @@ enum Told {
 }
 
 /// The number of a file, if it has one.
-fn told_of(file: &FileStatus, now: u64, what: Told) -> Option<u64> {
+fn file_metric(file: &FileStatus, now: u64, what: FileMetric) -> Option<u64> {
     match what {
-        Told::Age => file.built.map(|built| now.saturating_sub(built)),
-        Told::Taken => file.taken,
-        Told::Refused => Some(u64::from(file.refusal.is_some())),
-        Told::Old => Some(u64::from(file.is_old)),
-        Told::Expired => Some(file.expired),
+        FileMetric::Age => file.built.map(|built| now.saturating_sub(built)),
+        FileMetric::Taken => file.taken,
+        FileMetric::Refused => Some(u64::from(file.refusal.is_some())),
+        FileMetric::Old => Some(u64::from(file.is_old)),
+        FileMetric::Expired => Some(file.expired),
     }
 }
 
@@ -219,11 +219,11 @@ fn write_of_files<W: Write>(
     status: &Status,
     name: &str,
     help: &str,
-    what: Told,
+    what: FileMetric,
 ) -> io::Result<()> {
     write_head(out, name, "gauge", help)?;
     for file in &status.files {
-        if let Some(value) = told_of(file, status.now, what) {
+        if let Some(value) = file_metric(file, status.now, what) {
             write_of_file(out, name, &file.path, value)?;
         }
     }
@@ -237,35 +237,35 @@ fn write_files<W: Write>(out: &mut W, status: &Status) -> io::Result<()> {
         status,
         "rpkirtrd_export_age_seconds",
         "How long ago what was taken last of a file was made.",
-        Told::Age,
+        FileMetric::Age,
     )?;
     write_of_files(
         out,
         status,
         "rpkirtrd_file_taken_timestamp_seconds",
         "When a file was taken last, in seconds since 1970.",
-        Told::Taken,
+        FileMetric::Taken,
     )?;
     write_of_files(
         out,
         status,
         "rpkirtrd_file_refused",
         "Whether a file is refused, 1, or not, 0.",
-        Told::Refused,
+        FileMetric::Refused,
     )?;
     write_of_files(
         out,
         status,
         "rpkirtrd_file_old",
         "Whether what a file has is older than it may be, 1, or not, 0.",
-        Told::Old,
+        FileMetric::Old,
     )?;
     write_of_files(
         out,
         status,
         "rpkirtrd_file_expired_entries",
         "Entries of a file that have expired.",
-        Told::Expired,
+        FileMetric::Expired,
     )
 }
 
@@ -295,7 +295,7 @@ fn write_clients<W: Write>(out: &mut W, status: &Status) -> io::Result<()> {
 }
 
 /// The types of PDUs with how many there were.
-fn listed(pdus: &PduCounts) -> [(&'static str, u64); 10] {
+fn listed(pdus: &PdusByType) -> [(&'static str, u64); 10] {
     [
         ("serial_notify", pdus.serial_notify),
         ("serial_query", pdus.serial_query),
@@ -329,7 +329,7 @@ fn write_pdu_count<W: Write>(
 }
 
 /// Writes the PDUs that went one way.
-fn write_pdus<W: Write>(out: &mut W, direction: &str, traffic: &Traffic) -> io::Result<()> {
+fn write_pdus<W: Write>(out: &mut W, direction: &str, traffic: &TotalTraffic) -> io::Result<()> {
     for (kind, count) in &listed(&traffic.pdus) {
         write_pdu_count(out, direction, *kind, *count)?;
     }

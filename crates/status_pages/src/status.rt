@@ -36,9 +36,9 @@ pub struct Status {
     /// How many clients were taken in since the start, with those that have gone.
     pub clients_ever: u64,
     /// What all clients since the start sent.
-    pub received: Traffic,
+    pub received: TotalTraffic,
     /// What all clients since the start were sent.
-    pub sent: Traffic,
+    pub sent: TotalTraffic,
     /// How many times a file was taken since the start.
     pub reloads_taken: u64,
     /// How many times a file was refused since the start.
@@ -107,16 +107,16 @@ pub struct ClientTraffic {
 
 /// What went one way on all connections.
 #[derive(Clone, Copy, Debug, PartialEq, Eq)]
-pub struct Traffic {
+pub struct TotalTraffic {
     /// How many bytes.
     pub bytes: u64,
     /// How many PDUs of each type.
-    pub pdus: PduCounts,
+    pub pdus: PdusByType,
 }
 
 /// How many PDUs of each type (RFC 8210 section 5).
 #[derive(Clone, Copy, Debug, PartialEq, Eq)]
-pub struct PduCounts {
+pub struct PdusByType {
     pub serial_notify: u64,
     pub serial_query: u64,
     pub reset_query: u64,

@@ -1,1 +1,1 @@
-pub mod VisitLaws
+pub mod ConnectionLaws

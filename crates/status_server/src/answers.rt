@@ -2,7 +2,7 @@
 ghost use Rattle.std.specs.Prelude.{IsTrue};
 ghost use Rattle.http_header.specs.FieldValue.{is_visible_text};
 
-use crate::told::Told;
+use crate::status_source::StatusSource;
 use bytes::{BufMut, Bytes};
 use http::header::{
     ALLOW, CACHE_CONTROL, CONTENT_SECURITY_POLICY, CONTENT_TYPE, DATE, RETRY_AFTER,
@@ -62,13 +62,13 @@ fn refuse_early(response: &mut Response) -> Result<(), AllocError> {
 #[derive(Drop)]
 pub(crate) struct Answers<'a, S> {
     pub(crate) alloc: Global,
-    pub(crate) told: &'a mut S,
+    pub(crate) source: &'a mut S,
 }
 
-impl<S: Told> Answers<'_, S> {
+impl<S: StatusSource> Answers<'_, S> {
     /// Adds the moment of the answer (RFC 9110 section 6.6.1), if it is one of the years 1970 to 9999.
     fn add_date(&mut self, response: &mut Response) -> Result<(), AllocError> {
-        let Ok(date) = HttpDate::from_unix_secs(self.told.now()) else {
+        let Ok(date) = HttpDate::from_unix_secs(self.source.now()) else {
             return Ok(());
         };
         match HeaderValue::from_bytes(self.alloc, &date.to_bytes()) {
@@ -79,7 +79,7 @@ impl<S: Told> Answers<'_, S> {
 
     /// The page for people.
     fn page(&mut self, response: &mut Response) -> Result<(), AllocError> {
-        let status = self.told.status()?;
+        let status = self.source.status()?;
         let mut text = Vec::new(self.alloc);
         if write_page(&mut text, &status).is_err() {
             return Err(AllocError);
@@ -93,7 +93,7 @@ impl<S: Told> Answers<'_, S> {
 
     /// The metrics.
     fn metrics(&mut self, response: &mut Response) -> Result<(), AllocError> {
-        let status = self.told.status()?;
+        let status = self.source.status()?;
         let mut text = Vec::new(self.alloc);
         if write_metrics(&mut text, &status).is_err() {
             return Err(AllocError);
@@ -104,7 +104,7 @@ impl<S: Told> Answers<'_, S> {
 
     /// The payload list.
     fn list(&mut self, response: &mut Response) -> Result<(), AllocError> {
-        let Some(list) = self.told.list()? else {
+        let Some(list) = self.source.list()? else {
             return refuse_early(response);
         };
         add_headers(response, "application/json; charset=utf-8")?;
@@ -113,10 +113,10 @@ impl<S: Told> Answers<'_, S> {
 
     /// What is said of a route.
     fn validity(&mut self, route: &Route, response: &mut Response) -> Result<(), AllocError> {
-        let Some(validity) = self.told.validity(route)? else {
+        let Some(validity) = self.source.validity(route)? else {
             return refuse_early(response);
         };
-        let now = self.told.now();
+        let now = self.source.now();
         let mut text = Vec::new(self.alloc);
         if write_validity(&mut text, route, &validity, now).is_err() {
             return Err(AllocError);
@@ -162,7 +162,7 @@ impl<S: Told> Answers<'_, S> {
     }
 }
 
-impl<S: Told> Service for Answers<'_, S> {
+impl<S: StatusSource> Service for Answers<'_, S> {
     ghost answers = { λ old request response new. Unit {0} };
 
     fn call(

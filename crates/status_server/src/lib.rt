@@ -3,7 +3,7 @@
 //! For example, where `rt` is the runtime that `main` is handed:
 //!
 //! ```rust
-//! use status_server::{VISIT_MILLIS, Visitors};
+//! use status_server::{CONNECTION_MILLIS, HttpConnections};
 //! use std::hash::RandomState;
 //! use std::io;
 //! use std::io::{ErrorKind, Read, Write};
@@ -28,20 +28,20 @@
 //!     }
 //! }
 //!
-//! let mut visitors = Visitors::new(rt.alloc(), RandomState::new(&rt)?);
-//! visitors.admit(7, Silent, 0)?;
-//! visitors.expire(VISIT_MILLIS - 1);
-//! assert!(rt; visitors.has(7));
-//! visitors.expire(VISIT_MILLIS);
-//! assert!(rt; visitors.is_empty());
+//! let mut connections = HttpConnections::new(rt.alloc(), RandomState::new(&rt)?);
+//! connections.admit(7, Silent, 0)?;
+//! connections.expire(CONNECTION_MILLIS - 1);
+//! assert!(rt; connections.has(7));
+//! connections.expire(CONNECTION_MILLIS);
+//! assert!(rt; connections.is_empty());
 //! ```
 #![tactic(auto)]
 
 mod answers;
-mod told;
-mod visitor;
-mod visitors;
+mod http_connection;
+mod http_connections;
+mod status_source;
 
-pub use told::Told;
-pub use visitor::Visit;
-pub use visitors::{AdmitFault, MAX_VISITORS, VISIT_MILLIS, Visitors};
+pub use http_connection::Progress;
+pub use http_connections::{CONNECTION_MILLIS, HttpAdmitFault, HttpConnections, MAX_CONNECTIONS};
+pub use status_source::StatusSource;

@@ -1,4 +1,4 @@
--- Visits as places show them.
+-- Connections as entries show them.
 use Rattle.std.proofs.Common.{◌≡◌, ℕ, ◌+◌, suc, Bool, true, false, not, nat_lt, ◌||◌, cond, List, [], ◌∷◌, length, Some, None, arith, map, filter, get_or, refl, ap, sym, ◌∙◌}
 use Rattle.std.proofs.lemmas.List.{map-set, set-get_or}
 use Rattle.std.proofs.Math.ListN.{set}

@@ -4,7 +4,9 @@ use crate::wires::{Shared, Wire, has, is_list, shared};
 use bytes::Bytes;
 use prefixes::{Asn, IpPrefix, Route, Vrp};
 use status_pages::{Status, Validity};
-use status_server::{AdmitFault, MAX_VISITORS, Told, VISIT_MILLIS, Visit, Visitors};
+use status_server::{
+    CONNECTION_MILLIS, HttpAdmitFault, HttpConnections, MAX_CONNECTIONS, Progress, StatusSource,
+};
 use std::alloc::{AllocError, Global};
 use std::hash::RandomState;
 use std::test::Fail;
@@ -17,7 +19,7 @@ struct Small {
     index: Option<OriginIndex>,
 }
 
-impl Told for Small {
+impl StatusSource for Small {
     fn now(&mut self) -> u64 {
         NOW
     }
@@ -41,7 +43,7 @@ impl Told for Small {
     }
 }
 
-fn told(alloc: Global) -> Result<Small, Fail> {
+fn source(alloc: Global) -> Result<Small, Fail> {
     let mut list = Vec::new(alloc);
     list.push(Vrp::new(IpPrefix::parse("192.0.2.0/24")?, 24, Asn(64496))?)?;
     let index = OriginIndex::over(alloc, &VrpSet::from_list(list)?)?;
@@ -52,24 +54,28 @@ fn told(alloc: Global) -> Result<Small, Fail> {
 }
 
 /// What comes of one visitor that sends this, at so many bytes a call, and what it is sent.
-fn visit(rt: &HostRuntime, request: &[u8], piece: usize) -> Result<(Option<Visit>, Shared), Fail> {
-    let mut told = told(rt.alloc())?;
-    visit_to(rt, &mut told, request, piece)
+fn answered(
+    rt: &HostRuntime,
+    request: &[u8],
+    piece: usize,
+) -> Result<(Option<Progress>, Shared), Fail> {
+    let mut source = source(rt.alloc())?;
+    answered_by(rt, &mut source, request, piece)
 }
 
 /// The same of a cache.
-fn visit_to(
+fn answered_by(
     rt: &HostRuntime,
-    told: &mut Small,
+    source: &mut Small,
     request: &[u8],
     piece: usize,
-) -> Result<(Option<Visit>, Shared), Fail> {
+) -> Result<(Option<Progress>, Shared), Fail> {
     let output = shared(rt.alloc(), b"")?;
     let wire = Wire::of(&shared(rt.alloc(), request)?, &output, piece)?;
-    let mut visitors = Visitors::new(rt.alloc(), RandomState::new(rt)?);
-    visitors.admit(7, wire, 0)?;
-    let visit = visitors.serve(7, told, 100_000);
-    Ok((visit, output))
+    let mut connections = HttpConnections::new(rt.alloc(), RandomState::new(rt)?);
+    connections.admit(7, wire, 0)?;
+    let answered = connections.serve(7, source, 100_000);
+    Ok((answered, output))
 }
 
 /// A request, and what the answer begins with, and has in it.
@@ -121,11 +127,11 @@ const ANSWERS: &[Answer] = &[
 #[test]
 fn requests_are_answered(rt: HostRuntime) -> Result<(), Fail> {
     for &(request, begin, part) in ANSWERS {
-        let (came, output) = visit(&rt, request.as_bytes(), 4096)?;
-        assert!(rt; came == Some(Visit::Waits), "{request}");
+        let (came, output) = answered(&rt, request.as_bytes(), 4096)?;
+        assert!(rt; came == Some(Progress::WouldBlock), "{request}");
         assert!(rt; has(rt.alloc(), &output, begin, part)?, "{request}");
-        let (came, slow) = visit(&rt, request.as_bytes(), 1)?;
-        assert!(rt; came == Some(Visit::Waits), "{request}");
+        let (came, slow) = answered(&rt, request.as_bytes(), 1)?;
+        assert!(rt; came == Some(Progress::WouldBlock), "{request}");
         assert!(rt; is_list(&slow, &output), "{request}");
     }
     Ok(())
@@ -148,12 +154,12 @@ fn nothing_is_said_of_records_before_a_version(rt: HostRuntime) -> Result<(), Fa
     let begin =
         "HTTP/1.1 503 Service Unavailable\r\ndate: Thu, 26 Nov 2026 00:37:00 GMT\r\nretry-after: 1\r\ncontent-type: text/plain; charset=utf-8\r\n";
     for &(request, part) in EARLY {
-        let mut told = Small {
+        let mut source = Small {
             alloc: rt.alloc(),
             index: None,
         };
-        let (came, output) = visit_to(&rt, &mut told, request.as_bytes(), 4096)?;
-        assert!(rt; came == Some(Visit::Waits), "{request}");
+        let (came, output) = answered_by(&rt, &mut source, request.as_bytes(), 4096)?;
+        assert!(rt; came == Some(Progress::WouldBlock), "{request}");
         assert!(rt; has(rt.alloc(), &output, begin, part)?, "{request}");
     }
     Ok(())
@@ -175,8 +181,8 @@ const ENDS: &[(&str, &str)] = &[
 #[test]
 fn visits_end(rt: HostRuntime) -> Result<(), Fail> {
     for &(request, begin) in ENDS {
-        let (came, output) = visit(&rt, request.as_bytes(), 4096)?;
-        assert!(rt; came == Some(Visit::Gone), "{request}");
+        let (came, output) = answered(&rt, request.as_bytes(), 4096)?;
+        assert!(rt; came == Some(Progress::Closed), "{request}");
         assert!(rt; has(rt.alloc(), &output, begin, "\r\n")?, "{request}");
     }
     let mut long = Vec::new(rt.alloc());
@@ -184,8 +190,8 @@ fn visits_end(rt: HostRuntime) -> Result<(), Fail> {
     for _letter in 0..9000 {
         long.push(b'a')?;
     }
-    let (came, output) = visit(&rt, &long, 4096)?;
-    assert!(rt; came == Some(Visit::Gone));
+    let (came, output) = answered(&rt, &long, 4096)?;
+    assert!(rt; came == Some(Progress::Closed));
     assert!(rt; has(rt.alloc(), &output, "HTTP/1.1 414 URI Too Long\r\n", "\r\n")?);
     Ok(())
 }
@@ -193,8 +199,8 @@ fn visits_end(rt: HostRuntime) -> Result<(), Fail> {
 #[test]
 fn requests_behind_one_another(rt: HostRuntime) -> Result<(), Fail> {
     let twice = b"GET /vrps.json HTTP/1.1\r\nHost: a\r\n\r\nHEAD /a HTTP/1.1\r\nHost: a\r\n\r\n";
-    let (came, output) = visit(&rt, twice, 4096)?;
-    assert!(rt; came == Some(Visit::Waits));
+    let (came, output) = answered(&rt, twice, 4096)?;
+    assert!(rt; came == Some(Progress::WouldBlock));
     assert!(rt;
         has(
             rt.alloc(),
@@ -211,14 +217,14 @@ fn a_turn_is_bounded(rt: HostRuntime) -> Result<(), Fail> {
     let request = b"GET / HTTP/1.1\r\nHost: a\r\n\r\n";
     let output = shared(rt.alloc(), b"")?;
     let wire = Wire::of(&shared(rt.alloc(), request)?, &output, 1)?;
-    let mut visitors = Visitors::new(rt.alloc(), RandomState::new(&rt)?);
-    let mut told = told(rt.alloc())?;
-    assert!(rt; visitors.serve(7, &mut told, 8) == None);
-    visitors.admit(7, wire, 0)?;
-    assert!(rt; visitors.serve(7, &mut told, 0) == Some(Visit::Busy));
-    assert!(rt; visitors.serve(7, &mut told, 27) == Some(Visit::Busy));
+    let mut connections = HttpConnections::new(rt.alloc(), RandomState::new(&rt)?);
+    let mut source = source(rt.alloc())?;
+    assert!(rt; connections.serve(7, &mut source, 8) == None);
+    connections.admit(7, wire, 0)?;
+    assert!(rt; connections.serve(7, &mut source, 0) == Some(Progress::Busy));
+    assert!(rt; connections.serve(7, &mut source, 27) == Some(Progress::Busy));
     assert!(rt; is_list(&output, &shared(rt.alloc(), b"")?));
-    assert!(rt; visitors.serve(7, &mut told, 1) == Some(Visit::Busy));
+    assert!(rt; connections.serve(7, &mut source, 1) == Some(Progress::Busy));
     assert!(rt; is_list(&output, &shared(rt.alloc(), b"H")?));
     Ok(())
 }
@@ -227,21 +233,21 @@ fn a_turn_is_bounded(rt: HostRuntime) -> Result<(), Fail> {
 fn so_many_visitors_and_so_long(rt: HostRuntime) -> Result<(), Fail> {
     let input = shared(rt.alloc(), b"")?;
     let output = shared(rt.alloc(), b"")?;
-    let mut visitors = Visitors::new(rt.alloc(), RandomState::new(&rt)?);
-    assert!(rt; visitors.is_empty());
-    for line in 0..MAX_VISITORS {
-        visitors.admit(line, Wire::of(&input, &output, 1)?, line as u64)?;
+    let mut connections = HttpConnections::new(rt.alloc(), RandomState::new(&rt)?);
+    assert!(rt; connections.is_empty());
+    for token in 0..MAX_CONNECTIONS {
+        connections.admit(token, Wire::of(&input, &output, 1)?, token as u64)?;
     }
-    assert!(rt; visitors.len() == MAX_VISITORS);
-    let late = visitors.admit(MAX_VISITORS, Wire::of(&input, &output, 1)?, 64);
-    assert!(rt; late == Err(AdmitFault::TooManyVisitors));
-    visitors.expire(VISIT_MILLIS - 1);
-    assert!(rt; visitors.len() == MAX_VISITORS);
-    visitors.expire(VISIT_MILLIS);
-    assert!(rt; !visitors.has(0));
-    assert!(rt; visitors.has(1));
-    assert!(rt; visitors.len() == MAX_VISITORS - 1);
-    visitors.admit(0, Wire::of(&input, &output, 1)?, VISIT_MILLIS)?;
-    assert!(rt; visitors.has(0));
+    assert!(rt; connections.len() == MAX_CONNECTIONS);
+    let late = connections.admit(MAX_CONNECTIONS, Wire::of(&input, &output, 1)?, 64);
+    assert!(rt; late == Err(HttpAdmitFault::TooManyConnections));
+    connections.expire(CONNECTION_MILLIS - 1);
+    assert!(rt; connections.len() == MAX_CONNECTIONS);
+    connections.expire(CONNECTION_MILLIS);
+    assert!(rt; !connections.has(0));
+    assert!(rt; connections.has(1));
+    assert!(rt; connections.len() == MAX_CONNECTIONS - 1);
+    connections.admit(0, Wire::of(&input, &output, 1)?, CONNECTION_MILLIS)?;
+    assert!(rt; connections.has(0));
     Ok(())
 }

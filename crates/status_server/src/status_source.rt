@@ -6,7 +6,7 @@ use status_pages::{Status, Validity};
 use std::alloc::AllocError;
 
 /// What a cache answers when it is asked. An error is for memory alone.
-pub trait Told {
+pub trait StatusSource {
     /// The present moment, in seconds since 1970.
     fn now(&mut self) -> u64;
 
