@@ -1,7 +1,7 @@
 //! A daemon follows its files.
 use crate::stage::{Accepting, LIST, Stage};
 use crate::wires::{Router, Wire};
-use daemon_parts::VersionNames;
+use daemon_parts::SessionIds;
 use example_values::hex::bytes;
 use example_values::units::ANSWER;
 use rtr_daemon::{Daemon, Paths, Plan};
@@ -31,7 +31,7 @@ const PLAN: Plan = Plan {
     clients: 2,
 };
 
-const NAMES: VersionNames = VersionNames {
+const NAMES: SessionIds = SessionIds {
     session: 4660,
     session0: 4660,
     serial: 5,

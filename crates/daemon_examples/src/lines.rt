@@ -1,5 +1,7 @@
 //! Lines of the log, in both forms.
-use daemon_parts::{Departure, Event, LogForm, PeerReport, Publication, VersionNames, write_event};
+use daemon_parts::{
+    ClientClosed, LogEvent, LogFormat, PeerReport, Publication, SessionIds, write_event,
+};
 use std::alloc::Global;
 use std::net::{IpAddr, Ipv4Addr, Ipv6Addr, SocketAddr};
 use std::test::Fail;
@@ -10,9 +12,9 @@ const MOMENT: u64 = 1_795_632_000;
 /// Whether this is the line of an event.
 fn is_line(
     alloc: Global,
-    form: LogForm,
+    form: LogFormat,
     seconds: u64,
-    event: &Event<'_>,
+    event: &LogEvent<'_>,
     line: &str,
 ) -> Result<bool, Fail> {
     let mut told = Vec::new(alloc);
@@ -21,17 +23,17 @@ fn is_line(
 }
 
 /// Whether an event is logged so at 2026-11-25T18:40:00Z: by a word, and by values, which stand behind the time and the word.
-fn is_plain(alloc: Global, event: &Event<'_>, word: &str, values: &str) -> Result<bool, Fail> {
+fn is_plain(alloc: Global, event: &LogEvent<'_>, word: &str, values: &str) -> Result<bool, Fail> {
     let line = format!(in alloc; "2026-11-25T18:40:00Z {word}{values}\n")?;
-    is_line(alloc, LogForm::Text, MOMENT, event, line.as_str())
+    is_line(alloc, LogFormat::Text, MOMENT, event, line.as_str())
 }
 
 /// The same as JSON.
-fn is_object(alloc: Global, event: &Event<'_>, word: &str, values: &str) -> Result<bool, Fail> {
+fn is_object(alloc: Global, event: &LogEvent<'_>, word: &str, values: &str) -> Result<bool, Fail> {
     let line = format!(in alloc;
         "{{\"time\":\"2026-11-25T18:40:00Z\",\"event\":\"{word}\"{values}}}\n"
     )?;
-    is_line(alloc, LogForm::Json, MOMENT, event, line.as_str())
+    is_line(alloc, LogFormat::Json, MOMENT, event, line.as_str())
 }
 
 fn address() -> SocketAddr {
@@ -39,19 +41,19 @@ fn address() -> SocketAddr {
 }
 
 /// Events, and what is logged of them: the word, and the values in both forms.
-type Told = (Event<'static>, &'static str, &'static str, &'static str);
+type Told = (LogEvent<'static>, &'static str, &'static str, &'static str);
 
 /// The events of the daemon and of its files.
 fn daemon_events() -> [Told; 10] {
     [
         (
-            Event::Clock { behind: 3600 },
+            LogEvent::Clock { behind: 3600 },
             "clock",
             " behind=3600",
             ",\"behind\":3600",
         ),
         (
-            Event::Warning {
+            LogEvent::Warning {
                 reason: "the clock is before the year 2020",
             },
             "warning",
@@ -59,7 +61,7 @@ fn daemon_events() -> [Told; 10] {
             ",\"reason\":\"the clock is before the year 2020\"",
         ),
         (
-            Event::Started(VersionNames {
+            LogEvent::Started(SessionIds {
                 session: 4660,
                 session0: 65_535,
                 serial: 4_294_967_295,
@@ -69,15 +71,15 @@ fn daemon_events() -> [Told; 10] {
             ",\"session\":4660,\"session0\":65535,\"serial\":4294967295",
         ),
         (
-            Event::Limited { clients: 100 },
+            LogEvent::Limited { clients: 100 },
             "limited",
             " clients=100",
             ",\"clients\":100",
         ),
-        (Event::Ready, "ready", "", ""),
-        (Event::NoDescriptor, "no-descriptor", "", ""),
+        (LogEvent::Ready, "ready", "", ""),
+        (LogEvent::NoDescriptor, "no-descriptor", "", ""),
         (
-            Event::Published(Publication {
+            LogEvent::Published(Publication {
                 session: 4660,
                 serial: 5,
                 announced: 3,
@@ -90,13 +92,13 @@ fn daemon_events() -> [Told; 10] {
             ",\"session\":4660,\"serial\":5,\"announced\":3,\"withdrawn\":1,\"records\":7,\"ms\":12",
         ),
         (
-            Event::Memory { what: "publish" },
+            LogEvent::Memory { what: "publish" },
             "memory",
             " what=publish",
             ",\"what\":\"publish\"",
         ),
         (
-            Event::Failed {
+            LogEvent::Failed {
                 what: "accept",
                 reason: "",
             },
@@ -105,7 +107,7 @@ fn daemon_events() -> [Told; 10] {
             ",\"what\":\"accept\",\"reason\":\"\"",
         ),
         (
-            Event::Stopped {
+            LogEvent::Stopped {
                 reason: "the first router has gone",
             },
             "stopped",
@@ -119,13 +121,13 @@ fn daemon_events() -> [Told; 10] {
 fn file_events() -> [Told; 7] {
     [
         (
-            Event::LeftOut { records: 2 },
+            LogEvent::LeftOut { records: 2 },
             "left-out",
             " records=2",
             ",\"records\":2",
         ),
         (
-            Event::Refused {
+            LogEvent::Refused {
                 file: "/var/db/vrps.json",
                 reason: "not JSON (fault 1)",
             },
@@ -134,7 +136,7 @@ fn file_events() -> [Told; 7] {
             ",\"file\":\"/var/db/vrps.json\",\"reason\":\"not JSON (fault 1)\"",
         ),
         (
-            Event::Refused {
+            LogEvent::Refused {
                 file: "a\nb",
                 reason: "\"\\",
             },
@@ -143,7 +145,7 @@ fn file_events() -> [Told; 7] {
             ",\"file\":\"a\\u000ab\",\"reason\":\"\\\"\\\\\"",
         ),
         (
-            Event::Taken {
+            LogEvent::Taken {
                 file: "Gr\u{fc}n\u{85}",
             },
             "taken",
@@ -151,7 +153,7 @@ fn file_events() -> [Told; 7] {
             ",\"file\":\"Gr\u{fc}n\\u0085\"",
         ),
         (
-            Event::Old {
+            LogEvent::Old {
                 file: "a=b",
                 age: 86_401,
             },
@@ -160,13 +162,13 @@ fn file_events() -> [Told; 7] {
             ",\"file\":\"a=b\",\"age\":86401",
         ),
         (
-            Event::Fresh { file: "a", age: 0 },
+            LogEvent::Fresh { file: "a", age: 0 },
             "fresh",
             " file=a age=0",
             ",\"file\":\"a\",\"age\":0",
         ),
         (
-            Event::Expired {
+            LogEvent::Expired {
                 file: "a",
                 entries: 18_446_744_073_709_551_615,
             },
@@ -183,25 +185,25 @@ fn client_events() -> [Told; 10] {
     let v6 = SocketAddr::new(IpAddr::V6(Ipv6Addr::LOCALHOST), 3323);
     [
         (
-            Event::Listening { address: v6 },
+            LogEvent::Listening { address: v6 },
             "listening",
             " address=[::1]:3323",
             ",\"address\":\"[::1]:3323\"",
         ),
         (
-            Event::Status { address: v6 },
+            LogEvent::Status { address: v6 },
             "status",
             " address=[::1]:3323",
             ",\"address\":\"[::1]:3323\"",
         ),
         (
-            Event::ClientCame { address: at },
+            LogEvent::ClientCame { address: at },
             "client-came",
             " address=192.0.2.1:40000",
             ",\"address\":\"192.0.2.1:40000\"",
         ),
         (
-            Event::ClientGone(Departure {
+            LogEvent::ClientGone(ClientClosed {
                 address: at,
                 why: "peer closed",
                 version: Some(1),
@@ -214,7 +216,7 @@ fn client_events() -> [Told; 10] {
             ",\"address\":\"192.0.2.1:40000\",\"why\":\"peer closed\",\"version\":1,\"read\":8,\"written\":60,\"seconds\":3600",
         ),
         (
-            Event::ClientGone(Departure {
+            LogEvent::ClientGone(ClientClosed {
                 address: at,
                 why: "truncated",
                 version: None,
@@ -227,7 +229,7 @@ fn client_events() -> [Told; 10] {
             ",\"address\":\"192.0.2.1:40000\",\"why\":\"truncated\",\"version\":null,\"read\":0,\"written\":0,\"seconds\":0",
         ),
         (
-            Event::ErrorReport(PeerReport {
+            LogEvent::ErrorReport(PeerReport {
                 address: at,
                 is_received: true,
                 code: 7,
@@ -238,7 +240,7 @@ fn client_events() -> [Told; 10] {
             ",\"address\":\"192.0.2.1:40000\",\"direction\":\"received\",\"code\":7,\"name\":\"Duplicate Announcement Received\",\"text\":\"a=\\u001b[2J\"",
         ),
         (
-            Event::ErrorReport(PeerReport {
+            LogEvent::ErrorReport(PeerReport {
                 address: v6,
                 is_received: false,
                 code: 300,
@@ -249,13 +251,13 @@ fn client_events() -> [Told; 10] {
             ",\"address\":\"[::1]:3323\",\"direction\":\"sent\",\"code\":300,\"name\":\"unknown\",\"text\":\"\"",
         ),
         (
-            Event::Stalled { address: at },
+            LogEvent::Stalled { address: at },
             "stalled",
             " address=192.0.2.1:40000",
             ",\"address\":\"192.0.2.1:40000\"",
         ),
         (
-            Event::Full {
+            LogEvent::Full {
                 address: at,
                 clients: 256,
             },
@@ -264,7 +266,7 @@ fn client_events() -> [Told; 10] {
             ",\"address\":\"192.0.2.1:40000\",\"clients\":256",
         ),
         (
-            Event::AddressFull {
+            LogEvent::AddressFull {
                 address: at,
                 clients: 8,
             },
@@ -309,7 +311,7 @@ const TIMES: &[(u64, &str)] = &[
 /// Whether each of these times stands in the line of an event.
 fn all_times_are_told(alloc: Global, times: &[(u64, &str)]) -> Result<bool, Fail> {
     for &(seconds, line) in times {
-        if !is_line(alloc, LogForm::Text, seconds, &Event::Ready, line)? {
+        if !is_line(alloc, LogFormat::Text, seconds, &LogEvent::Ready, line)? {
             return Ok(false);
         }
     }

@@ -1,6 +1,6 @@
 //! Sockets, files, time and log in memory.
 use crate::wires::{Router, Shared, Wire, is_list, shared, wire};
-use daemon_parts::{Event, LogForm, write_event};
+use daemon_parts::{LogEvent, LogFormat, write_event};
 use payload_commands::Directory;
 use rtr_daemon::{AcceptResult, Disk, EventLog, Ready, Sockets, Stamp, Time};
 use std::alloc::{AllocError, Global};
@@ -122,8 +122,8 @@ impl Time for Stage {
 }
 
 impl EventLog for Stage {
-    fn log(&mut self, seconds: u64, event: &Event<'_>) {
-        let _ = write_event(&mut self.log, LogForm::Text, seconds, event);
+    fn log(&mut self, seconds: u64, event: &LogEvent<'_>) {
+        let _ = write_event(&mut self.log, LogFormat::Text, seconds, event);
     }
 }
 

@@ -1,5 +1,5 @@
 //! The words of the command line: every option, what stands where it is left out, and what is refused.
-use daemon_words::{Asked, Settings, WordsFault, read_words};
+use daemon_words::{Command, OptionFault, Settings, read_words};
 use std::alloc::{AllocGlobal, Global};
 use std::process::Abort;
 use std::test::Fail;
@@ -17,7 +17,7 @@ fn shown(alloc: Global, settings: &Settings) -> Result<String, Fail> {
     Ok(format!(in alloc; "{settings:?}")?)
 }
 
-fn told(alloc: Global, fault: &WordsFault) -> Result<String, Fail> {
+fn told(alloc: Global, fault: &OptionFault) -> Result<String, Fail> {
     Ok(format!(in alloc; "{fault}")?)
 }
 
@@ -25,9 +25,9 @@ fn told(alloc: Global, fault: &WordsFault) -> Result<String, Fail> {
 fn answer_to(alloc: Global, line: &str) -> Result<String, Fail> {
     let words = words_of(alloc, line)?;
     match read_words(alloc, words.as_slice()) {
-        Ok(Asked::Serve(settings)) => shown(alloc, &settings),
-        Ok(Asked::Help(text)) => Ok(text),
-        Ok(Asked::Version(text)) => Ok(text),
+        Ok(Command::Serve(settings)) => shown(alloc, &settings),
+        Ok(Command::Help(text)) => Ok(text),
+        Ok(Command::Version(text)) => Ok(text),
         Err(fault) => told(alloc, &fault),
     }
 }

@@ -1,44 +1,44 @@
 -- What an event is logged by: a word, and values under their keys.
 use Rattle.std.specs.Prelude.{ℕ, Bool, true, false, List, [], ◌∷◌, codes, Option, None, Some}
 use Rattle.std.specs.declared.net.socket_addr.SocketAddr.{SocketAddr}
-use Rattle.daemon_parts.specs.declared.event.Departure.{Departure}
-use Rattle.daemon_parts.specs.declared.event.Event.{Event}
-use Rattle.daemon_parts.specs.declared.event.Event.TheVariants as event
+use Rattle.daemon_parts.specs.declared.event.ClientClosed.{ClientClosed}
+use Rattle.daemon_parts.specs.declared.event.LogEvent.{LogEvent}
+use Rattle.daemon_parts.specs.declared.event.LogEvent.TheVariants as event
 use Rattle.daemon_parts.specs.declared.event.PeerReport.{PeerReport}
 use Rattle.daemon_parts.specs.declared.event.Publication.{Publication}
 use Rattle.daemon_parts.specs.ReportNames.{report_name}
-use Rattle.daemon_parts.specs.declared.event.VersionNames.{VersionNames}
+use Rattle.daemon_parts.specs.declared.event.SessionIds.{SessionIds}
 use Rattle.daemon_parts.specs.declared.entries.Value.{Value}
 use Rattle.daemon_parts.specs.declared.entries.Value.TheVariants as value
 use Rattle.daemon_parts.specs.declared.entries.Pair.{Pair}
 
 -- a value: nothing, a number, an address with a port, or a text
-pub data Told : Type 0 where
-  Nothing : Told
-  Number : (n : ℕ) → Told
-  Address : (a : SocketAddr) → Told
-  Text : (s : List ℕ) → Told
+pub data LogValue : Type 0 where
+  Nothing : LogValue
+  Number : (n : ℕ) → LogValue
+  Address : (a : SocketAddr) → LogValue
+  Text : (s : List ℕ) → LogValue
 
 -- a value under its key
 pub record Entry : Type 0 where
   pub key : List ℕ
-  pub value : Told
+  pub value : LogValue
 
-abbrev pub entry : List ℕ → Told → Entry
-entry key told = record { key = key; value = told }
+abbrev pub entry : List ℕ → LogValue → Entry
+entry key value = record { key = key; value = value }
 
 -- what a value of the program says
-abbrev pub told_value : Value → Told
-told_value value.Nothing = Nothing
-told_value (value.Number n) = Number n
-told_value (value.Address a) = Address a
-told_value (value.Text s) = Text s.now
+abbrev pub log_value : Value → LogValue
+log_value value.Nothing = Nothing
+log_value (value.Number n) = Number n
+log_value (value.Address a) = Address a
+log_value (value.Text s) = Text s.now
 
-abbrev pub told_pair : Pair → Entry
-told_pair p = entry p.key.now (told_value p.value)
+abbrev pub log_pair : Pair → Entry
+log_pair p = entry p.key.now (log_value p.value)
 
 -- the version of the protocol that a client spoke, if any
-abbrev pub spoken : Option ℕ → Told
+abbrev pub spoken : Option ℕ → LogValue
 spoken None = Nothing
 spoken (Some version) = Number version
 
@@ -52,12 +52,12 @@ abbrev pub of_text : List ℕ → List ℕ → Entry
 of_text key s = entry key (Text s)
 
 -- what is logged of the names of versions,
-abbrev pub name_entries : VersionNames → List Entry
-name_entries n = of_number (codes "session") n.session ∷ of_number (codes "session0") n.session0 ∷ of_number (codes "serial") n.serial ∷ []
+abbrev pub session_entries : SessionIds → List Entry
+session_entries n = of_number (codes "session") n.session ∷ of_number (codes "session0") n.session0 ∷ of_number (codes "serial") n.serial ∷ []
 
 -- of a client that has gone,
-abbrev pub departure_entries : Departure → List Entry
-departure_entries d =
+abbrev pub client_closed_entries : ClientClosed → List Entry
+client_closed_entries d =
     at d.address ∷ of_text (codes "why") d.why.now ∷ entry (codes "version") (spoken d.version)
     ∷ of_number (codes "read") d.read ∷ of_number (codes "written") d.written ∷ of_number (codes "seconds") d.seconds ∷ []
 
@@ -78,14 +78,14 @@ publication_entries p =
     ∷ of_number (codes "withdrawn") p.withdrawn ∷ of_number (codes "records") p.records ∷ of_number (codes "ms") p.milliseconds ∷ []
 
 -- the word of an event,
-abbrev pub word_of : Event → List ℕ
+abbrev pub word_of : LogEvent → List ℕ
 word_of (event.Started names) = codes "started"
 word_of (event.Limited clients) = codes "limited"
 word_of (event.Listening address) = codes "listening"
 word_of (event.Status address) = codes "status"
 word_of event.Ready = codes "ready"
 word_of (event.ClientCame address) = codes "client-came"
-word_of (event.ClientGone departure) = codes "client-gone"
+word_of (event.ClientGone closed) = codes "client-gone"
 word_of (event.ErrorReport report) = codes "error-report"
 word_of (event.Stalled address) = codes "stalled"
 word_of (event.Full address clients) = codes "full"
@@ -105,14 +105,14 @@ word_of (event.Failed what reason) = codes "failed"
 word_of (event.Stopped reason) = codes "stopped"
 
 -- and its values
-abbrev pub entries_of : Event → List Entry
-entries_of (event.Started names) = name_entries names
+abbrev pub entries_of : LogEvent → List Entry
+entries_of (event.Started names) = session_entries names
 entries_of (event.Limited clients) = of_number (codes "clients") clients ∷ []
 entries_of (event.Listening address) = at address ∷ []
 entries_of (event.Status address) = at address ∷ []
 entries_of event.Ready = []
 entries_of (event.ClientCame address) = at address ∷ []
-entries_of (event.ClientGone departure) = departure_entries departure
+entries_of (event.ClientGone closed) = client_closed_entries closed
 entries_of (event.ErrorReport report) = report_entries report
 entries_of (event.Stalled address) = at address ∷ []
 entries_of (event.Full address clients) = at address ∷ of_number (codes "clients") clients ∷ []

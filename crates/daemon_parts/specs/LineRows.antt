@@ -3,35 +3,35 @@ use Rattle.std.specs.Prelude.{◌≡◌, true, false, ◌∷◌, [], codes, refl
 use Rattle.std.specs.Char.{encode_utf8}
 use Rattle.std.specs.Fmt.{digits}
 use Rattle.std.specs.Str.{chars}
-use Rattle.daemon_parts.specs.declared.line.LogForm.TheVariants as form
+use Rattle.daemon_parts.specs.declared.line.LogFormat.TheVariants as form
 use Rattle.daemon_parts.specs.Entries.{Nothing, of_number, of_text, entry}
-use Rattle.daemon_parts.specs.Lines.{escaped, told_char, quoted, is_plain, line_text}
+use Rattle.daemon_parts.specs.Lines.{escaped, log_char, quoted, is_plain, line_text}
 use Rattle.daemon_parts.specs.ReportNames.{report_name}
 
 -- a blank, a new line, a quote and a backslash
 in_quotes : quoted (codes "a b\n\"\\") ≡ codes "\"a b\\u000a\\\"\\\\\""
-unfolding quoted escaped told_char chars encode_utf8
+unfolding quoted escaped log_char chars encode_utf8
 in_quotes = refl
 
 -- both ends of the control characters
 first_control : escaped 0 ≡ codes "\\u0000"
-unfolding escaped told_char
+unfolding escaped log_char
 first_control = refl
 
 before_blank : escaped 31 ≡ codes "\\u001f"
-unfolding escaped told_char
+unfolding escaped log_char
 before_blank = refl
 
 delete : escaped 127 ≡ codes "\\u007f"
-unfolding escaped told_char
+unfolding escaped log_char
 delete = refl
 
 last_control : escaped 159 ≡ codes "\\u009f"
-unfolding escaped told_char
+unfolding escaped log_char
 last_control = refl
 
 behind_controls : escaped 160 ≡ 194 ∷ 160 ∷ []
-unfolding escaped told_char encode_utf8
+unfolding escaped log_char encode_utf8
 behind_controls = refl
 
 no_text : is_plain [] ≡ false
@@ -58,12 +58,12 @@ behind_visible = refl
 -- a line in both forms
 plain_line : line_text form.Text (codes "T") (codes "client-gone") (of_text (codes "why") (codes "a b") ∷ entry (codes "version") Nothing ∷ of_number (codes "read") 12 ∷ [])
     ≡ codes "T client-gone why=\"a b\" version=none read=12\n"
-unfolding quoted escaped told_char chars digits encode_utf8
+unfolding quoted escaped log_char chars digits encode_utf8
 plain_line = refl
 
 json_line : line_text form.Json (codes "T") (codes "client-gone") (of_text (codes "why") (codes "a b") ∷ entry (codes "version") Nothing ∷ of_number (codes "read") 12 ∷ [])
     ≡ codes "{\"time\":\"T\",\"event\":\"client-gone\",\"why\":\"a b\",\"version\":null,\"read\":12}\n"
-unfolding quoted escaped told_char chars digits encode_utf8
+unfolding quoted escaped log_char chars digits encode_utf8
 json_line = refl
 
 without_values : line_text form.Text (codes "T") (codes "ready") [] ≡ codes "T ready\n"

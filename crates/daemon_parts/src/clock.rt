@@ -88,16 +88,16 @@ fn month_of(year: u16, days: u64) -> (u16, u64)
 pub(crate) fn civil_at(seconds: u64) -> Civil
     ensures { IsAt (told_moment result.year result.month result.day result.hour result.minute result.second) seconds }
 {
-    let told = seconds.min(LAST);
-    let (year, days) = year_of(told / 86_400);
+    let shown = seconds.min(LAST);
+    let (year, days) = year_of(shown / 86_400);
     let (month, before) = month_of(year, days);
     Civil {
         year,
         month,
         day: before as u16 + 1,
-        hour: (told / 3600 % 24) as u16,
-        minute: (told / 60 % 60) as u16,
-        second: (told % 60) as u16,
+        hour: (shown / 3600 % 24) as u16,
+        minute: (shown / 60 % 60) as u16,
+        second: (shown % 60) as u16,
     }
 }
 

@@ -1,8 +1,8 @@
 //! What an event is logged by: a word, and values under their keys.
 ghost use Rattle.std.specs.Prelude.{◌≡◌, codes, map};
-ghost use Rattle.daemon_parts.specs.Entries.{at, departure_entries, direction, entry, name_entries, of_number, of_text, publication_entries, report_entries, spoken, told_pair, told_value, word_of};
+ghost use Rattle.daemon_parts.specs.Entries.{at, client_closed_entries, direction, entry, session_entries, of_number, of_text, publication_entries, report_entries, spoken, log_pair, log_value, word_of};
 
-use crate::event::{Departure, Event, PeerReport, Publication, VersionNames};
+use crate::event::{ClientClosed, LogEvent, PeerReport, Publication, SessionIds};
 use crate::report::report_name;
 use std::net::SocketAddr;
 
@@ -23,7 +23,7 @@ pub(crate) struct Pair<'a> {
 }
 
 pub(crate) fn text<'a>(key: &'static str, value: &'a str) -> Pair<'a>
-    ensures { told_pair result ≡ of_text key.now value.now }
+    ensures { log_pair result ≡ of_text key.now value.now }
 {
     Pair {
         key,
@@ -32,7 +32,7 @@ pub(crate) fn text<'a>(key: &'static str, value: &'a str) -> Pair<'a>
 }
 
 pub(crate) fn number<'a>(key: &'static str, value: u64) -> Pair<'a>
-    ensures { told_pair result ≡ of_number key.now value }
+    ensures { log_pair result ≡ of_number key.now value }
 {
     Pair {
         key,
@@ -41,7 +41,7 @@ pub(crate) fn number<'a>(key: &'static str, value: u64) -> Pair<'a>
 }
 
 pub(crate) fn address<'a>(value: &SocketAddr) -> Pair<'a>
-    ensures { told_pair result ≡ at value.now }
+    ensures { log_pair result ≡ at value.now }
 {
     Pair {
         key: "address",
@@ -50,7 +50,7 @@ pub(crate) fn address<'a>(value: &SocketAddr) -> Pair<'a>
 }
 
 fn spoken<'a>(version: Option<u8>) -> Value<'a>
-    ensures { told_value result ≡ spoken version }
+    ensures { log_value result ≡ spoken version }
 {
     match version {
         None => Value::Nothing,
@@ -59,7 +59,7 @@ fn spoken<'a>(version: Option<u8>) -> Value<'a>
 }
 
 fn version<'a>(value: Option<u8>) -> Pair<'a>
-    ensures { told_pair result ≡ entry (codes "version") (spoken value) }
+    ensures { log_pair result ≡ entry (codes "version") (spoken value) }
 {
     Pair {
         key: "version",
@@ -67,8 +67,8 @@ fn version<'a>(value: Option<u8>) -> Pair<'a>
     }
 }
 
-pub(crate) fn name_pairs<'a>(names: &VersionNames) -> [Pair<'a>; 3]
-    ensures { map told_pair result ≡ name_entries names.now }
+pub(crate) fn session_pairs<'a>(names: &SessionIds) -> [Pair<'a>; 3]
+    ensures { map log_pair result ≡ session_entries names.now }
 {
     [
         number("session", u64::from(names.session)),
@@ -77,16 +77,16 @@ pub(crate) fn name_pairs<'a>(names: &VersionNames) -> [Pair<'a>; 3]
     ]
 }
 
-pub(crate) fn departure_pairs<'a>(departure: &Departure<'a>) -> [Pair<'a>; 6]
-    ensures { map told_pair result ≡ departure_entries departure.now }
+pub(crate) fn client_closed_pairs<'a>(closed: &ClientClosed<'a>) -> [Pair<'a>; 6]
+    ensures { map log_pair result ≡ client_closed_entries closed.now }
 {
     [
-        address(&departure.address),
-        text("why", departure.why),
-        version(departure.version),
-        number("read", departure.read),
-        number("written", departure.written),
-        number("seconds", departure.seconds),
+        address(&closed.address),
+        text("why", closed.why),
+        version(closed.version),
+        number("read", closed.read),
+        number("written", closed.written),
+        number("seconds", closed.seconds),
     ]
 }
 
@@ -98,7 +98,7 @@ fn direction(is_received: bool) -> &'static str
 }
 
 pub(crate) fn report_pairs<'a>(report: &PeerReport<'a>) -> [Pair<'a>; 5]
-    ensures { map told_pair result ≡ report_entries report.now }
+    ensures { map log_pair result ≡ report_entries report.now }
 {
     [
         address(&report.address),
@@ -110,7 +110,7 @@ pub(crate) fn report_pairs<'a>(report: &PeerReport<'a>) -> [Pair<'a>; 5]
 }
 
 pub(crate) fn publication_pairs<'a>(publication: &Publication) -> [Pair<'a>; 6]
-    ensures { map told_pair result ≡ publication_entries publication.now }
+    ensures { map log_pair result ≡ publication_entries publication.now }
 {
     [
         number("session", u64::from(publication.session)),
@@ -123,33 +123,33 @@ pub(crate) fn publication_pairs<'a>(publication: &Publication) -> [Pair<'a>; 6]
 }
 
 /// The word of an event.
-pub(crate) fn word_of(event: &Event<'_>) -> &'static str
+pub(crate) fn word_of(event: &LogEvent<'_>) -> &'static str
     ensures { result.now ≡ word_of event.now }
 {
     match event {
-        Event::Started(_) => "started",
-        Event::Limited { .. } => "limited",
-        Event::Listening { .. } => "listening",
-        Event::Status { .. } => "status",
-        Event::Ready => "ready",
-        Event::ClientCame { .. } => "client-came",
-        Event::ClientGone(_) => "client-gone",
-        Event::ErrorReport(_) => "error-report",
-        Event::Stalled { .. } => "stalled",
-        Event::Full { .. } => "full",
-        Event::AddressFull { .. } => "address-full",
-        Event::NoDescriptor => "no-descriptor",
-        Event::Published(_) => "published",
-        Event::LeftOut { .. } => "left-out",
-        Event::Refused { .. } => "refused",
-        Event::Taken { .. } => "taken",
-        Event::Old { .. } => "old",
-        Event::Fresh { .. } => "fresh",
-        Event::Expired { .. } => "expired",
-        Event::Clock { .. } => "clock",
-        Event::Warning { .. } => "warning",
-        Event::Memory { .. } => "memory",
-        Event::Failed { .. } => "failed",
-        Event::Stopped { .. } => "stopped",
+        LogEvent::Started(_) => "started",
+        LogEvent::Limited { .. } => "limited",
+        LogEvent::Listening { .. } => "listening",
+        LogEvent::Status { .. } => "status",
+        LogEvent::Ready => "ready",
+        LogEvent::ClientCame { .. } => "client-came",
+        LogEvent::ClientGone(_) => "client-gone",
+        LogEvent::ErrorReport(_) => "error-report",
+        LogEvent::Stalled { .. } => "stalled",
+        LogEvent::Full { .. } => "full",
+        LogEvent::AddressFull { .. } => "address-full",
+        LogEvent::NoDescriptor => "no-descriptor",
+        LogEvent::Published(_) => "published",
+        LogEvent::LeftOut { .. } => "left-out",
+        LogEvent::Refused { .. } => "refused",
+        LogEvent::Taken { .. } => "taken",
+        LogEvent::Old { .. } => "old",
+        LogEvent::Fresh { .. } => "fresh",
+        LogEvent::Expired { .. } => "expired",
+        LogEvent::Clock { .. } => "clock",
+        LogEvent::Warning { .. } => "warning",
+        LogEvent::Memory { .. } => "memory",
+        LogEvent::Failed { .. } => "failed",
+        LogEvent::Stopped { .. } => "stopped",
     }
 }

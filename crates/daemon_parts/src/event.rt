@@ -3,7 +3,7 @@ use std::net::SocketAddr;
 
 /// The names of the versions of a run (RFC 8210 section 5.1).
 #[derive(Clone, Copy, Debug, PartialEq, Eq)]
-pub struct VersionNames {
+pub struct SessionIds {
     /// The session in version 1 of the protocol.
     pub session: u16,
     /// The session in version 0.
@@ -14,7 +14,7 @@ pub struct VersionNames {
 
 /// How a client went, and what there was of it.
 #[derive(Clone, Copy, Debug, PartialEq, Eq)]
-pub struct Departure<'a> {
+pub struct ClientClosed<'a> {
     /// The client's address and port.
     pub address: SocketAddr,
     /// Why it went, in a few words.
@@ -61,9 +61,9 @@ pub struct Publication {
 
 /// What happened. Each event is one line of the log: a word, and values under their keys.
 #[derive(Clone, Copy, Debug, PartialEq, Eq)]
-pub enum Event<'a> {
+pub enum LogEvent<'a> {
     /// `started`: the daemon starts, and its versions have these names.
-    Started(VersionNames),
+    Started(SessionIds),
     /// `limited`: the system's limit of descriptors allows fewer clients than were asked for.
     Limited {
         /// How many clients there may be at once.
@@ -87,7 +87,7 @@ pub enum Event<'a> {
         address: SocketAddr,
     },
     /// `client-gone`: a client is not there any more.
-    ClientGone(Departure<'a>),
+    ClientGone(ClientClosed<'a>),
     /// `error-report`: a client that is gone sent an Error Report, or was sent one.
     ErrorReport(PeerReport<'a>),
     /// `stalled`: nothing could be written to a client for too long, so it is closed.

@@ -1,11 +1,11 @@
 //! What the daemon `rpkirtrd` is made of beside its server: the names of its versions over restarts ([`first_serial`], [`session_of`],
-//! [`session0_of`]), the pace of its versions ([`Pace`]), the moments of its clock ([`moment_at`]), and the lines of its log ([`Event`],
+//! [`session0_of`]), the pace of its versions ([`Pace`]), the moments of its clock ([`moment_at`]), and the lines of its log ([`LogEvent`],
 //! [`write_event`]).
 //!
 //! For example, where `rt` is the runtime that `main` is handed:
 //!
 //! ```rust
-//! use daemon_parts::{Event, LogForm, Pace, first_serial, write_event};
+//! use daemon_parts::{LogEvent, LogFormat, Pace, first_serial, write_event};
 //!
 //! let now = 1_795_632_000;
 //! assert!(rt; first_serial(now) == 1_795_632_000);
@@ -14,8 +14,8 @@
 //! assert!(rt; !pace.may_publish(now));
 //! assert!(rt; pace.may_publish(now + 1));
 //! let mut log = Vec::new(rt.alloc());
-//! let event = Event::Taken { file: "vrps.json" };
-//! write_event(&mut log, LogForm::Text, now, &event)?;
+//! let event = LogEvent::Taken { file: "vrps.json" };
+//! write_event(&mut log, LogFormat::Text, now, &event)?;
 //! assert!(rt; log.as_slice() == b"2026-11-25T18:40:00Z taken file=vrps.json\n".as_slice());
 //! ```
 #![tactic(auto)]
@@ -30,8 +30,8 @@ mod pace;
 mod report;
 
 pub use clock::{moment_at, time_at};
-pub use event::{Departure, Event, PeerReport, Publication, VersionNames};
-pub use line::{LogForm, write_event};
+pub use event::{ClientClosed, LogEvent, PeerReport, Publication, SessionIds};
+pub use line::{LogFormat, write_event};
 pub use names::{first_serial, is_machine_id, session_of, session0_of};
 pub use pace::Pace;
 pub use report::report_name;

@@ -4,20 +4,20 @@ ghost use Rattle.std.specs.Char.{digit_char, is_control};
 ghost use Rattle.std.specs.Io.KnownBytes.{Appends};
 ghost use Rattle.std.specs.List.{flat_map, list_all};
 ghost use Rattle.std.specs.Str.{chars};
-ghost use Rattle.daemon_parts.specs.Entries.{Text, entries_of, told_pair, told_value, word_of};
-ghost use Rattle.daemon_parts.specs.Lines.{TellsEvent, end_text, entry_text, escaped, head_text, told_char, is_plain, is_plain_byte, json_entry, json_value, line_text, plain_entry, plain_value, quoted};
+ghost use Rattle.daemon_parts.specs.Entries.{Text, entries_of, log_pair, log_value, word_of};
+ghost use Rattle.daemon_parts.specs.Lines.{LogsEvent, end_text, entry_text, escaped, head_text, log_char, is_plain, is_plain_byte, json_entry, json_value, line_text, plain_entry, plain_value, quoted};
 
 use crate::clock::{civil_at, time_text};
 use crate::entries::{
-    Pair, Value, address, departure_pairs, name_pairs, number, publication_pairs, report_pairs,
-    text, word_of,
+    Pair, Value, address, client_closed_pairs, number, publication_pairs, report_pairs,
+    session_pairs, text, word_of,
 };
-use crate::event::Event;
+use crate::event::LogEvent;
 use std::io::{self, Write};
 
 /// The form of a log's lines.
 #[derive(Clone, Copy, Debug, PartialEq, Eq)]
-pub enum LogForm {
+pub enum LogFormat {
     /// The time, the event's word, and `key=value` for each value, with blanks between them.
     Text,
     /// An object with `time`, `event` and the values.
@@ -49,8 +49,8 @@ fn write_control<W: Write>(out: &mut W, character: char) -> io::Result<()>
 }
 
 /// Writes a character that needs no backslash: a control character by its number, and any other as it is.
-fn write_told_char<W: Write>(out: &mut W, character: char) -> io::Result<()>
-    ensures { OnOk result (Appends (W.contents out.old) (W.contents out.new) (told_char character)) }
+fn write_log_char<W: Write>(out: &mut W, character: char) -> io::Result<()>
+    ensures { OnOk result (Appends (W.contents out.old) (W.contents out.new) (log_char character)) }
 {
     if character.is_control() {
         return write_control(out, character);
@@ -69,7 +69,7 @@ fn write_char<W: Write>(out: &mut W, character: char) -> io::Result<()>
     if character == '\\' {
         return out.write_all(b"\\\\");
     }
-    write_told_char(out, character)
+    write_log_char(out, character)
 }
 
 /// Writes a text, as it stands in quotes.
@@ -124,7 +124,7 @@ fn write_plain_text<W: Write>(out: &mut W, text: &str) -> io::Result<()>
 }
 
 fn write_plain_value<W: Write>(out: &mut W, value: &Value<'_>) -> io::Result<()>
-    ensures { OnOk result (Appends (W.contents out.old) (W.contents out.new) (plain_value (told_value value.now))) }
+    ensures { OnOk result (Appends (W.contents out.old) (W.contents out.new) (plain_value (log_value value.now))) }
 {
     match value {
         Value::Nothing => out.write_all(b"none"),
@@ -135,7 +135,7 @@ fn write_plain_value<W: Write>(out: &mut W, value: &Value<'_>) -> io::Result<()>
 }
 
 fn write_json_value<W: Write>(out: &mut W, value: &Value<'_>) -> io::Result<()>
-    ensures { OnOk result (Appends (W.contents out.old) (W.contents out.new) (json_value (told_value value.now))) }
+    ensures { OnOk result (Appends (W.contents out.old) (W.contents out.new) (json_value (log_value value.now))) }
 {
     match value {
         Value::Nothing => out.write_all(b"null"),
@@ -146,31 +146,31 @@ fn write_json_value<W: Write>(out: &mut W, value: &Value<'_>) -> io::Result<()>
 }
 
 fn write_plain_pair<W: Write>(out: &mut W, pair: &Pair<'_>) -> io::Result<()>
-    ensures { OnOk result (Appends (W.contents out.old) (W.contents out.new) (plain_entry (told_pair pair.now))) }
+    ensures { OnOk result (Appends (W.contents out.old) (W.contents out.new) (plain_entry (log_pair pair.now))) }
 {
     write!(out, " {}=", pair.key)?;
     write_plain_value(out, &pair.value)
 }
 
 fn write_json_pair<W: Write>(out: &mut W, pair: &Pair<'_>) -> io::Result<()>
-    ensures { OnOk result (Appends (W.contents out.old) (W.contents out.new) (json_entry (told_pair pair.now))) }
+    ensures { OnOk result (Appends (W.contents out.old) (W.contents out.new) (json_entry (log_pair pair.now))) }
 {
     write!(out, ",\"{}\":", pair.key)?;
     write_json_value(out, &pair.value)
 }
 
 /// Writes a value under its key.
-fn write_pair<W: Write>(out: &mut W, form: LogForm, pair: &Pair<'_>) -> io::Result<()>
-    ensures { OnOk result (Appends (W.contents out.old) (W.contents out.new) (entry_text form (told_pair pair.now))) }
+fn write_pair<W: Write>(out: &mut W, form: LogFormat, pair: &Pair<'_>) -> io::Result<()>
+    ensures { OnOk result (Appends (W.contents out.old) (W.contents out.new) (entry_text form (log_pair pair.now))) }
 {
     match form {
-        LogForm::Text => write_plain_pair(out, pair),
-        LogForm::Json => write_json_pair(out, pair),
+        LogFormat::Text => write_plain_pair(out, pair),
+        LogFormat::Json => write_json_pair(out, pair),
     }
 }
 
-fn write_pairs<W: Write>(out: &mut W, form: LogForm, pairs: &[Pair<'_>]) -> io::Result<()>
-    ensures { OnOk result (Appends (W.contents out.old) (W.contents out.new) (flat_map (entry_text form) (map told_pair pairs.now))) }
+fn write_pairs<W: Write>(out: &mut W, form: LogFormat, pairs: &[Pair<'_>]) -> io::Result<()>
+    ensures { OnOk result (Appends (W.contents out.old) (W.contents out.new) (flat_map (entry_text form) (map log_pair pairs.now))) }
 {
     for pair in pairs {
         write_pair(out, form, pair)?;
@@ -179,14 +179,14 @@ fn write_pairs<W: Write>(out: &mut W, form: LogForm, pairs: &[Pair<'_>]) -> io::
 }
 
 fn write_plain_head<W: Write>(out: &mut W, time: &[u8], word: &str) -> io::Result<()>
-    ensures { OnOk result (Appends (W.contents out.old) (W.contents out.new) (head_text LogForm.Text time.now word.now)) }
+    ensures { OnOk result (Appends (W.contents out.old) (W.contents out.new) (head_text LogFormat.Text time.now word.now)) }
 {
     out.write_all(time)?;
     write!(out, " {word}")
 }
 
 fn write_json_head<W: Write>(out: &mut W, time: &[u8], word: &str) -> io::Result<()>
-    ensures { OnOk result (Appends (W.contents out.old) (W.contents out.new) (head_text LogForm.Json time.now word.now)) }
+    ensures { OnOk result (Appends (W.contents out.old) (W.contents out.new) (head_text LogFormat.Json time.now word.now)) }
 {
     out.write_all(b"{\"time\":\"")?;
     out.write_all(time)?;
@@ -194,66 +194,66 @@ fn write_json_head<W: Write>(out: &mut W, time: &[u8], word: &str) -> io::Result
 }
 
 /// Writes the beginning of a line.
-fn write_head<W: Write>(out: &mut W, form: LogForm, time: &[u8], word: &str) -> io::Result<()>
+fn write_head<W: Write>(out: &mut W, form: LogFormat, time: &[u8], word: &str) -> io::Result<()>
     ensures { OnOk result (Appends (W.contents out.old) (W.contents out.new) (head_text form time.now word.now)) }
 {
     match form {
-        LogForm::Text => write_plain_head(out, time, word),
-        LogForm::Json => write_json_head(out, time, word),
+        LogFormat::Text => write_plain_head(out, time, word),
+        LogFormat::Json => write_json_head(out, time, word),
     }
 }
 
 /// Writes the end of a line.
-fn write_end<W: Write>(out: &mut W, form: LogForm) -> io::Result<()>
+fn write_end<W: Write>(out: &mut W, form: LogFormat) -> io::Result<()>
     ensures { OnOk result (Appends (W.contents out.old) (W.contents out.new) (end_text form)) }
 {
     match form {
-        LogForm::Text => out.write_all(b"\n"),
-        LogForm::Json => out.write_all(b"}\n"),
+        LogFormat::Text => out.write_all(b"\n"),
+        LogFormat::Json => out.write_all(b"}\n"),
     }
 }
 
 /// Writes the values of an event under their keys.
-fn write_values<W: Write>(out: &mut W, form: LogForm, event: &Event<'_>) -> io::Result<()>
+fn write_values<W: Write>(out: &mut W, form: LogFormat, event: &LogEvent<'_>) -> io::Result<()>
     ensures { OnOk result (Appends (W.contents out.old) (W.contents out.new) (flat_map (entry_text form) (entries_of event.now))) }
 {
     match event {
-        Event::Ready | Event::NoDescriptor => Ok(()),
-        Event::Started(names) => write_pairs(out, form, &name_pairs(names)),
-        Event::ClientGone(departure) => write_pairs(out, form, &departure_pairs(departure)),
-        Event::ErrorReport(report) => write_pairs(out, form, &report_pairs(report)),
-        Event::Published(publication) => write_pairs(out, form, &publication_pairs(publication)),
-        Event::Listening { address: at }
-        | Event::Status { address: at }
-        | Event::ClientCame { address: at }
-        | Event::Stalled { address: at } => write_pairs(out, form, &[address(at)]),
-        Event::Limited { clients } => write_pairs(out, form, &[number("clients", *clients)]),
-        Event::Full {
+        LogEvent::Ready | LogEvent::NoDescriptor => Ok(()),
+        LogEvent::Started(names) => write_pairs(out, form, &session_pairs(names)),
+        LogEvent::ClientGone(closed) => write_pairs(out, form, &client_closed_pairs(closed)),
+        LogEvent::ErrorReport(report) => write_pairs(out, form, &report_pairs(report)),
+        LogEvent::Published(publication) => write_pairs(out, form, &publication_pairs(publication)),
+        LogEvent::Listening { address: at }
+        | LogEvent::Status { address: at }
+        | LogEvent::ClientCame { address: at }
+        | LogEvent::Stalled { address: at } => write_pairs(out, form, &[address(at)]),
+        LogEvent::Limited { clients } => write_pairs(out, form, &[number("clients", *clients)]),
+        LogEvent::Full {
             address: at,
             clients,
         }
-        | Event::AddressFull {
+        | LogEvent::AddressFull {
             address: at,
             clients,
         } => { write_pairs(out, form, &[address(at), number("clients", *clients)]) }
-        Event::LeftOut { records } => write_pairs(out, form, &[number("records", *records)]),
-        Event::Taken { file } => write_pairs(out, form, &[text("file", file)]),
-        Event::Refused { file, reason } => {
+        LogEvent::LeftOut { records } => write_pairs(out, form, &[number("records", *records)]),
+        LogEvent::Taken { file } => write_pairs(out, form, &[text("file", file)]),
+        LogEvent::Refused { file, reason } => {
             write_pairs(out, form, &[text("file", file), text("reason", reason)])
         }
-        Event::Old { file, age } | Event::Fresh { file, age } => {
+        LogEvent::Old { file, age } | LogEvent::Fresh { file, age } => {
             write_pairs(out, form, &[text("file", file), number("age", *age)])
         }
-        Event::Expired {
+        LogEvent::Expired {
             file,
             entries: count,
         } => { write_pairs(out, form, &[text("file", file), number("entries", *count)]) }
-        Event::Clock { behind } => write_pairs(out, form, &[number("behind", *behind)]),
-        Event::Memory { what } => write_pairs(out, form, &[text("what", what)]),
-        Event::Failed { what, reason } => {
+        LogEvent::Clock { behind } => write_pairs(out, form, &[number("behind", *behind)]),
+        LogEvent::Memory { what } => write_pairs(out, form, &[text("what", what)]),
+        LogEvent::Failed { what, reason } => {
             write_pairs(out, form, &[text("what", what), text("reason", reason)])
         }
-        Event::Warning { reason } | Event::Stopped { reason } => {
+        LogEvent::Warning { reason } | LogEvent::Stopped { reason } => {
             write_pairs(out, form, &[text("reason", reason)])
         }
     }
@@ -262,9 +262,9 @@ fn write_values<W: Write>(out: &mut W, form: LogForm, event: &Event<'_>) -> io::
 /// Writes the line of an event at this time.
 fn write_event_at<W: Write>(
     out: &mut W,
-    form: LogForm,
+    form: LogFormat,
     time: &[u8],
-    event: &Event<'_>,
+    event: &LogEvent<'_>,
 ) -> io::Result<()>
     ensures { OnOk result (Appends (W.contents out.old) (W.contents out.new) (line_text form time.now (word_of event.now) (entries_of event.now))) }
 {
@@ -277,11 +277,11 @@ fn write_event_at<W: Write>(
 /// room of its own is called for each piece of the line.
 pub fn write_event<W: Write>(
     out: &mut W,
-    form: LogForm,
+    form: LogFormat,
     seconds: u64,
-    event: &Event<'_>,
+    event: &LogEvent<'_>,
 ) -> io::Result<()>
-    ensures { OnOk result (TellsEvent (W.contents out.old) (W.contents out.new) form seconds event.now) }
+    ensures { OnOk result (LogsEvent (W.contents out.old) (W.contents out.new) form seconds event.now) }
 {
     let time = time_text(&civil_at(seconds));
     write_event_at(out, form, &time, event)

@@ -21,12 +21,12 @@ pub enum Wanted {
     Path,
     /// A form of the log.
     #[error("text or json")]
-    LogForm,
+    LogFormat,
 }
 
 /// Why words ask for nothing. The text says which option is at fault, what stands behind it, in quotes, and what would be right.
 #[derive(Debug, Drop, Error)]
-pub enum WordsFault {
+pub enum OptionFault {
     /// A word that no option takes, an option without its value, or one twice that may stand once.
     #[error("{0}")]
     Unclear(String),
@@ -61,8 +61,8 @@ pub enum WordsFault {
     Memory,
 }
 
-impl From<AllocError> for WordsFault {
-    fn from(_error: AllocError) -> WordsFault {
-        WordsFault::Memory
+impl From<AllocError> for OptionFault {
+    fn from(_error: AllocError) -> OptionFault {
+        OptionFault::Memory
     }
 }

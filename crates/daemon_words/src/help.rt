@@ -1,5 +1,5 @@
 //! The help and the version.
-use crate::options::{Choice, Kind, MATTERS};
+use crate::options::{GROUPS, OptionKind, OptionSpec};
 use std::alloc::{AllocError, Global};
 
 const HEAD: &str = "\
@@ -44,22 +44,22 @@ fn push_lines(text: &mut String, lines: &[&str]) -> Result<(), AllocError> {
     Ok(())
 }
 
-fn push_choice(text: &mut String, choice: &Choice) -> Result<(), AllocError> {
+fn push_option(text: &mut String, option: &OptionSpec) -> Result<(), AllocError> {
     text.push_str("  ")?;
-    if let Some(letter) = choice.letter {
+    if let Some(letter) = option.letter {
         write!(text, "-{letter}, ")?;
     }
-    write!(text, "--{}", choice.name)?;
-    if !choice.value.is_empty() {
-        write!(text, " {}", choice.value)?;
+    write!(text, "--{}", option.name)?;
+    if !option.value.is_empty() {
+        write!(text, " {}", option.value)?;
     }
     text.push_str("\n")?;
-    push_lines(text, choice.help)
+    push_lines(text, option.help)
 }
 
-fn push_choices(text: &mut String, choices: &[Choice]) -> Result<(), AllocError> {
-    for choice in choices {
-        push_choice(text, choice)?;
+fn push_options(text: &mut String, options: &[OptionSpec]) -> Result<(), AllocError> {
+    for option in options {
+        push_option(text, option)?;
     }
     Ok(())
 }
@@ -67,9 +67,9 @@ fn push_choices(text: &mut String, choices: &[Choice]) -> Result<(), AllocError>
 /// The text of `--help`.
 pub(crate) fn help(alloc: Global) -> Result<String, AllocError> {
     let mut text = String::from_str(alloc, HEAD)?;
-    for matter in &MATTERS {
-        write!(&mut text, "\n{}\n", matter.title)?;
-        push_choices(&mut text, matter.choices)?;
+    for group in &GROUPS {
+        write!(&mut text, "\n{}\n", group.title)?;
+        push_options(&mut text, group.options)?;
     }
     text.push_str(TAIL)?;
     Ok(text)

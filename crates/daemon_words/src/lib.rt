@@ -1,17 +1,17 @@
 //! The words of the daemon's command line: [`read_words`] says what they ask for, a run under [`Settings`] or a text, or why they ask for
-//! nothing ([`WordsFault`]).
+//! nothing ([`OptionFault`]).
 //!
 //! For example, where `rt` is the runtime that `main` is handed:
 //!
 //! ```rust
-//! use daemon_words::{Asked, read_words};
+//! use daemon_words::{Command, read_words};
 //!
 //! let mut words = Vec::new(rt.alloc());
 //! for word in ["--vrps", "vrps.json", "--keep", "8"] {
 //!     words.push(String::from_str(rt.alloc(), word)?)?;
 //! }
 //! match read_words(rt.alloc(), words.as_slice())? {
-//!     Asked::Serve(settings) => assert!(rt; settings.keep == 8),
+//!     Command::Serve(settings) => assert!(rt; settings.keep == 8),
 //!     _ => assert!(rt; false),
 //! }
 //! ```
@@ -24,7 +24,7 @@ mod settings;
 mod values;
 mod words;
 
-pub use fault::{Wanted, WordsFault};
+pub use fault::{OptionFault, Wanted};
 pub use help::VERSION;
 pub use settings::Settings;
-pub use words::{Asked, read_words};
+pub use words::{Command, read_words};

@@ -3,7 +3,7 @@ use clap::{Arg, ArgAction, Command};
 use std::alloc::{AllocError, Global};
 
 /// How often an option may stand, and whether a value stands behind it.
-pub(crate) enum Kind {
+pub(crate) enum OptionKind {
     /// Once at most, without a value.
     Flag,
     /// Once at most, with a value.
@@ -15,55 +15,55 @@ pub(crate) enum Kind {
 }
 
 /// An option: its name, its letter, what stands behind it, and the lines that the help says of it.
-pub(crate) struct Choice {
+pub(crate) struct OptionSpec {
     pub(crate) name: &'static str,
     pub(crate) letter: Option<char>,
-    pub(crate) kind: Kind,
+    pub(crate) kind: OptionKind,
     pub(crate) value: &'static str,
     pub(crate) help: &'static [&'static str],
 }
 
 /// Options of one matter, and the line above them in the help.
-pub(crate) struct Matter {
+pub(crate) struct OptionGroup {
     pub(crate) title: &'static str,
-    pub(crate) choices: &'static [Choice],
+    pub(crate) options: &'static [OptionSpec],
 }
 
-pub(crate) static MATTERS: [Matter; 7] = [
-    Matter {
+pub(crate) static GROUPS: [OptionGroup; 7] = [
+    OptionGroup {
         title: "What is served (the records of all sources together):",
-        choices: &[
-            Choice {
+        options: &[
+            OptionSpec {
                 name: "vrps",
                 letter: None,
-                kind: Kind::Often,
+                kind: OptionKind::Often,
                 value: "FILE",
                 help: &[
                     "FILE is what a validator writes: the JSON of rpki-client, Routinator,",
                     "FORT, StayRTR or rtrdump, or a payload list. It may stand several times.",
                 ],
             },
-            Choice {
+            OptionSpec {
                 name: "points",
                 letter: None,
-                kind: Kind::Often,
+                kind: OptionKind::Often,
                 value: "DIR",
                 help: &[
                     "DIR is a publication point: it holds manifest.der, the published objects",
                     "in objects/, and what they hold in contents/. It may stand several times.",
                 ],
             },
-            Choice {
+            OptionSpec {
                 name: "slurm",
                 letter: None,
-                kind: Kind::Once,
+                kind: OptionKind::Once,
                 value: "FILE",
                 help: &["FILE has local exceptions (RFC 8416), which are applied to all records."],
             },
-            Choice {
+            OptionSpec {
                 name: "check",
                 letter: None,
-                kind: Kind::Number,
+                kind: OptionKind::Number,
                 value: "SECONDS",
                 help: &[
                     "The files are looked at every so many seconds. A file that has changed is",
@@ -73,10 +73,10 @@ pub(crate) static MATTERS: [Matter; 7] = [
                     "the default is 60.",
                 ],
             },
-            Choice {
+            OptionSpec {
                 name: "max-age",
                 letter: None,
-                kind: Kind::Number,
+                kind: OptionKind::Number,
                 value: "SECONDS",
                 help: &[
                     "A file of --vrps whose data were made longer ago is reported as old, and",
@@ -86,10 +86,10 @@ pub(crate) static MATTERS: [Matter; 7] = [
                     "4294967295; by default no file is old.",
                 ],
             },
-            Choice {
+            OptionSpec {
                 name: "max-size",
                 letter: None,
-                kind: Kind::Number,
+                kind: OptionKind::Number,
                 value: "BYTES",
                 help: &[
                     "A larger file of --vrps or --slurm is refused, and so is one that is not",
@@ -97,20 +97,20 @@ pub(crate) static MATTERS: [Matter; 7] = [
                     "2147483648.",
                 ],
             },
-            Choice {
+            OptionSpec {
                 name: "leave-out-length-0",
                 letter: None,
-                kind: Kind::Flag,
+                kind: OptionKind::Flag,
                 value: "",
                 help: &[
                     "Records for 0.0.0.0/0 and ::/0 are left out, as StayRTR leaves them out:",
                     "FRR 8.4 and other users of librtr end at them. The log says how many.",
                 ],
             },
-            Choice {
+            OptionSpec {
                 name: "stop-when-old",
                 letter: None,
-                kind: Kind::Flag,
+                kind: OptionKind::Flag,
                 value: "",
                 help: &[
                     "The daemon ends as soon as a file is older than --max-age allows, so that",
@@ -119,13 +119,13 @@ pub(crate) static MATTERS: [Matter; 7] = [
             },
         ],
     },
-    Matter {
+    OptionGroup {
         title: "Where routers connect:",
-        choices: &[
-            Choice {
+        options: &[
+            OptionSpec {
                 name: "listen",
                 letter: None,
-                kind: Kind::Often,
+                kind: OptionKind::Often,
                 value: "ADDRESS:PORT",
                 help: &[
                     "The daemon listens at this address, as 192.0.2.1:3323 or [::1]:3323. It",
@@ -134,10 +134,10 @@ pub(crate) static MATTERS: [Matter; 7] = [
                     "in use.",
                 ],
             },
-            Choice {
+            OptionSpec {
                 name: "clients",
                 letter: None,
-                kind: Kind::Number,
+                kind: OptionKind::Number,
                 value: "NUMBER",
                 help: &[
                     "So many routers may be connected at once, and one more is closed at once.",
@@ -145,10 +145,10 @@ pub(crate) static MATTERS: [Matter; 7] = [
                     "allow fewer. The number is from 1 to 4294967295; the default is 256.",
                 ],
             },
-            Choice {
+            OptionSpec {
                 name: "clients-per-address",
                 letter: None,
-                kind: Kind::Number,
+                kind: OptionKind::Number,
                 value: "NUMBER",
                 help: &[
                     "So many routers may be connected from one address at once, and one more is",
@@ -156,10 +156,10 @@ pub(crate) static MATTERS: [Matter; 7] = [
                     "such limit. A router that sends no query within 60 seconds is closed.",
                 ],
             },
-            Choice {
+            OptionSpec {
                 name: "stall",
                 letter: None,
-                kind: Kind::Number,
+                kind: OptionKind::Number,
                 value: "SECONDS",
                 help: &[
                     "A router that took no byte for so long, while something was to be sent to",
@@ -168,13 +168,13 @@ pub(crate) static MATTERS: [Matter; 7] = [
             },
         ],
     },
-    Matter {
+    OptionGroup {
         title: "What the versions are called, and how many are kept:",
-        choices: &[
-            Choice {
+        options: &[
+            OptionSpec {
                 name: "session",
                 letter: None,
-                kind: Kind::Number,
+                kind: OptionKind::Number,
                 value: "NUMBER",
                 help: &[
                     "This is the session in version 1 of the protocol, from 0 to 65535. By",
@@ -184,10 +184,10 @@ pub(crate) static MATTERS: [Matter; 7] = [
                     "each its own session.",
                 ],
             },
-            Choice {
+            OptionSpec {
                 name: "session0",
                 letter: None,
-                kind: Kind::Number,
+                kind: OptionKind::Number,
                 value: "NUMBER",
                 help: &[
                     "This is the session in version 0, from 0 to 65535. By default it is made",
@@ -195,10 +195,10 @@ pub(crate) static MATTERS: [Matter; 7] = [
                     "18 hours.",
                 ],
             },
-            Choice {
+            OptionSpec {
                 name: "start",
                 letter: None,
-                kind: Kind::Number,
+                kind: OptionKind::Number,
                 value: "NUMBER",
                 help: &[
                     "This is the serial of the first version, from 0 to 4294967295. By default",
@@ -206,10 +206,10 @@ pub(crate) static MATTERS: [Matter; 7] = [
                     "a restart, and no router drops what it has.",
                 ],
             },
-            Choice {
+            OptionSpec {
                 name: "keep",
                 letter: None,
-                kind: Kind::Number,
+                kind: OptionKind::Number,
                 value: "NUMBER",
                 help: &[
                     "So many versions are kept, and a router that has one of them is sent the",
@@ -218,33 +218,33 @@ pub(crate) static MATTERS: [Matter; 7] = [
             },
         ],
     },
-    Matter {
+    OptionGroup {
         title: "What is sent to routers (RFC 8210 section 6):",
-        choices: &[
-            Choice {
+        options: &[
+            OptionSpec {
                 name: "refresh",
                 letter: None,
-                kind: Kind::Number,
+                kind: OptionKind::Number,
                 value: "SECONDS",
                 help: &[
                     "A router asks again after so long. The number is from 1 to 86400; the",
                     "default is 3600.",
                 ],
             },
-            Choice {
+            OptionSpec {
                 name: "retry",
                 letter: None,
-                kind: Kind::Number,
+                kind: OptionKind::Number,
                 value: "SECONDS",
                 help: &[
                     "A router tries again so long after a failure. The number is from 1 to",
                     "7200; the default is 600.",
                 ],
             },
-            Choice {
+            OptionSpec {
                 name: "expire",
                 letter: None,
-                kind: Kind::Number,
+                kind: OptionKind::Number,
                 value: "SECONDS",
                 help: &[
                     "A router drops what it has after so long without news. The number is from",
@@ -253,13 +253,13 @@ pub(crate) static MATTERS: [Matter; 7] = [
             },
         ],
     },
-    Matter {
+    OptionGroup {
         title: "What is reported:",
-        choices: &[
-            Choice {
+        options: &[
+            OptionSpec {
                 name: "status",
                 letter: None,
-                kind: Kind::Once,
+                kind: OptionKind::Once,
                 value: "ADDRESS:PORT",
                 help: &[
                     "Pages on the daemon's state are at this address, over HTTP: / for people,",
@@ -269,10 +269,10 @@ pub(crate) static MATTERS: [Matter; 7] = [
                     "option there are none.",
                 ],
             },
-            Choice {
+            OptionSpec {
                 name: "log",
                 letter: None,
-                kind: Kind::Once,
+                kind: OptionKind::Once,
                 value: "FORM",
                 help: &[
                     "FORM is how the lines on standard error are written: text or json. The",
@@ -281,40 +281,40 @@ pub(crate) static MATTERS: [Matter; 7] = [
             },
         ],
     },
-    Matter {
+    OptionGroup {
         title: "For tests:",
-        choices: &[Choice {
+        options: &[OptionSpec {
             name: "once",
             letter: None,
-            kind: Kind::Flag,
+            kind: OptionKind::Flag,
             value: "",
             help: &["The daemon ends when the first router has gone."],
         }],
     },
-    Matter {
+    OptionGroup {
         title: "Others:",
-        choices: &[
-            Choice {
+        options: &[
+            OptionSpec {
                 name: "test",
                 letter: None,
-                kind: Kind::Flag,
+                kind: OptionKind::Flag,
                 value: "",
                 help: &[
                     "All files are read and judged, and the daemon ends. The status is 0 if it",
                     "could start with them, and 1 if one is refused. No address is opened.",
                 ],
             },
-            Choice {
+            OptionSpec {
                 name: "help",
                 letter: Some('h'),
-                kind: Kind::Flag,
+                kind: OptionKind::Flag,
                 value: "",
                 help: &["This text is printed."],
             },
-            Choice {
+            OptionSpec {
                 name: "version",
                 letter: Some('V'),
-                kind: Kind::Flag,
+                kind: OptionKind::Flag,
                 value: "",
                 help: &["The program's name and version are printed."],
             },
@@ -322,30 +322,30 @@ pub(crate) static MATTERS: [Matter; 7] = [
     },
 ];
 
-fn argument<'a>(alloc: Global, choice: &Choice) -> Arg<'a> {
-    let mut made = Arg::new(alloc, choice.name).long(choice.name);
-    if let Some(letter) = choice.letter {
+fn argument<'a>(alloc: Global, option: &OptionSpec) -> Arg<'a> {
+    let mut made = Arg::new(alloc, option.name).long(option.name);
+    if let Some(letter) = option.letter {
         made = made.short(letter);
     }
-    match choice.kind {
-        Kind::Flag => made.action(ArgAction::SetTrue),
-        Kind::Once => made.action(ArgAction::Set).value_name(choice.value),
-        Kind::Number => made
+    match option.kind {
+        OptionKind::Flag => made.action(ArgAction::SetTrue),
+        OptionKind::Once => made.action(ArgAction::Set).value_name(option.value),
+        OptionKind::Number => made
             .action(ArgAction::Set)
-            .value_name(choice.value)
+            .value_name(option.value)
             .allow_negative_numbers(true),
-        Kind::Often => made.action(ArgAction::Append).value_name(choice.value),
+        OptionKind::Often => made.action(ArgAction::Append).value_name(option.value),
     }
 }
 
-fn with_choices<'a>(
+fn with_options<'a>(
     alloc: Global,
     command: Command<'a>,
-    choices: &[Choice],
+    options: &[OptionSpec],
 ) -> Result<Command<'a>, AllocError> {
     let mut made = command;
-    for choice in choices {
-        made = made.arg(argument(alloc, choice))?;
+    for option in options {
+        made = made.arg(argument(alloc, option))?;
     }
     Ok(made)
 }
@@ -356,8 +356,8 @@ pub(crate) fn command_line<'a>(alloc: Global) -> Result<Command<'a>, AllocError>
         .no_binary_name(true)
         .disable_help_flag(true)
         .disable_version_flag(true);
-    for matter in &MATTERS {
-        made = with_choices(alloc, made, matter.choices)?;
+    for group in &GROUPS {
+        made = with_options(alloc, made, group.options)?;
     }
     Ok(made)
 }

@@ -2,7 +2,7 @@
 ghost use Rattle.std.specs.Prelude.{◌≡◌, ◌≤◌, ◌+◌, true, IsSome, vec_len};
 ghost use Rattle.daemon_words.specs.Bounds.{is_within};
 
-use daemon_parts::LogForm;
+use daemon_parts::LogFormat;
 use rtr_ends::Timing;
 use std::net::SocketAddr;
 
@@ -46,7 +46,7 @@ pub struct Settings {
     /// Where the status page is, if it is wanted.
     pub status: Option<SocketAddr>,
     /// The form of the log's lines.
-    pub log: LogForm,
+    pub log: LogFormat,
     /// Whether the daemon ends when the first client has gone.
     pub once: bool,
     /// Whether the files are only judged: then nothing is served.

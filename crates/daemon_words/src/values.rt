@@ -3,21 +3,21 @@ ghost use Rattle.std.specs.Prelude.{◌≡◌, ◌≤◌, true, IfOk, IfSome};
 ghost use Rattle.daemon_words.specs.Decimals.{ReadsBetween, ReadsNumber};
 ghost use Rattle.daemon_words.specs.Bounds.{is_within};
 
-use crate::fault::{Wanted, WordsFault};
+use crate::fault::{OptionFault, Wanted};
 use clap::ArgMatches;
-use daemon_parts::LogForm;
+use daemon_parts::LogFormat;
 use std::alloc::Global;
 use std::net::SocketAddr;
 
 /// The fault of an option whose value is not what is wanted.
-fn wrong(alloc: Global, option: &'static str, value: &str, wanted: Wanted) -> WordsFault {
+fn wrong(alloc: Global, option: &'static str, value: &str, wanted: Wanted) -> OptionFault {
     match String::from_str(alloc, value) {
-        Ok(value) => WordsFault::Value {
+        Ok(value) => OptionFault::Value {
             option,
             value,
             wanted,
         },
-        Err(_) => WordsFault::Memory,
+        Err(_) => OptionFault::Memory,
     }
 }
 
@@ -45,7 +45,7 @@ fn number_in(
     text: &str,
     least: u64,
     most: u64,
-) -> Result<u64, WordsFault>
+) -> Result<u64, OptionFault>
     ensures { ReadsBetween least most text.now result }
 {
     match decimal(text) {
@@ -61,7 +61,7 @@ pub(crate) fn number(
     option: &'static str,
     least: u64,
     most: u64,
-) -> Result<Option<u64>, WordsFault>
+) -> Result<Option<u64>, OptionFault>
     ensures each { IfOk result (λ found. IfSome found (λ n. (least ≤ n) × (n ≤ most))) }
     ensures within { IfOk result (λ found. is_within least most found ≡ true) }
 {
@@ -79,7 +79,7 @@ pub(crate) fn number_or(
     least: u32,
     most: u32,
     default: u32,
-) -> Result<u32, WordsFault>
+) -> Result<u32, OptionFault>
     requires { (least ≤ default) × (default ≤ most) }
     ensures { IfOk result (λ n. (least ≤ n) × (n ≤ most)) }
 {
@@ -95,7 +95,7 @@ pub(crate) fn number_32(
     alloc: Global,
     found: &ArgMatches<'_>,
     option: &'static str,
-) -> Result<Option<u32>, WordsFault> {
+) -> Result<Option<u32>, OptionFault> {
     let found = number(alloc, found, option, 0, 4_294_967_295)?;
     let Some(number) = found else {
         return Ok(None);
@@ -108,7 +108,7 @@ pub(crate) fn number_16(
     alloc: Global,
     found: &ArgMatches<'_>,
     option: &'static str,
-) -> Result<Option<u16>, WordsFault> {
+) -> Result<Option<u16>, OptionFault> {
     let found = number(alloc, found, option, 0, 65_535)?;
     let Some(number) = found else {
         return Ok(None);
@@ -117,7 +117,7 @@ pub(crate) fn number_16(
 }
 
 /// The path that a text behind an option writes.
-fn path_in(alloc: Global, option: &'static str, text: &str) -> Result<String, WordsFault> {
+fn path_in(alloc: Global, option: &'static str, text: &str) -> Result<String, OptionFault> {
     if text.is_empty() {
         return Err(wrong(alloc, option, text, Wanted::Path));
     }
@@ -129,7 +129,7 @@ pub(crate) fn path(
     alloc: Global,
     found: &ArgMatches<'_>,
     option: &'static str,
-) -> Result<Option<String>, WordsFault> {
+) -> Result<Option<String>, OptionFault> {
     match found.get_str(option) {
         Some(text) => Ok(Some(path_in(alloc, option, text)?)),
         None => Ok(None),
@@ -141,11 +141,11 @@ pub(crate) fn paths(
     alloc: Global,
     found: &ArgMatches<'_>,
     option: &'static str,
-) -> Result<Vec<String>, WordsFault> {
+) -> Result<Vec<String>, OptionFault> {
     let mut all = Vec::new(alloc);
     for text in found.get_strs(option).unwrap_or_default() {
         if all.push(path_in(alloc, option, text)?).is_err() {
-            return Err(WordsFault::Memory);
+            return Err(OptionFault::Memory);
         }
     }
     Ok(all)
@@ -161,7 +161,7 @@ fn socket_address(text: &str) -> Option<SocketAddr> {
 }
 
 /// The address that a text behind an option writes.
-fn address_in(alloc: Global, option: &'static str, text: &str) -> Result<SocketAddr, WordsFault> {
+fn address_in(alloc: Global, option: &'static str, text: &str) -> Result<SocketAddr, OptionFault> {
     match socket_address(text) {
         Some(address) => Ok(address),
         None => Err(wrong(alloc, option, text, Wanted::Address)),
@@ -173,7 +173,7 @@ pub(crate) fn address(
     alloc: Global,
     found: &ArgMatches<'_>,
     option: &'static str,
-) -> Result<Option<SocketAddr>, WordsFault> {
+) -> Result<Option<SocketAddr>, OptionFault> {
     match found.get_str(option) {
         Some(text) => Ok(Some(address_in(alloc, option, text)?)),
         None => Ok(None),
@@ -185,26 +185,26 @@ pub(crate) fn addresses(
     alloc: Global,
     found: &ArgMatches<'_>,
     option: &'static str,
-) -> Result<Vec<SocketAddr>, WordsFault> {
+) -> Result<Vec<SocketAddr>, OptionFault> {
     let mut all = Vec::new(alloc);
     for text in found.get_strs(option).unwrap_or_default() {
         if all.push(address_in(alloc, option, text)?).is_err() {
-            return Err(WordsFault::Memory);
+            return Err(OptionFault::Memory);
         }
     }
     Ok(all)
 }
 
 /// The form of the log behind an option, or text where the option is left out.
-pub(crate) fn log_form(
+pub(crate) fn log_format(
     alloc: Global,
     found: &ArgMatches<'_>,
     option: &'static str,
-) -> Result<LogForm, WordsFault> {
+) -> Result<LogFormat, OptionFault> {
     match found.get_str(option) {
-        None => Ok(LogForm::Text),
-        Some("text") => Ok(LogForm::Text),
-        Some("json") => Ok(LogForm::Json),
-        Some(text) => Err(wrong(alloc, option, text, Wanted::LogForm)),
+        None => Ok(LogFormat::Text),
+        Some("text") => Ok(LogFormat::Text),
+        Some("json") => Ok(LogFormat::Json),
+        Some(text) => Err(wrong(alloc, option, text, Wanted::LogFormat)),
     }
 }

@@ -2,12 +2,12 @@
 ghost use Rattle.std.specs.Prelude.{◌≡◌, ◌≤◌, ◌+◌, true, IfOk, IsSome, vec_len};
 ghost use Rattle.daemon_words.specs.Bounds.{is_within};
 
-use crate::fault::WordsFault;
+use crate::fault::OptionFault;
 use crate::help::{help, version};
 use crate::options::command_line;
 use crate::settings::Settings;
 use crate::values::{
-    address, addresses, log_form, number, number_16, number_32, number_or, path, paths,
+    address, addresses, log_format, number, number_16, number_32, number_or, path, paths,
 };
 use clap::error::ErrorKind;
 use clap::{ArgMatches, Error};
@@ -17,7 +17,7 @@ use std::net::{IpAddr, Ipv4Addr, SocketAddr};
 
 /// What the words of the command line ask for.
 #[derive(Debug, Drop)]
-pub enum Asked {
+pub enum Command {
     /// A run under these settings.
     Serve(Settings),
     /// The help.
@@ -49,30 +49,30 @@ fn without_word(text: &str) -> &str {
 }
 
 /// Why the words do not parse, in the first lines of what the parser says of them.
-fn unclear(alloc: Global, error: &Error) -> Result<String, WordsFault> {
+fn unclear(alloc: Global, error: &Error) -> Result<String, OptionFault> {
     let all = format!(in alloc; "{error}")?;
-    let told = without_word(before_usage(all.as_str()));
-    Ok(String::from_str(alloc, told.trim_end())?)
+    let message = without_word(before_usage(all.as_str()));
+    Ok(String::from_str(alloc, message.trim_end())?)
 }
 
-fn fault_of(alloc: Global, error: &Error) -> WordsFault {
+fn fault_of(alloc: Global, error: &Error) -> OptionFault {
     if error.kind() == ErrorKind::OutOfMemory {
-        return WordsFault::Memory;
+        return OptionFault::Memory;
     }
     match unclear(alloc, error) {
-        Ok(told) => WordsFault::Unclear(told),
+        Ok(message) => OptionFault::Unclear(message),
         Err(fault) => fault,
     }
 }
 
 /// The intervals that are sent to routers (RFC 8210 section 6).
-fn timing(alloc: Global, found: &ArgMatches<'_>) -> Result<Timing, WordsFault> {
+fn timing(alloc: Global, found: &ArgMatches<'_>) -> Result<Timing, OptionFault> {
     let refresh = number_or(alloc, found, "refresh", 1, 86_400, 3600)?;
     let retry = number_or(alloc, found, "retry", 1, 7200, 600)?;
     let expire = number_or(alloc, found, "expire", 600, 172_800, 7200)?;
     match Timing::new(refresh, retry, expire) {
         Ok(timing) => Ok(timing),
-        Err(_) => Err(WordsFault::Expire {
+        Err(_) => Err(OptionFault::Expire {
             expire,
             refresh,
             retry,
@@ -81,14 +81,14 @@ fn timing(alloc: Global, found: &ArgMatches<'_>) -> Result<Timing, WordsFault> {
 }
 
 /// Where routers are awaited.
-fn listen(alloc: Global, found: &ArgMatches<'_>) -> Result<Vec<SocketAddr>, WordsFault>
+fn listen(alloc: Global, found: &ArgMatches<'_>) -> Result<Vec<SocketAddr>, OptionFault>
     ensures { IfOk result (λ all. 1 ≤ vec_len all) }
 {
     let mut all = addresses(alloc, found, "listen")?;
     if all.is_empty() {
         let default = SocketAddr::new(IpAddr::V4(Ipv4Addr::LOCALHOST), PORT);
         if all.push(default).is_err() {
-            return Err(WordsFault::Memory);
+            return Err(OptionFault::Memory);
         }
     }
     Ok(all)
@@ -96,19 +96,19 @@ fn listen(alloc: Global, found: &ArgMatches<'_>) -> Result<Vec<SocketAddr>, Word
 
 /// What is served: one file or directory at least.
 #[derive(Drop)]
-struct Served {
+struct SourcePaths {
     vrps: Vec<String>,
     points: Vec<String>,
     ghost has_source: { 1 ≤ vec_len vrps + vec_len points },
 }
 
-fn to_serve(alloc: Global, found: &ArgMatches<'_>) -> Result<Served, WordsFault> {
+fn to_serve(alloc: Global, found: &ArgMatches<'_>) -> Result<SourcePaths, OptionFault> {
     let vrps = paths(alloc, found, "vrps")?;
     let points = paths(alloc, found, "points")?;
     if vrps.is_empty() && points.is_empty() {
-        return Err(WordsFault::NoSource);
+        return Err(OptionFault::NoSource);
     }
-    Ok(Served { vrps, points })
+    Ok(SourcePaths { vrps, points })
 }
 
 /// How old what is served may be, and whether the daemon ends where it is older.
@@ -120,11 +120,11 @@ struct MaxAge {
     ghost ages_within: { is_within 1 4294967295 max_age ≡ true },
 }
 
-fn age(alloc: Global, found: &ArgMatches<'_>) -> Result<MaxAge, WordsFault> {
+fn age(alloc: Global, found: &ArgMatches<'_>) -> Result<MaxAge, OptionFault> {
     let max_age = number(alloc, found, "max-age", 1, 4_294_967_295)?;
     let stop_when_old = found.get_flag("stop-when-old");
     if stop_when_old && max_age.is_none() {
-        return Err(WordsFault::NoAge);
+        return Err(OptionFault::NoAge);
     }
     Ok(MaxAge {
         max_age,
@@ -133,7 +133,7 @@ fn age(alloc: Global, found: &ArgMatches<'_>) -> Result<MaxAge, WordsFault> {
 }
 
 /// How many bytes a file may have.
-fn max_size(alloc: Global, found: &ArgMatches<'_>) -> Result<u64, WordsFault>
+fn max_size(alloc: Global, found: &ArgMatches<'_>) -> Result<u64, OptionFault>
     ensures { IfOk result (λ size. (1 ≤ size) × (size ≤ 1099511627776)) }
 {
     match number(alloc, found, "max-size", 1, 1_099_511_627_776)? {
@@ -143,8 +143,8 @@ fn max_size(alloc: Global, found: &ArgMatches<'_>) -> Result<u64, WordsFault>
 }
 
 /// The settings of a run.
-fn settings(alloc: Global, found: &ArgMatches<'_>) -> Result<Settings, WordsFault> {
-    let Served { vrps, points } = to_serve(alloc, found)?;
+fn settings(alloc: Global, found: &ArgMatches<'_>) -> Result<Settings, OptionFault> {
+    let SourcePaths { vrps, points } = to_serve(alloc, found)?;
     let MaxAge {
         max_age,
         stop_when_old,
@@ -168,7 +168,7 @@ fn settings(alloc: Global, found: &ArgMatches<'_>) -> Result<Settings, WordsFaul
         clients_per_address: number(alloc, found, "clients-per-address", 1, 4_294_967_295)?,
         stall: number_or(alloc, found, "stall", 1, 4_294_967_295, 120)?,
         status: address(alloc, found, "status")?,
-        log: log_form(alloc, found, "log")?,
+        log: log_format(alloc, found, "log")?,
         once: found.get_flag("once"),
         test: found.get_flag("test"),
     })
@@ -176,17 +176,17 @@ fn settings(alloc: Global, found: &ArgMatches<'_>) -> Result<Settings, WordsFaul
 
 /// What these words ask for, which stand behind the program's name. `--help` and `--version` go before all other options that
 /// parse.
-pub fn read_words(alloc: Global, words: &[String]) -> Result<Asked, WordsFault> {
+pub fn read_words(alloc: Global, words: &[String]) -> Result<Command, OptionFault> {
     let command = command_line(alloc)?;
     let found = match command.try_get_matches_from(words) {
         Ok(found) => found,
         Err(error) => return Err(fault_of(alloc, &error)),
     };
     if found.get_flag("help") {
-        return Ok(Asked::Help(help(alloc)?));
+        return Ok(Command::Help(help(alloc)?));
     }
     if found.get_flag("version") {
-        return Ok(Asked::Version(version(alloc)?));
+        return Ok(Command::Version(version(alloc)?));
     }
-    Ok(Asked::Serve(settings(alloc, &found)?))
+    Ok(Command::Serve(settings(alloc, &found)?))
 }

@@ -1,4 +1,4 @@
-use daemon_words::{Asked, read_words};
+use daemon_words::{Command, read_words};
 use std::test::Fail;
 
 #[test]
@@ -8,7 +8,7 @@ fn words_ask_for_a_run(rt: HostRuntime) -> Result<(), Fail> {
         words.push(String::from_str(rt.alloc(), word)?)?;
     }
     match read_words(rt.alloc(), words.as_slice())? {
-        Asked::Serve(settings) => assert!(rt; settings.keep == 8),
+        Command::Serve(settings) => assert!(rt; settings.keep == 8),
         _ => assert!(rt; false),
     }
     Ok(())

@@ -1,4 +1,4 @@
-use orders::{Order, read_words};
+use orders::{Command, read_words};
 use std::test::Fail;
 
 #[test]
@@ -8,7 +8,7 @@ fn words_are_read(rt: HostRuntime) -> Result<(), Fail> {
         words.push(String::from_str(rt.alloc(), word)?)?;
     }
     match read_words(rt.alloc(), words.as_slice())? {
-        Order::Roa { file } => assert!(rt; file == "a.roa"),
+        Command::Roa { file } => assert!(rt; file == "a.roa"),
         _ => assert!(rt; false),
     }
     Ok(())

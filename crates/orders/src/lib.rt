@@ -3,14 +3,14 @@
 //! For example, where `rt` is the runtime that `main` is handed:
 //!
 //! ```rust
-//! use orders::{Order, read_words};
+//! use orders::{Command, read_words};
 //!
 //! let mut words = Vec::new(rt.alloc());
 //! for word in ["roa", "a.roa"] {
 //!     words.push(String::from_str(rt.alloc(), word)?)?;
 //! }
 //! match read_words(rt.alloc(), words.as_slice())? {
-//!     Order::Roa { file } => assert!(rt; file == "a.roa"),
+//!     Command::Roa { file } => assert!(rt; file == "a.roa"),
 //!     _ => assert!(rt; false),
 //! }
 //! ```
@@ -18,4 +18,4 @@
 
 mod words;
 
-pub use words::{Order, WordsFault, read_words};
+pub use words::{Command, CommandFault, read_words};

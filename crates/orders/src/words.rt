@@ -1,6 +1,6 @@
 //! The words of the command line.
 use clap::error::ErrorKind;
-use clap::{Arg, ArgAction, ArgMatches, Command, Error};
+use clap::{Arg, ArgAction, ArgMatches, Command as ClapCommand, Error};
 use command_parts::{CacheName, ProgramFault, decimal};
 use rtr_pdu::Version;
 use std::alloc::{AllocError, Global};
@@ -8,33 +8,33 @@ use thiserror::Error;
 
 /// Why words give no order.
 #[derive(Debug, Drop, Error)]
-pub enum WordsFault {
+pub enum CommandFault {
     /// The words do not parse.
     #[error("the words do not parse")]
-    NoOrder,
+    Invalid,
     /// Out of memory.
     #[error("out of memory")]
     Memory,
 }
 
-impl From<AllocError> for WordsFault {
-    fn from(_error: AllocError) -> WordsFault {
-        WordsFault::Memory
+impl From<AllocError> for CommandFault {
+    fn from(_error: AllocError) -> CommandFault {
+        CommandFault::Memory
     }
 }
 
-impl From<WordsFault> for ProgramFault {
-    fn from(fault: WordsFault) -> ProgramFault {
+impl From<CommandFault> for ProgramFault {
+    fn from(fault: CommandFault) -> ProgramFault {
         match fault {
-            WordsFault::NoOrder => ProgramFault::Words,
-            WordsFault::Memory => ProgramFault::Memory,
+            CommandFault::Invalid => ProgramFault::Words,
+            CommandFault::Memory => ProgramFault::Memory,
         }
     }
 }
 
 /// A command: its name, its options, which take one value each, those of them that may be left out, its other words, and words that
 /// come once or more.
-struct Form {
+struct CommandSpec {
     name: &'static str,
     options: &'static [&'static str],
     extras: &'static [&'static str],
@@ -42,71 +42,71 @@ struct Form {
     lists: &'static [&'static str],
 }
 
-static FORMS: [Form; 10] = [
-    Form {
+static COMMANDS: [CommandSpec; 10] = [
+    CommandSpec {
         name: "roa",
         options: &[],
         extras: &[],
         words: &["FILE"],
         lists: &[],
     },
-    Form {
+    CommandSpec {
         name: "manifest",
         options: &[],
         extras: &[],
         words: &["FILE"],
         lists: &[],
     },
-    Form {
+    CommandSpec {
         name: "payloads",
         options: &["now"],
         extras: &[],
         words: &[],
         lists: &["DIR"],
     },
-    Form {
+    CommandSpec {
         name: "units",
         options: &[],
         extras: &[],
         words: &["FILE"],
         lists: &[],
     },
-    Form {
+    CommandSpec {
         name: "answer",
         options: &["session", "serial", "vrps"],
         extras: &["session0"],
         words: &["HEX"],
         lists: &[],
     },
-    Form {
+    CommandSpec {
         name: "route",
         options: &["vrps"],
         extras: &[],
         words: &["PREFIX", "ORIGIN"],
         lists: &[],
     },
-    Form {
+    CommandSpec {
         name: "serve",
         options: &["port", "session", "start", "vrps", "connections"],
         extras: &["session0"],
         words: &[],
         lists: &[],
     },
-    Form {
+    CommandSpec {
         name: "fetch",
         options: &["port"],
         extras: &["rtr-version"],
         words: &[],
         lists: &[],
     },
-    Form {
+    CommandSpec {
         name: "loop",
         options: &["session", "start", "vrps"],
         extras: &[],
         words: &["PREFIX", "ORIGIN"],
         lists: &[],
     },
-    Form {
+    CommandSpec {
         name: "world",
         options: &[],
         extras: &[],
@@ -119,18 +119,18 @@ fn word<'a>(alloc: Global, name: &'static str) -> Arg<'a> {
     Arg::new(alloc, name).required(true).action(ArgAction::Set)
 }
 
-fn subcommand<'a>(alloc: Global, form: &Form) -> Result<Command<'a>, AllocError> {
-    let mut command = Command::new(alloc, form.name);
-    for name in form.options {
+fn subcommand<'a>(alloc: Global, spec: &CommandSpec) -> Result<ClapCommand<'a>, AllocError> {
+    let mut command = ClapCommand::new(alloc, spec.name);
+    for name in spec.options {
         command = command.arg(word(alloc, name).long(name))?;
     }
-    for name in form.extras {
+    for name in spec.extras {
         command = command.arg(word(alloc, name).long(name).required(false))?;
     }
-    for name in form.words {
+    for name in spec.words {
         command = command.arg(word(alloc, name))?;
     }
-    for name in form.lists {
+    for name in spec.lists {
         let words = word(alloc, name).num_args(1..).action(ArgAction::Append);
         command = command.arg(words)?;
     }
@@ -138,22 +138,22 @@ fn subcommand<'a>(alloc: Global, form: &Form) -> Result<Command<'a>, AllocError>
 }
 
 /// The command line of the program: one level of commands, without help or version.
-fn command_line<'a>(alloc: Global) -> Result<Command<'a>, AllocError> {
-    let mut all = Command::new(alloc, "rpkirtr")
+fn command_line<'a>(alloc: Global) -> Result<ClapCommand<'a>, AllocError> {
+    let mut all = ClapCommand::new(alloc, "rpkirtr")
         .no_binary_name(true)
         .disable_help_flag(true)
         .disable_help_subcommand(true)
         .disable_version_flag(true)
         .subcommand_required(true);
-    for form in &FORMS {
-        all = all.subcommand(subcommand(alloc, form)?)?;
+    for spec in &COMMANDS {
+        all = all.subcommand(subcommand(alloc, spec)?)?;
     }
     Ok(all)
 }
 
 /// What the words ask for.
 #[derive(Debug, Drop)]
-pub enum Order<'a> {
+pub enum Command<'a> {
     /// What the payload of a ROA in FILE says.
     Roa {
         file: &'a str,
@@ -210,27 +210,27 @@ pub enum Order<'a> {
     },
 }
 
-fn fault_of(error: Error) -> WordsFault {
+fn fault_of(error: Error) -> CommandFault {
     if error.kind() == ErrorKind::OutOfMemory {
-        WordsFault::Memory
+        CommandFault::Memory
     } else {
-        WordsFault::NoOrder
+        CommandFault::Invalid
     }
 }
 
 /// The value of an option or a word.
-fn value<'a>(found: &ArgMatches<'a>, name: &str) -> Result<&'a str, WordsFault> {
-    found.get_str(name).ok_or(WordsFault::NoOrder)
+fn value<'a>(found: &ArgMatches<'a>, name: &str) -> Result<&'a str, CommandFault> {
+    found.get_str(name).ok_or(CommandFault::Invalid)
 }
 
 /// The number of 16 bits under this name.
-fn number_16(found: &ArgMatches<'_>, name: &str) -> Result<u16, WordsFault> {
-    let number = decimal(value(found, name)?).ok_or(WordsFault::NoOrder)?;
-    u16::try_from(number).map_err(|_| WordsFault::NoOrder)
+fn number_16(found: &ArgMatches<'_>, name: &str) -> Result<u16, CommandFault> {
+    let number = decimal(value(found, name)?).ok_or(CommandFault::Invalid)?;
+    u16::try_from(number).map_err(|_| CommandFault::Invalid)
 }
 
 /// The number of 16 bits under this name, or this one where the option is left out.
-fn number_16_or(found: &ArgMatches<'_>, name: &str, number: u16) -> Result<u16, WordsFault> {
+fn number_16_or(found: &ArgMatches<'_>, name: &str, number: u16) -> Result<u16, CommandFault> {
     match found.get_str(name) {
         None => Ok(number),
         Some(_) => number_16(found, name),
@@ -238,22 +238,22 @@ fn number_16_or(found: &ArgMatches<'_>, name: &str, number: u16) -> Result<u16, 
 }
 
 /// The version of the protocol under this name, or 1 where the option is left out.
-fn version(found: &ArgMatches<'_>, name: &str) -> Result<Version, WordsFault> {
+fn version(found: &ArgMatches<'_>, name: &str) -> Result<Version, CommandFault> {
     match number_16_or(found, name, 1)? {
         0 => Ok(Version::V0),
         1 => Ok(Version::V1),
-        _ => Err(WordsFault::NoOrder),
+        _ => Err(CommandFault::Invalid),
     }
 }
 
 /// The number of 32 bits under this name.
-fn number_32(found: &ArgMatches<'_>, name: &str) -> Result<u32, WordsFault> {
-    let number = decimal(value(found, name)?).ok_or(WordsFault::NoOrder)?;
-    u32::try_from(number).map_err(|_| WordsFault::NoOrder)
+fn number_32(found: &ArgMatches<'_>, name: &str) -> Result<u32, CommandFault> {
+    let number = decimal(value(found, name)?).ok_or(CommandFault::Invalid)?;
+    u32::try_from(number).map_err(|_| CommandFault::Invalid)
 }
 
 /// The name of a cache: its session, that in version 0 where it is given, and the number under `serial`.
-fn cache_name(found: &ArgMatches<'_>, serial: &str) -> Result<CacheName, WordsFault> {
+fn cache_name(found: &ArgMatches<'_>, serial: &str) -> Result<CacheName, CommandFault> {
     let session = number_16(found, "session")?;
     Ok(CacheName {
         session,
@@ -262,55 +262,58 @@ fn cache_name(found: &ArgMatches<'_>, serial: &str) -> Result<CacheName, WordsFa
     })
 }
 
-fn roa_order<'a>(found: &ArgMatches<'a>) -> Result<Order<'a>, WordsFault> {
-    Ok(Order::Roa {
+fn roa_command<'a>(found: &ArgMatches<'a>) -> Result<Command<'a>, CommandFault> {
+    Ok(Command::Roa {
         file: value(found, "FILE")?,
     })
 }
 
-fn manifest_order<'a>(found: &ArgMatches<'a>) -> Result<Order<'a>, WordsFault> {
-    Ok(Order::Manifest {
+fn manifest_command<'a>(found: &ArgMatches<'a>) -> Result<Command<'a>, CommandFault> {
+    Ok(Command::Manifest {
         file: value(found, "FILE")?,
     })
 }
 
-fn payloads_order<'a>(alloc: Global, found: &ArgMatches<'a>) -> Result<Order<'a>, WordsFault> {
+fn payloads_command<'a>(
+    alloc: Global,
+    found: &ArgMatches<'a>,
+) -> Result<Command<'a>, CommandFault> {
     let mut directories = Vec::new(alloc);
-    for &directory in found.get_strs("DIR").ok_or(WordsFault::NoOrder)? {
+    for &directory in found.get_strs("DIR").ok_or(CommandFault::Invalid)? {
         if directories.push(directory).is_err() {
-            return Err(WordsFault::Memory);
+            return Err(CommandFault::Memory);
         }
     }
-    Ok(Order::Payloads {
+    Ok(Command::Payloads {
         now: value(found, "now")?,
         directories,
     })
 }
 
-fn units_order<'a>(found: &ArgMatches<'a>) -> Result<Order<'a>, WordsFault> {
-    Ok(Order::Units {
+fn units_command<'a>(found: &ArgMatches<'a>) -> Result<Command<'a>, CommandFault> {
+    Ok(Command::Units {
         file: value(found, "FILE")?,
     })
 }
 
-fn answer_order<'a>(found: &ArgMatches<'a>) -> Result<Order<'a>, WordsFault> {
-    Ok(Order::Answer {
+fn answer_command<'a>(found: &ArgMatches<'a>) -> Result<Command<'a>, CommandFault> {
+    Ok(Command::Answer {
         name: cache_name(found, "serial")?,
         vrps: value(found, "vrps")?,
         hex: value(found, "HEX")?,
     })
 }
 
-fn route_order<'a>(found: &ArgMatches<'a>) -> Result<Order<'a>, WordsFault> {
-    Ok(Order::Route {
+fn route_command<'a>(found: &ArgMatches<'a>) -> Result<Command<'a>, CommandFault> {
+    Ok(Command::Route {
         vrps: value(found, "vrps")?,
         prefix: value(found, "PREFIX")?,
         origin: value(found, "ORIGIN")?,
     })
 }
 
-fn serve_order<'a>(found: &ArgMatches<'a>) -> Result<Order<'a>, WordsFault> {
-    Ok(Order::Serve {
+fn serve_command<'a>(found: &ArgMatches<'a>) -> Result<Command<'a>, CommandFault> {
+    Ok(Command::Serve {
         port: number_16(found, "port")?,
         name: cache_name(found, "start")?,
         vrps: value(found, "vrps")?,
@@ -318,16 +321,16 @@ fn serve_order<'a>(found: &ArgMatches<'a>) -> Result<Order<'a>, WordsFault> {
     })
 }
 
-fn fetch_order<'a>(found: &ArgMatches<'a>) -> Result<Order<'a>, WordsFault> {
-    Ok(Order::Fetch {
+fn fetch_command<'a>(found: &ArgMatches<'a>) -> Result<Command<'a>, CommandFault> {
+    Ok(Command::Fetch {
         port: number_16(found, "port")?,
         version: version(found, "rtr-version")?,
     })
 }
 
-fn loop_order<'a>(found: &ArgMatches<'a>) -> Result<Order<'a>, WordsFault> {
+fn loop_command<'a>(found: &ArgMatches<'a>) -> Result<Command<'a>, CommandFault> {
     let session = number_16(found, "session")?;
-    Ok(Order::Loop {
+    Ok(Command::Loop {
         name: CacheName {
             session,
             session0: session,
@@ -339,27 +342,27 @@ fn loop_order<'a>(found: &ArgMatches<'a>) -> Result<Order<'a>, WordsFault> {
     })
 }
 
-fn world_order<'a>(found: &ArgMatches<'a>) -> Result<Order<'a>, WordsFault> {
-    Ok(Order::World {
+fn world_command<'a>(found: &ArgMatches<'a>) -> Result<Command<'a>, CommandFault> {
+    Ok(Command::World {
         file: value(found, "FILE")?,
     })
 }
 
 /// The order that the words spell.
-pub fn read_words(alloc: Global, words: &[String]) -> Result<Order<'_>, WordsFault> {
+pub fn read_words(alloc: Global, words: &[String]) -> Result<Command<'_>, CommandFault> {
     let command = command_line(alloc)?;
     let matches = command.try_get_matches_from(words).map_err(fault_of)?;
     match matches.subcommand() {
-        Some(("roa", found)) => roa_order(found),
-        Some(("manifest", found)) => manifest_order(found),
-        Some(("payloads", found)) => payloads_order(alloc, found),
-        Some(("units", found)) => units_order(found),
-        Some(("answer", found)) => answer_order(found),
-        Some(("route", found)) => route_order(found),
-        Some(("serve", found)) => serve_order(found),
-        Some(("fetch", found)) => fetch_order(found),
-        Some(("loop", found)) => loop_order(found),
-        Some(("world", found)) => world_order(found),
-        _ => Err(WordsFault::NoOrder),
+        Some(("roa", found)) => roa_command(found),
+        Some(("manifest", found)) => manifest_command(found),
+        Some(("payloads", found)) => payloads_command(alloc, found),
+        Some(("units", found)) => units_command(found),
+        Some(("answer", found)) => answer_command(found),
+        Some(("route", found)) => route_command(found),
+        Some(("serve", found)) => serve_command(found),
+        Some(("fetch", found)) => fetch_command(found),
+        Some(("loop", found)) => loop_command(found),
+        Some(("world", found)) => world_command(found),
+        _ => Err(CommandFault::Invalid),
     }
 }

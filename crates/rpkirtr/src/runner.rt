@@ -2,7 +2,7 @@
 ghost use Rattle.std.specs.Prelude.{◌≡◌, ◌≤◌, IfOk};
 
 use command_parts::ProgramFault;
-use orders::{Order, read_words};
+use orders::{Command, read_words};
 use payload_commands::{manifest, payloads, roa, route};
 use rtr_commands::{answer, both_ends, fetch, serve, units};
 use std::io::Write;
@@ -71,31 +71,31 @@ fn run<R: Files + Net + AllocGlobal + Clone + Drop, O: Write, E: Write>(
     ensures { IfOk result (λ s. s ≤ 1) }
 {
     match read_words(rt.alloc(), words)? {
-        Order::Roa { file } => roa(rt, file, out),
-        Order::Manifest { file } => manifest(rt, file, out),
-        Order::Payloads { now, directories } => {
+        Command::Roa { file } => roa(rt, file, out),
+        Command::Manifest { file } => manifest(rt, file, out),
+        Command::Payloads { now, directories } => {
             payloads(rt, now, directories.as_slice(), out, err)
         }
-        Order::Units { file } => units(rt, file, out),
-        Order::Answer { name, vrps, hex } => answer(rt, name, vrps, hex, out),
-        Order::Route {
+        Command::Units { file } => units(rt, file, out),
+        Command::Answer { name, vrps, hex } => answer(rt, name, vrps, hex, out),
+        Command::Route {
             vrps,
             prefix,
             origin,
         } => route(rt, vrps, prefix, origin, out),
-        Order::Serve {
+        Command::Serve {
             port,
             name,
             vrps,
             connections,
         } => serve(rt, port, name, vrps, connections, out),
-        Order::Fetch { port, version } => fetch(rt, port, version, out),
-        Order::Loop {
+        Command::Fetch { port, version } => fetch(rt, port, version, out),
+        Command::Loop {
             name,
             vrps,
             prefix,
             origin,
         } => both_ends(rt, name, vrps, (prefix, origin), out),
-        Order::World { file } => world(rt, file, out),
+        Command::World { file } => world(rt, file, out),
     }
 }

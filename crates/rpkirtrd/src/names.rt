@@ -1,5 +1,5 @@
 //! The names of the versions that are served.
-use daemon_parts::{VersionNames, first_serial, is_machine_id, session_of, session0_of};
+use daemon_parts::{SessionIds, first_serial, is_machine_id, session_of, session0_of};
 use daemon_words::Settings;
 use std::alloc::{AllocError, Global};
 use std::fs;
@@ -17,7 +17,7 @@ const HOST_NAME: &str = "/proc/sys/kernel/hostname";
 /// The names of the versions, and whether the session was drawn at random.
 #[derive(Clone, Copy, Debug)]
 pub struct Named {
-    pub names: VersionNames,
+    pub names: SessionIds,
     pub is_random: bool,
 }
 
@@ -43,7 +43,7 @@ pub fn names_of<R: Files + RandomSource + AllocGlobal>(
         None => own_session(rt, settings)?,
     };
     Ok(Named {
-        names: VersionNames {
+        names: SessionIds {
             session: session.number,
             session0: settings.session0.unwrap_or(session0_of(start)),
             serial: settings.start.unwrap_or(first_serial(start)),

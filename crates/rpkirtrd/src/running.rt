@@ -3,8 +3,8 @@ use crate::connection::Connection;
 use crate::names::{Named, names_of};
 use crate::status_endpoint::StatusEndpoint;
 use crate::system::{SocketFault, System};
-use daemon_parts::{Event, VersionNames};
-use daemon_words::{Asked, Settings, WordsFault, read_words};
+use daemon_parts::{LogEvent, SessionIds};
+use daemon_words::{Command, OptionFault, Settings, read_words};
 use rtr_daemon::{Daemon, EventLog, Paths, Plan, Refusal, Sockets, StartFault, StopReason, Time};
 use rtr_ends::Cache;
 use rtr_server::Server;
@@ -41,10 +41,10 @@ pub fn run_words<
     E: Write,
 >(rt: &R, words: &[String], out: &mut O, err: &mut E) -> u8 {
     match read_words(rt.alloc(), words) {
-        Ok(Asked::Help(text)) | Ok(Asked::Version(text)) => print(text.as_str(), out),
-        Ok(Asked::Serve(settings)) if settings.test => judge(rt, settings, err),
-        Ok(Asked::Serve(settings)) => serve(rt, settings, err),
-        Err(WordsFault::Memory) => out_of_memory(err),
+        Ok(Command::Help(text)) | Ok(Command::Version(text)) => print(text.as_str(), out),
+        Ok(Command::Serve(settings)) if settings.test => judge(rt, settings, err),
+        Ok(Command::Serve(settings)) => serve(rt, settings, err),
+        Err(OptionFault::Memory) => out_of_memory(err),
         Err(fault) => {
             let _ = writeln!(err, "rpkirtrd: {fault}\nTry rpkirtrd --help.");
             2
@@ -119,7 +119,7 @@ fn wait_for_clock<W: Time + EventLog + Sockets<Connection>>(env: &mut W) -> io::
         }
         if !is_logged {
             let reason = "the clock is before the year 2020: nothing is served until it is set";
-            env.log(now, &Event::Warning { reason });
+            env.log(now, &LogEvent::Warning { reason });
             is_logged = true;
         }
         env.wait(1000)?;
@@ -218,12 +218,12 @@ fn warn<J: EventLog>(settings: &Settings, is_random: bool, now: u64, events: &mu
     if is_random {
         let reason =
             "/etc/machine-id names no machine: the session is random at each start; --session sets it";
-        events.log(now, &Event::Warning { reason });
+        events.log(now, &LogEvent::Warning { reason });
     }
     if settings.check < NOTIFY_SECONDS {
         let reason =
             "with --check below 60 routers may be notified more than once a minute (RFC 8210 section 8.2)";
-        events.log(now, &Event::Warning { reason });
+        events.log(now, &LogEvent::Warning { reason });
     }
 }
 
@@ -231,7 +231,7 @@ fn warn<J: EventLog>(settings: &Settings, is_random: bool, now: u64, events: &mu
 fn server_of(
     alloc: Global,
     settings: &Settings,
-    names: VersionNames,
+    names: SessionIds,
     most: usize,
 ) -> Result<Server<VersionLog, Connection>, AllocError> {
     let store = VersionLog::new(alloc, names.session, names.serial, settings.keep)?;
@@ -268,7 +268,7 @@ fn client_limit<J: EventLog>(settings: &Settings, now: u64, events: &mut J) -> u
     if asked > most {
         events.log(
             now,
-            &Event::Limited {
+            &LogEvent::Limited {
                 clients: most as u64,
             },
         );
@@ -288,8 +288,8 @@ fn descriptors() -> usize {
     usize::try_from(limit.rlim_cur).unwrap_or(usize::MAX)
 }
 
-fn log_start<J: EventLog>(names: VersionNames, now: u64, events: &mut J) {
-    events.log(now, &Event::Started(names));
+fn log_start<J: EventLog>(names: SessionIds, now: u64, events: &mut J) {
+    events.log(now, &LogEvent::Started(names));
 }
 
 /// Reports why there is no start, with the status.
@@ -327,7 +327,7 @@ fn go_on<R: Files + Net + Clock + RandomSource + AllocGlobal + Clone + Drop, E: 
 fn stop<W: Time + EventLog>(end: StopReason, env: &mut W) -> u8 {
     let reason = reason_of(end);
     let now = env.seconds();
-    env.log(now, &Event::Stopped { reason });
+    env.log(now, &LogEvent::Stopped { reason });
     match end {
         StopReason::Once | StopReason::Test => 0,
         StopReason::Old => 1,
@@ -347,7 +347,7 @@ fn fail<W: Time + EventLog>(error: &io::Error, env: &mut W) -> u8 {
     let now = env.seconds();
     env.log(
         now,
-        &Event::Stopped {
+        &LogEvent::Stopped {
             reason: "the system does not say what is ready",
         },
     );

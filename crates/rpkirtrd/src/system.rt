@@ -1,7 +1,7 @@
 //! What the daemon sees of the system: sockets over `mio`, files, clocks, and standard error.
 use crate::connection::Connection;
 use crate::running::refuse_sockets;
-use daemon_parts::{Event, LogForm, write_event};
+use daemon_parts::{LogEvent, LogFormat, write_event};
 use mio::net::{TcpListener, TcpStream};
 use mio::{Events, Interest, Poll, Token};
 use payload_commands::{Directory, read_directories};
@@ -48,7 +48,7 @@ pub enum HttpReady {
 pub struct System<'a, R, E> {
     rt: &'a R,
     err: &'a mut E,
-    form: LogForm,
+    form: LogFormat,
     max_size: u64,
     poll: Poll,
     events: Events,
@@ -100,7 +100,7 @@ impl<'a, R: Files + Net + Clock + AllocGlobal, E: Write> System<'a, R, E> {
     pub fn open(
         rt: &'a R,
         err: &'a mut E,
-        form: LogForm,
+        form: LogFormat,
         max_size: u64,
         addresses: &[SocketAddr],
     ) -> Result<System<'a, R, E>, SocketFault> {
@@ -141,7 +141,7 @@ impl<'a, R: Files + Net + Clock + AllocGlobal, E: Write> System<'a, R, E> {
 
     /// Reports on standard error why the daemon does not start. A path is in quotes if a character of it would break the line.
     pub fn refuse(&mut self, fault: &StartFault) {
-        if self.form == LogForm::Json {
+        if self.form == LogFormat::Json {
             return self.log_refusal(fault);
         }
         let _ = match &fault.path {
@@ -157,12 +157,12 @@ impl<'a, R: Files + Net + Clock + AllocGlobal, E: Write> System<'a, R, E> {
     fn log_refusal(&mut self, fault: &StartFault) {
         let now = self.seconds();
         let Ok(reason) = fault.refusal.to_string(self.rt.alloc()) else {
-            return self.log(now, &Event::Memory { what: "the start" });
+            return self.log(now, &LogEvent::Memory { what: "the start" });
         };
         let reason = reason.as_str();
         match &fault.path {
-            Some(file) => self.log(now, &Event::Refused { file, reason }),
-            None => self.log(now, &Event::Stopped { reason }),
+            Some(file) => self.log(now, &LogEvent::Refused { file, reason }),
+            None => self.log(now, &LogEvent::Stopped { reason }),
         }
     }
 
@@ -171,7 +171,7 @@ impl<'a, R: Files + Net + Clock + AllocGlobal, E: Write> System<'a, R, E> {
         let (listener, address) = self.bind(address, Token(self.listeners.len()))?;
         self.listeners.push(listener)?;
         let now = self.seconds();
-        self.log(now, &Event::Listening { address });
+        self.log(now, &LogEvent::Listening { address });
         Ok(())
     }
 
@@ -179,7 +179,7 @@ impl<'a, R: Files + Net + Clock + AllocGlobal, E: Write> System<'a, R, E> {
     pub fn listen_for_http(&mut self, address: SocketAddr) -> io::Result<TcpListener> {
         let (listener, address) = self.bind(address, Token(STATUS_TOKEN))?;
         let now = self.seconds();
-        self.log(now, &Event::Status { address });
+        self.log(now, &LogEvent::Status { address });
         Ok(listener)
     }
 
@@ -220,7 +220,7 @@ impl<'a, R: Clock + AllocGlobal, E: Write> Time for System<'a, R, E> {
 }
 
 impl<'a, R: Clock + AllocGlobal, E: Write> EventLog for System<'a, R, E> {
-    fn log(&mut self, seconds: u64, event: &Event<'_>) {
+    fn log(&mut self, seconds: u64, event: &LogEvent<'_>) {
         self.text.clear();
         if write_event(&mut self.text, self.form, seconds, event).is_ok() {
             let _ = self.err.write_all(self.text.as_slice());

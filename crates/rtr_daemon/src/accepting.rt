@@ -4,7 +4,7 @@ ghost use Rattle.rtr_daemon.specs.Serving.{GoesOn};
 
 use crate::daemon::Daemon;
 use crate::environment::{AcceptResult, EventLog, Sockets, Time};
-use daemon_parts::Event;
+use daemon_parts::LogEvent;
 use rtr_server::{AdmitFault, Stream};
 use std::alloc::{AllocError, Global};
 use std::io;
@@ -145,7 +145,7 @@ impl<S: VersionStore, T: Stream + Drop> Daemon<S, T> {
             }
             AcceptResult::WouldBlock => self.listeners.note(listener, false),
             AcceptResult::Again => {}
-            AcceptResult::NoRoom => self.pause(listener, &Event::NoDescriptor, env),
+            AcceptResult::NoRoom => self.pause(listener, &LogEvent::NoDescriptor, env),
             AcceptResult::Failed(error) => self.note_accept_failure(listener, &error, env),
         }
     }
@@ -164,7 +164,7 @@ impl<S: VersionStore, T: Stream + Drop> Daemon<S, T> {
         match self.plan.clients_per_address {
             Some(most) if clients >= most => {
                 let now = env.seconds();
-                env.log(now, &Event::AddressFull { address, clients });
+                env.log(now, &LogEvent::AddressFull { address, clients });
             }
             _ => self.admit_within(stream, token, address, env),
         }
@@ -184,9 +184,9 @@ impl<S: VersionStore, T: Stream + Drop> Daemon<S, T> {
         match self.service.admit(stream) {
             Err(AdmitFault::TooManyClients) => {
                 let clients = self.service.server().clients() as u64;
-                env.log(now, &Event::Full { address, clients });
+                env.log(now, &LogEvent::Full { address, clients });
             }
-            Err(AdmitFault::Memory) => env.log(now, &Event::Memory { what: "a client" }),
+            Err(AdmitFault::Memory) => env.log(now, &LogEvent::Memory { what: "a client" }),
             Ok(client) => {
                 if self
                     .clients
@@ -194,17 +194,17 @@ impl<S: VersionStore, T: Stream + Drop> Daemon<S, T> {
                     .is_err()
                 {
                     self.service.drop_client(client);
-                    env.log(now, &Event::Memory { what: "a client" });
+                    env.log(now, &LogEvent::Memory { what: "a client" });
                 } else {
                     self.statistics.came();
-                    env.log(now, &Event::ClientCame { address });
+                    env.log(now, &LogEvent::ClientCame { address });
                 }
             }
         }
     }
 
     /// Lets a gate rest at which a connection may wait and none can be taken. That is reported once, until one is taken.
-    fn pause<W: Time + EventLog>(&mut self, listener: usize, event: &Event<'_>, env: &mut W)
+    fn pause<W: Time + EventLog>(&mut self, listener: usize, event: &LogEvent<'_>, env: &mut W)
         ensures { self.new.service ≡ self.old.service }
     {
         self.listeners
@@ -227,13 +227,13 @@ impl<S: VersionStore, T: Stream + Drop> Daemon<S, T> {
         match error.to_string(self.alloc) {
             Ok(reason) => self.pause(
                 listener,
-                &Event::Failed {
+                &LogEvent::Failed {
                     what: "accept",
                     reason: reason.as_str(),
                 },
                 env,
             ),
-            Err(_) => self.pause(listener, &Event::Memory { what: "a client" }, env),
+            Err(_) => self.pause(listener, &LogEvent::Memory { what: "a client" }, env),
         }
     }
 }

@@ -5,7 +5,7 @@ ghost use Rattle.rtr_daemon.specs.Serving.{GoesOn};
 use crate::daemon::Daemon;
 use crate::environment::{EventLog, Ready, Sockets, Time};
 use crate::status::with_counters;
-use daemon_parts::{Departure, Event, PeerReport};
+use daemon_parts::{ClientClosed, LogEvent, PeerReport};
 use rtr_pdu::Version;
 use rtr_server::{ByteCounts, Client, CloseReason, PdusByKind, Report, Stream, Turn};
 use std::net::SocketAddr;
@@ -126,7 +126,7 @@ impl<S: VersionStore, T: Stream + Drop> Daemon<S, T> {
         self.log_error_reports(entry.address, now, env);
         env.log(
             now,
-            &Event::ClientGone(Departure {
+            &LogEvent::ClientGone(ClientClosed {
                 address: entry.address,
                 why,
                 version: counters.version.map(number_of),
@@ -149,7 +149,7 @@ impl<S: VersionStore, T: Stream + Drop> Daemon<S, T> {
                 code: report.code(),
                 text: text_of(report),
             };
-            env.log(now, &Event::ErrorReport(report));
+            env.log(now, &LogEvent::ErrorReport(report));
         }
         if let Some(code) = parted.sent_report {
             let report = PeerReport {
@@ -158,7 +158,7 @@ impl<S: VersionStore, T: Stream + Drop> Daemon<S, T> {
                 code,
                 text: "",
             };
-            env.log(now, &Event::ErrorReport(report));
+            env.log(now, &LogEvent::ErrorReport(report));
         }
     }
 
@@ -202,7 +202,7 @@ impl<S: VersionStore, T: Stream + Drop> Daemon<S, T> {
     {
         if let Some((_client, address)) = self.clients.at(token) {
             let now = env.seconds();
-            env.log(now, &Event::Stalled { address });
+            env.log(now, &LogEvent::Stalled { address });
         }
         self.drop_connection(token, "stalled", env);
     }

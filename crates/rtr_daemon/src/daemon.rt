@@ -12,7 +12,7 @@ use crate::refusal::{Refusal, StartFault};
 use crate::service::{PublishReport, Service};
 use crate::statistics::{Families, Statistics};
 use crate::watched_file::{Look, Source, WatchedFile};
-use daemon_parts::{Event, Pace, Publication, VersionNames};
+use daemon_parts::{LogEvent, Pace, Publication, SessionIds};
 use rtr_server::{Server, Stream};
 use sources::Sources;
 use std::alloc::{AllocError, Global};
@@ -75,7 +75,7 @@ pub enum StopReason {
 pub struct Daemon<S, T> {
     pub(crate) alloc: Global,
     pub(crate) plan: Plan,
-    pub(crate) names: VersionNames,
+    pub(crate) names: SessionIds,
     pub(crate) service: Service<S, T>,
     pub(crate) clients: ClientTable,
     pub(crate) listeners: Listeners,
@@ -109,7 +109,7 @@ impl<S: VersionStore + Drop, T: Stream + Drop> Daemon<S, T> {
     pub fn open<W: Disk + Time + EventLog>(
         alloc: Global,
         plan: Plan,
-        names: VersionNames,
+        names: SessionIds,
         server: Server<S, T>,
         sources: Paths,
         env: &mut W,
@@ -280,7 +280,7 @@ impl<S: VersionStore + Drop, T: Stream + Drop> Daemon<S, T> {
         let milliseconds = env.millis().saturating_sub(began);
         env.log(
             now,
-            &Event::Published(Publication {
+            &LogEvent::Published(Publication {
                 session: self.names.session,
                 serial: serial.0,
                 announced: report.announced,
@@ -291,7 +291,7 @@ impl<S: VersionStore + Drop, T: Stream + Drop> Daemon<S, T> {
         );
         if !self.is_ready {
             self.is_ready = true;
-            env.log(now, &Event::Ready);
+            env.log(now, &LogEvent::Ready);
         }
     }
 
@@ -300,7 +300,7 @@ impl<S: VersionStore + Drop, T: Stream + Drop> Daemon<S, T> {
         ensures { self.new.service ≡ self.old.service }
     {
         if self.statistics.leave_out(records) {
-            env.log(now, &Event::LeftOut { records });
+            env.log(now, &LogEvent::LeftOut { records });
         }
     }
 
@@ -322,7 +322,7 @@ impl<S: VersionStore + Drop, T: Stream + Drop> Daemon<S, T> {
         if let Ok(reason) = refusal.to_string(self.alloc) {
             env.log(
                 now,
-                &Event::Failed {
+                &LogEvent::Failed {
                     what: "publication",
                     reason: reason.as_str(),
                 },
@@ -338,7 +338,7 @@ impl<S: VersionStore + Drop, T: Stream + Drop> Daemon<S, T> {
         let behind = self.paced(millis).saturating_sub(now);
         let is_news = behind > self.clock_behind.saturating_add(1);
         if is_news {
-            env.log(now, &Event::Clock { behind });
+            env.log(now, &LogEvent::Clock { behind });
         }
         if is_news || behind < self.clock_behind {
             self.clock_behind = behind;
@@ -415,9 +415,9 @@ pub(crate) fn built_of(file: &WatchedFile, sources: &Sources, now: u64) -> Optio
 /// Reports that an export is older than it may be, or is not any more.
 fn log_age<W: EventLog>(file: &str, age: u64, most: u64, now: u64, env: &mut W) {
     if age > most {
-        env.log(now, &Event::Old { file, age });
+        env.log(now, &LogEvent::Old { file, age });
     } else {
-        env.log(now, &Event::Fresh { file, age });
+        env.log(now, &LogEvent::Fresh { file, age });
     }
 }
 

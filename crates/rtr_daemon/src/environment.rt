@@ -1,5 +1,5 @@
 //! What a daemon sees of its surroundings: sockets, files, the time, and a journal. Each has two ends: the system's, and one in memory.
-use daemon_parts::Event;
+use daemon_parts::LogEvent;
 use payload_commands::Directory;
 use std::io;
 use std::net::SocketAddr;
@@ -84,5 +84,5 @@ pub trait Time {
 /// The log.
 pub trait EventLog {
     /// Writes a line. What cannot be written is lost.
-    fn log(&mut self, seconds: u64, event: &Event<'_>);
+    fn log(&mut self, seconds: u64, event: &LogEvent<'_>);
 }

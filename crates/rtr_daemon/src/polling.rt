@@ -9,7 +9,7 @@ use crate::refusals::Refusals;
 use crate::service::Service;
 use crate::statistics::Statistics;
 use crate::watched_file::{Look, Source, WatchedFile};
-use daemon_parts::Event;
+use daemon_parts::LogEvent;
 use payloads::decode_manifest;
 use rtr_server::Stream;
 use std::alloc::Global;
@@ -292,7 +292,7 @@ fn note_offer<W: EventLog>(
             if point.take(held, now) {
                 env.log(
                     now,
-                    &Event::Taken {
+                    &LogEvent::Taken {
                         file: point.path.as_str(),
                     },
                 );
@@ -330,7 +330,7 @@ fn log_poll<W: EventLog>(
         PollResult::Refused => log_refused_file(alloc, file, now, env),
         PollResult::Loaded { again, expired } => {
             if again {
-                env.log(now, &Event::Taken { file: path });
+                env.log(now, &LogEvent::Taken { file: path });
             }
             log_expired(path, expired, now, env);
         }
@@ -340,7 +340,7 @@ fn log_poll<W: EventLog>(
 /// Reports how many entries of a source have expired, if some have.
 pub(crate) fn log_expired<W: EventLog>(file: &str, entries: u64, now: u64, env: &mut W) {
     if entries > 0 {
-        env.log(now, &Event::Expired { file, entries });
+        env.log(now, &LogEvent::Expired { file, entries });
     }
 }
 
@@ -369,14 +369,14 @@ pub(crate) fn log_refusal<W: EventLog>(
     match refusal.to_string(alloc) {
         Ok(reason) => env.log(
             now,
-            &Event::Refused {
+            &LogEvent::Refused {
                 file,
                 reason: reason.as_str(),
             },
         ),
         Err(_) => env.log(
             now,
-            &Event::Refused {
+            &LogEvent::Refused {
                 file,
                 reason: "out of memory",
             },

@@ -13,4 +13,4 @@ returns-then-character-eq92 g c = rw c.if-character-eq92.true c.write_all-then-c
 
 pub returns : goal.returns
 returns g c =
-    rw (escaped_other c.args.character (λ e. omega (arith, e, c.if-character-eq34.false)) (λ e. omega (arith, e, c.if-character-eq92.false))) c.write_told_char.ensures
+    rw (escaped_other c.args.character (λ e. omega (arith, e, c.if-character-eq34.false)) (λ e. omega (arith, e, c.if-character-eq92.false))) c.write_log_char.ensures
