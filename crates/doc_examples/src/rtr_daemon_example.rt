@@ -13,9 +13,9 @@ fn what_is_taken_is_owed_and_published(rt: HostRuntime) -> Result<(), Fail> {
     let mut service = Service::new(server, Sources::new(rt.alloc(), 1)?);
     let text = br#"[{"asn":64496,"prefix":"192.0.2.0/24","maxLength":24}]"#;
     service.take_export(0, text, 1_700_000_000)?;
-    assert!(rt; service.is_owed());
+    assert!(rt; service.is_pending());
     let report = service.publish(1_700_000_000)?;
     assert!(rt; report.records == 1);
-    assert!(rt; !service.is_owed());
+    assert!(rt; !service.is_pending());
     Ok(())
 }

@@ -145,9 +145,9 @@ published_on holds remaining contents p set (Ok Unchanged) old new h = (p, no_la
 published_on holds remaining contents p set (Err e) old new h = (p, no_later p, h.0, refl)
 
 -- Something became owed.
-pub owed_on : {S T : Type 0} (holds : ℕ → Instance → S → Type 0) (remaining contents : T → Option (List ℕ)) (old new : Service S T) → new.server ≡ old.server → new.is_owed ≡ true → GoesOn holds remaining contents old new
-owed_on holds remaining contents old new same owed p h =
-    (p, no_later p, record { server = subst (λ s. ShowsServer holds remaining contents p s) (sym same) h.server; newest = λ e. absurd (let never : true ≡ false = sym owed ∙ e in cc) })
+pub pending_on : {S T : Type 0} (holds : ℕ → Instance → S → Type 0) (remaining contents : T → Option (List ℕ)) (old new : Service S T) → new.server ≡ old.server → new.is_pending ≡ true → GoesOn holds remaining contents old new
+pending_on holds remaining contents old new same pending p h =
+    (p, no_later p, record { server = subst (λ s. ShowsServer holds remaining contents p s) (sym same) h.server; newest = λ e. absurd (let never : true ≡ false = sym pending ∙ e in cc) })
 
 same_newest : (i : Instance) (a b : Sources) → SameSources a b → IsNewest i a → IsNewest i b
 same_newest i a b e (now, h) = (
@@ -160,16 +160,16 @@ same_newest i a b e (now, h) = (
 )
 
 -- Nothing became of the sources.
-pub same_on : {S T : Type 0} (holds : ℕ → Instance → S → Type 0) (remaining contents : T → Option (List ℕ)) (old new : Service S T) → new.server ≡ old.server → new.is_owed ≡ old.is_owed → SameSources old.sources new.sources → GoesOn holds remaining contents old new
-same_on holds remaining contents old new same owed sources p h =
-    (p, no_later p, record { server = subst (λ s. ShowsServer holds remaining contents p s) (sym same) h.server; newest = λ e. same_newest (present p).cache old.sources new.sources sources (h.newest (sym owed ∙ e)) })
+pub same_on : {S T : Type 0} (holds : ℕ → Instance → S → Type 0) (remaining contents : T → Option (List ℕ)) (old new : Service S T) → new.server ≡ old.server → new.is_pending ≡ old.is_pending → SameSources old.sources new.sources → GoesOn holds remaining contents old new
+same_on holds remaining contents old new same pending sources p h =
+    (p, no_later p, record { server = subst (λ s. ShowsServer holds remaining contents p s) (sym same) h.server; newest = λ e. same_newest (present p).cache old.sources new.sources sources (h.newest (sym pending ∙ e)) })
 
 -- The server went on, and nothing was published.
-pub server_on : {S T : Type 0} (holds : ℕ → Instance → S → Type 0) (remaining contents : T → Option (List ℕ)) (old new : Service S T) → new.sources ≡ old.sources → new.is_owed ≡ old.is_owed
+pub server_on : {S T : Type 0} (holds : ℕ → Instance → S → Type 0) (remaining contents : T → Option (List ℕ)) (old new : Service S T) → new.sources ≡ old.sources → new.is_pending ≡ old.is_pending
     → ((p : Past) → ShowsServer holds remaining contents p old.server → (q : Past) × IsLater p q × ShowsServer holds remaining contents q new.server × ((present q).cache ≡ (present p).cache)) → GoesOn holds remaining contents old new
-server_on holds remaining contents old new same owed goes p h =
+server_on holds remaining contents old new same pending goes p h =
     let on = goes p h.server in
-    (on.0, on.1, record { server = on.2; newest = λ e. subst (λ i. IsNewest i new.sources) (sym on.3) (subst (λ s. IsNewest (present p).cache s) (sym same) (h.newest (sym owed ∙ e))) })
+    (on.0, on.1, record { server = on.2; newest = λ e. subst (λ i. IsNewest i new.sources) (sym on.3) (subst (λ s. IsNewest (present p).cache s) (sym same) (h.newest (sym pending ∙ e))) })
 
 differs : (a b : ℕ) → ¬ (b ≡ a) → (a == b) ≡ false
 differs a b h = false_if_never (a == b) (λ e. h (sym (eq_of a b e)))
@@ -203,7 +203,7 @@ issued_on holds remaining contents old new now h p is =
     (on.0, on.1, record { server = on.2; newest = λ e. (now, on.3) })
 
 -- Memory ran out, and nothing was published.
-pub unissued_on : {S T : Type 0} (holds : ℕ → Instance → S → Type 0) (remaining contents : T → Option (List ℕ)) (old new : Service S T) (set : VrpSet) (error : AllocError) → new.sources ≡ old.sources → new.is_owed ≡ old.is_owed
+pub unissued_on : {S T : Type 0} (holds : ℕ → Instance → S → Type 0) (remaining contents : T → Option (List ℕ)) (old new : Service S T) (set : VrpSet) (error : AllocError) → new.sources ≡ old.sources → new.is_pending ≡ old.is_pending
     → ((p : Past) → ShowsServer holds remaining contents p old.server → PublishesTo holds remaining contents p set (Err error) old.server new.server) → GoesOn holds remaining contents old new
-unissued_on holds remaining contents old new set error same owed publishes =
-    server_on holds remaining contents old new same owed (λ p is. published_on holds remaining contents p set (Err error) old.server new.server (publishes p is))
+unissued_on holds remaining contents old new set error same pending publishes =
+    server_on holds remaining contents old new same pending (λ p is. published_on holds remaining contents p set (Err error) old.server new.server (publishes p is))

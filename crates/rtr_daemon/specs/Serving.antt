@@ -49,7 +49,7 @@ IsNewest i s = (now : ℕ) × IsNewestAt now i s
 -- This past led to the server of a service; and where no version is owed, the newest one is what the sources have.
 pub record ShowsService {S T : Type 0} (holds : ℕ → Instance → S → Type 0) (remaining contents : T → Option (List ℕ)) (p : Past) (service : Service S T) : Type 0 where
   pub server : ShowsServer holds remaining contents p service.server
-  pub newest : service.is_owed ≡ false → IsNewest (present p).cache service.sources
+  pub newest : service.is_pending ≡ false → IsNewest (present p).cache service.sources
 
 -- What a part of a daemon's work does to its service: so it stays.
 abbrev pub GoesOn : {S T : Type 0} → (ℕ → Instance → S → Type 0) → (T → Option (List ℕ)) → (T → Option (List ℕ)) → Service S T → Service S T → Type 0
@@ -58,12 +58,12 @@ GoesOn holds remaining contents old new =
 
 -- What is taken makes a version owed, and what is refused does not.
 abbrev pub TakesSo : {S T A E : Type 0} → Result A E → Service S T → Service S T → Type 0
-TakesSo (Ok x) old new = (new.server ≡ old.server) × (new.is_owed ≡ true)
-TakesSo (Err e) old new = (new.server ≡ old.server) × (new.is_owed ≡ old.is_owed)
+TakesSo (Ok x) old new = (new.server ≡ old.server) × (new.is_pending ≡ true)
+TakesSo (Err e) old new = (new.server ≡ old.server) × (new.is_pending ≡ old.is_pending)
 
 -- The sources, and whether a version is owed, are as they were.
 abbrev pub KeepsSources : {S T : Type 0} → Service S T → Service S T → Type 0
-KeepsSources old new = (new.sources ≡ old.sources) × (new.is_owed ≡ old.is_owed)
+KeepsSources old new = (new.sources ≡ old.sources) × (new.is_pending ≡ old.is_pending)
 
 -- What the sources have at a moment is published: the server goes on, and then the newest version is that.
 abbrev pub Issues : {S T : Type 0} → (ℕ → Instance → S → Type 0) → (T → Option (List ℕ)) → (T → Option (List ℕ)) → ℕ → Service S T → Service S T → Type 0

@@ -183,7 +183,7 @@ impl<S: VersionStore + Drop, T: Stream + Drop> Daemon<S, T> {
     /// When something is due next, in milliseconds of the steady clock.
     fn next_moment(&self, now: u64) -> u64 {
         let mut next = self.next_check;
-        if self.clients.has_blocked() || (self.service.is_owed() && self.held_until <= now) {
+        if self.clients.has_blocked() || (self.service.is_pending() && self.held_until <= now) {
             next = next.min(self.next_round);
         }
         if let Some(deadline) = self.clients.first_deadline(FIRST_QUERY) {
@@ -231,7 +231,7 @@ impl<S: VersionStore + Drop, T: Stream + Drop> Daemon<S, T> {
         self.next_round = now.saturating_add(SOON);
         self.clients.wake_blocked();
         self.drop_stalled(env);
-        self.publish_owed(env);
+        self.publish_pending(env);
     }
 
     /// The second by which versions are paced, at a moment of the steady clock: that of the start, and those that have passed since. So a clock that is
@@ -242,11 +242,11 @@ impl<S: VersionStore + Drop, T: Stream + Drop> Daemon<S, T> {
     }
 
     /// Publishes what is owed, where the last version is of an earlier second.
-    fn publish_owed<W: Time + EventLog>(&mut self, env: &mut W)
+    fn publish_pending<W: Time + EventLog>(&mut self, env: &mut W)
         ensures { GoesOn S.holds T.remaining T.contents self.old.service self.new.service }
     {
         let now = env.seconds();
-        if !self.service.is_owed() {
+        if !self.service.is_pending() {
             return;
         }
         let began = env.millis();

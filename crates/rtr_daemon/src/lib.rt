@@ -16,10 +16,10 @@
 //! let mut service = Service::new(server, Sources::new(rt.alloc(), 1)?);
 //! let text = br#"[{"asn":64496,"prefix":"192.0.2.0/24","maxLength":24}]"#;
 //! service.take_export(0, text, 1_700_000_000)?;
-//! assert!(rt; service.is_owed());
+//! assert!(rt; service.is_pending());
 //! let report = service.publish(1_700_000_000)?;
 //! assert!(rt; report.records == 1);
-//! assert!(rt; !service.is_owed());
+//! assert!(rt; !service.is_pending());
 //! ```
 #![tactic(auto)]
 

@@ -119,7 +119,7 @@ pub(crate) fn offer<S: VersionStore, T: Stream + Drop, W: Disk>(
 {
     match env.directory(path) {
         Err(error) => {
-            service.owe();
+            service.set_pending();
             Err(Refusal::Device(error))
         }
         Ok(directory) => {
@@ -150,13 +150,13 @@ fn note_expired<S: VersionStore, T: Stream + Drop>(
 ) -> bool
     ensures goes { GoesOn S.holds T.remaining T.contents service.old service.new }
     ensures server { service.new.server ≡ service.old.server }
-    ensures pending { ¬ (file.new.expired_since ≡ file.old.expired_since) → service.new.is_owed ≡ true }
+    ensures pending { ¬ (file.new.expired_since ≡ file.old.expired_since) → service.new.is_pending ≡ true }
 {
     let expired = expired_of(service, file.source, now);
     let before = file.expired_since;
     file.expired_since = expired;
     if expired != before {
-        service.owe();
+        service.set_pending();
     }
     expired > before
 }

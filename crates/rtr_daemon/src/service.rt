@@ -21,7 +21,7 @@ pub struct Service<S, T> {
     server: Server<S, T>,
     sources: Sources,
     /// Whether the sources changed since the last publication.
-    is_owed: bool,
+    is_pending: bool,
 }
 
 impl<S: VersionStore, T: Stream + Drop> Service<S, T> {
@@ -32,7 +32,7 @@ impl<S: VersionStore, T: Stream + Drop> Service<S, T> {
         Service {
             server,
             sources,
-            is_owed: true,
+            is_pending: true,
         }
     }
 
@@ -51,10 +51,10 @@ impl<S: VersionStore, T: Stream + Drop> Service<S, T> {
     }
 
     /// Whether the sources changed since the last publication.
-    pub fn is_owed(&self) -> bool
-        ensures { result ≡ self.now.is_owed }
+    pub fn is_pending(&self) -> bool
+        ensures { result ≡ self.now.is_pending }
     {
-        self.is_owed
+        self.is_pending
     }
 
     /// One turn of a client.
@@ -99,7 +99,7 @@ impl<S: VersionStore, T: Stream + Drop> Service<S, T> {
         ensures export { ExportTaken bytes.now now file result self.old.sources self.new.sources }
     {
         let expired = self.sources.take_export(file, bytes, now)?;
-        self.is_owed = true;
+        self.is_pending = true;
         Ok(expired)
     }
 
@@ -110,18 +110,18 @@ impl<S: VersionStore, T: Stream + Drop> Service<S, T> {
         ensures exceptions { SlurmTaken bytes.now result self.old.sources self.new.sources }
     {
         self.sources.take_slurm(bytes)?;
-        self.is_owed = true;
+        self.is_pending = true;
         Ok(())
     }
 
     /// A version is owed, as what the sources have may be something else by now: payloads of publication points leave by the clock.
-    pub(crate) fn owe(&mut self)
+    pub(crate) fn set_pending(&mut self)
         ensures goes { GoesOn S.holds T.remaining T.contents self.old self.new }
         ensures server { self.new.server ≡ self.old.server }
-        ensures owed { self.new.is_owed ≡ true }
+        ensures pending { self.new.is_pending ≡ true }
         ensures sources { self.new.sources ≡ self.old.sources }
     {
-        self.is_owed = true;
+        self.is_pending = true;
     }
 
     /// Offers what a directory holds to the publication point of its name, at a moment in seconds since 1970.
@@ -134,7 +134,7 @@ impl<S: VersionStore, T: Stream + Drop> Service<S, T> {
         ensures goes { GoesOn S.holds T.remaining T.contents self.old self.new }
         ensures rest { self.new.server ≡ self.old.server }
     {
-        self.is_owed = true;
+        self.is_pending = true;
         let Some(moment) = moment_at(now) else {
             return Err(Refusal::Clock);
         };
@@ -169,8 +169,8 @@ impl<S: VersionStore, T: Stream + Drop> Service<S, T> {
     pub fn publish(&mut self, now: u64) -> Result<PublishReport, Refusal>
         ensures goes { GoesOn S.holds T.remaining T.contents self.old self.new }
         ensures issues { IfOk result (λ _. Issues S.holds T.remaining T.contents now self.old self.new) }
-        ensures done { IfOk result (λ _. self.new.is_owed ≡ false) }
-        ensures undone { IfErr result (λ _. self.new.is_owed ≡ self.old.is_owed) }
+        ensures done { IfOk result (λ _. self.new.is_pending ≡ false) }
+        ensures undone { IfErr result (λ _. self.new.is_pending ≡ self.old.is_pending) }
         ensures kept { IfErr result (λ _. (p : Past) → ShowsServer S.holds T.remaining T.contents p self.old.server → ShowsServer S.holds T.remaining T.contents p self.new.server) }
         ensures sources { self.new.sources ≡ self.old.sources }
     {
@@ -180,7 +180,7 @@ impl<S: VersionStore, T: Stream + Drop> Service<S, T> {
         match self.server.publish(set) {
             Err(_) => Err(Refusal::Set(SetFault::Memory)),
             Ok(published) => {
-                self.is_owed = false;
+                self.is_pending = false;
                 Ok(PublishReport {
                     published,
                     announced: counts.announced,

@@ -3,4 +3,4 @@ use Rattle.rtr_daemon.proofs.daemon.Daemon.go_round.Goals as goal
 
 pub returns : goal.returns
 returns g c =
-    then_on g.S.VersionStore.holds g.T.Stream.remaining g.T.Stream.contents c.args.self.now.service c.drop_stalled.new.self.service c.publish_owed.new.self.service c.drop_stalled.ensures c.publish_owed.ensures
+    then_on g.S.VersionStore.holds g.T.Stream.remaining g.T.Stream.contents c.args.self.now.service c.drop_stalled.new.self.service c.publish_pending.new.self.service c.drop_stalled.ensures c.publish_pending.ensures
