@@ -1,4 +1,4 @@
--- What leads from one service to another.
+-- The steps from one service to another.
 use Rattle.std.specs.Prelude.{◌≡◌, ℕ, ◌==◌, true, false, List, [], ◌∷◌, ◌++◌, Option, Some, None, Result, Ok, Err, refl, if◌then◌else◌, ⊤}
 use Rattle.std.proofs.Common.{ap, sym, subst, ◌∙◌, length}
 use Rattle.std.specs.List.{AllByRecursion}
@@ -25,11 +25,11 @@ use Rattle.prefixes.proofs.Basics.{eq_of, false_if_never}
 use Rattle.rtr_daemon.specs.Serving.{OpensNone, GoesOn, IsLater, IsNewest, IsNewestAt, IsServedAt, Issues, SameSources}
 use Rattle.rtr_daemon.specs.declared.service.Service.{Service}
 
--- Nothing more was called.
+-- No calls are added.
 pub no_later : (p : Past) → IsLater p p
 no_later p = record { more = []; calls = refl; keep = refl; timing = refl; first = refl; most = refl; begun = λ c h. refl }
 
--- Where calls open none, each part of them opens none.
+-- If calls open no connection of a number, no part of them does.
 opens_parts : (c : ℕ) (a b : List CacheCall) → OpensNone c (a ++ b) → OpensNone c a × OpensNone c b
 opens_parts c [] b h = (tt, h)
 opens_parts c (Open d ∷ a) b h = ((h.0, (opens_parts c a b h.1).0), (opens_parts c a b h.1).1)
@@ -50,7 +50,7 @@ later_on p q r a b = record {
   begun = λ c h. b.begun c (opens_parts c b.more a.more h).0 ∙ a.begun c (opens_parts c b.more a.more h).1;
 }
 
--- Parts of a daemon's work, one after the other
+-- Two steps of a daemon, one after the other
 pub then_on : {S T : Type 0} (holds : ℕ → Instance → S → Type 0) (remaining contents : T → Option (List ℕ)) (a b c : Service S T) → GoesOn holds remaining contents a b → GoesOn holds remaining contents b c → GoesOn holds remaining contents a c
 then_on holds remaining contents a b c f g p h =
     let one = f p h in
@@ -77,7 +77,7 @@ one_keeps (Receive c wanting piece) m h = refl
 one_keeps (Pull c most) m h = refl
 one_keeps (Notify c) m h = refl
 
--- Calls that publish nothing leave what is published.
+-- Calls that publish nothing keep the instance.
 all_keep : (calls rest : List CacheCall) (m : CacheState) → AllByRecursion PublishesNone calls → (ran (calls ++ rest) m).cache ≡ (ran rest m).cache
 all_keep [] rest m h = refl
 all_keep (call ∷ calls) rest m h = one_keeps call (ran (calls ++ rest) m) h.0 ∙ all_keep calls rest m h.1
@@ -100,11 +100,11 @@ notice_none (Publish set ∷ calls) h = absurd h.0
 notice_none (Open d ∷ calls) h = absurd h.0
 notice_none (Close d ∷ calls) h = absurd h.0
 
--- the same calls more, which publish nothing
+-- more calls that publish nothing
 more_calls : (more : List CacheCall) (p : Past) → IsLater p (and_calls more p)
 more_calls more p = record { more = more; calls = refl; keep = refl; timing = refl; first = refl; most = refl; begun = λ c h. refl }
 
--- A server went on by a turn of a client: nothing was published.
+-- A turn of a client publishes nothing.
 pub served_on : {S T : Type 0} (holds : ℕ → Instance → S → Type 0) (remaining contents : T → Option (List ℕ)) (p : Past) (c : ℕ) (turn : Option Turn) (new : Server S T) → GoesOnAfter holds remaining contents p c turn new
     → (q : Past) × IsLater p q × ShowsServer holds remaining contents q new × ((present q).cache ≡ (present p).cache)
 served_on holds remaining contents p c None new h = (p, no_later p, h, refl)
@@ -116,7 +116,7 @@ served_on holds remaining contents p c (Some WaitsToWrite) new h = (_, more_call
 by_new : (set : VrpSet) (i : Instance) → is_current i.sets set ≡ false → newest (versions (published set i)) ≡ Some (record { serial = serial_at i.start (length i.sets); set = set })
 by_new set i h = ap (λ b. newest (versions (if b then i else record i { sets = set ∷ i.sets }))) h
 
--- The newest of some versions is of this set.
+-- The newest version has this set.
 pub record NewestIs (set : VrpSet) (found : Option NumberedSet) : Type 0 where
   pub version : NumberedSet
   pub is : found ≡ Some version
@@ -126,7 +126,7 @@ by_same : (set : VrpSet) (start : ℕ) (sets : List VrpSet) → is_current sets 
 by_same set start [] h = absurd (cc)
 by_same set start (now ∷ older) h = record { version = record { serial = serial_at start (length older); set = now }; is = refl; set_is = (same_exactly now set).0 h }
 
--- what became of a set that was published: it is that of the newest version, or nothing changed
+-- the result of a publication: the newest version has this set, or nothing changed
 abbrev pub Published_is : VrpSet → Result Published AllocError → Past → Past → Type 0
 Published_is set (Ok x) p q = NewestIs set (newest (versions (present q).cache))
 Published_is set (Err e) p q = (present q).cache ≡ (present p).cache
@@ -144,7 +144,7 @@ published_on holds remaining contents p set (Ok (New serial)) old new h =
 published_on holds remaining contents p set (Ok Unchanged) old new h = (p, no_later p, h.1, by_same set (present p).cache.start (present p).cache.sets h.0)
 published_on holds remaining contents p set (Err e) old new h = (p, no_later p, h.0, refl)
 
--- Something became owed.
+-- A version becomes pending.
 pub pending_on : {S T : Type 0} (holds : ℕ → Instance → S → Type 0) (remaining contents : T → Option (List ℕ)) (old new : Service S T) → new.server ≡ old.server → new.is_pending ≡ true → GoesOn holds remaining contents old new
 pending_on holds remaining contents old new same pending p h =
     (p, no_later p, record { server = subst (λ s. ShowsServer holds remaining contents p s) (sym same) h.server; newest = λ e. absurd (let never : true ≡ false = sym pending ∙ e in cc) })
@@ -159,12 +159,12 @@ same_newest i a b e (now, h) = (
   },
 )
 
--- Nothing became of the sources.
+-- The sources are unchanged.
 pub same_on : {S T : Type 0} (holds : ℕ → Instance → S → Type 0) (remaining contents : T → Option (List ℕ)) (old new : Service S T) → new.server ≡ old.server → new.is_pending ≡ old.is_pending → SameSources old.sources new.sources → GoesOn holds remaining contents old new
 same_on holds remaining contents old new same pending sources p h =
     (p, no_later p, record { server = subst (λ s. ShowsServer holds remaining contents p s) (sym same) h.server; newest = λ e. same_newest (present p).cache old.sources new.sources sources (h.newest (sym pending ∙ e)) })
 
--- The server went on, and nothing was published.
+-- The server continues, and nothing is published.
 pub server_on : {S T : Type 0} (holds : ℕ → Instance → S → Type 0) (remaining contents : T → Option (List ℕ)) (old new : Service S T) → new.sources ≡ old.sources → new.is_pending ≡ old.is_pending
     → ((p : Past) → ShowsServer holds remaining contents p old.server → (q : Past) × IsLater p q × ShowsServer holds remaining contents q new.server × ((present q).cache ≡ (present p).cache)) → GoesOn holds remaining contents old new
 server_on holds remaining contents old new same pending goes p h =
@@ -174,7 +174,7 @@ server_on holds remaining contents old new same pending goes p h =
 differs : (a b : ℕ) → ¬ (b ≡ a) → (a == b) ≡ false
 differs a b h = false_if_never (a == b) (λ e. h (sym (eq_of a b e)))
 
--- A stream was admitted, or not: nothing was published.
+-- To admit a stream publishes nothing.
 pub admitted_on : {S T : Type 0} (holds : ℕ → Instance → S → Type 0) (remaining contents : T → Option (List ℕ)) (p : Past) (stream : T) (result : Result Client AdmitFault) (old new : Server S T) → ShowsServer holds remaining contents p old
     → AdmitsTo holds remaining contents p stream result old new → (q : Past) × IsLater p q × ShowsServer holds remaining contents q new × ((present q).cache ≡ (present p).cache)
 admitted_on holds remaining contents p stream (Ok client) old new is h =
@@ -182,7 +182,7 @@ admitted_on holds remaining contents p stream (Ok client) old new is h =
 admitted_on holds remaining contents p stream (Err TooManyClients) old new is h = (p, no_later p, subst (λ s. ShowsServer holds remaining contents p s) (sym h.1) is, refl)
 admitted_on holds remaining contents p stream (Err Memory) old new is h = (p, no_later p, h.1, refl)
 
--- A client was dropped.
+-- To drop a client publishes nothing.
 pub dropped_on : {S T : Type 0} (holds : ℕ → Instance → S → Type 0) (remaining contents : T → Option (List ℕ)) (p : Past) (c : ℕ) (new : Server S T) → ShowsServer holds remaining contents (record p { calls = Close c ∷ p.calls }) new
     → (q : Past) × IsLater p q × ShowsServer holds remaining contents q new × ((present q).cache ≡ (present p).cache)
 dropped_on holds remaining contents p c new h = (_, record { more = Close c ∷ []; calls = refl; keep = refl; timing = refl; first = refl; most = refl; begun = λ d none. refl }, h, refl)
@@ -190,7 +190,7 @@ dropped_on holds remaining contents p c new h = (_, record { more = Close c ∷ 
 newest_served : (now : ℕ) (s : Sources) (set : VrpSet) (i : Instance) → IsServedAt now s set → NewestIs set (newest (versions i)) → IsNewestAt now i s
 newest_served now s set i h n = record { version = n.version; is = n.is; served = subst (λ t. IsServedAt now s t) (sym n.set_is) h }
 
--- What the sources have was published.
+-- The set of the sources is published.
 pub issues : {S T : Type 0} (holds : ℕ → Instance → S → Type 0) (remaining contents : T → Option (List ℕ)) (old new : Service S T) (now : ℕ) (set : VrpSet) (x : Published) → IsServedAt now old.sources set → new.sources ≡ old.sources
     → ((p : Past) → ShowsServer holds remaining contents p old.server → PublishesTo holds remaining contents p set (Ok x) old.server new.server) → Issues holds remaining contents now old new
 issues holds remaining contents old new now set x served same publishes p h =
@@ -202,7 +202,7 @@ issued_on holds remaining contents old new now h p is =
     let on = h p is.server in
     (on.0, on.1, record { server = on.2; newest = λ e. (now, on.3) })
 
--- Memory ran out, and nothing was published.
+-- Memory ran out, and nothing is published.
 pub unissued_on : {S T : Type 0} (holds : ℕ → Instance → S → Type 0) (remaining contents : T → Option (List ℕ)) (old new : Service S T) (set : VrpSet) (error : AllocError) → new.sources ≡ old.sources → new.is_pending ≡ old.is_pending
     → ((p : Past) → ShowsServer holds remaining contents p old.server → PublishesTo holds remaining contents p set (Err error) old.server new.server) → GoesOn holds remaining contents old new
 unissued_on holds remaining contents old new set error same pending publishes =

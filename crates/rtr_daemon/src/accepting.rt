@@ -1,4 +1,4 @@
-//! Gates at which connections come.
+//! Listeners, and the connections that are accepted from them.
 ghost use Rattle.std.specs.Prelude.{◌≡◌, false};
 ghost use Rattle.rtr_daemon.specs.Serving.{GoesOn};
 
@@ -11,34 +11,34 @@ use std::io;
 use std::net::SocketAddr;
 use vrps::VersionStore;
 
-/// How many connections are taken at a gate in one turn.
+/// How many connections are accepted from one listener in one turn.
 const AT_ONCE: usize = 1024;
 
-/// How long a gate rests at which no connection can be taken, in milliseconds.
+/// How long a listener is paused after an accept failed, in milliseconds.
 const PAUSE: u64 = 1000;
 
-/// A gate: whether a connection may wait there, and until when it rests.
+/// A listener: whether a connection may be pending there, and until when it is paused.
 #[derive(Debug, Drop)]
 struct Listener {
     pending: bool,
     paused_until: Option<u64>,
 }
 
-/// The gates. Moments are in milliseconds of the steady clock.
+/// All listeners. Times are in milliseconds of the monotonic clock.
 #[derive(Debug, Drop)]
 pub(crate) struct Listeners {
     listeners: Vec<Listener>,
-    /// Whether it was reported that connections cannot be taken, since one was.
+    /// Whether a failure to accept was reported since a connection was accepted last.
     is_reported: bool,
 }
 
 impl Listener {
-    /// Whether a connection may wait that is to be tried now.
+    /// Whether a connection may be pending and the listener is not paused.
     fn has_pending(&self, now: u64) -> bool {
         self.pending && self.next_try() <= now
     }
 
-    /// From when on it is tried.
+    /// The earliest time at which a connection is accepted.
     fn next_try(&self) -> u64 {
         match self.paused_until {
             Some(until) => until,
@@ -48,7 +48,7 @@ impl Listener {
 }
 
 impl Listeners {
-    /// So many gates. At each a connection may wait.
+    /// This many listeners. A connection may be pending at each.
     pub(crate) fn new(alloc: Global, count: usize) -> Result<Listeners, AllocError> {
         let mut listeners = Vec::with_capacity(alloc, count)?;
         for _listener in 0..count {
@@ -63,28 +63,28 @@ impl Listeners {
         })
     }
 
-    /// Notes whether a connection may wait at a gate.
+    /// Notes whether a connection may be pending at a listener.
     pub(crate) fn note(&mut self, listener: usize, pending: bool) {
         if let Some(it) = self.listeners.get_mut(listener) {
             it.pending = pending;
         }
     }
 
-    /// Lets a gate rest until a moment.
+    /// Pauses a listener until this time.
     fn pause(&mut self, listener: usize, until: u64) {
         if let Some(it) = self.listeners.get_mut(listener) {
             it.paused_until = Some(until);
         }
     }
 
-    /// A client has gone: there may be room again.
+    /// Ends all pauses: a client was closed, so there may be room again.
     pub(crate) fn resume_all(&mut self) {
         for listener in self.listeners.iter_mut() {
             listener.paused_until = None;
         }
     }
 
-    /// When the next gate at which a connection may wait is to be tried.
+    /// The earliest time at which a listener with a pending connection can be tried.
     pub(crate) fn next_try(&self) -> Option<u64> {
         let waiting = self.listeners.iter().filter(|it| it.pending);
         waiting.map(|it| it.next_try()).min()
@@ -96,7 +96,7 @@ impl Listeners {
             .is_some_and(|it| it.has_pending(now))
     }
 
-    /// That connections cannot be taken is to be reported, if it was not since one was taken. It answers whether it is.
+    /// Marks a failure to accept as reported. It answers true if none was reported since a connection was accepted last.
     fn mark_reported(&mut self) -> bool {
         let is_news = !self.is_reported;
         self.is_reported = true;
@@ -105,7 +105,7 @@ impl Listeners {
 }
 
 impl<S: VersionStore, T: Stream + Drop> Daemon<S, T> {
-    /// Takes the connections that wait at the gates, once a version is published.
+    /// Accepts the pending connections of all listeners, once a version is published.
     pub(crate) fn accept_pending<W: Sockets<T> + Time + EventLog>(&mut self, env: &mut W)
         ensures goes { GoesOn S.holds T.remaining T.contents self.old.service self.new.service }
         ensures before { self.old.is_ready ≡ false → self.new.service ≡ self.old.service }
@@ -118,7 +118,7 @@ impl<S: VersionStore, T: Stream + Drop> Daemon<S, T> {
         }
     }
 
-    /// Takes connections at a gate, as long as some wait there.
+    /// Accepts the pending connections of one listener.
     fn accept_from<W: Sockets<T> + Time + EventLog>(&mut self, listener: usize, env: &mut W)
         ensures { GoesOn S.holds T.remaining T.contents self.old.service self.new.service }
     {
@@ -130,7 +130,7 @@ impl<S: VersionStore, T: Stream + Drop> Daemon<S, T> {
         }
     }
 
-    /// Takes a connection at a gate, if one waits there.
+    /// Accepts one connection, if one is pending.
     fn accept_one<W: Sockets<T> + Time + EventLog>(&mut self, listener: usize, env: &mut W)
         ensures { GoesOn S.holds T.remaining T.contents self.old.service self.new.service }
     {
@@ -150,7 +150,7 @@ impl<S: VersionStore, T: Stream + Drop> Daemon<S, T> {
         }
     }
 
-    /// Admits a client, if its address has not as many as it may have.
+    /// Admits a client, if its address is below its limit.
     fn admit<W: Time + EventLog>(
         &mut self,
         stream: T,
@@ -170,7 +170,7 @@ impl<S: VersionStore, T: Stream + Drop> Daemon<S, T> {
         }
     }
 
-    /// Admits a client whose address may have one more.
+    /// Admits a client whose address is below its limit.
     fn admit_within<W: Time + EventLog>(
         &mut self,
         stream: T,
@@ -196,14 +196,14 @@ impl<S: VersionStore, T: Stream + Drop> Daemon<S, T> {
                     self.service.drop_client(client);
                     env.log(now, &LogEvent::Memory { what: "a client" });
                 } else {
-                    self.statistics.came();
+                    self.statistics.count_client();
                     env.log(now, &LogEvent::ClientCame { address });
                 }
             }
         }
     }
 
-    /// Lets a gate rest at which a connection may wait and none can be taken. That is reported once, until one is taken.
+    /// Pauses a listener after a failed accept. The failure is reported once, until a connection is accepted.
     fn pause<W: Time + EventLog>(&mut self, listener: usize, event: &LogEvent<'_>, env: &mut W)
         ensures { self.new.service ≡ self.old.service }
     {
@@ -215,7 +215,7 @@ impl<S: VersionStore, T: Stream + Drop> Daemon<S, T> {
         }
     }
 
-    /// The same where the system gives another reason.
+    /// Pauses a listener for another reason that the system gives.
     fn note_accept_failure<W: Time + EventLog>(
         &mut self,
         listener: usize,

@@ -1,34 +1,34 @@
-//! The clients of a daemon, and which of them are to be served.
+//! The table of connected clients, and the queue of those that are served next.
 use rtr_server::{ByteCounts, Client, Turn};
 use std::alloc::{AllocError, Global};
 use std::collections::btree_map::Values;
 use std::collections::{BTreeMap, VecDeque};
 use std::net::{IpAddr, SocketAddr};
 
-/// A client: its number at the server, where it comes from, and since when it cannot be written to.
+/// A client: its number at the server, its address, and how long its stream has been blocked.
 #[derive(Debug, Drop)]
 pub(crate) struct ClientEntry {
     pub(crate) client: Client,
     pub(crate) address: SocketAddr,
-    /// When it came, in milliseconds of the steady clock.
+    /// When it connected, in milliseconds of the monotonic clock.
     pub(crate) came: u64,
-    /// Since when nothing could be written to it, where something is to be written.
+    /// Since when no byte could be written to it, while bytes are due.
     blocked: Option<u64>,
-    /// How many bytes had gone when it was served last.
+    /// The bytes that were read and written when it was served last.
     pub(crate) carried: ByteCounts,
     is_queued: bool,
 }
 
-/// All clients by the numbers of their lines, and those that are to be served, in their order.
+/// All clients by poll token, and the queue of those to serve, in order.
 #[derive(Debug, Drop)]
 pub(crate) struct ClientTable {
     by_token: BTreeMap<usize, ClientEntry>,
     queue: VecDeque<usize>,
-    /// How many cannot be written to.
+    /// How many clients are blocked on writing.
     blocked: usize,
-    /// The lines of those of which it is not known yet that they asked, and when they came, in their order. Some of them may have gone.
+    /// The poll tokens of clients that may not have sent a query yet, and when they connected, in order. Some of them may be closed by now.
     newcomers: VecDeque<(usize, u64)>,
-    /// How many there are of each address.
+    /// How many clients each address has.
     by_address: BTreeMap<IpAddr, u64>,
 }
 
@@ -43,17 +43,17 @@ impl ClientTable {
         }
     }
 
-    /// Whether none is to be served.
+    /// Whether the queue is empty.
     pub(crate) fn is_idle(&self) -> bool {
         self.queue.is_empty()
     }
 
-    /// How many are to be served.
+    /// The length of the queue.
     pub(crate) fn waiting(&self) -> usize {
         self.queue.len()
     }
 
-    /// Takes in a client, which is to be served.
+    /// Adds a client, and queues it.
     pub(crate) fn add(
         &mut self,
         token: usize,
@@ -84,7 +84,7 @@ impl ClientTable {
         Ok(())
     }
 
-    /// How many there are of an address. An IPv4 address is the same in an IPv6 socket (RFC 4291 section 2.5.5.2).
+    /// How many clients an address has. An IPv4-mapped IPv6 address counts as its IPv4 address (RFC 4291 section 2.5.5.2).
     pub(crate) fn of_address(&self, address: SocketAddr) -> u64 {
         match self.by_address.get(&address.ip().to_canonical()) {
             Some(count) => *count,
@@ -92,7 +92,7 @@ impl ClientTable {
         }
     }
 
-    /// Counts one more of an address.
+    /// Counts one client more for an address.
     fn count(&mut self, address: SocketAddr) -> Result<(), AllocError> {
         let count = self.of_address(address).saturating_add(1);
         match self.by_address.insert(address.ip().to_canonical(), count) {
@@ -101,7 +101,7 @@ impl ClientTable {
         }
     }
 
-    /// Counts one less of an address.
+    /// Counts one client less for an address.
     fn discount(&mut self, address: SocketAddr) {
         let key = address.ip().to_canonical();
         let count = self.of_address(address).saturating_sub(1);
@@ -112,13 +112,13 @@ impl ClientTable {
         }
     }
 
-    /// When the first of those of which it is not known yet that they asked has been there for so long.
+    /// When the first client in the list of those without a query reaches this timeout.
     pub(crate) fn first_deadline(&self, patience: u64) -> Option<u64> {
         let (_token, came) = self.newcomers.front()?;
         Some(came.saturating_add(patience))
     }
 
-    /// The line of one that came so long ago, of which it was not known that it asked. It may have gone.
+    /// The poll token of a client that reached this timeout, and may have sent no query. It may be closed by now.
     pub(crate) fn next_overdue(&mut self, now: u64, patience: u64) -> Option<usize> {
         let deadline = self.first_deadline(patience)?;
         if now < deadline {
@@ -128,7 +128,7 @@ impl ClientTable {
         Some(token)
     }
 
-    /// Has the client of a line served.
+    /// Queues the client of a poll token.
     pub(crate) fn wake(&mut self, token: usize) {
         if let Some(entry) = self.by_token.get_mut(&token) {
             if !entry.is_queued {
@@ -137,7 +137,7 @@ impl ClientTable {
         }
     }
 
-    /// Has all served.
+    /// Queues all clients.
     pub(crate) fn wake_all(&mut self) {
         for (token, entry) in self.by_token.iter_mut() {
             if !entry.is_queued {
@@ -146,7 +146,7 @@ impl ClientTable {
         }
     }
 
-    /// Has those served that cannot be written to.
+    /// Queues the clients that are blocked on writing.
     pub(crate) fn wake_blocked(&mut self) {
         for (token, entry) in self.by_token.iter_mut() {
             if entry.blocked.is_some() && !entry.is_queued {
@@ -155,7 +155,7 @@ impl ClientTable {
         }
     }
 
-    /// The line and the client that is to be served next.
+    /// Removes the next client from the queue, with its poll token.
     pub(crate) fn next(&mut self) -> Option<(usize, Client)> {
         let token = self.queue.pop_front()?;
         let entry = self.by_token.get_mut(&token)?;
@@ -163,7 +163,7 @@ impl ClientTable {
         Some((token, entry.client))
     }
 
-    /// Notes what a turn came to: a client that cannot be written to is blocked since something was written to it last.
+    /// Notes the outcome of a turn. A client is blocked from the last byte that was written to it.
     pub(crate) fn note(&mut self, token: usize, turn: Turn, carried: ByteCounts, now: u64) {
         let Some(entry) = self.by_token.get_mut(&token) else {
             return;
@@ -179,18 +179,18 @@ impl ClientTable {
         }
     }
 
-    /// All of them, by the numbers of their lines.
+    /// All clients, by poll token.
     pub(crate) fn iter(&self) -> Values<'_, usize, ClientEntry> {
         self.by_token.values()
     }
 
-    /// The client of a line, and where it comes from.
+    /// The client of a poll token, and its address.
     pub(crate) fn at(&self, token: usize) -> Option<(Client, SocketAddr)> {
         let entry = self.by_token.get(&token)?;
         Some((entry.client, entry.address))
     }
 
-    /// Takes out the client of a line.
+    /// Removes the client of a poll token.
     pub(crate) fn remove(&mut self, token: usize) -> Option<ClientEntry> {
         let entry = self.by_token.remove(&token)?;
         if entry.blocked.is_some() {
@@ -200,12 +200,12 @@ impl ClientTable {
         Some(entry)
     }
 
-    /// Whether there are clients that cannot be written to.
+    /// Whether some client is blocked on writing.
     pub(crate) fn has_blocked(&self) -> bool {
         self.blocked > 0
     }
 
-    /// The lines of the clients that took no byte for so long.
+    /// The poll tokens of the clients that have been blocked for this long.
     pub(crate) fn stalled(
         &self,
         alloc: Global,
@@ -231,7 +231,7 @@ impl ClientEntry {
     }
 }
 
-/// Since when a client cannot be written to, after a turn.
+/// Since when a client is blocked on writing, after a turn.
 fn blocked_since(entry: &ClientEntry, turn: Turn, carried: ByteCounts, now: u64) -> Option<u64> {
     match (turn, entry.blocked) {
         (Turn::WaitsToWrite, Some(since)) if carried.written == entry.carried.written => {

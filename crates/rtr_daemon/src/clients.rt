@@ -15,13 +15,13 @@ use vrps::VersionStore;
 /// How many calls of its stream a client has in one turn.
 const BUDGET: u32 = 8;
 
-/// How many things that are ready are looked at in one turn.
+/// How many readiness events are read in one turn.
 const READY: usize = 65_536;
 
-/// How long a client may be there without a query, in milliseconds.
+/// The timeout for the first query of a client, in milliseconds.
 pub(crate) const FIRST_QUERY: u64 = 60_000;
 
-/// What is known of a client: how many bytes and PDUs went, and the version in which it speaks.
+/// The counters of a client: bytes and PDUs in each direction, and its protocol version.
 #[derive(Clone, Copy)]
 pub(crate) struct ClientCounters {
     pub(crate) carried: Option<ByteCounts>,
@@ -31,7 +31,7 @@ pub(crate) struct ClientCounters {
 }
 
 impl<S: VersionStore, T: Stream + Drop> Daemon<S, T> {
-    /// Notes what is ready.
+    /// Reads which listeners and connections are ready.
     pub(crate) fn take_ready<W: Sockets<T>>(&mut self, env: &mut W)
         ensures { self.new.service ≡ self.old.service }
     {
@@ -44,7 +44,7 @@ impl<S: VersionStore, T: Stream + Drop> Daemon<S, T> {
         }
     }
 
-    /// Serves each client that is to be served, once.
+    /// Serves each queued client once.
     pub(crate) fn serve_all<W: Time + EventLog>(&mut self, env: &mut W)
         ensures { GoesOn S.holds T.remaining T.contents self.old.service self.new.service }
     {
@@ -53,7 +53,7 @@ impl<S: VersionStore, T: Stream + Drop> Daemon<S, T> {
         }
     }
 
-    /// Serves the client that is to be served next.
+    /// Serves the next client of the queue.
     fn serve_next<W: Time + EventLog>(&mut self, env: &mut W)
         ensures { GoesOn S.holds T.remaining T.contents self.old.service self.new.service }
     {
@@ -62,7 +62,7 @@ impl<S: VersionStore, T: Stream + Drop> Daemon<S, T> {
         }
     }
 
-    /// What is known of a client.
+    /// The counters of a client.
     pub(crate) fn counters(&self, client: Client) -> ClientCounters {
         let server = self.service.server();
         ClientCounters {
@@ -73,7 +73,7 @@ impl<S: VersionStore, T: Stream + Drop> Daemon<S, T> {
         }
     }
 
-    /// What was counted of the client that left last.
+    /// The counters of the client that was closed last.
     fn last_counters(&self) -> ClientCounters {
         match self.service.server().parted() {
             None => ClientCounters {
@@ -109,7 +109,7 @@ impl<S: VersionStore, T: Stream + Drop> Daemon<S, T> {
         }
     }
 
-    /// Parts from the client that left last.
+    /// Removes and reports the client that was closed last.
     fn part<W: Time + EventLog>(&mut self, token: usize, why: &str, env: &mut W)
         ensures { self.new.service ≡ self.old.service }
     {
@@ -137,7 +137,7 @@ impl<S: VersionStore, T: Stream + Drop> Daemon<S, T> {
         );
     }
 
-    /// Reports the last Error Report that the client that left last had sent, and the last that it was sent.
+    /// Reports the last Error Report that the closed client sent, and the last that was sent to it.
     fn log_error_reports<W: EventLog>(&self, address: SocketAddr, now: u64, env: &mut W) {
         let Some(parted) = self.service.server().parted() else {
             return;
@@ -162,7 +162,7 @@ impl<S: VersionStore, T: Stream + Drop> Daemon<S, T> {
         }
     }
 
-    /// Drops the clients that have sent no whole query within their time.
+    /// Closes the clients that sent no whole query within the timeout.
     pub(crate) fn drop_silent<W: Time + EventLog>(&mut self, now: u64, env: &mut W)
         ensures { GoesOn S.holds T.remaining T.contents self.old.service self.new.service }
     {
@@ -184,7 +184,7 @@ impl<S: VersionStore, T: Stream + Drop> Daemon<S, T> {
         }
     }
 
-    /// Drops the clients that took no byte for too long.
+    /// Closes the clients that have been blocked on writing for too long.
     pub(crate) fn drop_stalled<W: Time + EventLog>(&mut self, env: &mut W)
         ensures { GoesOn S.holds T.remaining T.contents self.old.service self.new.service }
     {
@@ -207,7 +207,7 @@ impl<S: VersionStore, T: Stream + Drop> Daemon<S, T> {
         self.drop_connection(token, "stalled", env);
     }
 
-    /// Drops the client of a line, for this reason.
+    /// Closes the client of a poll token, for this reason.
     fn drop_connection<W: Time + EventLog>(&mut self, token: usize, why: &str, env: &mut W)
         ensures { GoesOn S.holds T.remaining T.contents self.old.service self.new.service }
     {
@@ -219,7 +219,7 @@ impl<S: VersionStore, T: Stream + Drop> Daemon<S, T> {
     }
 }
 
-/// The text of a report, as far as it is UTF-8.
+/// The text of a report, up to its first byte that is not UTF-8.
 fn text_of(report: &Report) -> &str {
     match str::from_utf8(report.text()) {
         Ok(text) => text,
@@ -227,7 +227,7 @@ fn text_of(report: &Report) -> &str {
     }
 }
 
-/// The word for how a client went.
+/// The log's word for the reason.
 fn why(how: CloseReason) -> &'static str {
     match how {
         CloseReason::PeerClosed => "closed",

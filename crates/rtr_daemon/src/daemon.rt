@@ -1,4 +1,4 @@
-//! The daemon: what is ready is served, and what is due by the clock is done.
+//! The daemon: a loop that serves what is ready, and does what is due by the clock.
 ghost use Rattle.std.specs.Prelude.{◌≡◌, IfOk};
 ghost use Rattle.rtr_server.specs.Clients.{Past, ShowsServer};
 ghost use Rattle.rtr_daemon.specs.Serving.{Follows, GoesOn, LeadsToService};
@@ -19,13 +19,13 @@ use std::alloc::{AllocError, Global};
 use std::io;
 use vrps::{Published, Serial, VersionStore};
 
-/// How long a turn waits at most where something is due soon, in milliseconds.
+/// The longest wait of a turn if something is due soon, in milliseconds.
 const SOON: u64 = 1000;
 
-/// How many seconds ahead of the clock an export may say that it was made.
+/// How many seconds ahead of the clock the time of an export may be.
 const AHEAD: u64 = 3600;
 
-/// From where comes what is served.
+/// The paths of the sources.
 #[derive(Debug, Drop)]
 pub struct Paths {
     /// Exports of validators.
@@ -36,41 +36,41 @@ pub struct Paths {
     pub points: Vec<String>,
 }
 
-/// What a daemon is to do when.
+/// The settings of a daemon.
 #[derive(Clone, Copy, Debug, PartialEq, Eq)]
 pub struct Plan {
-    /// How often files are looked at, in milliseconds.
+    /// How often files are polled, in milliseconds.
     pub check: u64,
-    /// How long a client may take no byte, in milliseconds.
+    /// After how long a client that is blocked on writing is closed, in milliseconds.
     pub stall: u64,
-    /// How many clients an address may have at once, or `None`: as many as there may be.
+    /// How many clients an address may have at once, or `None`: as many as the server admits.
     pub clients_per_address: Option<u64>,
     /// Whether records of length 0, for 0.0.0.0/0 or ::/0, are left out.
     pub leaves_out_length_0: bool,
-    /// Up to which age an export is not old, in seconds.
+    /// The age above which an export is old, in seconds.
     pub max_age: Option<u64>,
-    /// Whether the daemon ends where one is old.
+    /// Whether the daemon stops if an export is old.
     pub stops_when_old: bool,
-    /// Whether it ends when the first client has gone.
+    /// Whether it stops when the first client is closed.
     pub once: bool,
-    /// How many gates there are.
+    /// How many listeners there are.
     pub listeners: usize,
     /// How many clients there may be at once.
     pub clients: usize,
 }
 
-/// Why a daemon has come to its end.
+/// Why a daemon stops.
 #[derive(Clone, Copy, Debug, PartialEq, Eq)]
 pub enum StopReason {
-    /// The one client that it was for has gone.
+    /// The one client that it served is closed.
     Once,
-    /// An export is older than it may be.
+    /// An export is older than the maximum age.
     Old,
-    /// The files were only to be judged, and can be taken.
+    /// The files were only to be checked, and are valid.
     Test,
 }
 
-/// A cache that goes on: its clients, the files that it follows, and what is due when.
+/// A running cache: its clients, its watched files, and what is due when.
 #[derive(Debug, Drop)]
 pub struct Daemon<S, T> {
     pub(crate) alloc: Global,
@@ -84,28 +84,28 @@ pub struct Daemon<S, T> {
     pub(crate) statistics: Statistics,
     /// When it was opened, in seconds since 1970.
     pub(crate) started: u64,
-    /// When it was opened, in milliseconds of the steady clock.
+    /// When it was opened, in milliseconds of the monotonic clock.
     opened: u64,
     pace: Pace,
     /// Whether a version was published.
     pub(crate) is_ready: bool,
-    /// Whether a client has gone.
+    /// Whether a client was closed.
     pub(crate) has_parted: bool,
-    /// Whether an export is older than it may be.
+    /// Whether an export is older than the maximum age.
     pub(crate) is_old: bool,
-    /// How many seconds the clock is behind: it was set back by so much since the start, as was reported.
+    /// How many seconds the clock was set back since the start, as was reported last.
     pub(crate) clock_behind: u64,
-    /// When files are to be looked at next, in milliseconds of the steady clock.
+    /// When files are polled next, in milliseconds of the monotonic clock.
     next_check: u64,
-    /// When something else is to be done next: clients that cannot be written to are looked at, or what is owed is published.
+    /// When blocked clients are checked next, and a pending version is published.
     next_round: u64,
-    /// Before when nothing is published, as publication failed.
+    /// The earliest time of the next publication, after one failed.
     held_until: u64,
 }
 
 impl<S: VersionStore + Drop, T: Stream + Drop> Daemon<S, T> {
-    /// A daemon over a server to whose cache nothing was published. It reads all files, and answers the first that it cannot take. The first version is
-    /// published in a later second than this, and no router is taken in before.
+    /// A daemon over a server whose cache has no version. It reads all files, and answers with the first that is refused. The first version is
+    /// published in a later second than this one. No router is admitted before.
     pub fn open<W: Disk + Time + EventLog>(
         alloc: Global,
         plan: Plan,
@@ -156,7 +156,7 @@ impl<S: VersionStore + Drop, T: Stream + Drop> Daemon<S, T> {
         Ok(daemon)
     }
 
-    /// One turn: it waits until something is ready or due, and does it. It answers why the daemon is to end, where it is.
+    /// One turn: it waits until something is ready or due, and handles it. It answers why the daemon stops, if it does.
     pub fn turn<W: Sockets<T> + Disk + Time + EventLog>(
         &mut self,
         env: &mut W,
@@ -180,7 +180,7 @@ impl<S: VersionStore + Drop, T: Stream + Drop> Daemon<S, T> {
         self.next_moment(now).saturating_sub(now)
     }
 
-    /// When something is due next, in milliseconds of the steady clock.
+    /// When something is due next, in milliseconds of the monotonic clock.
     fn next_moment(&self, now: u64) -> u64 {
         let mut next = self.next_check;
         if self.clients.has_blocked() || (self.service.is_pending() && self.held_until <= now) {
@@ -205,7 +205,7 @@ impl<S: VersionStore + Drop, T: Stream + Drop> Daemon<S, T> {
         self.drop_silent(now, env);
     }
 
-    /// Looks at the files, where it is time for that.
+    /// Polls the files, if they are due.
     fn check<W: Disk + Time + EventLog>(&mut self, now: u64, env: &mut W)
         ensures { GoesOn S.holds T.remaining T.contents self.old.service self.new.service }
     {
@@ -221,7 +221,7 @@ impl<S: VersionStore + Drop, T: Stream + Drop> Daemon<S, T> {
         self.judge_ages(env);
     }
 
-    /// Closes those that take nothing, and publishes, where it is time for that.
+    /// Closes stalled clients and publishes a pending version, if that is due.
     fn go_round<W: Time + EventLog>(&mut self, now: u64, env: &mut W)
         ensures { GoesOn S.holds T.remaining T.contents self.old.service self.new.service }
     {
@@ -234,14 +234,14 @@ impl<S: VersionStore + Drop, T: Stream + Drop> Daemon<S, T> {
         self.publish_pending(env);
     }
 
-    /// The second by which versions are paced, at a moment of the steady clock: that of the start, and those that have passed since. So a clock that is
-    /// set back holds up no version, and where none is, no serial passes it.
+    /// The second by which versions are paced: the second of the start, plus the seconds of the monotonic clock since. So a wall clock that is
+    /// set back delays no version. If it is never set back, no serial is ahead of it.
     fn paced(&self, millis: u64) -> u64 {
         self.started
             .saturating_add(millis.saturating_sub(self.opened) / 1000)
     }
 
-    /// Publishes what is owed, where the last version is of an earlier second.
+    /// Publishes a pending version, if the last version is of an earlier second.
     fn publish_pending<W: Time + EventLog>(&mut self, env: &mut W)
         ensures { GoesOn S.holds T.remaining T.contents self.old.service self.new.service }
     {
@@ -295,26 +295,26 @@ impl<S: VersionStore + Drop, T: Stream + Drop> Daemon<S, T> {
         }
     }
 
-    /// Reports how many records are left out, if they are not as many as before.
+    /// Reports how many records are left out, if the number has changed.
     fn note_left_out<W: EventLog>(&mut self, records: u64, now: u64, env: &mut W)
         ensures { self.new.service ≡ self.old.service }
     {
-        if self.statistics.leave_out(records) {
+        if self.statistics.set_left_out(records) {
             env.log(now, &LogEvent::LeftOut { records });
         }
     }
 
-    /// Notes what was published for those who ask.
+    /// Adds a version to the statistics.
     fn note_version(&mut self, serial: Serial, report: PublishReport, now: u64)
         ensures { self.new.service ≡ self.old.service }
     {
         if let Some((_serial, set)) = self.service.server().current() {
             let families = Families::of(set.as_slice());
-            self.statistics.published(serial.0, now, report, families);
+            self.statistics.add_version(serial.0, now, report, families);
         }
     }
 
-    /// Reports that nothing could be published. It is tried again when files are looked at next.
+    /// Reports that publication failed. It is tried again at the next poll of the files.
     fn note_failure<W: EventLog>(&mut self, refusal: &Refusal, now: u64, env: &mut W)
         ensures { self.new.service ≡ self.old.service }
     {
@@ -330,7 +330,7 @@ impl<S: VersionStore + Drop, T: Stream + Drop> Daemon<S, T> {
         }
     }
 
-    /// Reports that the clock was set back, by more than before.
+    /// Reports that the clock was set back, if it is further back than before.
     fn judge_clock<W: Time + EventLog>(&mut self, millis: u64, env: &mut W)
         ensures { self.new.service ≡ self.old.service }
     {
@@ -345,7 +345,7 @@ impl<S: VersionStore + Drop, T: Stream + Drop> Daemon<S, T> {
         }
     }
 
-    /// Reports which exports are older than they may be, and which are not any more.
+    /// Reports which exports have become older than the maximum age, and which are no longer.
     fn judge_ages<W: Time + EventLog>(&mut self, env: &mut W)
         ensures { self.new.service ≡ self.old.service }
     {
@@ -358,12 +358,12 @@ impl<S: VersionStore + Drop, T: Stream + Drop> Daemon<S, T> {
         }
     }
 
-    /// How a daemon ends that is to judge its files alone.
+    /// How a daemon ends that only checks its files.
     pub fn judged(&self) -> StopReason {
         self.end().unwrap_or(StopReason::Test)
     }
 
-    /// Why the daemon is to end, where it is.
+    /// Why the daemon stops, if it does.
     fn end(&self) -> Option<StopReason> {
         if self.plan.once && self.has_parted {
             return Some(StopReason::Once);
@@ -380,7 +380,7 @@ impl<S: VersionStore + Drop, T: Stream + Drop> Daemon<S, T> {
     }
 }
 
-/// Whether an export is older than so many seconds. Of each it is reported where that is news.
+/// Whether an export is older than this many seconds. Each change is reported.
 fn is_any_old<W: EventLog>(
     files: &mut Vec<WatchedFile>,
     sources: &Sources,
@@ -401,7 +401,7 @@ fn is_any_old<W: EventLog>(
     is_old
 }
 
-/// When what an export has was made: as it says itself, unless it says none or one that is too far ahead, and then when the file was modified.
+/// When the data of an export were made. If the export gives no time, or one too far ahead, the file's modification time counts.
 pub(crate) fn built_of(file: &WatchedFile, sources: &Sources, now: u64) -> Option<u64> {
     let Source::Export(number) = file.source else {
         return None;
@@ -412,7 +412,7 @@ pub(crate) fn built_of(file: &WatchedFile, sources: &Sources, now: u64) -> Optio
     }
 }
 
-/// Reports that an export is older than it may be, or is not any more.
+/// Reports that an export has become older than the maximum age, or is no longer.
 fn log_age<W: EventLog>(file: &str, age: u64, most: u64, now: u64, env: &mut W) {
     if age > most {
         env.log(now, &LogEvent::Old { file, age });
@@ -421,7 +421,7 @@ fn log_age<W: EventLog>(file: &str, age: u64, most: u64, now: u64, env: &mut W) 
     }
 }
 
-/// Sources of so many files, of which nothing was taken yet.
+/// Sources of this many files, of which none is loaded.
 fn sources_of(alloc: Global, files: usize, leaves_out: bool) -> Result<Sources, AllocError> {
     let mut sources = Sources::new(alloc, files)?;
     if leaves_out {
@@ -430,7 +430,7 @@ fn sources_of(alloc: Global, files: usize, leaves_out: bool) -> Result<Sources, 
     Ok(sources)
 }
 
-/// The files that are followed: exports, and then local exceptions, if there are any.
+/// The watched files: exports, and then local exceptions, if there are any.
 fn watched_files(
     alloc: Global,
     files: Vec<String>,
@@ -455,7 +455,7 @@ fn watched_points(alloc: Global, points: Vec<String>) -> Result<Vec<WatchedPoint
     Ok(offered)
 }
 
-/// Reads each file, and takes it.
+/// Reads and loads each file.
 fn read_all<S: VersionStore, T: Stream + Drop, W: Disk + EventLog>(
     files: &mut Vec<WatchedFile>,
     service: &mut Service<S, T>,
@@ -474,7 +474,7 @@ fn read_all<S: VersionStore, T: Stream + Drop, W: Disk + EventLog>(
     Ok(())
 }
 
-/// Reads a file, takes it, and answers how many of its entries had expired. What changes while it is read is read again, a few times.
+/// Reads and loads a file, and answers how many of its entries had expired. If it changes while it is read, it is read again, up to 16 times.
 fn read_one<S: VersionStore, T: Stream + Drop, W: Disk>(
     file: &mut WatchedFile,
     service: &mut Service<S, T>,
@@ -491,7 +491,7 @@ fn read_one<S: VersionStore, T: Stream + Drop, W: Disk>(
             Look::Failed(error) => return Err(Refusal::Device(error)),
             Look::Read(stamp, bytes) => {
                 let expired = take(service, file.source, bytes.as_slice(), alloc, now)?;
-                let _ = file.take(stamp, now, expired);
+                let _ = file.set_loaded(stamp, now, expired);
                 return Ok(expired);
             }
         }
@@ -511,7 +511,7 @@ fn read_points<S: VersionStore, T: Stream + Drop, W: Disk>(
     for point in points.iter_mut() {
         match offer(service, point.path.as_str(), alloc, now, env) {
             Ok(held) => {
-                let _ = point.take(held, now);
+                let _ = point.set_accepted(held, now);
             }
             Err(refusal) => return Err(StartFault::of(point.path.as_str(), alloc, refusal)),
         }

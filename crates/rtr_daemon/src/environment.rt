@@ -1,49 +1,49 @@
-//! What a daemon sees of its surroundings: sockets, files, the time, and a journal. Each has two ends: the system's, and one in memory.
+//! The environment of a daemon: sockets, files, clocks, and the event log. Each trait has two implementations: over the system, and in memory.
 use daemon_parts::LogEvent;
 use payload_commands::Directory;
 use std::io;
 use std::net::SocketAddr;
 
-/// Something that may be ready.
+/// What is ready.
 #[derive(Clone, Copy, Debug, PartialEq, Eq)]
 pub enum Ready {
-    /// At this gate a connection may wait.
+    /// A connection may be pending at the listener of this index.
     Listener(usize),
-    /// On the line of this number bytes may have come, or there may be room again.
+    /// The connection of this poll token may be readable or writable.
     Connection(usize),
 }
 
-/// What came at a gate.
+/// The result of an accept.
 #[derive(Debug, Drop)]
 pub enum AcceptResult<L> {
-    /// A connection. No other line has had its number.
+    /// A connection. No other connection has had its poll token.
     Connection {
         /// The connection, which is non-blocking.
         stream: L,
         /// The poll token under which it is reported as ready.
         token: usize,
-        /// Where it comes from.
+        /// The address of the peer.
         address: SocketAddr,
     },
-    /// None waits.
+    /// No connection is pending.
     WouldBlock,
-    /// One that was given up before it was taken; another may wait.
+    /// A connection was aborted before it was accepted. Another may be pending.
     Again,
-    /// One may wait, and cannot be taken now, as the system has no descriptor or no memory left.
+    /// The accept failed: the system has no descriptor or no memory left. The connection stays pending.
     NoRoom,
-    /// One may wait, and cannot be taken now, for another reason.
+    /// The accept failed for another reason. The connection stays pending.
     Failed(io::Error),
 }
 
-/// The sockets, whose connections are such streams.
+/// The sockets, whose connections are streams of this type.
 pub trait Sockets<L> {
-    /// Waits until something is ready, for so many milliseconds at most.
+    /// Waits until something is ready, for at most this many milliseconds.
     fn wait(&mut self, millis: u64) -> io::Result<()>;
 
-    /// The next of what is ready since.
+    /// The next of what became ready.
     fn next(&mut self) -> Option<Ready>;
 
-    /// Takes a connection at a gate.
+    /// Accepts a connection from the listener of this index.
     fn accept(&mut self, listener: usize) -> AcceptResult<L>;
 }
 
@@ -52,37 +52,37 @@ pub trait Sockets<L> {
 pub struct Stamp {
     /// Its size in bytes.
     pub len: u64,
-    /// Its place on the disk.
+    /// Its inode number.
     pub inode: u64,
-    /// When its content changed, in seconds since 1970 and nanoseconds.
+    /// Its modification time, in seconds since 1970 and nanoseconds.
     pub modified: (i64, i64),
-    /// When it changed there in any way.
+    /// Its status change time, in seconds since 1970 and nanoseconds.
     pub changed: (i64, i64),
 }
 
 /// The files.
 pub trait Disk {
-    /// How a file looks now.
+    /// The current stamp of a file.
     fn stamp(&mut self, path: &str) -> io::Result<Stamp>;
 
-    /// What it holds.
+    /// The content of a file.
     fn read(&mut self, path: &str) -> io::Result<Vec<u8>>;
 
-    /// What a directory holds that is offered to a publication point.
+    /// The content of a directory that is a publication point.
     fn directory<'a>(&mut self, path: &'a str) -> io::Result<Directory<'a>>;
 }
 
-/// The time.
+/// The clocks.
 pub trait Time {
-    /// Seconds since 1970, by the clock.
+    /// The wall clock, in seconds since 1970.
     fn seconds(&mut self) -> u64;
 
-    /// Milliseconds of a clock that never goes back.
+    /// A monotonic clock, in milliseconds.
     fn millis(&mut self) -> u64;
 }
 
-/// The log.
+/// The event log.
 pub trait EventLog {
-    /// Writes a line. What cannot be written is lost.
+    /// Writes a line. An event that cannot be written is lost.
     fn log(&mut self, seconds: u64, event: &LogEvent<'_>);
 }

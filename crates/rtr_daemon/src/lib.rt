@@ -1,5 +1,5 @@
-//! A cache that goes on: routers come and go, files change, and what is served follows them. [`Daemon`] does what is due, turn by turn; what it
-//! sees of sockets, files, time and log are the traits [`Sockets`], [`Disk`], [`Time`] and [`EventLog`].
+//! A running cache: routers connect and disconnect, files change, and the served set follows them. [`Daemon`] does what is due, turn by turn. Its
+//! sockets, files, clocks and log are the traits [`Sockets`], [`Disk`], [`Time`] and [`EventLog`].
 //!
 //! For example, where `rt` is the runtime that `main` is handed:
 //!

@@ -1,4 +1,4 @@
-//! Looking at the files, and taking what is new.
+//! Polling the files, and loading those that have changed.
 ghost use Rattle.std.specs.Prelude.{◌≡◌, true};
 ghost use Rattle.rtr_daemon.specs.Serving.{Follows, GoesOn, TakenAs, TakesSo};
 
@@ -15,21 +15,21 @@ use rtr_server::Stream;
 use std::alloc::Global;
 use vrps::VersionStore;
 
-/// What a publication point holds: until which second since 1970 it is used, and how many objects its manifest lists.
+/// What a publication point holds: its nextUpdate in seconds since 1970, and how many objects its manifest lists.
 #[derive(Clone, Copy, Debug)]
 pub(crate) struct PointState {
     next_update: u64,
     objects: u64,
 }
 
-/// A directory that is offered to the publication point of its name.
+/// A directory that is watched, whose name is that of its publication point.
 #[derive(Debug, Drop)]
 pub(crate) struct WatchedPoint {
     pub(crate) path: String,
-    /// When it was taken last, or was what its point holds, in seconds since 1970.
-    pub(crate) taken_at: Option<u64>,
+    /// When it was last accepted, or equal to what its point holds, in seconds since 1970.
+    pub(crate) loaded_at: Option<u64>,
     held: Option<PointState>,
-    /// How many objects its point held that are past their manifest's nextUpdate, as of the last look.
+    /// How many objects of its point are past their manifest's nextUpdate, as of the last poll.
     pub(crate) expired: u64,
     pub(crate) refusals: Refusals,
 }
@@ -38,21 +38,21 @@ impl WatchedPoint {
     pub(crate) fn new(path: String) -> WatchedPoint {
         WatchedPoint {
             path,
-            taken_at: None,
+            loaded_at: None,
             held: None,
             expired: 0,
             refusals: Refusals::none(),
         }
     }
 
-    /// It was taken, or is what its point holds. It answers whether a refusal was reported before.
-    pub(crate) fn take(&mut self, held: Option<PointState>, now: u64) -> bool {
-        self.taken_at = Some(now);
+    /// It was accepted, or is what its point holds. It answers whether a refusal was reported before.
+    pub(crate) fn set_accepted(&mut self, held: Option<PointState>, now: u64) -> bool {
+        self.loaded_at = Some(now);
         self.held = held;
         self.refusals.clear()
     }
 
-    /// Notes whether what its point holds is past the nextUpdate (RFC 9286 section 6.6), and answers whether that is news.
+    /// Notes whether the point is past its nextUpdate (RFC 9286 section 6.6), and answers whether it became so.
     fn note_expired(&mut self, now: u64) -> bool {
         let before = self.expired;
         self.expired = match self.held {
@@ -63,17 +63,17 @@ impl WatchedPoint {
     }
 }
 
-/// What is to be reported after a look at a file.
+/// What is reported after a poll of a file.
 pub(crate) enum PollResult {
     /// Nothing.
     Unchanged,
     /// Why it was refused.
     Refused,
-    /// It was taken: whether after a refusal that was reported, and how many of its entries had expired.
+    /// It was loaded: whether a refusal was reported before, and how many of its entries had expired.
     Loaded { again: bool, expired: u64 },
 }
 
-/// Takes what a file holds, and answers how many of its entries had expired.
+/// Loads the content of a file, and answers how many of its entries had expired.
 pub(crate) fn take<S: VersionStore, T: Stream + Drop>(
     service: &mut Service<S, T>,
     source: Source,
@@ -97,7 +97,7 @@ pub(crate) fn take<S: VersionStore, T: Stream + Drop>(
     }
 }
 
-/// What a manifest says of its point.
+/// The state of a point, by its manifest.
 fn point_state(alloc: Global, manifest: &[u8]) -> Option<PointState> {
     let manifest = decode_manifest(alloc, manifest).ok()?;
     Some(PointState {
@@ -106,7 +106,7 @@ fn point_state(alloc: Global, manifest: &[u8]) -> Option<PointState> {
     })
 }
 
-/// Offers what a directory holds to the publication point of its name, and answers what the point holds then.
+/// Offers the content of a directory to the publication point of its name, and answers what the point holds then.
 pub(crate) fn offer<S: VersionStore, T: Stream + Drop, W: Disk>(
     service: &mut Service<S, T>,
     path: &str,
@@ -129,7 +129,7 @@ pub(crate) fn offer<S: VersionStore, T: Stream + Drop, W: Disk>(
     }
 }
 
-/// How many records of a file have expired since it was taken.
+/// How many records of a file have expired since it was loaded.
 fn expired_of<S: VersionStore, T: Stream + Drop>(
     service: &Service<S, T>,
     source: Source,
@@ -141,8 +141,8 @@ fn expired_of<S: VersionStore, T: Stream + Drop>(
     }
 }
 
-/// Notes how many records of a file have expired since it was taken, and whether these are more than at the look before. They are not served any
-/// more, whatever has become of the file: if they are not as many as before, a version is pending.
+/// Notes how many records of a file have expired since it was loaded, and answers whether there are more than at the poll before. Expired records
+/// are not served, even if the file is refused. If the number has changed, a version is pending.
 fn note_expired<S: VersionStore, T: Stream + Drop>(
     file: &mut WatchedFile,
     service: &mut Service<S, T>,
@@ -161,11 +161,11 @@ fn note_expired<S: VersionStore, T: Stream + Drop>(
     expired > before
 }
 
-/// Notes whether what a file holds was taken, and answers what is to be reported.
+/// Notes whether a file was loaded or refused, and answers what is reported.
 fn note(file: &mut WatchedFile, stamp: Stamp, taken: Result<u64, Refusal>, now: u64) -> PollResult {
     match taken {
         Ok(expired) => PollResult::Loaded {
-            again: file.take(stamp, now, expired),
+            again: file.set_loaded(stamp, now, expired),
             expired,
         },
         Err(refusal) => refused_if(file.refusals.add(Some(stamp), refusal)),
@@ -180,7 +180,7 @@ fn refused_if(is_news: bool) -> PollResult {
     }
 }
 
-/// Looks at a file, and takes what is new.
+/// Polls a file, and loads it if it has changed.
 fn follow<S: VersionStore, T: Stream + Drop, W: Disk>(
     file: &mut WatchedFile,
     service: &mut Service<S, T>,
@@ -192,7 +192,7 @@ fn follow<S: VersionStore, T: Stream + Drop, W: Disk>(
     ensures server { service.new.server ≡ service.old.server }
     ensures follows { Follows file.old.source now service.old.sources service.new.sources }
 {
-    match file.look(env, file.is_taken_after(now)) {
+    match file.look(env, file.is_loaded_after(now)) {
         Look::Unchanged => PollResult::Unchanged,
         Look::Unstable => refused_if(file.refusals.add(None, Refusal::Changing)),
         Look::RefusedBefore => refused_if(file.refusals.mark_reported()),
@@ -205,7 +205,7 @@ fn follow<S: VersionStore, T: Stream + Drop, W: Disk>(
 }
 
 impl<S: VersionStore, T: Stream + Drop> Daemon<S, T> {
-    /// Looks at all files.
+    /// Polls all files.
     pub(crate) fn follow_all<W: Disk + Time + EventLog>(&mut self, env: &mut W)
         ensures goes { GoesOn S.holds T.remaining T.contents self.old.service self.new.service }
         ensures server { self.new.service.server ≡ self.old.service.server }
@@ -234,7 +234,7 @@ impl<S: VersionStore, T: Stream + Drop> Daemon<S, T> {
     }
 }
 
-/// Looks at each file, takes what is new, and reports what came of it.
+/// Polls each file, loads it if it has changed, and reports the result.
 fn follow_each<S: VersionStore, T: Stream + Drop, W: Disk + Time + EventLog>(
     files: &mut Vec<WatchedFile>,
     service: &mut Service<S, T>,
@@ -257,7 +257,7 @@ fn follow_each<S: VersionStore, T: Stream + Drop, W: Disk + Time + EventLog>(
     }
 }
 
-/// Offers each directory, and reports what came of it.
+/// Offers each directory, and reports the result.
 fn offer_each<S: VersionStore, T: Stream + Drop, W: Disk + Time + EventLog>(
     points: &mut Vec<WatchedPoint>,
     service: &mut Service<S, T>,
@@ -278,7 +278,7 @@ fn offer_each<S: VersionStore, T: Stream + Drop, W: Disk + Time + EventLog>(
     }
 }
 
-/// Reports what became of an offer, where that is news.
+/// Reports the result of an offer, if it has changed.
 fn note_offer<W: EventLog>(
     alloc: Global,
     point: &mut WatchedPoint,
@@ -289,7 +289,7 @@ fn note_offer<W: EventLog>(
 ) {
     match offered {
         Ok(held) => {
-            if point.take(held, now) {
+            if point.set_accepted(held, now) {
                 env.log(
                     now,
                     &LogEvent::Taken {
@@ -300,23 +300,23 @@ fn note_offer<W: EventLog>(
         }
         Err(refusal) => {
             if point.refusals.add(None, refusal) {
-                statistics.refused();
+                statistics.count_refusal();
                 log_refused_point(alloc, point, now, env);
             }
         }
     }
 }
 
-/// Counts what came of a look at a file, which took so many milliseconds.
+/// Counts the result of a poll, which took this many milliseconds.
 fn count_poll(statistics: &mut Statistics, polled: &PollResult, milliseconds: u64) {
     match polled {
         PollResult::Unchanged => {}
-        PollResult::Refused => statistics.refused(),
-        PollResult::Loaded { .. } => statistics.took(milliseconds),
+        PollResult::Refused => statistics.count_refusal(),
+        PollResult::Loaded { .. } => statistics.count_load(milliseconds),
     }
 }
 
-/// Reports what came of a look at a file.
+/// Reports the result of a poll.
 fn log_poll<W: EventLog>(
     alloc: Global,
     file: &WatchedFile,
@@ -337,7 +337,7 @@ fn log_poll<W: EventLog>(
     }
 }
 
-/// Reports how many entries of a source have expired, if some have.
+/// Reports how many entries of a source have expired, if there are any.
 pub(crate) fn log_expired<W: EventLog>(file: &str, entries: u64, now: u64, env: &mut W) {
     if entries > 0 {
         env.log(now, &LogEvent::Expired { file, entries });

@@ -1,4 +1,4 @@
-//! Why something was not taken.
+//! Why a source is refused.
 use exports::ExportFault;
 use points::PointFault;
 use slurm::SlurmFault;
@@ -8,12 +8,12 @@ use std::{fmt, io};
 use thiserror::Error;
 use vrps::SetFault;
 
-/// A fault of a file, and the same in words that say what stands in the file.
+/// A fault of a file, and a text for it that quotes the file.
 #[derive(Debug, Drop)]
 pub struct FileFault<F> {
     /// The fault.
     pub fault: F,
-    /// The words, or `None`: memory ran out for them.
+    /// The text, or `None` if there was no memory for it.
     pub words: Option<String>,
 }
 
@@ -26,34 +26,34 @@ impl<F: fmt::Display> fmt::Display for FileFault<F> {
     }
 }
 
-/// Why a file was not taken, or nothing was published.
+/// Why a file was refused, or no version was published.
 #[derive(Debug, Drop, Error)]
 pub enum Refusal {
     /// It cannot be read.
     #[error("it cannot be read: {0}")]
     Device(io::Error),
-    /// It is no export, or no file of the sources has its number.
+    /// It is not an export, or the sources have no file of this index.
     #[error("{0}")]
     Export(FileFault<TakeFault>),
-    /// It holds no local exceptions.
+    /// It is not a file of local exceptions.
     #[error("{0}")]
     Slurm(FileFault<SlurmFault>),
-    /// Its publication point does not take it.
+    /// Its publication point refuses it.
     #[error("{0}")]
     Point(PointFault),
-    /// All sources together have too much, or memory ran out for them.
+    /// All sources together have too many records, or memory ran out.
     #[error("{0}")]
     Set(SetFault),
-    /// It changed again and again while it was read.
+    /// It changed during each of several reads.
     #[error("it changes while it is read")]
     Changing,
-    /// The clock gives no moment of the years 1970 to 9999.
+    /// The clock is not within the years 1970 to 9999.
     #[error("the clock is not between the years 1970 and 9999")]
     Clock,
 }
 
 impl Refusal {
-    /// An export that these bytes are not.
+    /// The refusal of an export, with the text for these bytes.
     pub(crate) fn of_export(alloc: Global, bytes: &[u8], fault: TakeFault) -> Refusal {
         let words = match fault {
             TakeFault::Export(of) => exports::fault_text(alloc, bytes, of).ok(),
@@ -62,7 +62,7 @@ impl Refusal {
         Refusal::Export(FileFault { fault, words })
     }
 
-    /// Local exceptions that these bytes are not.
+    /// The refusal of local exceptions, with the text for these bytes.
     pub(crate) fn of_slurm(alloc: Global, bytes: &[u8], fault: SlurmFault) -> Refusal {
         let words = slurm::fault_text(alloc, bytes, fault).ok();
         Refusal::Slurm(FileFault { fault, words })
@@ -73,7 +73,7 @@ impl Refusal {
         self.status() == 4
     }
 
-    /// The status with which a program ends for it: 3 where a file cannot be read, 4 where memory ran out, and else 1.
+    /// The program's exit status: 3 if a file cannot be read, 4 if memory ran out, and 1 otherwise.
     pub fn status(&self) -> u8 {
         match self {
             Refusal::Device(error) if error.kind() == io::ErrorKind::OutOfMemory => 4,
@@ -97,12 +97,12 @@ impl Refusal {
     }
 }
 
-/// Why a daemon does not start: a file, if it was one, and what of it.
+/// Why a daemon does not start: the file, if there is one, and its refusal.
 #[derive(Debug, Drop)]
 pub struct StartFault {
     /// The file.
     pub path: Option<String>,
-    /// What of it.
+    /// Its refusal.
     pub refusal: Refusal,
 }
 
@@ -115,7 +115,7 @@ impl StartFault {
         }
     }
 
-    /// What of a file.
+    /// The refusal of a file.
     pub(crate) fn of(path: &str, alloc: Global, refusal: Refusal) -> StartFault {
         StartFault {
             path: String::from_str(alloc, path).ok(),
@@ -124,7 +124,7 @@ impl StartFault {
     }
 }
 
-/// As `memory`.
+/// Out of memory.
 impl From<AllocError> for StartFault {
     fn from(_error: AllocError) -> StartFault {
         StartFault::memory()

@@ -1,28 +1,28 @@
-//! What is known of a source's refusals, and when they are reported.
+//! The refusals of a source, and when they are reported.
 use crate::environment::Stamp;
 use crate::refusal::Refusal;
 
-/// How many looks in a row may refuse a source that looks otherwise each time before that is reported.
+/// How many polls in a row may refuse a source that changes each time before that is reported.
 const UNREPORTED: u8 = 2;
 
-/// The last refusal: how the source looked, if it could be looked at, and why.
+/// The last refusal: the source's stamp, if there was one, and the reason.
 #[derive(Debug, Drop)]
 struct Refused {
     stamp: Option<Stamp>,
     why: Refusal,
 }
 
-/// The refusals of a source since it was taken.
+/// The refusals of a source since it was last loaded.
 #[derive(Debug, Drop)]
 pub(crate) struct Refusals {
     last: Option<Refused>,
-    /// How many looks in a row refused it, as far as they are counted.
+    /// How many polls in a row refused it. The count saturates.
     looks: u8,
     is_reported: bool,
 }
 
 impl Refusals {
-    /// There was none yet.
+    /// No refusal yet.
     pub(crate) fn none() -> Refusals {
         Refusals {
             last: None,
@@ -31,7 +31,7 @@ impl Refusals {
         }
     }
 
-    /// The source was taken. It answers whether a refusal was reported before.
+    /// The source was loaded. It answers whether a refusal was reported before.
     pub(crate) fn clear(&mut self) -> bool {
         let was_reported = self.is_reported;
         self.last = None;
@@ -40,8 +40,8 @@ impl Refusals {
         was_reported
     }
 
-    /// The source is refused as it looks now. It answers whether that is to be reported: where it looked so when it was refused before, or too many
-    /// looks in a row refused it, and no refusal was reported since it was taken.
+    /// The source is refused, with this stamp. It answers whether that is reported: if the last refusal had the same stamp, or too many polls in
+    /// a row refused it. Only one refusal is reported until the source is loaded.
     pub(crate) fn add(&mut self, stamp: Option<Stamp>, why: Refusal) -> bool {
         let is_same = self.is_of(stamp);
         let is_due = is_same || self.looks >= UNREPORTED;
@@ -50,14 +50,14 @@ impl Refusals {
         is_due && self.mark_reported()
     }
 
-    /// A refusal is reported, if none was since the source was taken. It answers whether it is.
+    /// Marks a refusal as reported. It answers true if none was reported since the source was last loaded.
     pub(crate) fn mark_reported(&mut self) -> bool {
         let is_news = !self.is_reported;
         self.is_reported = true;
         is_news
     }
 
-    /// Whether the source was refused last as it looks now.
+    /// Whether the last refusal had this stamp.
     fn is_of(&self, stamp: Option<Stamp>) -> bool {
         match &self.last {
             Some(refused) => refused.stamp == stamp,
@@ -65,7 +65,7 @@ impl Refusals {
         }
     }
 
-    /// Whether it would be refused again as it looks now. Where memory ran out it may be taken the next time.
+    /// Whether the source would be refused again with this stamp. After a lack of memory it is tried again.
     pub(crate) fn stays(&self, stamp: Stamp) -> bool {
         match &self.last {
             Some(refused) => refused.stamp == Some(stamp) && !refused.why.is_memory(),
@@ -81,7 +81,7 @@ impl Refusals {
         }
     }
 
-    /// The same where a refusal was reported.
+    /// Why the source was refused last, if a refusal was reported.
     pub(crate) fn reported(&self) -> Option<&Refusal> {
         if self.is_reported {
             return self.last();

@@ -1,4 +1,4 @@
-//! A server, what it serves from, and whether a version is owed.
+//! A server, its sources, and whether a version is pending.
 ghost use Rattle.std.specs.Prelude.{◌≡◌, false, true, IfErr, IfOk, Option};
 ghost use Rattle.rtr_server.specs.Clients.{AdmitsTo, KeepsOthers, Past, Serves, ShowsServer, is_gone, slot_at};
 ghost use Rattle.sources.specs.Served.{ExportTaken, SlurmTaken};
@@ -20,12 +20,12 @@ use vrps::{Published, SetFault, VersionStore, VrpSet};
 pub struct Service<S, T> {
     server: Server<S, T>,
     sources: Sources,
-    /// Whether the sources changed since the last publication.
+    /// Whether the sources have changed since the last publication.
     is_pending: bool,
 }
 
 impl<S: VersionStore, T: Stream + Drop> Service<S, T> {
-    /// A service of a server to whose cache nothing was published.
+    /// A service over a server whose cache has no version.
     pub fn new(server: Server<S, T>, sources: Sources) -> Service<S, T>
         ensures { (p : Past) → ShowsServer S.holds T.remaining T.contents p server → ShowsService S.holds T.remaining T.contents p result }
     {
@@ -50,7 +50,7 @@ impl<S: VersionStore, T: Stream + Drop> Service<S, T> {
         &self.sources
     }
 
-    /// Whether the sources changed since the last publication.
+    /// Whether a version is pending: the sources have changed since the last publication.
     pub fn is_pending(&self) -> bool
         ensures { result ≡ self.now.is_pending }
     {
@@ -87,12 +87,12 @@ impl<S: VersionStore, T: Stream + Drop> Service<S, T> {
         self.server.drop_client(client)
     }
 
-    /// How many records of a file that counted when it was taken have expired by this second since 1970.
+    /// How many records of a file have expired since it was loaded, by this second since 1970.
     pub fn expired(&self, file: usize, now: u64) -> u64 {
         self.sources.expired(file, now)
     }
 
-    /// Takes the export of a file, where it is one, and answers how many of its entries had expired.
+    /// Loads the export of a file, and answers how many of its entries had expired.
     pub fn take_export(&mut self, file: usize, bytes: &[u8], now: u64) -> Result<u64, TakeFault>
         ensures goes { GoesOn S.holds T.remaining T.contents self.old self.new }
         ensures takes { TakesSo result self.old self.new }
@@ -103,7 +103,7 @@ impl<S: VersionStore, T: Stream + Drop> Service<S, T> {
         Ok(expired)
     }
 
-    /// Takes local exceptions, where the bytes are some.
+    /// Loads local exceptions.
     pub fn take_slurm(&mut self, bytes: &[u8]) -> Result<(), SlurmFault>
         ensures goes { GoesOn S.holds T.remaining T.contents self.old self.new }
         ensures takes { TakesSo result self.old self.new }
@@ -114,7 +114,7 @@ impl<S: VersionStore, T: Stream + Drop> Service<S, T> {
         Ok(())
     }
 
-    /// A version is owed, as what the sources have may be something else by now: payloads of publication points leave by the clock.
+    /// Makes a version pending: payloads of publication points expire by the clock, so the set may have changed.
     pub(crate) fn set_pending(&mut self)
         ensures goes { GoesOn S.holds T.remaining T.contents self.old self.new }
         ensures server { self.new.server ≡ self.old.server }
@@ -124,7 +124,7 @@ impl<S: VersionStore, T: Stream + Drop> Service<S, T> {
         self.is_pending = true;
     }
 
-    /// Offers what a directory holds to the publication point of its name, at a moment in seconds since 1970.
+    /// Offers the content of a directory to the publication point of its name, at a time in seconds since 1970.
     pub fn offer(
         &mut self,
         directory: &Directory<'_>,
@@ -152,7 +152,7 @@ impl<S: VersionStore, T: Stream + Drop> Service<S, T> {
         }
     }
 
-    /// What the sources have at a moment in seconds since 1970.
+    /// The set of the sources at a time in seconds since 1970.
     fn served(&self, now: u64) -> Result<Served, Refusal>
         ensures { IfOk result (λ served. IsServedAt now self.now.sources served.set) }
     {
@@ -165,7 +165,7 @@ impl<S: VersionStore, T: Stream + Drop> Service<S, T> {
         }
     }
 
-    /// Publishes what the sources have at a moment in seconds since 1970. Where that cannot be had it stays owed, and what is served stays.
+    /// Publishes the set of the sources at a time in seconds since 1970. If that fails, the version stays pending, and the served set stays.
     pub fn publish(&mut self, now: u64) -> Result<PublishReport, Refusal>
         ensures goes { GoesOn S.holds T.remaining T.contents self.old self.new }
         ensures issues { IfOk result (λ _. Issues S.holds T.remaining T.contents now self.old self.new) }
@@ -192,7 +192,7 @@ impl<S: VersionStore, T: Stream + Drop> Service<S, T> {
         }
     }
 
-    /// The set that is served.
+    /// The served set.
     fn set(&self) -> Option<&VrpSet> {
         match self.server.current() {
             Some((_serial, set)) => Some(set),
@@ -201,10 +201,10 @@ impl<S: VersionStore, T: Stream + Drop> Service<S, T> {
     }
 }
 
-/// What was published.
+/// The counts of a publication.
 #[derive(Clone, Copy, Debug, PartialEq, Eq)]
 pub struct PublishReport {
-    /// The version, where it is a new one.
+    /// The serial of the version, if it is new.
     pub published: Published,
     /// How many records it announces.
     pub announced: u64,
@@ -212,6 +212,6 @@ pub struct PublishReport {
     pub withdrawn: u64,
     /// How many records it has.
     pub records: u64,
-    /// How many records of length 0 are not in it, as they are left out.
+    /// How many records of length 0 are left out of it.
     pub left_out: u64,
 }

@@ -1,16 +1,16 @@
-//! What changes from one set to another.
+//! How many records change from one set to another.
 use prefixes::Vrp;
 use std::cmp::Ordering;
 use vrps::VrpSet;
 
-/// How many records come and go.
+/// How many records are announced and withdrawn.
 #[derive(Clone, Copy, Debug, PartialEq, Eq)]
 pub(crate) struct ChangeCounts {
     pub(crate) announced: u64,
     pub(crate) withdrawn: u64,
 }
 
-/// How many records come and go from one set to another. Both are walked once, side by side.
+/// How many records are announced and withdrawn from one set to another. Both are walked once, side by side.
 pub(crate) fn change_counts(before: Option<&VrpSet>, after: &VrpSet) -> ChangeCounts {
     match before {
         None => ChangeCounts {
@@ -49,7 +49,7 @@ fn differences(before: &[Vrp], after: &[Vrp]) -> ChangeCounts {
     with_rest(found, old, new)
 }
 
-/// The counts with what is left of one list when the other is walked.
+/// The counts with the rest of one list after the other has ended.
 fn with_rest(found: ChangeCounts, old: &[Vrp], new: &[Vrp]) -> ChangeCounts {
     ChangeCounts {
         announced: found.announced.saturating_add(new.len() as u64),

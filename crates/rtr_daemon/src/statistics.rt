@@ -1,4 +1,4 @@
-//! What a daemon has counted since it started.
+//! The statistics of a daemon since its start.
 use crate::service::PublishReport;
 use prefixes::{IpPrefix, Vrp};
 use rtr_pdu::Kind;
@@ -7,10 +7,10 @@ use status_pages::{ChangeStatus, PdusByType, TotalTraffic};
 use std::alloc::{AllocError, Global};
 use std::collections::VecDeque;
 
-/// How many versions are kept, the last ones.
+/// How many of the last versions are listed.
 const CHANGES: usize = 64;
 
-/// How many records of each family a set has.
+/// How many records of each address family a set has.
 #[derive(Clone, Copy, Debug, PartialEq, Eq)]
 pub(crate) struct Families {
     pub(crate) ipv4: u64,
@@ -30,7 +30,7 @@ impl Families {
     }
 }
 
-/// What went over connections in both directions.
+/// The traffic of all connections, in both directions.
 #[derive(Clone, Copy, Debug, PartialEq, Eq)]
 pub(crate) struct TrafficTotals {
     pub(crate) received: TotalTraffic,
@@ -38,7 +38,7 @@ pub(crate) struct TrafficTotals {
 }
 
 impl TrafficTotals {
-    /// Nothing.
+    /// No traffic.
     pub(crate) fn none() -> TrafficTotals {
         TrafficTotals {
             received: no_traffic(),
@@ -46,7 +46,7 @@ impl TrafficTotals {
         }
     }
 
-    /// With what went over one more connection.
+    /// With the traffic of one more connection.
     pub(crate) fn and(self, carried: ByteCounts, received: PdusByKind, sent: PdusByKind) -> TrafficTotals {
         TrafficTotals {
             received: with(self.received, carried.read, received),
@@ -55,24 +55,24 @@ impl TrafficTotals {
     }
 }
 
-/// The counts of a daemon, and its last versions.
+/// The counters of a daemon, and its last versions.
 #[derive(Debug, Drop)]
 pub(crate) struct Statistics {
     changes: VecDeque<ChangeStatus>,
     /// How many records of each family are served.
     pub(crate) families: Families,
-    /// How many clients were taken in.
+    /// How many clients were admitted.
     pub(crate) clients: u64,
-    /// What went over the connections of clients that have gone.
+    /// The traffic of closed connections.
     pub(crate) gone: TrafficTotals,
     /// How many records of length 0 are left out.
     pub(crate) left_out: u64,
-    /// How many times a file was taken.
-    pub(crate) taken: u64,
-    /// How many times a refusal of a file was reported.
+    /// How many times a file was loaded.
+    pub(crate) loaded: u64,
+    /// How many times the refusal of a file was reported.
     pub(crate) refused: u64,
-    /// How many milliseconds it took to take what came last.
-    pub(crate) took: Option<u64>,
+    /// How many milliseconds the last load took.
+    pub(crate) load_millis: Option<u64>,
 }
 
 impl Statistics {
@@ -83,37 +83,37 @@ impl Statistics {
             clients: 0,
             gone: TrafficTotals::none(),
             left_out: 0,
-            taken: 0,
+            loaded: 0,
             refused: 0,
-            took: None,
+            load_millis: None,
         })
     }
 
-    /// A client was taken in.
-    pub(crate) fn came(&mut self) {
+    /// A client was admitted.
+    pub(crate) fn count_client(&mut self) {
         self.clients = self.clients.saturating_add(1);
     }
 
-    /// So many records are left out. It answers whether that is news.
-    pub(crate) fn leave_out(&mut self, records: u64) -> bool {
+    /// This many records are left out. It answers whether the number has changed.
+    pub(crate) fn set_left_out(&mut self, records: u64) -> bool {
         let is_news = self.left_out != records;
         self.left_out = records;
         is_news
     }
 
-    /// A file was taken within so many milliseconds.
-    pub(crate) fn took(&mut self, milliseconds: u64) {
-        self.taken = self.taken.saturating_add(1);
-        self.took = Some(milliseconds);
+    /// A file was loaded within this many milliseconds.
+    pub(crate) fn count_load(&mut self, milliseconds: u64) {
+        self.loaded = self.loaded.saturating_add(1);
+        self.load_millis = Some(milliseconds);
     }
 
-    /// A refusal of a file was reported.
-    pub(crate) fn refused(&mut self) {
+    /// The refusal of a file was reported.
+    pub(crate) fn count_refusal(&mut self) {
         self.refused = self.refused.saturating_add(1);
     }
 
-    /// A version was published, of these records. Of the versions before the last ones nothing is kept.
-    pub(crate) fn published(
+    /// A version was published, with these counts. Only the last versions are kept.
+    pub(crate) fn add_version(
         &mut self,
         serial: u32,
         at: u64,
@@ -195,7 +195,7 @@ fn no_traffic() -> TotalTraffic {
     }
 }
 
-/// Traffic, with so many bytes and these PDUs more.
+/// Traffic, plus this many bytes and these PDUs.
 fn with(traffic: TotalTraffic, bytes: u64, pdus: PdusByKind) -> TotalTraffic {
     let (old, new) = (traffic.pdus, counts_of(pdus));
     TotalTraffic {

@@ -1,4 +1,4 @@
-//! What a daemon reports of itself.
+//! The status of a daemon.
 use crate::client_table::ClientEntry;
 use crate::clients::{ClientCounters, number_of};
 use crate::daemon::{Daemon, built_of};
@@ -12,8 +12,7 @@ use std::alloc::{AllocError, Global};
 use vrps::{Serial, VersionStore};
 
 impl<S: VersionStore, T: Stream + Drop> Daemon<S, T> {
-    /// What there is to report of the daemon at a moment: in seconds since 1970, and in milliseconds of the steady clock. The version is that of the
-    /// program.
+    /// The status of the daemon at a time: in seconds since 1970, and in milliseconds of the monotonic clock. The version is the program's.
     pub fn status(
         &self,
         version: &'static str,
@@ -39,13 +38,13 @@ impl<S: VersionStore, T: Stream + Drop> Daemon<S, T> {
             clients_ever: self.statistics.clients,
             received: traffic.received,
             sent: traffic.sent,
-            reloads_taken: self.statistics.taken,
+            reloads_taken: self.statistics.loaded,
             reloads_refused: self.statistics.refused,
-            reload_milliseconds: self.statistics.took,
+            reload_milliseconds: self.statistics.load_millis,
         })
     }
 
-    /// The serial of the version that is served.
+    /// The serial of the served version.
     fn serial(&self) -> Option<u32> {
         match self.service.server().current() {
             Some((serial, _set)) => Some(number_in(serial)),
@@ -53,7 +52,7 @@ impl<S: VersionStore, T: Stream + Drop> Daemon<S, T> {
         }
     }
 
-    /// What went over all connections since the start.
+    /// The traffic of all connections since the start.
     fn traffic(&self) -> TrafficTotals {
         let mut sum = self.statistics.gone;
         for entry in self.clients.iter() {
@@ -62,7 +61,7 @@ impl<S: VersionStore, T: Stream + Drop> Daemon<S, T> {
         sum
     }
 
-    /// Of all files and publication points.
+    /// The status of all files and publication points.
     fn file_statuses(&self, now: u64) -> Result<Vec<FileStatus>, AllocError> {
         let mut found = Vec::new(self.alloc);
         for file in self.files.iter() {
@@ -78,14 +77,14 @@ impl<S: VersionStore, T: Stream + Drop> Daemon<S, T> {
         Ok(FileStatus {
             path: file.path.clone()?,
             built: built_of(file, self.service.sources(), now),
-            taken: file.taken_at,
+            taken: file.loaded_at,
             refusal: refusal_text(self.alloc, file.refusals.reported())?,
             is_old: file.is_old,
             expired: file.all_expired(),
         })
     }
 
-    /// Of all clients.
+    /// The status of all clients.
     fn client_statuses(&self, now: u64, millis: u64) -> Result<Vec<ClientStatus>, AllocError> {
         let mut found = Vec::new(self.alloc);
         for entry in self.clients.iter() {
@@ -118,7 +117,7 @@ impl<S: VersionStore, T: Stream + Drop> Daemon<S, T> {
     }
 }
 
-/// A sum, with what is known of one more client.
+/// A sum, plus the counters of one more client.
 pub(crate) fn with_counters(sum: TrafficTotals, counters: &ClientCounters) -> TrafficTotals {
     match (counters.carried, counters.received, counters.sent) {
         (Some(carried), Some(received), Some(sent)) => sum.and(carried, received, sent),
@@ -130,7 +129,7 @@ fn point_status(alloc: Global, point: &WatchedPoint) -> Result<FileStatus, Alloc
     Ok(FileStatus {
         path: point.path.clone()?,
         built: None,
-        taken: point.taken_at,
+        taken: point.loaded_at,
         refusal: refusal_text(alloc, point.refusals.reported())?,
         is_old: false,
         expired: point.expired,
