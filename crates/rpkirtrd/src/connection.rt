@@ -1,4 +1,4 @@
-//! A connection of a socket.
+//! An accepted TCP connection of a router.
 ghost use Rattle.libc.specs.Net.{SockOption};
 
 use libc::net::{
@@ -11,10 +11,10 @@ use std::fmt::{self, Debug};
 use std::io::{ErrorKind, Read, Write};
 use std::os::fd::AsRawFd;
 
-/// How many bytes the system keeps for a peer that does not read, before it would wait.
+/// The size of the send buffer that is asked of the system, in bytes.
 const SEND_ROOM: i32 = 262_144;
 
-/// A connection, whose calls do not wait.
+/// A connection, which is non-blocking.
 #[derive(Drop)]
 pub struct Connection {
     stream: TcpStream,
@@ -28,8 +28,8 @@ impl Debug for Connection {
 }
 
 impl Connection {
-    /// The line of a socket that was accepted: small writes go out at once, what the system keeps of unread bytes is bounded, and a peer that
-    /// has vanished is noticed. `None` if the socket cannot be prepared.
+    /// The connection of an accepted socket: without Nagle's algorithm, with a bounded send buffer, and with TCP keepalive. `None` if the socket
+    /// cannot be set up.
     pub fn of(stream: TcpStream) -> Option<Connection> {
         if stream.set_nodelay(true).is_err() || !is_bounded(&stream) || !is_kept_alive(&stream) {
             return None;
@@ -43,13 +43,13 @@ impl Connection {
     }
 }
 
-/// Bounds what the system keeps of bytes that the other end has not taken, and answers whether it did.
+/// Bounds the send buffer of a socket, and answers whether that succeeded.
 pub fn is_bounded(stream: &TcpStream) -> bool {
     takes_option(stream, SOL_SOCKET, SO_SNDBUF, SEND_ROOM)
 }
 
-/// Has the system ask a peer that is silent for a minute every 20 seconds whether it is still there, six times at most, and answers whether it
-/// does: so a host that has vanished is noticed within three minutes.
+/// Sets TCP keepalive, and answers whether that succeeded: six probes, 20 seconds apart, after a minute of silence. So a host that has vanished
+/// is noticed within three minutes.
 fn is_kept_alive(stream: &TcpStream) -> bool {
     takes_option(stream, SOL_SOCKET, SO_KEEPALIVE, 1)
         && takes_option(stream, IPPROTO_TCP, TCP_KEEPIDLE, 60)
@@ -57,7 +57,7 @@ fn is_kept_alive(stream: &TcpStream) -> bool {
         && takes_option(stream, IPPROTO_TCP, TCP_KEEPCNT, 6)
 }
 
-/// Sets an option of a socket, and answers whether the system took it.
+/// Sets an option of a socket, and answers whether that succeeded.
 fn takes_option(stream: &TcpStream, level: i32, name: i32, value: i32) -> bool
     requires { SockOption level name }
 {

@@ -1,9 +1,9 @@
-//! The daemon: it reads its words, opens its sockets, and serves turn by turn.
+//! The daemon: it reads its command line, opens its sockets, and serves turn by turn.
 #![tactic(auto)]
 
 mod connection;
-mod names;
 mod running;
+mod session_choice;
 mod status_endpoint;
 mod system;
 mod version_cache;
@@ -13,10 +13,10 @@ use std::io::Write;
 use std::process::ExitCode;
 use std::{env, fs, io};
 
-/// What stands for a standard stream that is closed at the start, so that no socket gets its number.
+/// What is opened in the place of a standard stream that is closed at the start, so that no socket gets its descriptor.
 const NULL: &str = "/dev/null";
 
-/// Reads the words, runs them with the standard streams, and exits with the status.
+/// Reads the command line, runs it with the standard streams, and exits with the status.
 fn main(rt: HostRuntime) -> ExitCode {
     let _first = fs::open(&rt, NULL);
     let _second = fs::open(&rt, NULL);
@@ -31,7 +31,7 @@ fn main(rt: HostRuntime) -> ExitCode {
     ExitCode::from(status)
 }
 
-/// Reports that a word is no text, with the status.
+/// Reports that a word is not UTF-8, and answers the exit status.
 fn refuse_words<E: Write>(err: &mut E) -> u8 {
     let _ = writeln!(err, "rpkirtrd: a word is not UTF-8\nTry rpkirtrd --help.");
     2

@@ -1,6 +1,6 @@
 //! Running the daemon.
 use crate::connection::Connection;
-use crate::names::{Named, names_of};
+use crate::session_choice::{SessionChoice, choose_session};
 use crate::status_endpoint::StatusEndpoint;
 use crate::system::{SocketFault, System};
 use daemon_parts::{LogEvent, SessionIds};
@@ -18,23 +18,23 @@ use std::rt::Files;
 use std::time::Clock;
 use vrps::VersionLog;
 
-/// How many descriptors the daemon keeps for itself.
+/// How many descriptors the daemon reserves for itself.
 const OWN_DESCRIPTORS: usize = 16;
 
-/// The first second of the year 2020. A clock that is before it was not set yet.
+/// The first second of the year 2020. A clock before it was not set yet.
 const YEAR_2020: u64 = 1_577_836_800;
 
-/// How many seconds lie between two notifies at least (RFC 8210 section 8.2).
+/// The least number of seconds between two notifies (RFC 8210 section 8.2).
 const NOTIFY_SECONDS: u32 = 60;
 
-/// Reports that memory ran out, with the status.
+/// Reports that memory ran out, and answers the exit status.
 pub fn out_of_memory<E: Write>(err: &mut E) -> u8 {
     let _ = writeln!(err, "rpkirtrd: out of memory");
     4
 }
 
-/// Does what the words ask for, and answers the status: 0 done, 1 refused input, 2 the words do not parse, 3 a file, a socket or an output
-/// failed, 4 out of memory.
+/// Runs a command line, and answers the exit status: 0 done, 1 refused input, 2 the words do not parse, 3 a file, a socket or an output failed, 4
+/// out of memory.
 pub fn run_words<
     R: Files + Net + Clock + RandomSource + AllocGlobal + Clone + Drop,
     O: Write,
@@ -52,7 +52,7 @@ pub fn run_words<
     }
 }
 
-/// Prints a text, with a newline at its end, with the status.
+/// Prints a text with a newline at its end, and answers the exit status.
 fn print<O: Write>(text: &str, out: &mut O) -> u8 {
     let newline = if text.ends_with('\n') { "" } else { "\n" };
     if write!(out, "{text}{newline}").is_err() {
@@ -61,7 +61,7 @@ fn print<O: Write>(text: &str, out: &mut O) -> u8 {
     0
 }
 
-/// Reads the files as at a start, and answers the status that a start with them would have. No socket is opened.
+/// Reads the files as at a start, and answers the exit status that the start would have. No socket is opened.
 fn judge<R: Files + Net + Clock + RandomSource + AllocGlobal + Clone + Drop, E: Write>(
     rt: &R,
     settings: Settings,
@@ -108,8 +108,8 @@ fn begin<R: Files + Net + Clock + RandomSource + AllocGlobal + Clone + Drop, E: 
     }
 }
 
-/// Waits until the clock is in the year 2020 or later, and reports once that it does. What is made of the start, serials among it, would else be
-/// earlier than that of the run before.
+/// Waits until the clock is in the year 2020 or later, and reports that once. Otherwise serials and sessions from the time of the start would be
+/// earlier than those of the run before.
 fn wait_for_clock<W: Time + EventLog + Sockets<Connection>>(env: &mut W) -> io::Result<()> {
     let mut is_logged = false;
     for _second in 0..u64::MAX {
@@ -127,7 +127,7 @@ fn wait_for_clock<W: Time + EventLog + Sockets<Connection>>(env: &mut W) -> io::
     Ok(())
 }
 
-/// The desk of the pages on the daemon's state, where they are wanted at an address.
+/// The status endpoint, if an address is given for it.
 fn endpoint_of<R: Files + Net + Clock + RandomSource + AllocGlobal + Clone + Drop, E: Write>(
     rt: &R,
     address: Option<SocketAddr>,
@@ -139,7 +139,7 @@ fn endpoint_of<R: Files + Net + Clock + RandomSource + AllocGlobal + Clone + Dro
     }
 }
 
-/// The desk at an address.
+/// The status endpoint at an address.
 fn endpoint_at<R: Files + Net + Clock + RandomSource + AllocGlobal + Clone + Drop, E: Write>(
     rt: &R,
     address: SocketAddr,
@@ -155,7 +155,7 @@ fn endpoint_at<R: Files + Net + Clock + RandomSource + AllocGlobal + Clone + Dro
     }
 }
 
-/// Reports which socket cannot be had, with the status.
+/// Reports which socket cannot be opened, and answers the exit status.
 pub fn refuse_sockets<E: Write>(fault: &SocketFault, err: &mut E) -> u8 {
     let status = if fault.error.kind() == ErrorKind::OutOfMemory {
         4
@@ -169,7 +169,7 @@ pub fn refuse_sockets<E: Write>(fault: &SocketFault, err: &mut E) -> u8 {
     status
 }
 
-/// The daemon of these words, with its files read.
+/// The daemon of these settings, with its files loaded.
 fn open<R: Files + Net + Clock + RandomSource + AllocGlobal + Clone + Drop, E: Write>(
     rt: &R,
     settings: Settings,
@@ -177,16 +177,16 @@ fn open<R: Files + Net + Clock + RandomSource + AllocGlobal + Clone + Drop, E: W
 ) -> Result<Daemon<VersionLog, Connection>, StartFault> {
     let alloc = rt.alloc();
     let start = system.seconds();
-    let Named { names, is_random } = match names_of(rt, &settings, start) {
-        Ok(named) => named,
-        Err(error) => return Err(name_fault(alloc, error)),
+    let SessionChoice { ids, is_random } = match choose_session(rt, &settings, start) {
+        Ok(choice) => choice,
+        Err(error) => return Err(session_fault(alloc, error)),
     };
     let most = client_limit(&settings, start, system);
     let plan = plan_of(&settings, most);
-    let Ok(server) = server_of(alloc, &settings, names, most) else {
+    let Ok(server) = server_of(alloc, &settings, ids, most) else {
         return Err(StartFault::memory());
     };
-    log_start(names, start, system);
+    log_start(ids, start, system);
     warn(&settings, is_random, start, system);
     let Settings {
         vrps,
@@ -199,11 +199,11 @@ fn open<R: Files + Net + Clock + RandomSource + AllocGlobal + Clone + Drop, E: W
         slurm,
         points,
     };
-    Daemon::open(alloc, plan, names, server, paths, system)
+    Daemon::open(alloc, plan, ids, server, paths, system)
 }
 
-/// Why the names cannot be had: memory, or the system's random source.
-fn name_fault(alloc: Global, error: io::Error) -> StartFault {
+/// Why there is no session: memory ran out, or the system's random source failed.
+fn session_fault(alloc: Global, error: io::Error) -> StartFault {
     if error.kind() == ErrorKind::OutOfMemory {
         return StartFault::memory();
     }
@@ -227,15 +227,15 @@ fn warn<J: EventLog>(settings: &Settings, is_random: bool, now: u64, events: &mu
     }
 }
 
-/// A server of a new cache.
+/// A server over a new cache.
 fn server_of(
     alloc: Global,
     settings: &Settings,
-    names: SessionIds,
+    ids: SessionIds,
     most: usize,
 ) -> Result<Server<VersionLog, Connection>, AllocError> {
-    let store = VersionLog::new(alloc, names.session, names.serial, settings.keep)?;
-    let cache = Cache::new_both(alloc, store, names.session0, settings.timing);
+    let store = VersionLog::new(alloc, ids.session, ids.serial, settings.keep)?;
+    let cache = Cache::new_both(alloc, store, ids.session0, settings.timing);
     Ok(Server::new(alloc, cache, most))
 }
 
@@ -253,7 +253,7 @@ fn plan_of(settings: &Settings, most: usize) -> Plan {
     }
 }
 
-/// How many clients there may be: as many as are asked for, and as the system gives descriptors.
+/// How many clients there may be: as many as the settings allow, and as the limit of descriptors allows.
 fn client_limit<J: EventLog>(settings: &Settings, now: u64, events: &mut J) -> usize {
     let http_connections = if settings.status.is_some() {
         MAX_CONNECTIONS
@@ -276,7 +276,7 @@ fn client_limit<J: EventLog>(settings: &Settings, now: u64, events: &mut J) -> u
     asked.min(most)
 }
 
-/// How many descriptors the system gives this process.
+/// The limit of descriptors of this process.
 fn descriptors() -> usize {
     let mut limit = libc::types::rlimit {
         rlim_cur: 1024,
@@ -288,11 +288,11 @@ fn descriptors() -> usize {
     usize::try_from(limit.rlim_cur).unwrap_or(usize::MAX)
 }
 
-fn log_start<J: EventLog>(names: SessionIds, now: u64, events: &mut J) {
-    events.log(now, &LogEvent::Started(names));
+fn log_start<J: EventLog>(ids: SessionIds, now: u64, events: &mut J) {
+    events.log(now, &LogEvent::Started(ids));
 }
 
-/// Reports why there is no start, with the status.
+/// Reports why the daemon does not start, and answers the exit status.
 fn refuse_start<R: Files + Net + Clock + AllocGlobal, E: Write>(
     fault: &StartFault,
     system: &mut System<'_, R, E>,
@@ -301,7 +301,7 @@ fn refuse_start<R: Files + Net + Clock + AllocGlobal, E: Write>(
     fault.refusal.status()
 }
 
-/// Serves until there is an end.
+/// Serves until the daemon stops.
 fn go_on<R: Files + Net + Clock + RandomSource + AllocGlobal + Clone + Drop, E: Write>(
     daemon: Daemon<VersionLog, Connection>,
     endpoint: Option<StatusEndpoint>,
@@ -323,7 +323,7 @@ fn go_on<R: Files + Net + Clock + RandomSource + AllocGlobal + Clone + Drop, E: 
     0
 }
 
-/// Reports why the daemon ends, with the status.
+/// Reports why the daemon stops, and answers the exit status.
 fn stop<W: Time + EventLog>(end: StopReason, env: &mut W) -> u8 {
     let reason = reason_of(end);
     let now = env.seconds();
@@ -342,7 +342,7 @@ fn reason_of(end: StopReason) -> &'static str {
     }
 }
 
-/// Reports that waiting failed, with the status.
+/// Reports that a wait failed, and answers the exit status.
 fn fail<W: Time + EventLog>(error: &io::Error, env: &mut W) -> u8 {
     let now = env.seconds();
     env.log(

@@ -1,4 +1,4 @@
-//! Visitors of the pages on the daemon's state.
+//! The HTTP endpoint of the status pages.
 use crate::connection::{Connection, is_bounded};
 use crate::system::{HttpReady, System};
 use crate::version_cache::VersionCache;
@@ -20,32 +20,32 @@ use std::rt::Files;
 use std::time::Clock;
 use vrps::VersionLog;
 
-/// How many calls of its stream a visitor has in one turn.
+/// How many calls of its stream an HTTP connection has in one turn.
 const BUDGET: u32 = 8;
 
-/// How many things that are ready are looked at in one turn.
+/// How many readiness events are read in one turn.
 const READY: usize = 65_536;
 
-/// How many connections are taken in one turn.
+/// How many connections are accepted in one turn.
 const AT_ONCE: usize = 64;
 
-/// How long the daemon waits at most while visitors are there, in milliseconds.
+/// The longest wait of the daemon while HTTP connections are open, in milliseconds.
 const SOON: u64 = 1000;
 
-/// Where visitors are received, and those that are there.
+/// The HTTP listener, its connections, and the queue of those to serve.
 #[derive(Drop)]
 pub struct StatusEndpoint {
     alloc: Global,
     listener: TcpListener,
     connections: HttpConnections<TcpStream>,
-    /// The lines of visitors that are to be served.
+    /// The poll tokens of the connections to serve.
     queue: VecDeque<usize>,
-    /// Whether a connection may wait.
+    /// Whether a connection may be pending.
     pending: bool,
     version_cache: VersionCache,
 }
 
-/// How many visitors are there, and how many of them are to be served.
+/// How many connections there are, and how many are queued.
 impl Debug for StatusEndpoint {
     fn fmt<W: fmt::Write>(&self, f: &mut fmt::Formatter<W>) -> fmt::Result {
         write!(
@@ -57,7 +57,7 @@ impl Debug for StatusEndpoint {
     }
 }
 
-/// What is asked of the daemon at a moment.
+/// A view of the daemon at one time.
 #[derive(Drop)]
 struct Snapshot<'a> {
     daemon: &'a Daemon<VersionLog, Connection>,
@@ -86,7 +86,7 @@ impl StatusSource for Snapshot<'_> {
 }
 
 impl StatusEndpoint {
-    /// A desk at which visitors are awaited at an address.
+    /// An endpoint that listens at an address.
     pub fn open<R: Files + std::net::Net + Clock + AllocGlobal, E: Write>(
         system: &mut System<'_, R, E>,
         keys: RandomState,
@@ -103,7 +103,7 @@ impl StatusEndpoint {
         })
     }
 
-    /// Takes in those that come, serves those that are ready, and lets those go whose time is over.
+    /// One turn: it accepts connections, serves those that are ready, and closes those that have timed out.
     pub fn turn<R: Files + Clock + AllocGlobal, E: Write>(
         &mut self,
         daemon: &Daemon<VersionLog, Connection>,
@@ -118,7 +118,7 @@ impl StatusEndpoint {
         system.wait_at_most(self.wait_limit());
     }
 
-    /// How long the next turn may wait for the routers' sake.
+    /// How long the next turn of the daemon may wait.
     fn wait_limit(&self) -> u64 {
         if !self.queue.is_empty() {
             0
@@ -129,7 +129,7 @@ impl StatusEndpoint {
         }
     }
 
-    /// Notes what is ready.
+    /// Reads what is ready.
     fn note_ready<R, E>(&mut self, system: &mut System<'_, R, E>) {
         for _ready in 0..READY {
             match system.next_http_ready() {
@@ -146,7 +146,7 @@ impl StatusEndpoint {
         }
     }
 
-    /// Takes connections, as long as some wait. Where one cannot be taken it is tried again within a second.
+    /// Accepts pending connections. If one cannot be accepted, it is tried again within a second.
     fn accept<R: Clock + AllocGlobal, E: Write>(&mut self, system: &mut System<'_, R, E>) {
         for _connection in 0..AT_ONCE {
             if !self.pending {
@@ -160,7 +160,7 @@ impl StatusEndpoint {
         }
     }
 
-    /// Takes in a visitor; where it cannot be had its connection is closed.
+    /// Admits a connection. If that fails, the connection is closed.
     fn admit<R: Clock + AllocGlobal, E: Write>(
         &mut self,
         stream: TcpStream,
@@ -181,7 +181,7 @@ impl StatusEndpoint {
         }
     }
 
-    /// Serves each visitor that is to be served, once, with what the daemon is now.
+    /// Serves each queued connection once, with the current state of the daemon.
     fn serve(&mut self, daemon: &Daemon<VersionLog, Connection>, now: u64, millis: u64) {
         let version_cache = mem::replace(&mut self.version_cache, VersionCache::new(self.alloc));
         let mut snapshot = Snapshot {

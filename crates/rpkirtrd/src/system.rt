@@ -1,4 +1,4 @@
-//! What the daemon sees of the system: sockets over `mio`, files, clocks, and standard error.
+//! The system: sockets over `mio`, files, clocks, and standard error.
 use crate::connection::Connection;
 use crate::running::refuse_sockets;
 use daemon_parts::{LogEvent, LogFormat, write_event};
@@ -16,30 +16,30 @@ use std::os::unix::fs::MetadataExt;
 use std::rt::Files;
 use std::time::{Clock, Duration, Instant, SystemTime, UNIX_EPOCH};
 
-/// How many events one wait gives at most.
+/// The largest number of events of one wait.
 const EVENTS: usize = 1024;
 
-/// How many bytes of a line of the log find room without more memory.
+/// The initial capacity of the buffer for a log line, in bytes.
 const LINE_ROOM: usize = 4096;
 
-/// The number of the first line; gates have those below.
+/// The poll token of the first router connection. Listeners have the tokens below.
 const FIRST_CONNECTION: usize = 65_536;
 
-/// The number of the gate of visitors, the last one below the lines.
+/// The poll token of the status listener, the last one below the connections.
 const STATUS_TOKEN: usize = 65_535;
 
-/// The number of the first visitor, behind all lines.
+/// The poll token of the first HTTP connection, above all router connections.
 const FIRST_HTTP_CONNECTION: usize = 4_611_686_018_427_387_904;
 
-/// The errors of `accept` that say that the system, or this process, has no descriptor or no memory left: ENOMEM, ENFILE, EMFILE, ENOBUFS.
+/// The errors of `accept` by which this process or the system has no descriptor or no memory left: ENOMEM, ENFILE, EMFILE, ENOBUFS.
 const SHORTAGES: [i32; 4] = [12, 23, 24, 105];
 
-/// What may be ready for the pages on the daemon's state.
+/// What is ready at the status endpoint.
 #[derive(Clone, Copy, Debug, PartialEq, Eq)]
 pub enum HttpReady {
-    /// A visitor may wait.
+    /// A connection may be pending at its listener.
     Listener,
-    /// From the visitor of this number bytes may have come, or there may be room again.
+    /// The HTTP connection of this poll token may be readable or writable.
     Connection(usize),
 }
 
@@ -57,7 +57,7 @@ pub struct System<'a, R, E> {
     listeners: Vec<TcpListener>,
     next_token: usize,
     next_http_token: usize,
-    /// How long the next wait may be for the visitors' sake, in milliseconds.
+    /// The longest next wait that the status endpoint allows, in milliseconds.
     wait_limit: u64,
     began: Instant,
     seconds: u64,
@@ -65,7 +65,7 @@ pub struct System<'a, R, E> {
     text: Vec<u8>,
 }
 
-/// How many addresses it listens at, and how much is ready.
+/// How many listeners there are, and how much is ready.
 impl<R, E> Debug for System<'_, R, E> {
     fn fmt<W: fmt::Write>(&self, f: &mut fmt::Formatter<W>) -> fmt::Result {
         write!(
@@ -77,12 +77,12 @@ impl<R, E> Debug for System<'_, R, E> {
     }
 }
 
-/// Why the sockets cannot be had: an address, if it was one, and what of it.
+/// Why a socket cannot be opened: its address, if there is one, and the error.
 #[derive(Debug, Drop)]
 pub struct SocketFault {
     /// The address.
     pub address: Option<SocketAddr>,
-    /// What of it.
+    /// The error.
     pub error: io::Error,
 }
 
@@ -96,7 +96,7 @@ impl From<io::Error> for SocketFault {
 }
 
 impl<'a, R: Files + Net + Clock + AllocGlobal, E: Write> System<'a, R, E> {
-    /// The system, with a gate at each of these addresses. No file is read that has more bytes than `max_size`.
+    /// The system, with a listener at each of these addresses. Files of more than `max_size` bytes are refused.
     pub fn open(
         rt: &'a R,
         err: &'a mut E,
@@ -134,12 +134,12 @@ impl<'a, R: Files + Net + Clock + AllocGlobal, E: Write> System<'a, R, E> {
         Ok(system)
     }
 
-    /// Reports on standard error which socket cannot be had, with the status.
+    /// Reports on standard error which socket cannot be opened, and answers the exit status.
     pub fn refuse_sockets(&mut self, fault: &SocketFault) -> u8 {
         refuse_sockets(fault, self.err)
     }
 
-    /// Reports on standard error why the daemon does not start. A path is in quotes if a character of it would break the line.
+    /// Reports on standard error why the daemon does not start. A path with a control character is in quotes.
     pub fn refuse(&mut self, fault: &StartFault) {
         if self.form == LogFormat::Json {
             return self.log_refusal(fault);
@@ -153,7 +153,7 @@ impl<'a, R: Files + Net + Clock + AllocGlobal, E: Write> System<'a, R, E> {
         };
     }
 
-    /// The same as a line of the log.
+    /// The same as a log line.
     fn log_refusal(&mut self, fault: &StartFault) {
         let now = self.seconds();
         let Ok(reason) = fault.refusal.to_string(self.rt.alloc()) else {
@@ -166,7 +166,7 @@ impl<'a, R: Files + Net + Clock + AllocGlobal, E: Write> System<'a, R, E> {
         }
     }
 
-    /// Opens a gate, and reports where it is.
+    /// Opens a listener for routers, and reports its address.
     fn listen(&mut self, address: SocketAddr) -> io::Result<()> {
         let (listener, address) = self.bind(address, Token(self.listeners.len()))?;
         self.listeners.push(listener)?;
@@ -175,7 +175,7 @@ impl<'a, R: Files + Net + Clock + AllocGlobal, E: Write> System<'a, R, E> {
         Ok(())
     }
 
-    /// Opens the gate of visitors, and reports where it is.
+    /// Opens the listener of the status endpoint, and reports its address.
     pub fn listen_for_http(&mut self, address: SocketAddr) -> io::Result<TcpListener> {
         let (listener, address) = self.bind(address, Token(STATUS_TOKEN))?;
         let now = self.seconds();
@@ -183,7 +183,7 @@ impl<'a, R: Files + Net + Clock + AllocGlobal, E: Write> System<'a, R, E> {
         Ok(listener)
     }
 
-    /// A socket at an address, which is reported under a number when connections come, and its own address.
+    /// A listener at an address, registered under a poll token, and its local address.
     fn bind(&self, address: SocketAddr, token: Token) -> io::Result<(TcpListener, SocketAddr)> {
         let mut listener = TcpListener::bind(self.rt, address)?;
         self.poll
@@ -202,7 +202,7 @@ impl<'a, R: AllocGlobal, E> System<'a, R, E> {
 }
 
 impl<'a, R: Clock + AllocGlobal, E: Write> Time for System<'a, R, E> {
-    /// Where the clock cannot be read, what it said last.
+    /// The last time that was read, if the clock cannot be read.
     fn seconds(&mut self) -> u64 {
         if let Ok(now) = SystemTime::now(self.rt) {
             self.seconds = now.duration_since(UNIX_EPOCH).unwrap_or_default().as_secs();
@@ -239,7 +239,7 @@ impl<'a, R: Files + AllocGlobal + Clone + Drop, E: Write> Disk for System<'a, R,
         })
     }
 
-    /// What is no regular file is not opened, as to open a pipe may wait.
+    /// Only a regular file is opened, as to open a pipe may block.
     fn read(&mut self, path: &str) -> io::Result<Vec<u8>> {
         judge_file(&fs::metadata(self.rt, path)?, self.max_size)?;
         let opened = fs::open(self.rt, path)?;
@@ -298,17 +298,17 @@ impl<'a, R: AllocGlobal, E: Write> Sockets<Connection> for System<'a, R, E> {
 }
 
 impl<'a, R, E> System<'a, R, E> {
-    /// The next of what is ready for the pages.
+    /// The next of what is ready at the status endpoint.
     pub fn next_http_ready(&mut self) -> Option<HttpReady> {
         self.http_ready.pop_front()
     }
 
-    /// Bounds the next waits, in milliseconds.
+    /// Limits the next waits to this many milliseconds.
     pub fn wait_at_most(&mut self, millis: u64) {
         self.wait_limit = millis;
     }
 
-    /// Has a visitor's connection reported when it is ready, and answers its token; None where that cannot be had.
+    /// Registers an HTTP connection, and answers its poll token. `None` if that fails.
     pub fn register_http(&mut self, stream: &mut TcpStream) -> Option<usize> {
         let token = self.next_http_token;
         self.next_http_token = token.saturating_add(1);
@@ -321,7 +321,7 @@ impl<'a, R, E> System<'a, R, E> {
         }
     }
 
-    /// Has a connection reported when it is ready.
+    /// Registers the connection of a router.
     fn register_connection(
         &mut self,
         stream: TcpStream,
@@ -348,7 +348,7 @@ impl<'a, R, E> System<'a, R, E> {
     }
 }
 
-/// Whether it is the connection that failed, and not what takes it: so accept(2) has it of errors of the network.
+/// Whether an error of accept(2) is one of the connection alone, as the errors of the network are.
 fn is_of_one(kind: ErrorKind) -> bool {
     matches!(
         kind,
@@ -369,7 +369,7 @@ fn is_shortage(error: &io::Error) -> bool {
     }
 }
 
-/// Refuses what is no regular file, or has more bytes than a file may have.
+/// Refuses a file that is not regular, or is larger than the limit.
 fn judge_file(found: &Metadata, max_size: u64) -> io::Result<()> {
     if !found.is_file() {
         return Err(io::Error::new(ErrorKind::InvalidInput, "it is no regular file"));
@@ -377,7 +377,7 @@ fn judge_file(found: &Metadata, max_size: u64) -> io::Result<()> {
     judge_size(found.len(), max_size)
 }
 
-/// Refuses more bytes than a file may have.
+/// Refuses a file that is larger than the limit.
 fn judge_size(size: u64, max_size: u64) -> io::Result<()> {
     if size > max_size {
         return Err(io::Error::new(

@@ -1,4 +1,4 @@
-//! What is made of a version at the first request for it, and shared by all that follow.
+//! What is made of a version at the first request for it, and shared by later requests.
 use bytes::Bytes;
 use payload_lists::write_list;
 use prefixes::Route;
@@ -7,20 +7,20 @@ use std::alloc::{AllocError, Global};
 use std::fmt::{self, Debug};
 use vrps::{OriginIndex, Serial, VrpSet};
 
-/// A version: its serial, and its set.
+/// The current version, if there is one: its serial, and its set.
 type CurrentVersion<'a> = Option<(Serial, &'a VrpSet)>;
 
-/// The payload list of a version, and the index of its routes, each as soon as it was asked for.
+/// The payload list and the route index of a version, each made at the first request.
 #[derive(Drop)]
 pub struct VersionCache {
     alloc: Global,
-    /// The serial of which it has something.
+    /// The serial of the version.
     serial: Option<u32>,
     list: Option<Bytes>,
     index: Option<OriginIndex>,
 }
 
-/// The serial of which it has something.
+/// The serial of the version.
 impl Debug for VersionCache {
     fn fmt<W: fmt::Write>(&self, f: &mut fmt::Formatter<W>) -> fmt::Result {
         write!(f, "VersionCache({:?})", self.serial)
@@ -28,7 +28,7 @@ impl Debug for VersionCache {
 }
 
 impl VersionCache {
-    /// Nothing was asked for yet.
+    /// An empty cache.
     pub fn new(alloc: Global) -> VersionCache {
         VersionCache {
             alloc,
@@ -38,7 +38,7 @@ impl VersionCache {
         }
     }
 
-    /// Drops what is of an older version.
+    /// Drops what was made of an older version.
     pub fn drop_old(&mut self, version: CurrentVersion<'_>) {
         let serial = match version {
             Some((Serial(serial), _set)) => Some(serial),
@@ -65,7 +65,7 @@ impl VersionCache {
         Ok(Some(list))
     }
 
-    /// What the version says of a route, if there is a version.
+    /// The validity of a route under the version, if there is one.
     pub fn validity(
         &mut self,
         version: CurrentVersion<'_>,

@@ -75,7 +75,7 @@ pub enum StopReason {
 pub struct Daemon<S, T> {
     pub(crate) alloc: Global,
     pub(crate) plan: Plan,
-    pub(crate) names: SessionIds,
+    pub(crate) session_ids: SessionIds,
     pub(crate) service: Service<S, T>,
     pub(crate) clients: ClientTable,
     pub(crate) listeners: Listeners,
@@ -109,7 +109,7 @@ impl<S: VersionStore + Drop, T: Stream + Drop> Daemon<S, T> {
     pub fn open<W: Disk + Time + EventLog>(
         alloc: Global,
         plan: Plan,
-        names: SessionIds,
+        session_ids: SessionIds,
         server: Server<S, T>,
         sources: Paths,
         env: &mut W,
@@ -134,7 +134,7 @@ impl<S: VersionStore + Drop, T: Stream + Drop> Daemon<S, T> {
         let mut daemon = Daemon {
             alloc,
             plan,
-            names,
+            session_ids,
             service,
             clients: ClientTable::new(alloc),
             listeners,
@@ -281,7 +281,7 @@ impl<S: VersionStore + Drop, T: Stream + Drop> Daemon<S, T> {
         env.log(
             now,
             &LogEvent::Published(Publication {
-                session: self.names.session,
+                session: self.session_ids.session,
                 serial: serial.0,
                 announced: report.announced,
                 withdrawn: report.withdrawn,

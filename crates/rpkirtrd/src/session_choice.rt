@@ -1,4 +1,4 @@
-//! The names of the versions that are served.
+//! The sessions and the first serial of a run.
 use daemon_parts::{SessionIds, first_serial, is_machine_id, session_of, session0_of};
 use daemon_words::Settings;
 use std::alloc::{AllocError, Global};
@@ -8,33 +8,33 @@ use std::net::SocketAddr;
 use std::random::RandomSource;
 use std::rt::Files;
 
-/// What names the machine.
+/// The file of the machine id.
 const MACHINE_ID: &str = "/etc/machine-id";
 
-/// What names the host.
+/// The file of the host name.
 const HOST_NAME: &str = "/proc/sys/kernel/hostname";
 
-/// The names of the versions, and whether the session was drawn at random.
+/// The sessions and the first serial, and whether the session is random.
 #[derive(Clone, Copy, Debug)]
-pub struct Named {
-    pub names: SessionIds,
+pub struct SessionChoice {
+    pub ids: SessionIds,
     pub is_random: bool,
 }
 
-/// The session in version 1 of the protocol, and whether it was drawn at random.
+/// The session in protocol version 1, and whether it is random.
 #[derive(Clone, Copy, Debug)]
 struct Session {
     number: u16,
     is_random: bool,
 }
 
-/// The names that the words ask for, or else those that are made of the machine, the host, the addresses, the sources, and the clock. The
-/// session is random if nothing names the machine.
-pub fn names_of<R: Files + RandomSource + AllocGlobal>(
+/// The sessions and the serial that the settings give. Otherwise they are made of the machine, the host, the addresses, the sources, and the
+/// clock. The session is random if there is no machine id.
+pub fn choose_session<R: Files + RandomSource + AllocGlobal>(
     rt: &R,
     settings: &Settings,
     start: u64,
-) -> io::Result<Named> {
+) -> io::Result<SessionChoice> {
     let session = match settings.session {
         Some(number) => Session {
             number,
@@ -42,8 +42,8 @@ pub fn names_of<R: Files + RandomSource + AllocGlobal>(
         },
         None => own_session(rt, settings)?,
     };
-    Ok(Named {
-        names: SessionIds {
+    Ok(SessionChoice {
+        ids: SessionIds {
             session: session.number,
             session0: settings.session0.unwrap_or(session0_of(start)),
             serial: settings.start.unwrap_or(first_serial(start)),
@@ -76,7 +76,7 @@ fn own_session<R: Files + RandomSource + AllocGlobal>(
     })
 }
 
-/// A session of the system's random source.
+/// A session from the system's random source.
 fn random_session<R: RandomSource>(rt: &R) -> io::Result<Session> {
     let mut bytes = [0u8; 2];
     rt.fill_bytes(&mut bytes)?;
@@ -86,7 +86,7 @@ fn random_session<R: RandomSource>(rt: &R) -> io::Result<Session> {
     })
 }
 
-/// What a file of the system holds, or nothing if it cannot be read.
+/// The content of a system file, or nothing if it cannot be read.
 fn content_of<R: Files + AllocGlobal>(rt: &R, path: &str) -> io::Result<Vec<u8>> {
     match fs::read(rt, path) {
         Ok(bytes) => Ok(bytes),
@@ -95,7 +95,7 @@ fn content_of<R: Files + AllocGlobal>(rt: &R, path: &str) -> io::Result<Vec<u8>>
     }
 }
 
-/// Addresses, a line each.
+/// Addresses, one per line.
 fn addresses_text(alloc: Global, addresses: &[SocketAddr]) -> Result<String, AllocError> {
     let mut text = String::new(alloc);
     for address in addresses {
@@ -108,7 +108,7 @@ fn add_address(text: &mut String, address: &SocketAddr) -> Result<(), AllocError
     write!(text, "{address}\n")
 }
 
-/// The words of all sources: each option with its path, a line each.
+/// The options of all sources, each with its path, one per line.
 fn sources_text(alloc: Global, settings: &Settings) -> Result<String, AllocError> {
     let mut text = String::new(alloc);
     add_paths(&mut text, "--vrps", settings.vrps.as_slice())?;
