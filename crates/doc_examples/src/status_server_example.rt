@@ -4,7 +4,7 @@ use std::io;
 use std::io::{ErrorKind, Read, Write};
 use std::test::Fail;
 
-/// A stream on which nothing comes.
+/// A stream that never has a byte.
 #[derive(Drop)]
 struct Silent;
 

@@ -1,4 +1,4 @@
--- Connections as entries show them.
+-- The connections of a list of entries.
 use Rattle.std.proofs.Common.{◌≡◌, ℕ, ◌+◌, suc, Bool, true, false, not, nat_lt, ◌||◌, cond, List, [], ◌∷◌, length, Some, None, arith, map, filter, get_or, refl, ap, sym, ◌∙◌}
 use Rattle.std.proofs.lemmas.List.{map-set, set-get_or}
 use Rattle.std.proofs.Math.ListN.{set}
@@ -21,7 +21,7 @@ module _ {A B : Type 0} (f : A → B) (q : B → Bool) where
   any-map [] = refl
   any-map (x ∷ xs) = ap (λ b. q (f x) || b) (any-map xs)
 
--- There is a first one exactly where there is one.
+-- There is a first entry if and only if there is one.
 module _ {A : Type 0} (q : A → Bool) where
   below : (n : ℕ) → nat_lt 0 (suc n) ≡ true
   below n = grind (arith, nat_tests)
@@ -44,7 +44,7 @@ module _ {A : Type 0} (q : A → Bool) where
   pub is_some-position : (xs : List A) → is_some (position q xs) ≡ list_any q xs
   is_some-position xs = found (nat_lt (position_or_len q xs) (length xs)) (position_or_len q xs) ∙ position-any xs
 
--- What is put in the place of one that is seen as the same is not seen.
+-- To replace an entry by one of the same view keeps the list's view.
 pub map-set_same : {A B : Type 0} (f : A → B) (xs : List A) (i : ℕ) (y d : A) → f y ≡ f (get_or xs i d) → map f (set xs i y) ≡ map f xs
 map-set_same f xs i y d h =
     map-set f xs i y ∙ ap (λ z. set (map f xs) i z) h ∙ sym (map-set f xs i (get_or xs i d)) ∙ ap (map f) (set-get_or xs i d)

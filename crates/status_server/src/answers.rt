@@ -1,4 +1,4 @@
-//! The answers to requests.
+//! The responses to requests.
 ghost use Rattle.std.specs.Prelude.{IsTrue};
 ghost use Rattle.http_header.specs.FieldValue.{is_visible_text};
 
@@ -15,7 +15,7 @@ use prefixes::Route;
 use status_pages::{QueryFault, read_query, write_metrics, write_page, write_validity};
 use std::alloc::{AllocError, Global};
 
-/// What may be asked for.
+/// The resources.
 #[derive(Clone, Copy, Debug, PartialEq, Eq)]
 enum Page {
     Status,
@@ -24,7 +24,7 @@ enum Page {
     Validity,
 }
 
-/// What is at a path.
+/// The resource of a path.
 fn page_at(path: &str) -> Option<Page> {
     match path {
         "/" => Some(Page::Status),
@@ -35,7 +35,7 @@ fn page_at(path: &str) -> Option<Page> {
     }
 }
 
-/// Adds the headers of all answers: what the body is, that it is not kept, and that it is nothing else.
+/// Adds the headers of all responses: the content type, no caching, and no guessing of another type.
 fn add_headers(response: &mut Response, kind: &'static str) -> Result<(), AllocError>
     requires { IsTrue (is_visible_text kind.now) }
 {
@@ -44,21 +44,21 @@ fn add_headers(response: &mut Response, kind: &'static str) -> Result<(), AllocE
     response.add_header(X_CONTENT_TYPE_OPTIONS, HeaderValue::from_static("nosniff"))
 }
 
-/// Answers with a refusal, and with what the asker can do.
+/// Responds with a refusal, and a text that says what to do.
 fn refuse(response: &mut Response, status: StatusCode, text: &[u8]) -> Result<(), AllocError> {
     response.status = status;
     add_headers(response, "text/plain; charset=utf-8")?;
     response.body.put_slice(text)
 }
 
-/// Answers that no version is published yet. The first one comes within a second or two of the start.
+/// Responds that no version is published yet. The first one follows a second or two after the start.
 fn refuse_early(response: &mut Response) -> Result<(), AllocError> {
     response.add_header(RETRY_AFTER, HeaderValue::from_static("1"))?;
     let text = b"no version is published yet: ask again in a second\n";
     refuse(response, StatusCode::SERVICE_UNAVAILABLE, text)
 }
 
-/// What answers requests, by what a cache reports of itself.
+/// The HTTP service over a source of status.
 #[derive(Drop)]
 pub(crate) struct Answers<'a, S> {
     pub(crate) alloc: Global,
@@ -66,7 +66,7 @@ pub(crate) struct Answers<'a, S> {
 }
 
 impl<S: StatusSource> Answers<'_, S> {
-    /// Adds the moment of the answer (RFC 9110 section 6.6.1), if it is one of the years 1970 to 9999.
+    /// Adds the time of the response (RFC 9110 section 6.6.1), if it is within the years 1970 to 9999.
     fn add_date(&mut self, response: &mut Response) -> Result<(), AllocError> {
         let Ok(date) = HttpDate::from_unix_secs(self.source.now()) else {
             return Ok(());
@@ -77,7 +77,7 @@ impl<S: StatusSource> Answers<'_, S> {
         }
     }
 
-    /// The page for people.
+    /// The status page.
     fn page(&mut self, response: &mut Response) -> Result<(), AllocError> {
         let status = self.source.status()?;
         let mut text = Vec::new(self.alloc);
@@ -111,7 +111,7 @@ impl<S: StatusSource> Answers<'_, S> {
         response.body.push(list)
     }
 
-    /// What is said of a route.
+    /// The validity of a route.
     fn validity(&mut self, route: &Route, response: &mut Response) -> Result<(), AllocError> {
         let Some(validity) = self.source.validity(route)? else {
             return refuse_early(response);
@@ -125,7 +125,7 @@ impl<S: StatusSource> Answers<'_, S> {
         response.body.put_slice(&text)
     }
 
-    /// What is said of the route for which a query asks.
+    /// The validity of the route of a query.
     fn query(&mut self, query: &str, response: &mut Response) -> Result<(), AllocError> {
         match read_query(self.alloc, query) {
             Ok(route) => self.validity(&route, response),
@@ -137,7 +137,7 @@ impl<S: StatusSource> Answers<'_, S> {
         }
     }
 
-    /// Answers a request.
+    /// Responds to a request.
     fn answer(
         &mut self,
         request: &Request<Bytes>,

@@ -1,22 +1,22 @@
-//! One visitor, over a stream that does not wait.
+//! One HTTP connection, over a non-blocking stream.
 
 use http_server::{Config, Connection, Service};
 use std::alloc::Global;
 use std::hash::RandomState;
 use std::io::{ErrorKind, Read, Write};
 
-/// What a turn of a visitor came to.
+/// The outcome of a turn of a connection.
 #[derive(Clone, Copy, Debug, PartialEq, Eq)]
 pub enum Progress {
-    /// The stream would wait.
+    /// The stream would block.
     WouldBlock,
-    /// So many calls as were allowed were made.
+    /// All calls of the budget were made.
     Busy,
-    /// It has got what it asked for, or its stream failed, and it is not there any more.
+    /// The connection was finished, or its stream failed. It is removed.
     Closed,
 }
 
-/// The bounds of a request: the target and its headers 8,192 bytes, a body 1,024, neither trailers nor extensions to speak of.
+/// The limits of a request: 8,192 bytes of target and headers, 1,024 bytes of body, and few trailers and extensions.
 fn bounds() -> Config {
     let mut config = Config::default();
     config.limits.max_head_len = 8192;
@@ -27,7 +27,7 @@ fn bounds() -> Config {
     config
 }
 
-/// A visitor: its stream, and what was read of it and is to be written to it.
+/// A connection: its stream, and the state of its HTTP protocol.
 #[derive(Drop)]
 pub(crate) struct HttpConnection<T> {
     stream: T,
@@ -42,7 +42,7 @@ impl<T: Read + Write> HttpConnection<T> {
         }
     }
 
-    /// Serves it until its stream would wait, or so many calls of the stream were made.
+    /// Serves the connection until its stream would block, or until this many calls were made.
     pub(crate) fn serve<S: Service>(&mut self, service: &mut S, budget: u32) -> Progress {
         for _call in 0..budget {
             if let Some(visit) = self.step(service) {
@@ -52,7 +52,7 @@ impl<T: Read + Write> HttpConnection<T> {
         Progress::Busy
     }
 
-    /// Makes one call of the stream: it writes where something is to be written, and reads else.
+    /// Makes one call of the stream: it writes if bytes are due, and reads otherwise.
     fn step<S: Service>(&mut self, service: &mut S) -> Option<Progress> {
         let moved = if self.connection.wants_write() {
             self.connection.write_to(&mut self.stream)

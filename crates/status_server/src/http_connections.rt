@@ -1,4 +1,4 @@
-//! All visitors.
+//! All HTTP connections.
 ghost use Rattle.std.specs.Prelude.{◌≡◌, ◌==◌, ◌++◌, ◌∷◌, ◌↔◌, ◌≤◌, [], length, Err, IfSome, IsNone, OnOk, OnErr, false, ◌<◌, map, position, ℕ};
 ghost use Rattle.std.specs.List.{list_any};
 ghost use Rattle.status_server.specs.Connections.{has_token, in_time, others};
@@ -13,16 +13,16 @@ use std::io::{Read, Write};
 use std::marker::Model;
 use thiserror::Error;
 
-/// How many visitors there may be at once.
+/// How many connections there may be at once.
 pub const MAX_CONNECTIONS: usize = 64;
 
-/// How long a visitor may be there, in milliseconds.
+/// The timeout of a connection, in milliseconds.
 pub const CONNECTION_MILLIS: u64 = 30_000;
 
-/// Why a visitor is not taken in. Its stream was dropped.
+/// Why a connection is not admitted. Its stream was dropped.
 #[derive(Clone, Copy, Debug, Drop, PartialEq, Eq, Error)]
 pub enum HttpAdmitFault {
-    /// So many visitors as may be are there.
+    /// The limit of connections is reached.
     #[error("there are 64 visitors")]
     TooManyConnections,
     /// Out of memory.
@@ -30,7 +30,7 @@ pub enum HttpAdmitFault {
     Memory,
 }
 
-/// A visitor with the number of its line, and when it came.
+/// A connection, with its poll token and when it was admitted.
 #[derive(Drop)]
 struct Entry<T> {
     token: usize,
@@ -38,7 +38,7 @@ struct Entry<T> {
     connection: HttpConnection<T>,
 }
 
-/// The visitors, each by the number of its line. Moments are in milliseconds of a clock that never goes back.
+/// The HTTP connections, each by its poll token. Times are in milliseconds of a monotonic clock.
 #[derive(Drop)]
 pub struct HttpConnections<T> {
     alloc: Global,
@@ -58,7 +58,7 @@ impl<T> Model for HttpConnections<T> {
 }
 
 impl<T: Read + Write> Entry<T> {
-    /// Serves the visitor.
+    /// Serves the connection.
     fn serve<S: StatusSource>(&mut self, answers: &mut Answers<'_, S>, budget: u32) -> Progress
         ensures token { self.new.token ≡ self.old.token }
         ensures came { self.new.came ≡ self.old.came }
@@ -74,21 +74,21 @@ impl<T> Debug for HttpConnections<T> {
     }
 }
 
-/// Whether some place is the line's.
+/// Whether some entry has the token.
 fn any_at<T>(entries: &[Entry<T>], token: usize) -> bool
     ensures { result ≡ list_any (λ p. p.token == token) entries.now }
 {
     entries.iter().any(|entry| entry.token == token)
 }
 
-/// The first place that is the line's.
+/// The index of the first entry that has the token.
 fn index_in<T>(entries: &[Entry<T>], token: usize) -> Option<usize>
     ensures { result ≡ position (λ p. p.token == token) entries.now }
 {
     entries.iter().position(|entry| entry.token == token)
 }
 
-/// Serves the visitor of a place.
+/// Serves the connection at an index.
 fn serve_in<T: Read + Write, S: StatusSource>(
     entries: &mut [Entry<T>],
     index: usize,
@@ -102,7 +102,7 @@ fn serve_in<T: Read + Write, S: StatusSource>(
 }
 
 impl<T: Read + Write + Drop> HttpConnections<T> {
-    /// No visitors. The names of headers are chosen by visitors, so the keys are to be random.
+    /// No connections. Clients choose the names of headers, so the keys must be random.
     pub fn new(alloc: Global, keys: RandomState) -> HttpConnections<T>
         ensures { result ≡ [] }
     {
@@ -128,7 +128,7 @@ impl<T: Read + Write + Drop> HttpConnections<T> {
         self.entries.is_empty()
     }
 
-    /// Takes in a visitor, whose stream has this number. It is to be served then. On an error all others are as they were.
+    /// Admits a connection with this poll token, which is served next. On an error all others are unchanged.
     pub fn admit(&mut self, token: usize, stream: T, now: u64) -> Result<(), HttpAdmitFault>
         ensures ok { OnOk result (self.new ≡ self.old ++ (token, now) ∷ []) }
         ensures full { result ≡ Err HttpAdmitFault.TooManyConnections ↔ (64 ≤ length self.old) }
@@ -148,14 +148,14 @@ impl<T: Read + Write + Drop> HttpConnections<T> {
         Ok(())
     }
 
-    /// Whether the line is a visitor's.
+    /// Whether a connection has the token.
     pub fn has(&self, token: usize) -> bool
         ensures { result ≡ has_token token self.now }
     {
         any_at(&self.entries, token)
     }
 
-    /// The place of the visitor of a line.
+    /// The index of the connection of a token.
     fn index_of(&self, token: usize) -> Option<usize>
         ensures some { IfSome result (λ index. index < length self.now) }
         ensures none { IsNone result ↔ (has_token token self.now ≡ false) }
@@ -163,7 +163,7 @@ impl<T: Read + Write + Drop> HttpConnections<T> {
         index_in(&self.entries, token)
     }
 
-    /// Serves the visitor of a place.
+    /// Serves the connection at an index.
     fn serve_at<S: StatusSource>(&mut self, index: usize, source: &mut S, budget: u32) -> Progress
         requires { index < length self.old }
         ensures { self.new ≡ self.old }
@@ -175,15 +175,15 @@ impl<T: Read + Write + Drop> HttpConnections<T> {
         serve_in(&mut self.entries, index, &mut answers, budget)
     }
 
-    /// Lets the visitor of a line go.
+    /// Removes the connection of a token.
     fn remove(&mut self, token: usize)
         ensures { self.new ≡ others token self.old }
     {
         self.entries.retain(|entry| entry.token != token);
     }
 
-    /// Serves the visitor of a line until its stream would wait, or so many calls of the stream were made. After `Gone` it is not there any
-    /// more. `None` where no visitor has the line.
+    /// Serves the connection of a token until its stream would block, or until this many calls were made. After `Closed` it is removed. `None` if
+    /// no connection has the token.
     pub fn serve<S: StatusSource>(
         &mut self,
         token: usize,
@@ -203,7 +203,7 @@ impl<T: Read + Write + Drop> HttpConnections<T> {
         Some(progress)
     }
 
-    /// Drops the visitors that came `CONNECTION_MILLIS` ago or earlier.
+    /// Drops the connections that were admitted `CONNECTION_MILLIS` ago or earlier.
     pub fn expire(&mut self, now: u64)
         ensures { self.new ≡ in_time now self.old }
     {

@@ -1,4 +1,4 @@
-//! What a cache reports of itself, to visitors that ask for it by HTTP/1.1 over streams that do not wait.
+//! The status pages of a cache over HTTP/1.1, for clients over non-blocking streams.
 //!
 //! For example, where `rt` is the runtime that `main` is handed:
 //!
@@ -8,7 +8,7 @@
 //! use std::io;
 //! use std::io::{ErrorKind, Read, Write};
 //!
-//! /// A stream on which nothing comes.
+//! /// A stream that never has a byte.
 //! #[derive(Drop)]
 //! struct Silent;
 //!

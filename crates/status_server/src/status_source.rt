@@ -1,22 +1,21 @@
-//! What is asked of a cache.
+//! The source of the status pages.
 
 use bytes::Bytes;
 use prefixes::Route;
 use status_pages::{Status, Validity};
 use std::alloc::AllocError;
 
-/// What a cache answers when it is asked. An error is for memory alone.
+/// What the pages ask of a cache. An error is for memory alone.
 pub trait StatusSource {
-    /// The present moment, in seconds since 1970.
+    /// The current time, in seconds since 1970.
     fn now(&mut self) -> u64;
 
-    /// What the cache is at this moment.
+    /// The current status of the cache.
     fn status(&mut self) -> Result<Status, AllocError>;
 
-    /// The payload list that is served, as text, or `None` before the first version is published. It is shared with all who ask for it while
-    /// it is served.
+    /// The payload list of the served set as text, or `None` before the first version is published. All requests for one version share it.
     fn list(&mut self) -> Result<Option<Bytes>, AllocError>;
 
-    /// What the records that are served say of a route, or `None` before the first version is published.
+    /// The validity of a route under the served set, or `None` before the first version is published.
     fn validity(&mut self, route: &Route) -> Result<Option<Validity>, AllocError>;
 }
