@@ -6,7 +6,7 @@ use Rattle.prefixes.proofs.Decimals.{decimal_lacks}
 use Rattle.prefixes.proofs.Lacks.{Lacks}
 use Rattle.status_pages.specs.Query.{AsnText}
 
--- A text with AS before no number says none.
+-- If no number follows AS, the text is not an AS number.
 pub none_after : (text digits : List ℕ) → text ≡ codes "AS" ++ digits → ((n : ℕ) → n < 2 ^ 32 → ¬ (digits ≡ decimal n)) → (n : ℕ) → n < 2 ^ 32 → ¬ (AsnText n text)
 none_after text digits is none n small (inl h) =
     let lacks : Lacks 65 (codes "AS" ++ digits) = subst (λ t. Lacks 65 t) (sym h ∙ is) (decimal_lacks 65 n (omega arith) (omega arith)) in lacks.0 refl

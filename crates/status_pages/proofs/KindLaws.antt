@@ -1,4 +1,4 @@
--- The records that cover a route are parted by what they say of it.
+-- The records that cover a route are of three kinds.
 use Rattle.std.proofs.Common.{◌≡◌, ◌∙◌, ℕ, suc, ◌+◌, Bool, true, false, not, ◌&&◌, ◌||◌, cond, List, [], ◌∷◌, length, filter, refl, sym, subst, ap, arith}
 use Rattle.std.specs.List.{list_any}
 use Rattle.prefixes.specs.Payload.{Payload}

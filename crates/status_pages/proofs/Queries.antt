@@ -1,4 +1,4 @@
--- What is found of the pairs of a query.
+-- The result for the pairs of a query.
 use Rattle.std.proofs.Common.{◌≡◌, ◌⊎◌, inl, inr, ℕ, List, [], ◌∷◌, map, Result, Ok, Err, sym, subst, ap, ◌∙◌, refl}
 use Rattle.prefixes.specs.declared.route.Route.{Route}
 use Rattle.form_urlencoded.specs.Form.{raw_pairs}
@@ -6,7 +6,7 @@ use Rattle.status_pages.specs.Query.{FindsIn, FindsRoute, HasValues, text_of}
 use Rattle.status_pages.specs.declared.query_fault.QueryFault.{QueryFault}
 use Rattle.status_pages.specs.declared.query_fault.QueryFault.TheVariants as fault
 
--- what is found of the two values is found of the pairs
+-- the result for the two values is the result for the pairs
 pub found_in : (pairs : List (List ℕ × List ℕ)) (asn prefix : List ℕ) (r : Result Route QueryFault) → HasValues pairs asn prefix → FindsRoute asn prefix r → FindsIn pairs r
 found_in pairs asn prefix (Ok r) has h = record { asn = asn; prefix = prefix; values = has; route = h }
 found_in pairs asn prefix (Err fault.Keys) has h = absurd h
@@ -17,7 +17,7 @@ found_in pairs asn prefix (Err fault.Memory) has h = absurd h
 abbrev pub told : List ℕ × List ℕ → List ℕ × List ℕ
 told (name, value) = (text_of name, text_of value)
 
--- what are not two pairs has no two values
+-- other than two pairs have no two values
 pub not_two : (raw : List (List ℕ × List ℕ)) → ((a b : List ℕ × List ℕ) → ¬ (raw ≡ a ∷ b ∷ [])) → (asn prefix : List ℕ) → ¬ (HasValues (map told raw) asn prefix)
 not_two [] h asn prefix (inl e) = cc
 not_two [] h asn prefix (inr e) = cc
@@ -27,7 +27,7 @@ not_two (x ∷ y ∷ []) h asn prefix e = h x y refl
 not_two (x ∷ y ∷ z ∷ more) h asn prefix (inl e) = cc
 not_two (x ∷ y ∷ z ∷ more) h asn prefix (inr e) = cc
 
--- the pairs of a query of which these are the two raw ones
+-- the decoded pairs of a query with these two raw pairs
 pub two_told : (raw : List (List ℕ × List ℕ)) (a b : List ℕ × List ℕ) (n v m w : List ℕ) → raw ≡ a ∷ b ∷ [] → n ≡ text_of a.0 → v ≡ text_of a.1 → m ≡ text_of b.0 → w ≡ text_of b.1
     → (r : Result Route QueryFault) → FindsIn ((n, v) ∷ (m, w) ∷ []) r → FindsIn (map told raw) r
 two_told raw a b n v m w is en ev em ew r h =

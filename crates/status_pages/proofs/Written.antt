@@ -1,4 +1,4 @@
--- What is written behind what was written.
+-- Texts that are appended one after the other.
 use Rattle.std.proofs.Common.{◌++◌, ℕ, List, Option, Result, Ok, Err, OnOk, append_assoc, subst}
 use Rattle.std.proofs.KnownBytes.{Appends-trans}
 use Rattle.std.specs.Io.KnownBytes.{Appends}

@@ -1,7 +1,7 @@
--- Characters of texts from outside, as they stand in other text.
+-- Characters of texts from outside, escaped.
 use Rattle.std.specs.Prelude.{ℕ, List, ◌==◌, if◌then◌else◌, codes, encode_utf8}
 
--- A character of a text in HTML: those that could begin or end something else stand as references (the HTML Standard, section 13.1.4).
+-- A character in HTML: those with a meaning in markup are character references (the HTML Standard, section 13.1.4).
 unfoldable pub html_char : ℕ → List ℕ
 html_char c =
     if c == 38 then codes "&amp;"
@@ -11,7 +11,7 @@ html_char c =
     else if c == 39 then codes "&#39;"
     else encode_utf8 c
 
--- A character of the value of a label: a backslash, a quote and a newline stand behind a backslash (Prometheus, text-based format).
+-- A character of a label value: a backslash, a quote and a newline are escaped by a backslash (Prometheus, text-based format).
 unfoldable pub label_char : ℕ → List ℕ
 label_char c =
     if c == 92 then codes "\\\\"

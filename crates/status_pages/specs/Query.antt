@@ -1,4 +1,4 @@
--- The query of a request for the state of a route: `asn=NUMBER&prefix=PREFIX`.
+-- The query of a request for the validity of a route: `asn=NUMBER&prefix=PREFIX`.
 use Rattle.std.specs.Prelude.{◌≡◌, ◌⊎◌, ℕ, ◌^◌, ◌<◌, List, [], ◌∷◌, ◌++◌, map, Option, Some, Result, Ok, Err, codes, ⊤}
 use Rattle.std.specs.Fmt.{decimal}
 use Rattle.std.specs.Str.Lossy.{utf8_lossy}
@@ -9,26 +9,26 @@ use Rattle.prefixes.specs.declared.route.Route.{Route}
 use Rattle.status_pages.specs.declared.query_fault.QueryFault.{QueryFault}
 use Rattle.status_pages.specs.declared.query_fault.QueryFault.TheVariants as fault
 
--- The text of an AS number: the number in decimal, with AS before it or without
+-- The text of an AS number: the number in decimal, with or without AS before it
 abbrev pub AsnText : ℕ → List ℕ → Type 0
 AsnText n text = (text ≡ decimal n) ⊎ (text ≡ codes "AS" ++ decimal n)
 
--- the text that a name or a value stands for (the URL Standard, section 5.1)
+-- the decoded text of a name or a value (the URL Standard, section 5.1)
 abbrev pub text_of : List ℕ → List ℕ
 text_of bytes = utf8_lossy (decode bytes)
 
--- the names of a query with their values, in their order
+-- the names of a query with their values, in order
 abbrev pub pairs_of : List ℕ → List (List ℕ × List ℕ)
 pairs_of query = map (λ (name, value). (text_of name, text_of value)) (raw_pairs query)
 
--- The pairs have these two values and no others: `asn` and `prefix` stand there once each, in either order.
+-- The pairs have these two values and no others: `asn` and `prefix` occur once each, in either order.
 abbrev pub HasValues : List (List ℕ × List ℕ) → List ℕ → List ℕ → Type 0
 HasValues pairs asn prefix = (pairs ≡ (codes "asn", asn) ∷ (codes "prefix", prefix) ∷ []) ⊎ (pairs ≡ (codes "prefix", prefix) ∷ (codes "asn", asn) ∷ [])
 
 abbrev pub IsNoAsn : List ℕ → Type 0
 IsNoAsn text = (n : ℕ) → n < 2 ^ 32 → ¬ (AsnText n text)
 
--- The route of two texts, or what is wrong with them. The AS is judged first, then the prefix.
+-- The route of two texts, or their first fault. The AS is judged first, then the prefix.
 abbrev pub FindsRoute : List ℕ → List ℕ → Result Route QueryFault → Type 0
 FindsRoute asn prefix (Ok r) = ((n : ℕ) × (n < 2 ^ 32) × AsnText n asn × (r.origin ≡ Some n)) × PrefixText r.prefix prefix
 FindsRoute asn prefix (Err fault.Asn) = IsNoAsn asn
@@ -36,7 +36,7 @@ FindsRoute asn prefix (Err (fault.Prefix why)) = ((n : ℕ) × (n < 2 ^ 32) × A
 FindsRoute asn prefix (Err fault.Keys) = ⊥
 FindsRoute asn prefix (Err fault.Memory) = ⊥
 
--- What is found of pairs: the route, or why there is none. The keys are judged first.
+-- The route of pairs, or their first fault. The keys are judged first.
 pub record FindsByValues (pairs : List (List ℕ × List ℕ)) (found : Result Route QueryFault) : Type 0 where
   pub asn : List ℕ
   pub prefix : List ℕ
@@ -50,6 +50,6 @@ FindsIn pairs (Err fault.Asn) = FindsByValues pairs (Err fault.Asn)
 FindsIn pairs (Err (fault.Prefix why)) = FindsByValues pairs (Err (fault.Prefix why))
 FindsIn pairs (Err fault.Memory) = ⊤
 
--- what is found of a query
+-- the result for a query
 abbrev pub Finds : List ℕ → Result Route QueryFault → Type 0
 Finds query found = FindsIn (pairs_of query) found

@@ -1,4 +1,4 @@
--- What is said of a route as JSON, in the form of the API of Routinator.
+-- The validity of a route as JSON, in the format of Routinator's API.
 use Rattle.std.specs.Prelude.{ℕ, Bool, if◌then◌else◌, List, [], ◌∷◌, ◌++◌, Option, None, Some, codes}
 use Rattle.std.specs.Fmt.{decimal}
 use Rattle.std.specs.Io.KnownBytes.{Appends}
@@ -18,7 +18,7 @@ unfoldable pub vrp_text : Payload → List ℕ
 vrp_text v =
     concat (codes "{\"asn\":\"AS" ∷ decimal v.asn ∷ codes "\",\"prefix\":\"" ∷ written_text v.prefix ∷ codes "\",\"max_length\":\"" ∷ decimal v.max_len ∷ codes "\"}" ∷ [])
 
--- records with commas between them
+-- records, separated by commas
 abbrev pub after_comma : Payload → List ℕ
 after_comma v = codes "," ++ vrp_text v
 
@@ -29,7 +29,7 @@ joined_vrps (v ∷ vs) = vrp_text v ++ flat_map after_comma vs
 unfoldable pub vrps_text : List Payload → List ℕ
 vrps_text vs = codes "[" ++ joined_vrps vs ++ codes "]"
 
--- the origin of a route; NONE where its path ends in a set (RFC 6811 section 2)
+-- the origin of a route: NONE if its path ends in a set (RFC 6811 section 2)
 unfoldable pub origin_text : Option ℕ → List ℕ
 origin_text None = codes "NONE"
 origin_text (Some asn) = codes "AS" ++ decimal asn
@@ -73,11 +73,11 @@ unfoldable pub lists_text : List Payload → List Payload → List Payload → L
 lists_text matched other_as too_short =
     listed (codes ",\"VRPs\":{\"matched\":") matched ++ listed (codes ",\"unmatched_as\":") other_as ++ last_list too_short
 
--- what is judged: the state, and the lists
+-- the validity: the state, and the lists
 unfoldable pub judged_text : Route → OriginState → List Payload → List Payload → List Payload → List ℕ
 judged_text r s matched other_as too_short = state_text s (has_origin r too_short) ++ lists_text matched other_as too_short
 
--- the whole, at a time
+-- the whole object, at a time
 unfoldable pub beginning : Route → List ℕ
 beginning r = codes "{\"validated_route\":{\"route\":" ++ route_text r ++ codes ",\"validity\":"
 
@@ -90,6 +90,6 @@ ending time = codes "},\"generatedTime\":\"" ++ time ++ codes "\"}"
 unfoldable pub validity_text : Route → Validity → List ℕ → List ℕ
 validity_text r v time = beginning r ++ middle r v ++ ending time
 
--- That text is appended, at the time that is so many seconds after the beginning of 1970.
+-- That text is appended, with the time of this many seconds since 1970.
 abbrev pub TellsValidity : Option (List ℕ) → Option (List ℕ) → Route → Validity → ℕ → Type 0
 TellsValidity old new r v now = (time : List ℕ) × IsTimeOf now time × Appends old new (validity_text r v time)

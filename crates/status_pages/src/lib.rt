@@ -1,4 +1,4 @@
-//! What a cache reports of itself to those who operate it.
+//! The status of a cache for its operators: a page, metrics, and the validity of routes.
 //!
 //! For example, where `rt` is the runtime that `main` is handed:
 //!

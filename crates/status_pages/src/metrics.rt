@@ -1,10 +1,10 @@
-//! What a cache is, in the text form of Prometheus.
+//! The status of a cache, in the text format of Prometheus.
 
 use crate::status::{FileStatus, PdusByType, Status, TotalTraffic};
 use crate::text::{write_decimal, write_label, write_texts};
 use std::io::{self, Write};
 
-/// Writes what a metric is: its help and its type.
+/// Writes the help and the type of a metric.
 fn write_head<W: Write>(out: &mut W, name: &str, kind: &str, help: &str) -> io::Result<()> {
     let texts = [
         "# HELP ",
@@ -20,7 +20,7 @@ fn write_head<W: Write>(out: &mut W, name: &str, kind: &str, help: &str) -> io::
     write_texts(out, &texts)
 }
 
-/// Writes a value, which ends its line.
+/// Writes a value and the end of its line.
 fn write_value<W: Write>(out: &mut W, value: u64) -> io::Result<()> {
     write_decimal(out, value)?;
     out.write_all(b"\n")
@@ -39,7 +39,7 @@ fn write_one<W: Write>(
     write_value(out, value)
 }
 
-/// Writes a metric of one value where there is one.
+/// Writes a metric of one value, if there is a value.
 fn write_any<W: Write>(out: &mut W, name: &str, help: &str, value: Option<u64>) -> io::Result<()> {
     match value {
         None => Ok(()),
@@ -47,7 +47,7 @@ fn write_any<W: Write>(out: &mut W, name: &str, help: &str, value: Option<u64>) 
     }
 }
 
-/// Writes a value of a metric under a word of a label.
+/// Writes a value of a metric under a label.
 fn write_labelled<W: Write>(
     out: &mut W,
     name: &str,
@@ -59,7 +59,7 @@ fn write_labelled<W: Write>(
     write_value(out, value)
 }
 
-/// Writes a metric of two values under the words of one label.
+/// Writes a metric of two values of one label.
 fn write_two<W: Write>(
     out: &mut W,
     name: &str,
@@ -71,7 +71,7 @@ fn write_two<W: Write>(
     write_labelled(out, name, label, second.0, second.1)
 }
 
-/// What the program is, and since when it runs.
+/// The version of the program, and its start.
 fn write_program<W: Write>(out: &mut W, status: &Status) -> io::Result<()> {
     write_head(
         out,
@@ -98,7 +98,7 @@ fn write_program<W: Write>(out: &mut W, status: &Status) -> io::Result<()> {
     )
 }
 
-/// How many records are served, once a version is published.
+/// How many records are served, after the first version.
 fn write_records<W: Write>(out: &mut W, status: &Status) -> io::Result<()> {
     if status.serial.is_none() {
         return Ok(());
@@ -120,7 +120,7 @@ fn write_records<W: Write>(out: &mut W, status: &Status) -> io::Result<()> {
     )
 }
 
-/// What is served.
+/// The served version.
 fn write_served<W: Write>(out: &mut W, status: &Status) -> io::Result<()> {
     write_records(out, status)?;
     write_any(
@@ -150,7 +150,7 @@ fn write_served<W: Write>(out: &mut W, status: &Status) -> io::Result<()> {
     )
 }
 
-/// How often, and how fast, files were taken.
+/// How many times files were loaded, and how long it took.
 fn write_reloads<W: Write>(out: &mut W, status: &Status) -> io::Result<()> {
     write_head(
         out,
@@ -178,13 +178,13 @@ fn write_reloads<W: Write>(out: &mut W, status: &Status) -> io::Result<()> {
     write_seconds(out, milliseconds)
 }
 
-/// Writes milliseconds as seconds, which end their line.
+/// Writes milliseconds as seconds, and the end of the line.
 fn write_seconds<W: Write>(out: &mut W, milliseconds: u64) -> io::Result<()> {
     let (seconds, rest) = (milliseconds / 1000, milliseconds % 1000);
     writeln!(out, "{seconds}.{rest:03}")
 }
 
-/// Which number of a file is given.
+/// The metrics of a file.
 #[derive(Clone, Copy, PartialEq, Eq)]
 enum FileMetric {
     Age,
@@ -194,7 +194,7 @@ enum FileMetric {
     Expired,
 }
 
-/// The number of a file, if it has one.
+/// The value of a metric of a file, if it has one.
 fn file_metric(file: &FileStatus, now: u64, what: FileMetric) -> Option<u64> {
     match what {
         FileMetric::Age => file.built.map(|built| now.saturating_sub(built)),
@@ -230,7 +230,7 @@ fn write_of_files<W: Write>(
     Ok(())
 }
 
-/// What is known of the files.
+/// The metrics of all files.
 fn write_files<W: Write>(out: &mut W, status: &Status) -> io::Result<()> {
     write_of_files(
         out,
@@ -294,7 +294,7 @@ fn write_clients<W: Write>(out: &mut W, status: &Status) -> io::Result<()> {
     )
 }
 
-/// The types of PDUs with how many there were.
+/// The PDU types, with how many PDUs there were of each.
 fn listed(pdus: &PdusByType) -> [(&'static str, u64); 10] {
     [
         ("serial_notify", pdus.serial_notify),
@@ -310,7 +310,7 @@ fn listed(pdus: &PdusByType) -> [(&'static str, u64); 10] {
     ]
 }
 
-/// Writes the PDUs of a type that went one way.
+/// Writes the PDUs of one type in one direction.
 fn write_pdu_count<W: Write>(
     out: &mut W,
     direction: &str,
@@ -328,7 +328,7 @@ fn write_pdu_count<W: Write>(
     write_value(out, count)
 }
 
-/// Writes the PDUs that went one way.
+/// Writes the PDUs of one direction.
 fn write_pdus<W: Write>(out: &mut W, direction: &str, traffic: &TotalTraffic) -> io::Result<()> {
     for (kind, count) in &listed(&traffic.pdus) {
         write_pdu_count(out, direction, *kind, *count)?;
@@ -336,7 +336,7 @@ fn write_pdus<W: Write>(out: &mut W, direction: &str, traffic: &TotalTraffic) ->
     Ok(())
 }
 
-/// What went over the connections.
+/// The traffic of all connections.
 fn write_traffic<W: Write>(out: &mut W, status: &Status) -> io::Result<()> {
     write_head(
         out,
@@ -361,7 +361,7 @@ fn write_traffic<W: Write>(out: &mut W, status: &Status) -> io::Result<()> {
     )
 }
 
-/// Writes what a cache is in the text form of Prometheus, version 0.0.4.
+/// Writes the status of a cache in the text format of Prometheus, version 0.0.4.
 pub fn write_metrics<W: Write>(out: &mut W, status: &Status) -> io::Result<()> {
     write_program(out, status)?;
     write_served(out, status)?;

@@ -1,4 +1,4 @@
-//! What a cache is, as a page for people: HTML and CSS, without anything from elsewhere and without a script.
+//! The status of a cache as a page of HTML and CSS, without scripts or external resources.
 
 use crate::page_style::STYLE;
 use crate::page_tables::{write_changes, write_clients, write_files};
@@ -7,7 +7,7 @@ use crate::status::Status;
 use crate::text::{write_decimal, write_grouped, write_html, write_since, write_texts, write_time};
 use std::io::{self, Write};
 
-/// Writes what stands before the body.
+/// Writes the head of the document.
 fn write_head<W: Write>(out: &mut W) -> io::Result<()> {
     out.write_all(b"<!doctype html>\n<html lang=\"en\">\n<head>\n<meta charset=\"utf-8\">\n")?;
     out.write_all(b"<meta name=\"viewport\" content=\"width=device-width, initial-scale=1\">\n")?;
@@ -16,7 +16,7 @@ fn write_head<W: Write>(out: &mut W) -> io::Result<()> {
     out.write_all(b"</style>\n</head>\n<body>\n")
 }
 
-/// Writes the title, with the program's version and the moment.
+/// Writes the title, with the program's version and the time.
 fn write_title<W: Write>(out: &mut W, status: &Status) -> io::Result<()> {
     out.write_all(b"<header>\n<h1>rpkirtrd</h1>\n<p class=\"dim\">Version ")?;
     write_html(out, status.version)?;
@@ -44,7 +44,7 @@ fn write_name<W: Write>(out: &mut W, name: &str) -> io::Result<()> {
     write_texts(out, &["<div><dt>", name, "</dt><dd>"])
 }
 
-/// Writes a fact that is a number without groups, as names of versions are.
+/// Writes a fact that is a number without digit groups, as sessions and serials are.
 fn write_plain<W: Write>(out: &mut W, name: &str, number: u32) -> io::Result<()> {
     write_name(out, name)?;
     write_decimal(out, u64::from(number))?;
@@ -58,7 +58,7 @@ fn write_count<W: Write>(out: &mut W, name: &str, count: u64) -> io::Result<()> 
     out.write_all(b"</dd></div>\n")
 }
 
-/// Writes the version that is served.
+/// Writes the served version.
 fn write_version<W: Write>(out: &mut W, status: &Status) -> io::Result<()> {
     match status.serial {
         Some(serial) => write_plain(out, "Serial", serial)?,
@@ -71,7 +71,7 @@ fn write_version<W: Write>(out: &mut W, status: &Status) -> io::Result<()> {
     write_plain(out, "Session in version 0", u32::from(status.session0))
 }
 
-/// Writes when the version that is served was published.
+/// Writes when the served version was published.
 fn write_change_time<W: Write>(out: &mut W, status: &Status) -> io::Result<()> {
     let Some(change) = status.changes.last() else {
         return Ok(());
@@ -81,7 +81,7 @@ fn write_change_time<W: Write>(out: &mut W, status: &Status) -> io::Result<()> {
     out.write_all(b"</dd></div>\n")
 }
 
-/// Writes what is served.
+/// Writes the facts of the served version.
 fn write_served<W: Write>(out: &mut W, status: &Status) -> io::Result<()> {
     out.write_all(b"<dl>\n")?;
     write_version(out, status)?;
@@ -101,17 +101,17 @@ fn write_served<W: Write>(out: &mut W, status: &Status) -> io::Result<()> {
     out.write_all(b"</dl>\n")
 }
 
-/// Writes the head of a part.
+/// Writes the start of a section.
 fn write_part<W: Write>(out: &mut W, name: &str) -> io::Result<()> {
     write_texts(out, &["<section>\n<h2>", name, "</h2>\n"])
 }
 
-/// Writes the end of a part.
+/// Writes the end of a section.
 fn write_part_end<W: Write>(out: &mut W) -> io::Result<()> {
     out.write_all(b"</section>\n")
 }
 
-/// Writes the parts of the page.
+/// Writes the sections of the page.
 fn write_parts<W: Write>(out: &mut W, status: &Status) -> io::Result<()> {
     write_part(out, "Files")?;
     write_files(out, status)?;
@@ -129,7 +129,7 @@ fn write_parts<W: Write>(out: &mut W, status: &Status) -> io::Result<()> {
     write_part_end(out)
 }
 
-/// Writes what a cache is as one page of HTML, for a browser.
+/// Writes the status of a cache as one page of HTML.
 pub fn write_page<W: Write>(out: &mut W, status: &Status) -> io::Result<()> {
     write_head(out)?;
     write_title(out, status)?;

@@ -1,4 +1,4 @@
-//! How the page looks: light and dark, narrow and wide. All texts have a contrast of at least 4.5 to 1 with what is behind them.
+//! The style of the page: light and dark, narrow and wide. All texts have a contrast of at least 4.5 to 1 with their background.
 
 /// The style sheet of the page.
 pub(crate) const STYLE: &str = "\

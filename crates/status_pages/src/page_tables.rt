@@ -4,7 +4,7 @@ use crate::status::{ChangeStatus, ClientStatus, FileStatus, Status};
 use crate::text::{write_decimal, write_grouped, write_html, write_since, write_texts};
 use std::io::{self, Write};
 
-/// Writes the beginning of a table that scrolls in itself, with the heads of its columns. A column whose head begins with `#` has numbers.
+/// Writes the start of a table that scrolls, with the headings of its columns. A column whose heading begins with `#` has numbers.
 fn write_heads<W: Write>(out: &mut W, label: &str, heads: &[&str]) -> io::Result<()> {
     let texts = [
         "<div class=\"scroll\" role=\"region\" aria-label=\"",
@@ -18,7 +18,7 @@ fn write_heads<W: Write>(out: &mut W, label: &str, heads: &[&str]) -> io::Result
     out.write_all(b"</tr></thead>\n<tbody>\n")
 }
 
-/// Writes the head of a column.
+/// Writes the heading of a column.
 fn write_column<W: Write>(out: &mut W, head: &str) -> io::Result<()> {
     match head.strip_prefix('#') {
         Some(head) => write_texts(out, &["<th scope=\"col\" class=\"n\">", head, "</th>"]),
@@ -26,7 +26,7 @@ fn write_column<W: Write>(out: &mut W, head: &str) -> io::Result<()> {
     }
 }
 
-/// Writes its end.
+/// Writes the end of a table.
 fn write_table_end<W: Write>(out: &mut W) -> io::Result<()> {
     out.write_all(b"</tbody></table></div>\n")
 }
@@ -38,7 +38,7 @@ fn write_number<W: Write>(out: &mut W, number: u64) -> io::Result<()> {
     out.write_all(b"</td>")
 }
 
-/// Writes a cell with a moment, if there is one.
+/// Writes a cell with a time, if there is one.
 fn write_moment<W: Write>(out: &mut W, now: u64, moment: Option<u64>) -> io::Result<()> {
     let Some(moment) = moment else {
         return out.write_all("<td class=\"dim\">\u{2013}</td>".as_bytes());
@@ -48,14 +48,14 @@ fn write_moment<W: Write>(out: &mut W, now: u64, moment: Option<u64>) -> io::Res
     out.write_all(b"</td>")
 }
 
-/// Writes a cell with how a file is.
+/// Writes a cell with the state of a file.
 fn write_state<W: Write>(out: &mut W, file: &FileStatus) -> io::Result<()> {
     out.write_all(b"<td class=\"long\">")?;
     write_how(out, file)?;
     out.write_all(b"</td>")
 }
 
-/// Writes how a file is: refused and why, old, or good.
+/// Writes the state of a file: refused and why, old, or good.
 fn write_how<W: Write>(out: &mut W, file: &FileStatus) -> io::Result<()> {
     if let Some(reason) = &file.refusal {
         out.write_all(b"<span class=\"warn\">refused:</span> ")?;
@@ -132,7 +132,7 @@ pub(crate) fn write_changes<W: Write>(out: &mut W, status: &Status) -> io::Resul
     write_table_end(out)
 }
 
-/// Writes a cell with how many versions a client is behind: serials go up by one a version (RFC 8210 section 5.1).
+/// Writes a cell with how many versions a client is behind. Serials increase by one with each version (RFC 8210 section 5.1).
 fn write_behind<W: Write>(out: &mut W, served: Option<u32>, sent: Option<u32>) -> io::Result<()> {
     let (Some(served), Some(sent)) = (served, sent) else {
         return out.write_all(b"<td class=\"n dim\">nothing sent</td>");
@@ -153,7 +153,7 @@ fn write_optional<W: Write>(out: &mut W, number: Option<u32>) -> io::Result<()> 
     }
 }
 
-/// Writes a cell with a number without groups, as names of versions are.
+/// Writes a cell with a number without digit groups, as sessions and serials are.
 fn write_ungrouped<W: Write>(out: &mut W, number: u32) -> io::Result<()> {
     out.write_all(b"<td class=\"n\">")?;
     write_decimal(out, u64::from(number))?;

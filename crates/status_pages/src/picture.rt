@@ -1,26 +1,26 @@
-//! The size of the table over the last versions, as a picture.
+//! The sizes of the last versions, as a chart.
 ghost use Rattle.std.specs.Prelude.{◌≤◌};
 
 use crate::status::ChangeStatus;
 use crate::text::{write_decimal, write_grouped};
 use std::io::{self, Write};
 
-/// How wide and how high the picture is, in units of its own.
+/// The width and the height of the chart, in its own units.
 const WIDTH: u64 = 1000;
 
 const HEIGHT: u64 = 200;
 
-/// What is left free above and below the line.
+/// The margin above and below the line.
 const MARGIN: u64 = 20;
 
-/// The fewest and the most records that a version had.
+/// The fewest and the most records of a version.
 #[derive(Clone, Copy, Debug, PartialEq, Eq)]
 struct Range {
     least: u64,
     most: u64,
 }
 
-/// The range of some versions; that of none is 0.
+/// The range of some versions. The range of none is 0.
 fn range_of(changes: &[ChangeStatus]) -> Range {
     let mut least = u64::MAX;
     let mut most = 0;
@@ -34,7 +34,7 @@ fn range_of(changes: &[ChangeStatus]) -> Range {
     }
 }
 
-/// The share of a span that `part` is of `whole`. Of a whole of nothing it is the half.
+/// The part of a span that is proportional to `part` of `whole`. If `whole` is 0, it is half of the span.
 fn scaled(span: u64, part: u64, whole: u64) -> u64
     ensures { result ≤ span }
 {
@@ -45,7 +45,7 @@ fn scaled(span: u64, part: u64, whole: u64) -> u64
     u64::try_from(share).unwrap_or(span).min(span)
 }
 
-/// How far down the line is for so many records.
+/// The vertical position of this many records.
 fn height_of(range: &Range, records: u64) -> u64 {
     let room = HEIGHT - 2 * MARGIN;
     let above = range.most.saturating_sub(records);
@@ -66,7 +66,7 @@ fn write_steps<W: Write>(out: &mut W, changes: &[ChangeStatus]) -> io::Result<()
     Ok(())
 }
 
-/// Writes what the picture shows, in words.
+/// Writes the description of the chart.
 fn write_words<W: Write>(
     out: &mut W,
     first: &ChangeStatus,
@@ -89,7 +89,7 @@ fn write_words<W: Write>(
     out.write_all(b".")
 }
 
-/// Writes the picture with what it shows in words beside it.
+/// Writes the chart and its description.
 pub(crate) fn write_picture<W: Write>(out: &mut W, changes: &[ChangeStatus]) -> io::Result<()> {
     let (Some(first), Some(last)) = (changes.first(), changes.last()) else {
         return out.write_all(b"<p>No version has been published yet.</p>\n");

@@ -1,4 +1,4 @@
-//! Reads the query of a request for the state of a route.
+//! Reads the query of a request for the validity of a route.
 ghost use Rattle.std.specs.Prelude.{◌≡◌, ◌<◌, ◌^◌, ◌∷◌, [], ℕ, List, IfOk, IfSome, IfNone};
 ghost use Rattle.std.specs.Cow.{cow_str_bytes};
 ghost use Rattle.std.specs.Fmt.{decimal};
@@ -11,7 +11,7 @@ use prefixes::{Asn, IpPrefix, Route};
 use std::alloc::{AllocError, Global};
 use std::borrow::CowStr;
 
-/// A name and its value, as they stand in a query.
+/// A name and its value, as in the query.
 #[derive(Clone, Copy)]
 struct RawPair<'a> {
     name: &'a [u8],
@@ -25,7 +25,7 @@ struct Pair<'a> {
     value: CowStr<'a>,
 }
 
-/// The two pairs of a query, if there are two.
+/// The two pairs of a query, if there are exactly two.
 fn two_pairs(query: &str) -> Option<(RawPair<'_>, RawPair<'_>)>
     ensures some { IfSome result (λ p. raw_pairs query.now ≡ (p.0.name.now, p.0.value.now) ∷ (p.1.name.now, p.1.value.now) ∷ []) }
     ensures none { IfNone result ((a b : List ℕ × List ℕ) → ¬ (raw_pairs query.now ≡ a ∷ b ∷ [])) }
@@ -51,7 +51,7 @@ fn decoded<'a>(alloc: Global, pair: &RawPair<'a>) -> Result<Pair<'a>, AllocError
     Ok(Pair { name, value })
 }
 
-/// The AS number that a text writes in decimal.
+/// The AS number of a decimal text.
 fn number(text: &str) -> Option<u32>
     ensures some { IfSome result (λ n. (n < 2 ^ 32) × (text.now ≡ decimal n)) }
     ensures none { IfNone result ((n : ℕ) → n < 2 ^ 32 → ¬ (text.now ≡ decimal n)) }
@@ -62,7 +62,7 @@ fn number(text: &str) -> Option<u32>
     }
 }
 
-/// The AS number that a text writes in decimal, with `AS` before it or without.
+/// The AS number of a decimal text, with or without `AS` before it.
 fn asn_in(text: &str) -> Option<u32>
     ensures some { IfSome result (λ n. (n < 2 ^ 32) × AsnText n text.now) }
     ensures none { IfNone result (IsNoAsn text.now) }
@@ -100,10 +100,10 @@ fn route_of_pairs(one: &Pair<'_>, other: &Pair<'_>) -> Result<Route, QueryFault>
     }
 }
 
-/// The route for which a query asks: `asn=NUMBER&prefix=PREFIX`, each of the two keys once, in either order, and no other key. The number of
-/// the AS stands in decimal digits, with `AS` before it or without. Names and values are decoded as those of web forms (the URL Standard,
-/// section 5.1), so `%2F` stands for `/` and `%3A` for `:`. `Keys`: the keys are others; then `Asn`: there is no AS number; then `Prefix`:
-/// there is no prefix, and why. `Memory`: out of memory.
+/// The route of a query: `asn=NUMBER&prefix=PREFIX`, each of the two keys once, in either order, and no other key. The AS number is in decimal,
+/// with or without `AS` before it. Names and values are decoded as those of web forms (the URL Standard, section 5.1), so `%2F` is `/` and `%3A`
+/// is `:`. The first fault is given: `Keys` for other keys, then `Asn` for a bad AS number, then `Prefix` for a bad prefix. `Memory` is out of
+/// memory.
 pub fn read_query(alloc: Global, query: &str) -> Result<Route, QueryFault>
     ensures { Finds query.now result }
 {

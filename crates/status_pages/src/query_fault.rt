@@ -1,20 +1,20 @@
-//! Why a query asks for no route.
+//! Why a query has no route.
 ghost use Rattle.std.specs.Prelude.{◌≡◌};
 
 use prefixes::PrefixFault;
 use std::alloc::AllocError;
 use thiserror::Error;
 
-/// Why a query asks for no route. The text says what to write.
+/// Why a query has no route. The text says what to write.
 #[derive(Clone, Copy, Debug, Drop, PartialEq, Eq, Error)]
 pub enum QueryFault {
     /// The keys are not `asn` and `prefix`, each once.
     #[error("write ?asn=NUMBER&prefix=PREFIX, each of the two keys once and no other, as in ?asn=64496&prefix=192.0.2.0/24")]
     Keys,
-    /// The value of `asn` is no AS number.
+    /// The value of `asn` is not an AS number.
     #[error("write the AS number under asn in decimal digits, from 0 to 4294967295, with AS before it or without")]
     Asn,
-    /// The value of `prefix` is no prefix.
+    /// The value of `prefix` is not a prefix.
     #[error("write an IPv4 or IPv6 prefix under prefix, as 192.0.2.0/24 or 2001:db8::/32: {0}")]
     Prefix(PrefixFault),
     /// Out of memory.

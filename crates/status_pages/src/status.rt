@@ -1,53 +1,53 @@
-//! What a cache is at a moment.
+//! The status of a cache.
 
 use std::net::SocketAddr;
 
-/// What a cache reports of itself at a moment. Moments are in seconds since 1970.
+/// The status of a cache at a time. Times are in seconds since 1970.
 #[derive(Debug, Drop)]
 pub struct Status {
     /// The program's version, as `--version` prints it.
     pub version: &'static str,
-    /// The moment of which all else is said.
+    /// The time of the status.
     pub now: u64,
     /// When the program started.
     pub started: u64,
-    /// How many seconds the clock is behind: it was set back by so much since the start.
+    /// How many seconds the clock was set back since the start.
     pub clock_behind: u64,
-    /// The session in version 1 of the protocol (RFC 8210 section 5.1).
+    /// The session in protocol version 1 (RFC 8210 section 5.1).
     pub session: u16,
-    /// The session in version 0 of the protocol (RFC 6810 section 5.1).
+    /// The session in protocol version 0 (RFC 6810 section 5.1).
     pub session0: u16,
-    /// The serial of the version that is served, or `None` before the first is published.
+    /// The serial of the served version, or `None` before the first version.
     pub serial: Option<u32>,
-    /// The IPv4 records that are served.
+    /// How many IPv4 records are served.
     pub ipv4: u64,
-    /// The IPv6 records that are served.
+    /// How many IPv6 records are served.
     pub ipv6: u64,
-    /// The records of length 0 that are left out.
+    /// How many records of length 0 are left out.
     pub left_out: u64,
-    /// The last versions, the oldest first. Those before the last 64 are not listed.
+    /// The last 64 versions, the oldest first.
     pub changes: Vec<ChangeStatus>,
-    /// What is followed: files and publication points.
+    /// The watched files and publication points.
     pub files: Vec<FileStatus>,
-    /// The clients that are connected.
+    /// The connected clients.
     pub clients: Vec<ClientStatus>,
     /// How many clients there may be at once.
     pub client_limit: u64,
-    /// How many clients were taken in since the start, with those that have gone.
+    /// How many clients were admitted since the start, open and closed.
     pub clients_ever: u64,
-    /// What all clients since the start sent.
+    /// The traffic from all clients since the start.
     pub received: TotalTraffic,
-    /// What all clients since the start were sent.
+    /// The traffic to all clients since the start.
     pub sent: TotalTraffic,
-    /// How many times a file was taken since the start.
+    /// How many times a file was loaded since the start.
     pub reloads_taken: u64,
     /// How many times a file was refused since the start.
     pub reloads_refused: u64,
-    /// How many milliseconds it took to take what came last, or `None` before the first.
+    /// How many milliseconds the last load took, or `None` before the first.
     pub reload_milliseconds: Option<u64>,
 }
 
-/// A version that was published.
+/// A published version.
 #[derive(Clone, Copy, Debug, PartialEq, Eq)]
 pub struct ChangeStatus {
     /// Its serial.
@@ -62,41 +62,41 @@ pub struct ChangeStatus {
     pub records: u64,
 }
 
-/// A file that is followed, or a publication point.
+/// A watched file or publication point.
 #[derive(Debug, Drop)]
 pub struct FileStatus {
-    /// Where it is.
+    /// Its path.
     pub path: String,
-    /// When what was taken last of it was made: as it says itself, or else when the file was modified.
+    /// When the loaded data were made: by their own time, or else by the file's modification time.
     pub built: Option<u64>,
-    /// When it was taken last, or `None` where it was never taken.
+    /// When it was last loaded, or `None` if never.
     pub taken: Option<u64>,
-    /// Why it was refused last, if it was and has not been taken since.
+    /// Why it was refused last, if it was not loaded since.
     pub refusal: Option<String>,
-    /// Whether what it has is older than it may be.
+    /// Whether the loaded data are older than the maximum age.
     pub is_old: bool,
     /// How many of its entries have expired.
     pub expired: u64,
 }
 
-/// A client that is connected.
+/// A connected client.
 #[derive(Clone, Copy, Debug, PartialEq, Eq)]
 pub struct ClientStatus {
-    /// Where it connected from.
+    /// Its address and port.
     pub address: SocketAddr,
-    /// The version of the protocol that it speaks, 0 or 1, or `None` where it has said nothing yet.
+    /// Its protocol version, 0 or 1, or `None` before its first PDU.
     pub version: Option<u8>,
-    /// The serial that was last sent to it in an End of Data, if any was.
+    /// The serial of the last End of Data that was sent to it, if there was one.
     pub serial: Option<u32>,
     /// When it connected.
     pub since: u64,
-    /// What it sent.
+    /// The traffic from it.
     pub received: ClientTraffic,
-    /// What it was sent.
+    /// The traffic to it.
     pub sent: ClientTraffic,
 }
 
-/// What went one way on a connection.
+/// The traffic of one connection in one direction.
 #[derive(Clone, Copy, Debug, PartialEq, Eq)]
 pub struct ClientTraffic {
     /// How many bytes.
@@ -105,7 +105,7 @@ pub struct ClientTraffic {
     pub pdus: u64,
 }
 
-/// What went one way on all connections.
+/// The traffic of all connections in one direction.
 #[derive(Clone, Copy, Debug, PartialEq, Eq)]
 pub struct TotalTraffic {
     /// How many bytes.

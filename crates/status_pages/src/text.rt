@@ -1,4 +1,4 @@
-//! Text inside other text, numbers and times.
+//! Escaped texts, numbers and times.
 ghost use Rattle.std.specs.Prelude.{◌≡◌, OnOk};
 ghost use Rattle.std.specs.Io.KnownBytes.{Appends};
 ghost use Rattle.std.specs.List.{flat_map};
@@ -8,7 +8,7 @@ ghost use Rattle.status_pages.specs.Escapes.{html_char, label_char};
 use daemon_parts::time_at;
 use std::io::{self, Write};
 
-/// Writes a character of a text in HTML, where `&`, `<`, `>` and quotes stand as references.
+/// Writes a character in HTML. `&`, `<`, `>` and quotes are written as character references.
 #[tactic(auto, unfolding(crate::specs::Escapes::html_char))]
 fn write_html_char<W: Write>(out: &mut W, character: char) -> io::Result<()>
     ensures { OnOk result (Appends (W.contents out.old) (W.contents out.new) (html_char character)) }
@@ -23,7 +23,7 @@ fn write_html_char<W: Write>(out: &mut W, character: char) -> io::Result<()>
     }
 }
 
-/// Writes a text as HTML, in an element or in a quoted attribute.
+/// Writes a text in HTML, for an element or a quoted attribute.
 pub(crate) fn write_html<W: Write>(out: &mut W, text: &str) -> io::Result<()>
     ensures { OnOk result (Appends (W.contents out.old) (W.contents out.new) (flat_map html_char (chars text.now))) }
 {
@@ -33,7 +33,7 @@ pub(crate) fn write_html<W: Write>(out: &mut W, text: &str) -> io::Result<()>
     Ok(())
 }
 
-/// Writes a character of the value of a label of Prometheus.
+/// Writes a character of a Prometheus label value.
 #[tactic(auto, unfolding(crate::specs::Escapes::label_char))]
 fn write_label_char<W: Write>(out: &mut W, character: char) -> io::Result<()>
     ensures { OnOk result (Appends (W.contents out.old) (W.contents out.new) (label_char character)) }
@@ -46,7 +46,7 @@ fn write_label_char<W: Write>(out: &mut W, character: char) -> io::Result<()>
     }
 }
 
-/// Writes a text as the value of a label of Prometheus, without its quotes.
+/// Writes a text as a Prometheus label value, without its quotes.
 pub(crate) fn write_label<W: Write>(out: &mut W, text: &str) -> io::Result<()>
     ensures { OnOk result (Appends (W.contents out.old) (W.contents out.new) (flat_map label_char (chars text.now))) }
 {
@@ -56,7 +56,7 @@ pub(crate) fn write_label<W: Write>(out: &mut W, text: &str) -> io::Result<()>
     Ok(())
 }
 
-/// Writes texts one behind the other.
+/// Writes texts one after the other.
 pub(crate) fn write_texts<W: Write>(out: &mut W, texts: &[&str]) -> io::Result<()> {
     for text in texts {
         out.write_all(text.as_bytes())?;
@@ -80,7 +80,7 @@ const THOUSANDS: [u64; 7] = [
     1,
 ];
 
-/// Writes a number in groups of three digits with narrow blanks between them.
+/// Writes a number in groups of three digits with narrow spaces between them.
 pub(crate) fn write_grouped<W: Write>(out: &mut W, number: u64) -> io::Result<()> {
     let mut has_begun = false;
     for power in THOUSANDS {
@@ -95,12 +95,12 @@ pub(crate) fn write_grouped<W: Write>(out: &mut W, number: u64) -> io::Result<()
     Ok(())
 }
 
-/// Writes a group behind others: a narrow blank and three digits.
+/// Writes a further group: a narrow space and three digits.
 fn write_group<W: Write>(out: &mut W, group: u64) -> io::Result<()> {
     write!(out, "\u{202f}{group:03}")
 }
 
-/// Writes how long ago a moment was: in seconds, minutes, hours or days, none of them begun.
+/// Writes how long ago a time was, in full seconds, minutes, hours or days.
 pub(crate) fn write_ago<W: Write>(out: &mut W, now: u64, moment: u64) -> io::Result<()> {
     let seconds = now.saturating_sub(moment);
     let (number, unit) = match seconds {
@@ -113,7 +113,7 @@ pub(crate) fn write_ago<W: Write>(out: &mut W, now: u64, moment: u64) -> io::Res
     write_texts(out, &["\u{202f}", unit, " ago"])
 }
 
-/// Writes a moment in UTC for people, and for machines in the element's attribute.
+/// Writes a time in UTC for people, and in the element's attribute for machines.
 pub(crate) fn write_time<W: Write>(out: &mut W, moment: u64) -> io::Result<()> {
     let time = time_at(moment);
     out.write_all(b"<time datetime=\"")?;
@@ -125,7 +125,7 @@ pub(crate) fn write_time<W: Write>(out: &mut W, moment: u64) -> io::Result<()> {
     out.write_all(b"</time>")
 }
 
-/// Writes a moment, and how long ago it was.
+/// Writes a time, and how long ago it was.
 pub(crate) fn write_since<W: Write>(out: &mut W, now: u64, moment: u64) -> io::Result<()> {
     write_time(out, moment)?;
     out.write_all(b" <span class=\"dim\">")?;

@@ -1,4 +1,4 @@
-//! What the records of a set say of a route.
+//! The validity of a route under a set.
 ghost use Rattle.std.specs.Prelude.{◌≡◌, IfOk, filter};
 ghost use Rattle.vrps.specs.Origin.{is_origin, matches};
 ghost use Rattle.status_pages.specs.Kinds.{is_of_other_as, is_too_short, is_within};
@@ -7,15 +7,14 @@ use prefixes::{Asn, Route, Vrp};
 use std::alloc::{AllocError, Global};
 use vrps::{OriginIndex, OriginState};
 
-/// The state of a route over a set (RFC 6811 section 2), and the records that cover it, each in the list of what it says of the route, in
-/// ascending order.
+/// The state of a route under a set (RFC 6811 section 2), and the records that cover it in three lists, each in ascending order.
 #[derive(Debug, Drop)]
 pub struct Validity {
     /// The state.
     pub state: OriginState,
     /// The records that match the route.
     pub matched: Vec<Vrp>,
-    /// The records whose maximum length is less than the route's length, whatever their AS.
+    /// The records whose maximum length is below the route's length, of any AS.
     pub unmatched_length: Vec<Vrp>,
     /// The other records: their AS is not the route's origin, or it is 0, which is no route's origin (RFC 6483 section 4).
     pub unmatched_as: Vec<Vrp>,
@@ -24,7 +23,7 @@ pub struct Validity {
 impl Validity {
     ghost use Rattle.status_pages.specs.Validity.{IsValidity};
 
-    /// What the records of the index's set say of a route.
+    /// The validity of a route under the index's set.
     pub fn of_route(
         alloc: Global,
         index: &OriginIndex,
@@ -56,7 +55,7 @@ fn matching(alloc: Global, route: &Route, records: &[Vrp]) -> Result<Vec<Vrp>, A
         .collect(alloc)
 }
 
-/// The records that cover the route, and whose maximum length is less than its length.
+/// The records that cover the route, and whose maximum length is below its length.
 fn too_short(alloc: Global, route: &Route, records: &[Vrp]) -> Result<Vec<Vrp>, AllocError>
     ensures { IfOk result (λ found. found.items ≡ filter (is_too_short route.now) records.now) }
 {
@@ -87,7 +86,7 @@ fn is_match(route: &Route, vrp: &Vrp) -> bool
         && is_origin(route.origin, vrp.asn())
 }
 
-/// Whether the record covers the route, and its maximum length is less than the route's length.
+/// Whether the record covers the route, and its maximum length is below the route's length.
 fn is_too_short(route: &Route, vrp: &Vrp) -> bool
     ensures { result ≡ is_too_short route.now vrp.now }
 {
@@ -103,7 +102,7 @@ fn is_of_other_as(route: &Route, vrp: &Vrp) -> bool
         && !is_origin(route.origin, vrp.asn())
 }
 
-/// Whether the route's length is at most the record's maximum.
+/// Whether the route's length is at most the record's maximum length.
 fn is_within(route: &Route, vrp: &Vrp) -> bool
     ensures { result ≡ is_within route.now vrp.now }
 {

@@ -1,4 +1,4 @@
-//! What is said of a route, as JSON.
+//! The validity of a route, as JSON.
 ghost use Rattle.std.specs.Prelude.{◌≡◌, OnOk};
 ghost use Rattle.std.specs.Io.KnownBytes.{Appends};
 ghost use Rattle.std.specs.List.{flat_map};
@@ -31,7 +31,7 @@ fn write_after_comma<W: Write>(out: &mut W, vrp: &Vrp) -> io::Result<()>
     write_vrp(out, vrp)
 }
 
-/// Writes records, each behind a comma.
+/// Writes records, each after a comma.
 fn write_more<W: Write>(out: &mut W, records: &[Vrp]) -> io::Result<()>
     ensures { OnOk result (Appends (W.contents out.old) (W.contents out.new) (flat_map after_comma records.now)) }
 {
@@ -41,7 +41,7 @@ fn write_more<W: Write>(out: &mut W, records: &[Vrp]) -> io::Result<()>
     Ok(())
 }
 
-/// Writes records with commas between them.
+/// Writes records, separated by commas.
 fn write_joined<W: Write>(out: &mut W, records: &[Vrp]) -> io::Result<()>
     ensures { OnOk result (Appends (W.contents out.old) (W.contents out.new) (joined_vrps records.now)) }
 {
@@ -102,7 +102,7 @@ fn word_of(state: OriginState) -> &'static str
     }
 }
 
-/// Why a route is invalid, as a member of the object, if it is.
+/// The reason of an invalid route, as a member of the object.
 fn reason_of(state: OriginState, is_too_long: bool) -> &'static str
     ensures { result.now ≡ reason_text state is_too_long }
 {
@@ -116,7 +116,7 @@ fn reason_of(state: OriginState, is_too_long: bool) -> &'static str
     }
 }
 
-/// What the state means.
+/// The description of a state.
 fn description_of(state: OriginState, is_too_long: bool) -> &'static str
     ensures { result.now ≡ description state is_too_long }
 {
@@ -131,7 +131,7 @@ fn description_of(state: OriginState, is_too_long: bool) -> &'static str
     }
 }
 
-/// Writes a state, with its reason and what it means.
+/// Writes a state, with its reason and its description.
 #[tactic(auto, unfolding(crate::specs::ValidityText::state_text))]
 fn write_state<W: Write>(out: &mut W, state: OriginState, is_too_long: bool) -> io::Result<()>
     ensures { OnOk result (Appends (W.contents out.old) (W.contents out.new) (state_text state is_too_long)) }
@@ -178,14 +178,14 @@ fn write_lists<W: Write>(
     write_last_list(out, too_short)
 }
 
-/// Whether the AS of one of these records is the route's origin.
+/// Whether one of these records is of the route's origin.
 fn has_origin(route: &Route, records: &[Vrp]) -> bool
     ensures { result ≡ has_origin route.now records.now }
 {
     records.iter().any(|vrp| is_origin(route.origin, vrp.asn()))
 }
 
-/// Writes what is judged of a route.
+/// Writes the validity.
 #[tactic(auto, unfolding(crate::specs::ValidityText::judged_text))]
 fn write_judged<W: Write>(
     out: &mut W,
@@ -201,7 +201,7 @@ fn write_judged<W: Write>(
     write_lists(out, matched, other_as, too_short)
 }
 
-/// Writes the beginning: the route.
+/// Writes the start: the route.
 #[tactic(auto, unfolding(crate::specs::ValidityText::beginning))]
 fn write_beginning<W: Write>(out: &mut W, route: &Route) -> io::Result<()>
     ensures { OnOk result (Appends (W.contents out.old) (W.contents out.new) (beginning route.now)) }
@@ -211,7 +211,7 @@ fn write_beginning<W: Write>(out: &mut W, route: &Route) -> io::Result<()>
     out.write_all(b",\"validity\":")
 }
 
-/// Writes the middle: what is said of the route.
+/// Writes the middle: the validity of the route.
 #[tactic(auto, unfolding(crate::specs::ValidityText::middle))]
 fn write_middle<W: Write>(out: &mut W, route: &Route, validity: &Validity) -> io::Result<()>
     ensures { OnOk result (Appends (W.contents out.old) (W.contents out.new) (middle route.now validity.now)) }
@@ -236,7 +236,7 @@ fn write_ending<W: Write>(out: &mut W, time: &[u8]) -> io::Result<()>
     out.write_all(b"\"}")
 }
 
-/// Writes the whole, at a time.
+/// Writes the whole object, at a time.
 #[tactic(auto, unfolding(crate::specs::ValidityText::validity_text))]
 fn write_validity_at<W: Write>(
     out: &mut W,
@@ -251,8 +251,8 @@ fn write_validity_at<W: Write>(
     write_ending(out, time)
 }
 
-/// Writes what is said of a route, in the form of the call `/api/v1/validity` of Routinator, compact and without a newline. `now` is when it
-/// is said, in seconds since 1970.
+/// Writes the validity of a route in the format of Routinator's `/api/v1/validity`, compact and without a newline. `now` is the time that is
+/// written, in seconds since 1970.
 pub fn write_validity<W: Write>(
     out: &mut W,
     route: &Route,
