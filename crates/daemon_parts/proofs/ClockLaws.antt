@@ -37,7 +37,7 @@ months_before_last year = by_leap (is_leap year)
     by_leap true = refl
     by_leap false = refl
 
--- the text, two digits after two
+-- the text, two digits at a time
 pub text_by_twos : (m : CivilMoment)
     → decimals 2 (m.year / 100) ++ decimals 2 (m.year % 100) ++ 45 ∷ decimals 2 m.month ++ 45 ∷ decimals 2 m.day ++ 84 ∷ decimals 2 m.hour ++ 58 ∷ decimals 2 m.minute ++ 58 ∷ decimals 2 m.second ++ 90 ∷ [] ≡ time_text m
 unfolding time_text
@@ -50,7 +50,7 @@ text_by_twos m =
     let later = 45 ∷ decimals 2 m.month ++ 45 ∷ decimals 2 m.day ++ 84 ∷ decimals 2 m.hour ++ 58 ∷ decimals 2 m.minute ++ 58 ∷ decimals 2 m.second ++ 90 ∷ [] in
     λ i. a i ∷ b i ∷ c i ∷ d i ∷ later
 
--- A date and a time of day whose numbers are in their ranges are a moment.
+-- A date and a time of day with all numbers in range are a moment.
 pub real_from : (m : CivilMoment) → 1970 ≤ m.year → m.year ≤ 9999 → 1 ≤ m.month → m.month ≤ 12 → 1 ≤ m.day → m.day ≤ days_of_month m.year m.month
     → m.hour ≤ 23 → m.minute ≤ 59 → m.second ≤ 59 → is_moment m ≡ true
 unfolding is_moment
@@ -61,11 +61,11 @@ real_from m a b c d e f g h k =
     le_true : (a b : ℕ) → a ≤ b → nat_le a b ≡ true
     le_true a b h = grind (arith, nat_tests)
 
--- Days, hours, minutes and seconds make up the number that they were taken of.
+-- Days, hours, minutes and seconds add up to the number that they were divided from.
 pub parts_of : (n : ℕ) → ((n / 86400 * 24 + n / 3600 % 24) * 60 + n / 60 % 60) * 60 + n % 60 ≡ n
 parts_of n = omega arith
 
--- the bytes of a text of a moment that are no marks between its numbers
+-- the bytes of the text of a moment, without separators
 abbrev pub without_marks : List ℕ → List ℕ
 without_marks text =
     slice_index_or text 0 0 ∷ slice_index_or text 1 0 ∷ slice_index_or text 2 0 ∷ slice_index_or text 3 0 ∷ slice_index_or text 5 0 ∷ slice_index_or text 6 0 ∷ slice_index_or text 8 0 ∷ slice_index_or text 9 0
@@ -75,7 +75,7 @@ pub marks_dropped : (m : CivilMoment) → without_marks (time_text m) ≡ moment
 unfolding time_text moment_text moment_digits
 marks_dropped m = refl
 
--- The moment that is read from the text of the one at a second is at that second.
+-- The moment that is read from the text of a second is of that second.
 pub found_at : (m : CivilMoment) (seconds : ℕ) (found : Option CivilMoment) → IsAt m seconds → seconds ≤ last_second → found ≡ moment_in (moment_text m) → IsMomentAt seconds found
 found_at m seconds found is_at within e =
     subst (IsMomentAt seconds) (sym (e ∙ text_found m is_at.real)) (within, is_at.real, omega (arith, is_at.counted, within))

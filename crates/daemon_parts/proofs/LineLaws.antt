@@ -1,4 +1,4 @@
--- Characters of a text in quotes.
+-- Characters of a quoted text.
 use Rattle.std.proofs.Common.{◌≡◌, ℕ, ◌/◌, ◌%◌, Bool, true, false, ◌||◌, ◌==◌, if◌then◌else◌, ◌∷◌, [], ◌++◌, codes, encode_utf8, ap, arith}
 use Rattle.std.proofs.lemmas.Bool.Decides.{nat_tests}
 use Rattle.std.specs.Char.{digit_char, is_control}

@@ -1,4 +1,4 @@
--- Serials stay behind the clock, so those of a run that started later are later.
+-- Serials are not ahead of the clock, so those of a later run are later.
 use Rattle.std.proofs.Common.{◌≡◌, ℕ, zero, suc, ◌+◌, ◌-◌, ◌^◌, ◌<◌, ◌≤◌, true, nat_lt, List, [], ◌∷◌, length, All, None, Some, arith, subst, sym}
 use Rattle.std.proofs.lemmas.Bool.Decides.{nat_tests}
 use Rattle.vrps.specs.Serial.{serial_at, is_before}
@@ -22,14 +22,14 @@ at_most end moments h = λ k d lt. omega (arith, h k d lt)
 lt_from : (a b : ℕ) → nat_lt a b ≡ true → a < b
 lt_from a b h = grind (arith, nat_tests)
 
--- Versions behind one that was published: the last moment and as many seconds as there are versions are over before the end.
+-- The versions after one that was published: the last time is at least as many seconds later as there are versions.
 behind : (last end : ℕ) (moments : List ℕ) → ArePaced (Some last) moments → All (λ now. now < end) moments → (i : ℕ) → i < length moments → suc (last + i) < end
 behind last end [] paced ends i h = absurd (omega (arith, h))
 behind last end (now ∷ later) paced ends zero h = omega (arith, lt_from last now paced.0, first_of (λ n. n < end) now later ends)
 behind last end (now ∷ later) paced ends (suc i) h =
     omega (arith, lt_from last now paced.0, behind now end later paced.1 (rest_of (λ n. n < end) now later ends) i (omega (arith, h)))
 
--- The same from the start of a run, whose first version may come in that second
+-- The same from the start of a run, whose first version may be published in that second
 behind_start : (start end : ℕ) (moments : List ℕ) → ArePaced None moments → All (λ now. start ≤ now) moments → All (λ now. now < end) moments → (i : ℕ) → i < length moments → start + i < end
 behind_start start end [] paced begun ends i h = absurd (omega (arith, h))
 behind_start start end (now ∷ later) paced begun ends zero h = omega (arith, first_of (λ n. start ≤ n) now later begun, first_of (λ n. n < end) now later ends)

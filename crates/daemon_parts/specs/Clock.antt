@@ -1,4 +1,4 @@
--- The moments of a clock that counts seconds, and the time of a line of the log in the form of RFC 3339 section 5.6.
+-- The date and time of a second since 1970, and the time of a log line in the form of RFC 3339 section 5.6.
 use Rattle.std.specs.Prelude.{◌≡◌, ◌<◌, ◌≤◌, ℕ, true, min, List, ◌++◌, codes, Option, None, Some}
 use Rattle.der_lite.specs.Moments.{CivilMoment, decimals, is_moment}
 use Rattle.der_lite.specs.Seconds.{seconds_of}
@@ -7,12 +7,12 @@ use Rattle.der_lite.specs.Seconds.{seconds_of}
 abbrev pub last_second : ℕ
 last_second = 253402300799
 
--- A real moment that is so many seconds after the beginning of 1970; where they are more than there are moments, the last one
+-- A real moment of this many seconds since 1970, or the last moment if there are too many seconds
 pub record IsAt (m : CivilMoment) (seconds : ℕ) : Type 0 where
   pub real : is_moment m ≡ true
   pub counted : seconds_of m ≡ min seconds last_second
 
--- The moment that is so many seconds after the beginning of 1970: there is one up to the end of the year 9999, and none later.
+-- The moment of this many seconds since 1970. There is one up to the end of the year 9999, and none later.
 abbrev pub IsMomentAt : ℕ → Option CivilMoment → Type 0
 IsMomentAt seconds (Some m) = (seconds ≤ last_second) × (is_moment m ≡ true) × (seconds_of m ≡ seconds)
 IsMomentAt seconds None = last_second < seconds

@@ -17,7 +17,7 @@ evening_is_at : IsAt (told_moment 2026 11 25 18 40 0) 1795632000
 unfolding is_moment days_of_years days_of_months
 evening_is_at = record { real = refl; counted = refl }
 
--- the last second of all, and one after it
+-- the last second, and one after it
 last_is_at : IsAt (told_moment 9999 12 31 23 59 59) last_second
 unfolding is_moment days_of_years days_of_months
 last_is_at = record { real = refl; counted = refl }
@@ -26,7 +26,7 @@ after_the_last : IsAt (told_moment 9999 12 31 23 59 59) 253402300800
 unfolding is_moment days_of_years days_of_months
 after_the_last = record { real = refl; counted = refl }
 
--- the beginning, 29 February of a century that is a leap year and of another leap year, and both sides of the end of February in a century that is none
+-- the first second, 29 February of a leap century and of another leap year, and both sides of the end of February in another century
 first_moment : IsMomentAt 0 (Some (told_moment 1970 1 1 0 0 0))
 unfolding is_moment days_of_years days_of_months
 first_moment = (lit≤ tt, refl, refl)
@@ -47,7 +47,7 @@ march_moment : IsMomentAt 4107542400 (Some (told_moment 2100 3 1 0 0 0))
 unfolding is_moment days_of_years days_of_months
 march_moment = (lit≤ tt, refl, refl)
 
--- the last second of all is a moment, and the one after it is none
+-- the last second is a moment, and the one after it is none
 last_moment : IsMomentAt 253402300799 (Some (told_moment 9999 12 31 23 59 59))
 unfolding is_moment days_of_years days_of_months
 last_moment = (lit≤ tt, refl, refl)

@@ -1,4 +1,4 @@
--- What an event is logged by: a word, and values under their keys.
+-- The log entry of an event: a word, and values under keys.
 use Rattle.std.specs.Prelude.{ℕ, Bool, true, false, List, [], ◌∷◌, codes, Option, None, Some}
 use Rattle.std.specs.declared.net.socket_addr.SocketAddr.{SocketAddr}
 use Rattle.daemon_parts.specs.declared.event.ClientClosed.{ClientClosed}
@@ -27,7 +27,7 @@ pub record Entry : Type 0 where
 abbrev pub entry : List ℕ → LogValue → Entry
 entry key value = record { key = key; value = value }
 
--- what a value of the program says
+-- the value that a value of the program represents
 abbrev pub log_value : Value → LogValue
 log_value value.Nothing = Nothing
 log_value (value.Number n) = Number n
@@ -37,7 +37,7 @@ log_value (value.Text s) = Text s.now
 abbrev pub log_pair : Pair → Entry
 log_pair p = entry p.key.now (log_value p.value)
 
--- the version of the protocol that a client spoke, if any
+-- the protocol version of a client, if any
 abbrev pub spoken : Option ℕ → LogValue
 spoken None = Nothing
 spoken (Some version) = Number version
@@ -51,11 +51,11 @@ of_number key n = entry key (Number n)
 abbrev pub of_text : List ℕ → List ℕ → Entry
 of_text key s = entry key (Text s)
 
--- what is logged of the names of versions,
+-- the entries of a run's sessions and serial,
 abbrev pub session_entries : SessionIds → List Entry
 session_entries n = of_number (codes "session") n.session ∷ of_number (codes "session0") n.session0 ∷ of_number (codes "serial") n.serial ∷ []
 
--- of a client that has gone,
+-- of a client that was closed,
 abbrev pub client_closed_entries : ClientClosed → List Entry
 client_closed_entries d =
     at d.address ∷ of_text (codes "why") d.why.now ∷ entry (codes "version") (spoken d.version)
@@ -71,7 +71,7 @@ report_entries r =
     at r.address ∷ of_text (codes "direction") (direction r.is_received) ∷ of_number (codes "code") r.code
     ∷ of_text (codes "name") (report_name r.code) ∷ of_text (codes "text") r.text.now ∷ []
 
--- and of a version that is published
+-- and of a published version
 abbrev pub publication_entries : Publication → List Entry
 publication_entries p =
     of_number (codes "session") p.session ∷ of_number (codes "serial") p.serial ∷ of_number (codes "announced") p.announced

@@ -8,7 +8,7 @@ use Rattle.daemon_parts.specs.Entries.{Nothing, of_number, of_text, entry}
 use Rattle.daemon_parts.specs.Lines.{escaped, log_char, quoted, is_plain, line_text}
 use Rattle.daemon_parts.specs.ReportNames.{report_name}
 
--- a blank, a new line, a quote and a backslash
+-- a blank, a newline, a quote and a backslash
 in_quotes : quoted (codes "a b\n\"\\") ≡ codes "\"a b\\u000a\\\"\\\\\""
 unfolding quoted escaped log_char chars encode_utf8
 in_quotes = refl

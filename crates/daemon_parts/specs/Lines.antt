@@ -1,4 +1,4 @@
--- The lines of a log, in both forms.
+-- The lines of the event log, in both formats.
 use Rattle.std.specs.Prelude.{ℕ, ◌/◌, ◌%◌, Bool, not, ◌&&◌, ◌||◌, ◌==◌, if◌then◌else◌, List, [], ◌∷◌, ◌++◌, length, codes, Option, encode_utf8}
 use Rattle.std.specs.Char.{digit_char, is_control}
 use Rattle.std.specs.Fmt.{decimal}
@@ -13,18 +13,18 @@ use Rattle.daemon_parts.specs.declared.event.LogEvent.{LogEvent}
 use Rattle.daemon_parts.specs.Clock.{IsAt, time_text}
 use Rattle.daemon_parts.specs.Entries.{Entry, LogValue, Nothing, Number, Address, Text, word_of, entries_of}
 
--- A character of a text in quotes (RFC 8259 section 7): a control character stands there by its number, so that no line is broken,
+-- A character of a quoted text (RFC 8259 section 7): a control character is escaped by its number, so that no line is broken.
 unfoldable pub log_char : ℕ → List ℕ
 log_char c = if is_control c then codes "\\u00" ++ digit_char (c / 16) ∷ digit_char (c % 16) ∷ [] else encode_utf8 c
 
--- and a quote and a backslash stand behind a backslash.
+-- A quote and a backslash are escaped by a backslash.
 unfoldable pub escaped : ℕ → List ℕ
 escaped c = if c == 34 || c == 92 then 92 ∷ c ∷ [] else log_char c
 
 unfoldable pub quoted : List ℕ → List ℕ
 quoted s = 34 ∷ (flat_map escaped (chars s) ++ 34 ∷ [])
 
--- A text that needs no quotes has no blank, no quote, no equals sign and no backslash, and visible characters of ASCII alone.
+-- A text that needs no quotes has only visible ASCII characters, and no quote, no equals sign and no backslash.
 abbrev pub is_plain_byte : ℕ → Bool
 is_plain_byte b = is_between 33 126 b && not (b == 34 || b == 61 || b == 92)
 
@@ -69,7 +69,7 @@ end_text form.Json = codes "}\n"
 abbrev pub line_text : LogFormat → List ℕ → List ℕ → List Entry → List ℕ
 line_text form time word entries = head_text form time word ++ flat_map (entry_text form) entries ++ end_text form
 
--- One line is appended, which reports an event at a moment.
+-- One line is appended: that of an event at this second.
 abbrev pub LogsEvent : Option (List ℕ) → Option (List ℕ) → LogFormat → ℕ → LogEvent → Type 0
 LogsEvent old new form seconds event =
     (m : CivilMoment) × IsAt m seconds × Appends old new (line_text form (time_text m) (word_of event) (entries_of event))

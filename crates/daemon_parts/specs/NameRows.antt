@@ -1,4 +1,4 @@
--- Names, worked out.
+-- Sessions and serials, worked out.
 use Rattle.std.specs.Prelude.{◌≡◌, ◌∷◌, [], codes, false, true, refl}
 use Rattle.daemon_parts.specs.Names.{first_serial, session0_of, joined, front_of, is_machine_id}
 
@@ -23,7 +23,7 @@ lengths_come_first = refl
 high_first : front_of (85 ∷ 198 ∷ 7 ∷ []) ≡ 21958
 high_first = refl
 
--- no machine is named by an empty file, by a newline alone, or before the first boot is over
+-- an empty file, a newline alone, and a file before the end of the first boot are no machine id
 empty_names_none : is_machine_id [] ≡ false
 empty_names_none = refl
 

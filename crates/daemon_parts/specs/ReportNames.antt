@@ -1,4 +1,4 @@
--- The names of the codes of an Error Report, as RFC 8210 section 12 has them.
+-- The names of the codes of an Error Report, as in RFC 8210 section 12.
 use Rattle.std.specs.Prelude.{ℕ, ◌==◌, if◌then◌else◌, List, codes}
 
 abbrev pub report_name : ℕ → List ℕ

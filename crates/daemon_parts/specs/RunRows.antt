@@ -3,7 +3,7 @@ use Rattle.std.specs.Prelude.{◌≡◌, ℕ, ◌+◌, true, false, None, Some, 
 use Rattle.vrps.specs.Serial.{is_before}
 use Rattle.daemon_parts.specs.Runs.{Run, may_publish, serial_in}
 
--- a run that started at this moment and published twice
+-- a run that started at this second and published twice
 abbrev run : ℕ → Run
 run start = record { start = start; moments = start ∷ (start + 1) ∷ [] }
 
@@ -22,15 +22,15 @@ clock_back = refl
 second_version : serial_in (run 1764096000) 1 ≡ 1764096001
 second_version = refl
 
--- both versions of a run, and the first of one that started two seconds later
+-- both versions of a run, and the first of a run that started two seconds later
 next_run : is_before (serial_in (run 1764096000) 1) (serial_in (run 1764096002) 0) ≡ true
 next_run = refl
 
--- one that started in the second of the last version has its serial
+-- a run that started in the second of the last version has its serial
 same_serial : is_before (serial_in (run 1764096000) 1) (serial_in (run 1764096001) 0) ≡ false
 same_serial = refl
 
--- past 2^32, which is in the year 2106
+-- past 2^32, in the year 2106
 round_inside : serial_in (run 4294967295) 1 ≡ 0
 round_inside = refl
 

@@ -1,4 +1,4 @@
-//! The calendar: the moments of a clock that counts seconds, and the time of a line of the log.
+//! The calendar: the date and time of a second since 1970, and the time of a log line.
 ghost use Rattle.std.specs.Prelude.{◌≡◌, ◌<◌, ◌≤◌, ◌+◌, ◌-◌};
 ghost use Rattle.der_lite.specs.Moments.{days_of_month, decimals, is_leap, moment_text, told_moment};
 ghost use Rattle.der_lite.specs.Seconds.{days_of_months, days_of_year, days_of_years};
@@ -9,10 +9,10 @@ use der_lite::Moment;
 /// The last second of the year 9999.
 const LAST: u64 = 253_402_300_799;
 
-/// The days from the beginning of 1970 to the end of 9999.
+/// The days from the start of 1970 to the end of 9999.
 const DAYS: u64 = 2_932_897;
 
-/// A date with a time of day in UTC.
+/// A date and time of day in UTC.
 #[derive(Clone, Copy)]
 pub(crate) struct Civil {
     pub(crate) year: u16,
@@ -23,7 +23,7 @@ pub(crate) struct Civil {
     pub(crate) second: u16,
 }
 
-/// Whether a year has a 29 February: every fourth has, but of the centuries only every fourth.
+/// Whether a year has a 29 February: every fourth year, but of the centuries only every fourth.
 fn is_leap(year: u16) -> bool
     ensures { result ≡ is_leap year }
 {
@@ -37,7 +37,7 @@ fn days_of_year(year: u16) -> u64
     if is_leap(year) { 366 } else { 365 }
 }
 
-/// How many days a month has; a month is a number from 1 to 12.
+/// How many days a month has. A month is a number from 1 to 12.
 fn days_of_month(year: u16, month: u16) -> u64
     ensures { result ≡ days_of_month year month }
 {
@@ -48,7 +48,7 @@ fn days_of_month(year: u16, month: u16) -> u64
     }
 }
 
-/// The year in which the day lies that comes so many days after the first of 1970, and how many days of that year come before it.
+/// The year of a day, which is counted from 1970-01-01, and how many days of that year are before it.
 fn year_of(days: u64) -> (u16, u64)
     requires { days < DAYS }
     ensures year { (1970 ≤ result.0) × (result.0 ≤ 9999) }
@@ -66,7 +66,7 @@ fn year_of(days: u64) -> (u16, u64)
     (9999, rest)
 }
 
-/// The month of a year in which the day lies that comes so many days after its first, and how many days of that month come before it.
+/// The month of a day of a year, which is counted from the year's first, and how many days of that month are before it.
 fn month_of(year: u16, days: u64) -> (u16, u64)
     requires { days < days_of_year year }
     ensures month { (1 ≤ result.0) × (result.0 ≤ 12) }
@@ -84,7 +84,7 @@ fn month_of(year: u16, days: u64) -> (u16, u64)
     (12, rest)
 }
 
-/// The moment so many seconds after the beginning of 1970; after the year 9999 its last second.
+/// The date and time of this many seconds since 1970, or the last second of the year 9999 after it.
 pub(crate) fn civil_at(seconds: u64) -> Civil
     ensures { IsAt (told_moment result.year result.month result.day result.hour result.minute result.second) seconds }
 {
@@ -108,7 +108,7 @@ fn decimals(number: u16) -> [u8; 2]
     [b'0' + (number / 10 % 10) as u8, b'0' + (number % 10) as u8]
 }
 
-/// The text of a moment, `YYYY-MM-DDTHH:MM:SSZ` (RFC 3339 section 5.6).
+/// The text of a time, `YYYY-MM-DDTHH:MM:SSZ` (RFC 3339 section 5.6).
 pub(crate) fn time_text(civil: &Civil) -> [u8; 20]
     ensures { result ≡ time_text (told_moment civil.now.year civil.now.month civil.now.day civil.now.hour civil.now.minute civil.now.second) }
 {
@@ -124,7 +124,7 @@ pub(crate) fn time_text(civil: &Civil) -> [u8; 20]
     ]
 }
 
-/// The text of a moment without marks between its numbers, `YYYYMMDDHHMMSSZ` (X.690 section 11.7).
+/// The text of a time without separators, `YYYYMMDDHHMMSSZ` (X.690 section 11.7).
 fn short_text(civil: &Civil) -> [u8; 15]
     ensures { result ≡ moment_text (told_moment civil.now.year civil.now.month civil.now.day civil.now.hour civil.now.minute civil.now.second) }
 {
@@ -153,7 +153,7 @@ fn short_text(civil: &Civil) -> [u8; 15]
     [y1, y2, y3, y4, m1, m2, d1, d2, h1, h2, n1, n2, s1, s2, z]
 }
 
-/// The moment so many seconds after the beginning of 1970, where days have 86,400; `None` after the last second of the year 9999, which is
+/// The time of this many seconds since 1970, with days of 86,400 seconds. `None` after the last second of the year 9999, which is
 /// 253,402,300,799.
 pub fn moment_at(seconds: u64) -> Option<Moment>
     ensures { IsMomentAt seconds result }
@@ -164,8 +164,7 @@ pub fn moment_at(seconds: u64) -> Option<Moment>
     Moment::from_text(&short_text(&civil_at(seconds)))
 }
 
-/// The time so many seconds after the beginning of 1970, as `YYYY-MM-DDTHH:MM:SSZ` (RFC 3339 section 5.6); after the year 9999 its last
-/// second.
+/// The text of this many seconds since 1970, `YYYY-MM-DDTHH:MM:SSZ` (RFC 3339 section 5.6). After the year 9999 it is that year's last second.
 pub fn time_at(seconds: u64) -> [u8; 20]
     ensures { IsTimeOf seconds result }
 {

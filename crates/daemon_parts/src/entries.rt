@@ -1,4 +1,4 @@
-//! What an event is logged by: a word, and values under their keys.
+//! The log entry of an event: a word, and values under keys.
 ghost use Rattle.std.specs.Prelude.{◌≡◌, codes, map};
 ghost use Rattle.daemon_parts.specs.Entries.{at, client_closed_entries, direction, entry, session_entries, of_number, of_text, publication_entries, report_entries, spoken, log_pair, log_value, word_of};
 
@@ -90,7 +90,7 @@ pub(crate) fn client_closed_pairs<'a>(closed: &ClientClosed<'a>) -> [Pair<'a>; 6
     ]
 }
 
-/// The way of a report.
+/// The direction of a report.
 fn direction(is_received: bool) -> &'static str
     ensures { result.now ≡ direction is_received }
 {

@@ -1,35 +1,35 @@
-//! What a daemon reports in its log.
+//! The events of the log.
 use std::net::SocketAddr;
 
-/// The names of the versions of a run (RFC 8210 section 5.1).
+/// The sessions and the first serial of a run (RFC 8210 section 5.1).
 #[derive(Clone, Copy, Debug, PartialEq, Eq)]
 pub struct SessionIds {
-    /// The session in version 1 of the protocol.
+    /// The session in protocol version 1.
     pub session: u16,
-    /// The session in version 0.
+    /// The session in protocol version 0.
     pub session0: u16,
     /// The serial of the first version.
     pub serial: u32,
 }
 
-/// How a client went, and what there was of it.
+/// Why a client was closed, and its counters.
 #[derive(Clone, Copy, Debug, PartialEq, Eq)]
 pub struct ClientClosed<'a> {
     /// The client's address and port.
     pub address: SocketAddr,
-    /// Why it went, in a few words.
+    /// Why it was closed, in a few words.
     pub why: &'a str,
-    /// The version of the protocol that it spoke, 0 or 1, or `None`: it sent no whole header.
+    /// The client's protocol version, 0 or 1, or `None` if it sent no whole header.
     pub version: Option<u8>,
-    /// How many bytes it sent.
+    /// How many bytes were read from it.
     pub read: u64,
-    /// How many bytes it was sent.
+    /// How many bytes were written to it.
     pub written: u64,
-    /// How many seconds it was there.
+    /// How many seconds it was connected.
     pub seconds: u64,
 }
 
-/// An Error Report (RFC 8210 section 5.11) that passed between the daemon and a client.
+/// An Error Report (RFC 8210 section 5.11) between the daemon and a client.
 #[derive(Clone, Copy, Debug, PartialEq, Eq)]
 pub struct PeerReport<'a> {
     /// The client's address and port.
@@ -38,43 +38,43 @@ pub struct PeerReport<'a> {
     pub is_received: bool,
     /// Its code.
     pub code: u16,
-    /// Its text, or the beginning of it.
+    /// Its text, or the start of it.
     pub text: &'a str,
 }
 
-/// What a version is called, what it changes, and what it took.
+/// The counters of a publication.
 #[derive(Clone, Copy, Debug, PartialEq, Eq)]
 pub struct Publication {
-    /// The session in version 1 of the protocol.
+    /// The session in protocol version 1.
     pub session: u16,
     /// The version's serial.
     pub serial: u32,
-    /// How many records it has that the version before did not have.
+    /// How many records it announces.
     pub announced: u64,
-    /// How many records it does not have that the version before had.
+    /// How many records it withdraws.
     pub withdrawn: u64,
     /// How many records it has.
     pub records: u64,
-    /// How many milliseconds it took to make it.
+    /// How many milliseconds the publication took.
     pub milliseconds: u64,
 }
 
-/// What happened. Each event is one line of the log: a word, and values under their keys.
+/// An event. Each event is one log line: a word, and values under keys.
 #[derive(Clone, Copy, Debug, PartialEq, Eq)]
 pub enum LogEvent<'a> {
-    /// `started`: the daemon starts, and its versions have these names.
+    /// `started`: the daemon starts, with these sessions and this serial.
     Started(SessionIds),
-    /// `limited`: the system's limit of descriptors allows fewer clients than were asked for.
+    /// `limited`: the system's limit of descriptors allows fewer clients than the settings.
     Limited {
         /// How many clients there may be at once.
         clients: u64,
     },
-    /// `listening`: routers are awaited at an address.
+    /// `listening`: a listener for routers is open at an address.
     Listening {
         /// The address and the port.
         address: SocketAddr,
     },
-    /// `status`: the status page is at an address.
+    /// `status`: the status pages are at an address.
     Status {
         /// The address and the port.
         address: SocketAddr,
@@ -86,94 +86,94 @@ pub enum LogEvent<'a> {
         /// The client's address and port.
         address: SocketAddr,
     },
-    /// `client-gone`: a client is not there any more.
+    /// `client-gone`: a client was closed.
     ClientGone(ClientClosed<'a>),
-    /// `error-report`: a client that is gone sent an Error Report, or was sent one.
+    /// `error-report`: a client that was closed had sent or received an Error Report.
     ErrorReport(PeerReport<'a>),
-    /// `stalled`: nothing could be written to a client for too long, so it is closed.
+    /// `stalled`: a client was blocked on writing for too long, and is closed.
     Stalled {
         /// The client's address and port.
         address: SocketAddr,
     },
-    /// `full`: a client was closed at once, as there are as many as there may be.
+    /// `full`: a client was closed at once, as the limit of clients is reached.
     Full {
         /// The address and the port of the client that was closed.
         address: SocketAddr,
-        /// How many clients are there.
+        /// How many clients there are.
         clients: u64,
     },
-    /// `address-full`: a client was closed at once, as its address has as many as one may have.
+    /// `address-full`: a client was closed at once, as the limit of its address is reached.
     AddressFull {
         /// The address and the port of the client that was closed.
         address: SocketAddr,
         /// How many clients the address has.
         clients: u64,
     },
-    /// `no-descriptor`: the system has no descriptor left for a client that waits.
+    /// `no-descriptor`: the system has no descriptor for a pending connection.
     NoDescriptor,
-    /// `published`: a version is served from now on.
+    /// `published`: a version was published.
     Published(Publication),
-    /// `left-out`: records of length 0 are left out of what is served, and are not as many as before.
+    /// `left-out`: the number of records of length 0 that are left out has changed.
     LeftOut {
         /// How many.
         records: u64,
     },
-    /// `refused`: a file or a publication point cannot be taken; what is served stays.
+    /// `refused`: a file or a publication point is refused. The served set stays.
     Refused {
         /// The path of the file or of the directory.
         file: &'a str,
         /// Why, in words.
         reason: &'a str,
     },
-    /// `taken`: a file or a publication point that was refused is taken again.
+    /// `taken`: a file or a publication point that was refused is loaded again.
     Taken {
         /// The path of the file or of the directory.
         file: &'a str,
     },
-    /// `old`: what a file has was made longer ago than it may be.
+    /// `old`: the data of a file have become older than the maximum age.
     Old {
         /// The path of the file.
         file: &'a str,
-        /// How many seconds ago it was made.
+        /// How many seconds ago they were made.
         age: u64,
     },
-    /// `fresh`: what a file has is no longer old.
+    /// `fresh`: the data of a file are no longer old.
     Fresh {
         /// The path of the file.
         file: &'a str,
-        /// How many seconds ago it was made.
+        /// How many seconds ago they were made.
         age: u64,
     },
-    /// `expired`: entries of a file have expired, or all that a publication point holds. They are not served.
+    /// `expired`: entries of a file have expired, or all objects of a publication point. They are not served.
     Expired {
         /// The path of the file.
         file: &'a str,
-        /// How many. Of a publication point these are the objects that its manifest lists.
+        /// How many. For a publication point, this is the number of objects that its manifest lists.
         entries: u64,
     },
     /// `clock`: the clock was set back.
     Clock {
-        /// How many seconds it is behind: behind the start and the seconds that have passed since.
+        /// How many seconds it is behind the start plus the seconds since.
         behind: u64,
     },
-    /// `warning`: the daemon goes on, and something is to be known of how.
+    /// `warning`: the daemon continues, and the operator should know this.
     Warning {
         /// What, in words.
         reason: &'a str,
     },
     /// `memory`: memory ran out.
     Memory {
-        /// What it was wanted for, in a few words.
+        /// For what, in a few words.
         what: &'a str,
     },
-    /// `failed`: the system refused something.
+    /// `failed`: a call of the system failed.
     Failed {
-        /// What it refused, in a few words.
+        /// For what, in a few words.
         what: &'a str,
         /// Why, in words.
         reason: &'a str,
     },
-    /// `stopped`: the daemon ends.
+    /// `stopped`: the daemon stops.
     Stopped {
         /// Why, in words.
         reason: &'a str,

@@ -1,6 +1,5 @@
-//! What the daemon `rpkirtrd` is made of beside its server: the names of its versions over restarts ([`first_serial`], [`session_of`],
-//! [`session0_of`]), the pace of its versions ([`Pace`]), the moments of its clock ([`moment_at`]), and the lines of its log ([`LogEvent`],
-//! [`write_event`]).
+//! Parts of the daemon `rpkirtrd`: its sessions and first serial over restarts ([`first_serial`], [`session_of`], [`session0_of`]), the pace of
+//! its versions ([`Pace`]), its calendar ([`moment_at`]), and its event log ([`LogEvent`], [`write_event`]).
 //!
 //! For example, where `rt` is the runtime that `main` is handed:
 //!

@@ -1,4 +1,4 @@
-//! The lines of a log.
+//! The lines of the event log.
 ghost use Rattle.std.specs.Prelude.{◌≡◌, ◌<◌, ◌/◌, ◌%◌, ◌∷◌, ◌++◌, [], true, codes, map, OnOk};
 ghost use Rattle.std.specs.Char.{digit_char, is_control};
 ghost use Rattle.std.specs.Io.KnownBytes.{Appends};
@@ -15,10 +15,10 @@ use crate::entries::{
 use crate::event::LogEvent;
 use std::io::{self, Write};
 
-/// The form of a log's lines.
+/// The format of the log.
 #[derive(Clone, Copy, Debug, PartialEq, Eq)]
 pub enum LogFormat {
-    /// The time, the event's word, and `key=value` for each value, with blanks between them.
+    /// The time, the event's word, and `key=value` for each value, separated by blanks.
     Text,
     /// An object with `time`, `event` and the values.
     Json,
@@ -36,7 +36,7 @@ fn hex_digit(number: u32) -> u8
     }
 }
 
-/// Writes a control character by its number.
+/// Writes a control character as an escape of its number.
 fn write_control<W: Write>(out: &mut W, character: char) -> io::Result<()>
     requires { is_control character ≡ true }
     ensures { OnOk result (Appends (W.contents out.old) (W.contents out.new)
@@ -48,7 +48,7 @@ fn write_control<W: Write>(out: &mut W, character: char) -> io::Result<()>
     out.write_all(&digits)
 }
 
-/// Writes a character that needs no backslash: a control character by its number, and any other as it is.
+/// Writes a character that needs no backslash. A control character is escaped.
 fn write_log_char<W: Write>(out: &mut W, character: char) -> io::Result<()>
     ensures { OnOk result (Appends (W.contents out.old) (W.contents out.new) (log_char character)) }
 {
@@ -58,8 +58,7 @@ fn write_log_char<W: Write>(out: &mut W, character: char) -> io::Result<()>
     write!(out, "{character}")
 }
 
-/// Writes a character of a text in quotes: a quote and a backslash behind a backslash, and a control character by its number
-/// (RFC 8259 section 7).
+/// Writes a character of a quoted text. Quotes, backslashes and control characters are escaped (RFC 8259 section 7).
 fn write_char<W: Write>(out: &mut W, character: char) -> io::Result<()>
     ensures { OnOk result (Appends (W.contents out.old) (W.contents out.new) (escaped character)) }
 {
@@ -72,7 +71,7 @@ fn write_char<W: Write>(out: &mut W, character: char) -> io::Result<()>
     write_log_char(out, character)
 }
 
-/// Writes a text, as it stands in quotes.
+/// Writes the escaped characters of a text.
 fn write_escaped<W: Write>(out: &mut W, text: &str) -> io::Result<()>
     ensures { OnOk result (Appends (W.contents out.old) (W.contents out.new) (flat_map escaped (chars text.now))) }
 {
@@ -82,7 +81,7 @@ fn write_escaped<W: Write>(out: &mut W, text: &str) -> io::Result<()>
     Ok(())
 }
 
-/// Writes a text in quotes.
+/// Writes a quoted text.
 #[tactic(auto, unfolding(crate::specs::Lines::quoted))]
 fn write_quoted<W: Write>(out: &mut W, text: &str) -> io::Result<()>
     ensures { OnOk result (Appends (W.contents out.old) (W.contents out.new) (quoted text.now)) }
@@ -92,14 +91,14 @@ fn write_quoted<W: Write>(out: &mut W, text: &str) -> io::Result<()>
     out.write_all(b"\"")
 }
 
-/// Whether a byte stands in a text that needs no quotes.
+/// Whether a byte may occur in a text without quotes.
 fn is_plain_byte(byte: u8) -> bool
     ensures { result ≡ is_plain_byte byte }
 {
     33 <= byte && byte <= 126 && !(byte == b'"' || byte == b'=' || byte == b'\\')
 }
 
-/// Whether each byte stands in a text that needs no quotes.
+/// Whether all bytes may occur in a text without quotes.
 fn are_plain(bytes: &[u8]) -> bool
     ensures { result ≡ list_all is_plain_byte bytes.now }
 {
@@ -113,7 +112,7 @@ fn is_plain(text: &str) -> bool
     !text.is_empty() && are_plain(text.as_bytes())
 }
 
-/// Writes a text, in quotes where it needs them.
+/// Writes a text, quoted if it has to be.
 fn write_plain_text<W: Write>(out: &mut W, text: &str) -> io::Result<()>
     ensures { OnOk result (Appends (W.contents out.old) (W.contents out.new) (plain_value (Text text.now))) }
 {
@@ -193,7 +192,7 @@ fn write_json_head<W: Write>(out: &mut W, time: &[u8], word: &str) -> io::Result
     write!(out, "\",\"event\":\"{word}\"")
 }
 
-/// Writes the beginning of a line.
+/// Writes the start of a line.
 fn write_head<W: Write>(out: &mut W, form: LogFormat, time: &[u8], word: &str) -> io::Result<()>
     ensures { OnOk result (Appends (W.contents out.old) (W.contents out.new) (head_text form time.now word.now)) }
 {
@@ -273,8 +272,8 @@ fn write_event_at<W: Write>(
     write_end(out, form)
 }
 
-/// Writes the line of an event that happened so many seconds after the beginning of 1970. It takes no memory of its own; a writer without
-/// room of its own is called for each piece of the line.
+/// Writes the line of an event at this many seconds since 1970. It allocates nothing. A writer without a buffer is called for each piece of the
+/// line.
 pub fn write_event<W: Write>(
     out: &mut W,
     form: LogFormat,

@@ -1,11 +1,11 @@
-//! The pace of versions: no two in one second.
+//! The pace of versions: at most one a second.
 ghost use Rattle.std.specs.Prelude.{◌≡◌, None, Some};
 ghost use Rattle.daemon_parts.specs.Runs.{may_publish};
 
 use std::marker::Model;
 
-/// When the last version was published, in seconds after the beginning of 1970. The next one waits for a later second, so serials, which
-/// go up by one a version, do not pass the clock.
+/// When the last version was published, in seconds since 1970. The next one is published in a later second. So serials, which increase by one
+/// with each version, are not ahead of the clock.
 #[derive(Clone, Copy, Debug, PartialEq, Eq)]
 pub struct Pace {
     last: Option<u64>,
@@ -22,22 +22,22 @@ impl Model for Pace {
 }
 
 impl Pace {
-    /// Nothing was published: the first version may come at once.
+    /// No version was published: the first may be published at once.
     pub fn new() -> Pace
         ensures { result ≡ None }
     {
         Pace { last: None }
     }
 
-    /// As if a version had been published at the start, so that the first one waits for a later second: the run before this one may
-    /// have published in the second in which this one starts.
+    /// As if a version had been published at the start, so that the first is published in a later second. The run before may have published in
+    /// the second of the start.
     pub fn after(start: u64) -> Pace
         ensures { result ≡ Some start }
     {
         Pace { last: Some(start) }
     }
 
-    /// Whether a version may be published at this moment: in a later second than the one before.
+    /// Whether a version may be published at this second: it is later than that of the last version.
     pub fn may_publish(&self, now: u64) -> bool
         ensures { result ≡ may_publish self.now now }
     {
@@ -47,7 +47,7 @@ impl Pace {
         }
     }
 
-    /// A version was published at this moment.
+    /// A version was published at this second.
     pub fn published(&mut self, now: u64)
         ensures { self.new ≡ Some now }
     {

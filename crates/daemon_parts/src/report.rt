@@ -1,8 +1,8 @@
-//! The codes of Error Reports in words.
+//! The names of the codes of Error Reports.
 ghost use Rattle.std.specs.Prelude.{◌≡◌};
 ghost use Rattle.daemon_parts.specs.ReportNames.{report_name};
 
-/// The name of the code of an Error Report (RFC 8210 section 12), or `unknown`.
+/// The name of an Error Report's code (RFC 8210 section 12), or `unknown`.
 pub fn report_name(code: u16) -> &'static str
     ensures { result.now ≡ report_name code }
 {
