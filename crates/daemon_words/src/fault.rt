@@ -1,59 +1,59 @@
-//! Why words ask for nothing.
+//! Why a command line is refused.
 use std::alloc::AllocError;
 use thiserror::Error;
 
-/// What should stand behind an option.
+/// The required form of an option's value.
 #[derive(Clone, Copy, Debug, PartialEq, Eq, Error)]
 pub enum Wanted {
-    /// A number between these two, which may be them: in decimal digits, without a sign or a leading zero.
+    /// A number in this range, in decimal digits, without a sign or a leading zero.
     #[error("a number from {least} to {most}")]
     Number {
-        /// The least one.
+        /// The least number.
         least: u64,
-        /// The greatest one.
+        /// The greatest number.
         most: u64,
     },
-    /// An IP address with a port: one of version 6 in brackets, and the port in decimal digits without a leading zero.
+    /// An IP address with a port: an IPv6 address is in brackets, and the port is in decimal digits without a leading zero.
     #[error("an address with a port, as 192.0.2.1:3323 or [2001:db8::1]:3323,")]
     Address,
-    /// The path of a file or of a directory, which has a character at least.
+    /// The path of a file or of a directory, which is not empty.
     #[error("a path")]
     Path,
-    /// A form of the log.
+    /// A format of the log.
     #[error("text or json")]
     LogFormat,
 }
 
-/// Why words ask for nothing. The text says which option is at fault, what stands behind it, in quotes, and what would be right.
+/// Why a command line is refused. The text names the option, quotes its value, and says what is required.
 #[derive(Debug, Drop, Error)]
 pub enum OptionFault {
-    /// A word that no option takes, an option without its value, or one twice that may stand once.
+    /// An unknown option, an option without its value, or an option that occurs too often.
     #[error("{0}")]
     Unclear(String),
-    /// The value of an option is not what is required.
+    /// The value of an option does not have the required form.
     #[error("--{option} {value:?}: {wanted} is required")]
     Value {
         /// The option's name.
         option: &'static str,
-        /// What stands behind it.
+        /// Its value.
         value: String,
-        /// What should stand there.
+        /// The required form.
         wanted: Wanted,
     },
     /// The expire interval is not longer than both others (RFC 8210 section 6).
     #[error("--expire {expire}: a number above --refresh ({refresh}) and --retry ({retry}) is required")]
     Expire {
-        /// Seconds until a router drops what it has.
+        /// The expire interval in seconds.
         expire: u32,
-        /// Seconds until it asks again.
+        /// The refresh interval in seconds.
         refresh: u32,
-        /// Seconds until it tries again.
+        /// The retry interval in seconds.
         retry: u32,
     },
-    /// Neither `--vrps` nor `--points` stands there.
+    /// There is neither `--vrps` nor `--points`.
     #[error("at least one of --vrps and --points is required, for something to serve")]
     NoSource,
-    /// `--stop-when-old` stands there without `--max-age`.
+    /// There is `--stop-when-old` without `--max-age`.
     #[error("--max-age is required beside --stop-when-old, as nothing is old without it")]
     NoAge,
     /// Out of memory.

@@ -1,5 +1,5 @@
-//! The words of the daemon's command line: [`read_words`] says what they ask for, a run under [`Settings`] or a text, or why they ask for
-//! nothing ([`OptionFault`]).
+//! The command line of the daemon `rpkirtrd`. [`read_words`] parses it to a [`Command`]: a run with its [`Settings`], or a text to print.
+//! Otherwise it answers an [`OptionFault`].
 //!
 //! For example, where `rt` is the runtime that `main` is handed:
 //!

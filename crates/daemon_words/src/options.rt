@@ -1,20 +1,20 @@
-//! The options of the command line: one table, from which words are read and the help is written.
+//! The options of the command line: one table, by which words are parsed and the help is written.
 use clap::{Arg, ArgAction, Command};
 use std::alloc::{AllocError, Global};
 
-/// How often an option may stand, and whether a value stands behind it.
+/// How often an option may occur, and whether it has a value.
 pub(crate) enum OptionKind {
-    /// Once at most, without a value.
+    /// At most once, without a value.
     Flag,
-    /// Once at most, with a value.
+    /// At most once, with a value.
     Once,
-    /// Once at most, with a number.
+    /// At most once, with a number.
     Number,
-    /// As often as is required, each time with a value.
+    /// Any number of times, each time with a value.
     Often,
 }
 
-/// An option: its name, its letter, what stands behind it, and the lines that the help says of it.
+/// An option: its name, its letter, the name of its value, and its lines of the help.
 pub(crate) struct OptionSpec {
     pub(crate) name: &'static str,
     pub(crate) letter: Option<char>,
@@ -23,7 +23,7 @@ pub(crate) struct OptionSpec {
     pub(crate) help: &'static [&'static str],
 }
 
-/// Options of one matter, and the line above them in the help.
+/// A group of options, and its heading in the help.
 pub(crate) struct OptionGroup {
     pub(crate) title: &'static str,
     pub(crate) options: &'static [OptionSpec],
@@ -350,7 +350,7 @@ fn with_options<'a>(
     Ok(made)
 }
 
-/// The command line of the daemon.
+/// The command line of the daemon, for the parser.
 pub(crate) fn command_line<'a>(alloc: Global) -> Result<Command<'a>, AllocError> {
     let mut made = Command::new(alloc, "rpkirtrd")
         .no_binary_name(true)

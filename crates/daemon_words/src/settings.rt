@@ -1,4 +1,4 @@
-//! What a run is asked for.
+//! The settings of a run.
 ghost use Rattle.std.specs.Prelude.{◌≡◌, ◌≤◌, ◌+◌, true, IsSome, vec_len};
 ghost use Rattle.daemon_words.specs.Bounds.{is_within};
 
@@ -6,53 +6,53 @@ use daemon_parts::LogFormat;
 use rtr_ends::Timing;
 use std::net::SocketAddr;
 
-/// What a run of the daemon is asked for.
+/// The settings of a run of the daemon.
 #[derive(Debug, Drop)]
 pub struct Settings {
-    /// Files that validators write.
+    /// The exports of validators.
     pub vrps: Vec<String>,
-    /// Directories that are publication points.
+    /// The directories that are publication points.
     pub points: Vec<String>,
-    /// A file of local exceptions (RFC 8416).
+    /// The file of local exceptions (RFC 8416).
     pub slurm: Option<String>,
-    /// Where routers are awaited: at one address at least.
+    /// The listening addresses for routers, at least one.
     pub listen: Vec<SocketAddr>,
-    /// The session in version 1 of the protocol, or `None`: the daemon makes it.
+    /// The session in protocol version 1, or `None` for the daemon's own.
     pub session: Option<u16>,
-    /// The session in version 0, or `None`: the daemon makes it.
+    /// The session in protocol version 0, or `None` for the daemon's own.
     pub session0: Option<u16>,
-    /// The serial of the first version, or `None`: the daemon makes it.
+    /// The serial of the first version, or `None` for the daemon's own.
     pub start: Option<u32>,
     /// How many versions are kept.
     pub keep: u32,
     /// The intervals that are sent to routers.
     pub timing: Timing,
-    /// How many seconds there are between two looks at the files.
+    /// The seconds between two polls of the files.
     pub check: u32,
-    /// How old in seconds what a file has may be, or `None`: as old as it is.
+    /// The maximum age of an export in seconds, or `None` for any age.
     pub max_age: Option<u64>,
-    /// Whether the daemon ends where a file is older.
+    /// Whether the daemon stops if an export is older.
     pub stop_when_old: bool,
-    /// How many bytes a file may have.
+    /// The largest file size in bytes.
     pub max_size: u64,
     /// Whether records of length 0, for 0.0.0.0/0 or ::/0, are left out.
     pub leave_out_length_0: bool,
     /// How many clients there may be at once.
     pub clients: usize,
-    /// How many clients an address may have at once, or `None`: as many as there may be.
+    /// How many clients an address may have at once, or `None` for as many as there may be.
     pub clients_per_address: Option<u64>,
-    /// After how many seconds a client that took no byte is closed.
+    /// After how many seconds a client that is blocked on writing is closed.
     pub stall: u32,
-    /// Where the status page is, if it is wanted.
+    /// The address of the status pages, if there are any.
     pub status: Option<SocketAddr>,
-    /// The form of the log's lines.
+    /// The format of the log.
     pub log: LogFormat,
-    /// Whether the daemon ends when the first client has gone.
+    /// Whether the daemon stops when the first client is closed.
     pub once: bool,
-    /// Whether the files are only judged: then nothing is served.
+    /// Whether the files are only checked: then nothing is served.
     pub test: bool,
 
-    // What every run is asked for: a source at least, an address at least, and numbers in their ranges.
+    // Every run has at least one source and at least one address, and its numbers are in range.
     ghost has_source: { 1 ≤ vec_len vrps + vec_len points },
     ghost listens: { 1 ≤ vec_len listen },
     ghost keeps_from: { 1 ≤ keep },

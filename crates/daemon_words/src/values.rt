@@ -9,7 +9,7 @@ use daemon_parts::LogFormat;
 use std::alloc::Global;
 use std::net::SocketAddr;
 
-/// The fault of an option whose value is not what is wanted.
+/// The fault of a value that does not have the required form.
 fn wrong(alloc: Global, option: &'static str, value: &str, wanted: Wanted) -> OptionFault {
     match String::from_str(alloc, value) {
         Ok(value) => OptionFault::Value {
@@ -21,7 +21,7 @@ fn wrong(alloc: Global, option: &'static str, value: &str, wanted: Wanted) -> Op
     }
 }
 
-/// The number that a text writes in decimal digits without a sign or a leading zero.
+/// The number of a text in decimal digits, without a sign or a leading zero.
 fn decimal(text: &str) -> Option<u64>
     ensures { ReadsNumber text.now result }
 {
@@ -38,7 +38,7 @@ fn decimal(text: &str) -> Option<u64>
     }
 }
 
-/// The number from `least` to `most` that a text behind an option writes.
+/// The number of an option's text, from `least` to `most`.
 fn number_in(
     alloc: Global,
     option: &'static str,
@@ -54,7 +54,7 @@ fn number_in(
     }
 }
 
-/// The number from `least` to `most` behind an option, or `None` where the option is left out.
+/// The number of an option, from `least` to `most`, or `None` if there is no such option.
 pub(crate) fn number(
     alloc: Global,
     found: &ArgMatches<'_>,
@@ -71,7 +71,7 @@ pub(crate) fn number(
     }
 }
 
-/// The number from `least` to `most` behind an option, or `default` where the option is left out.
+/// The number of an option, from `least` to `most`, or `default` if there is no such option.
 pub(crate) fn number_or(
     alloc: Global,
     found: &ArgMatches<'_>,
@@ -90,7 +90,7 @@ pub(crate) fn number_or(
     Ok(number as u32)
 }
 
-/// The number of 32 bits behind an option, or `None` where the option is left out.
+/// The number of 32 bits of an option, or `None` if there is no such option.
 pub(crate) fn number_32(
     alloc: Global,
     found: &ArgMatches<'_>,
@@ -103,7 +103,7 @@ pub(crate) fn number_32(
     Ok(Some(number as u32))
 }
 
-/// The number of 16 bits behind an option, or `None` where the option is left out.
+/// The number of 16 bits of an option, or `None` if there is no such option.
 pub(crate) fn number_16(
     alloc: Global,
     found: &ArgMatches<'_>,
@@ -116,7 +116,7 @@ pub(crate) fn number_16(
     Ok(Some(number as u16))
 }
 
-/// The path that a text behind an option writes.
+/// The path of an option's text.
 fn path_in(alloc: Global, option: &'static str, text: &str) -> Result<String, OptionFault> {
     if text.is_empty() {
         return Err(wrong(alloc, option, text, Wanted::Path));
@@ -124,7 +124,7 @@ fn path_in(alloc: Global, option: &'static str, text: &str) -> Result<String, Op
     Ok(String::from_str(alloc, text)?)
 }
 
-/// The path behind an option, if the option is there.
+/// The path of an option, if there is one.
 pub(crate) fn path(
     alloc: Global,
     found: &ArgMatches<'_>,
@@ -136,7 +136,7 @@ pub(crate) fn path(
     }
 }
 
-/// The paths behind an option, in their order.
+/// The paths of an option, in order.
 pub(crate) fn paths(
     alloc: Global,
     found: &ArgMatches<'_>,
@@ -151,7 +151,7 @@ pub(crate) fn paths(
     Ok(all)
 }
 
-/// The address that a text writes, with a port in decimal digits without a leading zero.
+/// The address of a text, with a port in decimal digits without a leading zero.
 fn socket_address(text: &str) -> Option<SocketAddr> {
     let (_, port) = text.rsplit_once(':')?;
     if decimal(port).is_none() {
@@ -160,7 +160,7 @@ fn socket_address(text: &str) -> Option<SocketAddr> {
     text.parse::<SocketAddr>().ok()
 }
 
-/// The address that a text behind an option writes.
+/// The address of an option's text.
 fn address_in(alloc: Global, option: &'static str, text: &str) -> Result<SocketAddr, OptionFault> {
     match socket_address(text) {
         Some(address) => Ok(address),
@@ -168,7 +168,7 @@ fn address_in(alloc: Global, option: &'static str, text: &str) -> Result<SocketA
     }
 }
 
-/// The address behind an option, if the option is there.
+/// The address of an option, if there is one.
 pub(crate) fn address(
     alloc: Global,
     found: &ArgMatches<'_>,
@@ -180,7 +180,7 @@ pub(crate) fn address(
     }
 }
 
-/// The addresses behind an option, in their order.
+/// The addresses of an option, in order.
 pub(crate) fn addresses(
     alloc: Global,
     found: &ArgMatches<'_>,
@@ -195,7 +195,7 @@ pub(crate) fn addresses(
     Ok(all)
 }
 
-/// The form of the log behind an option, or text where the option is left out.
+/// The log format of an option, or text if there is no such option.
 pub(crate) fn log_format(
     alloc: Global,
     found: &ArgMatches<'_>,

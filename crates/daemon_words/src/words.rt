@@ -1,4 +1,4 @@
-//! What the words ask for.
+//! The parsed command line.
 ghost use Rattle.std.specs.Prelude.{◌≡◌, ◌≤◌, ◌+◌, true, IfOk, IsSome, vec_len};
 ghost use Rattle.daemon_words.specs.Bounds.{is_within};
 
@@ -15,10 +15,10 @@ use rtr_ends::Timing;
 use std::alloc::Global;
 use std::net::{IpAddr, Ipv4Addr, SocketAddr};
 
-/// What the words of the command line ask for.
+/// The parsed command line.
 #[derive(Debug, Drop)]
 pub enum Command {
-    /// A run under these settings.
+    /// A run with these settings.
     Serve(Settings),
     /// The help.
     Help(String),
@@ -26,13 +26,13 @@ pub enum Command {
     Version(String),
 }
 
-/// The port for routers (RFC 8210 section 13), of which this daemon takes that which needs no privilege.
+/// The default port: rpki-rtr is 323 (RFC 8210 section 13), and this one needs no privilege.
 const PORT: u16 = 3323;
 
-/// How many bytes a file may have by default.
+/// The default of the largest file size, in bytes.
 const MAX_SIZE: u64 = 2_147_483_648;
 
-/// What stands in what the parser says before the usage.
+/// The message of the parser, up to its usage.
 fn before_usage(text: &str) -> &str {
     match text.split_once("\n\nUsage") {
         Some((before, _)) => before,
@@ -40,7 +40,7 @@ fn before_usage(text: &str) -> &str {
     }
 }
 
-/// The same without the word with which it begins.
+/// The message without its first word.
 fn without_word(text: &str) -> &str {
     match text.strip_prefix("error: ") {
         Some(rest) => rest,
@@ -48,7 +48,7 @@ fn without_word(text: &str) -> &str {
     }
 }
 
-/// Why the words do not parse, in the first lines of what the parser says of them.
+/// Why the words do not parse, in the first lines of the parser's message.
 fn unclear(alloc: Global, error: &Error) -> Result<String, OptionFault> {
     let all = format!(in alloc; "{error}")?;
     let message = without_word(before_usage(all.as_str()));
@@ -80,7 +80,7 @@ fn timing(alloc: Global, found: &ArgMatches<'_>) -> Result<Timing, OptionFault> 
     }
 }
 
-/// Where routers are awaited.
+/// The listening addresses for routers.
 fn listen(alloc: Global, found: &ArgMatches<'_>) -> Result<Vec<SocketAddr>, OptionFault>
     ensures { IfOk result (λ all. 1 ≤ vec_len all) }
 {
@@ -94,7 +94,7 @@ fn listen(alloc: Global, found: &ArgMatches<'_>) -> Result<Vec<SocketAddr>, Opti
     Ok(all)
 }
 
-/// What is served: one file or directory at least.
+/// The paths of the sources, at least one.
 #[derive(Drop)]
 struct SourcePaths {
     vrps: Vec<String>,
@@ -111,7 +111,7 @@ fn to_serve(alloc: Global, found: &ArgMatches<'_>) -> Result<SourcePaths, Option
     Ok(SourcePaths { vrps, points })
 }
 
-/// How old what is served may be, and whether the daemon ends where it is older.
+/// The maximum age of an export, and whether the daemon stops if one is older.
 #[derive(Clone, Copy)]
 struct MaxAge {
     max_age: Option<u64>,
@@ -132,7 +132,7 @@ fn age(alloc: Global, found: &ArgMatches<'_>) -> Result<MaxAge, OptionFault> {
     })
 }
 
-/// How many bytes a file may have.
+/// The largest file size in bytes.
 fn max_size(alloc: Global, found: &ArgMatches<'_>) -> Result<u64, OptionFault>
     ensures { IfOk result (λ size. (1 ≤ size) × (size ≤ 1099511627776)) }
 {
@@ -174,8 +174,7 @@ fn settings(alloc: Global, found: &ArgMatches<'_>) -> Result<Settings, OptionFau
     })
 }
 
-/// What these words ask for, which stand behind the program's name. `--help` and `--version` go before all other options that
-/// parse.
+/// The parsed command line of these words, without the program's name. `--help` and `--version` go before all other options that parse.
 pub fn read_words(alloc: Global, words: &[String]) -> Result<Command, OptionFault> {
     let command = command_line(alloc)?;
     let found = match command.try_get_matches_from(words) {
