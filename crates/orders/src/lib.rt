@@ -1,4 +1,4 @@
-//! The words of the command line: [`read_words`] gives the order that they spell.
+//! The command line of the program `rpkirtr`: [`read_words`] parses it to a [`Command`].
 //!
 //! For example, where `rt` is the runtime that `main` is handed:
 //!

@@ -1,4 +1,4 @@
-//! The words of the command line.
+//! The parsed command line.
 use clap::error::ErrorKind;
 use clap::{Arg, ArgAction, ArgMatches, Command as ClapCommand, Error};
 use command_parts::{CacheName, ProgramFault, decimal};
@@ -6,7 +6,7 @@ use rtr_pdu::Version;
 use std::alloc::{AllocError, Global};
 use thiserror::Error;
 
-/// Why words give no order.
+/// Why a command line is refused.
 #[derive(Debug, Drop, Error)]
 pub enum CommandFault {
     /// The words do not parse.
@@ -32,8 +32,7 @@ impl From<CommandFault> for ProgramFault {
     }
 }
 
-/// A command: its name, its options, which take one value each, those of them that may be left out, its other words, and words that
-/// come once or more.
+/// The syntax of a command: its name, its options, which have a value each, its optional options, its words, and words that occur once or more.
 struct CommandSpec {
     name: &'static str,
     options: &'static [&'static str],
@@ -137,7 +136,7 @@ fn subcommand<'a>(alloc: Global, spec: &CommandSpec) -> Result<ClapCommand<'a>, 
     Ok(command)
 }
 
-/// The command line of the program: one level of commands, without help or version.
+/// The command line of the program, for the parser: one level of commands, without help or version.
 fn command_line<'a>(alloc: Global) -> Result<ClapCommand<'a>, AllocError> {
     let mut all = ClapCommand::new(alloc, "rpkirtr")
         .no_binary_name(true)
@@ -151,60 +150,59 @@ fn command_line<'a>(alloc: Global) -> Result<ClapCommand<'a>, AllocError> {
     Ok(all)
 }
 
-/// What the words ask for.
+/// The parsed command line.
 #[derive(Debug, Drop)]
 pub enum Command<'a> {
-    /// What the payload of a ROA in FILE says.
+    /// Prints the payload of the ROA in FILE.
     Roa {
         file: &'a str,
     },
-    /// What the payload of a manifest in FILE says.
+    /// Prints the payload of the manifest in FILE.
     Manifest {
         file: &'a str,
     },
-    /// The payloads in use at the moment `now`, after the directories were offered to their points.
+    /// Prints the payloads in use at the time `now`, after the directories were offered to their points.
     Payloads {
         now: &'a str,
         directories: Vec<&'a str>,
     },
-    /// The PDUs with which the bytes of FILE begin.
+    /// Prints the PDUs at the start of the bytes of FILE.
     Units {
         file: &'a str,
     },
-    /// The answers of a cache of this name to the bytes that HEX spells. It has published the list of the file `vrps`.
+    /// Prints the replies of a cache with this name to the bytes that HEX spells. It has published the list of the file `vrps`.
     Answer {
         name: CacheName,
         vrps: &'a str,
         hex: &'a str,
     },
-    /// The state of the route that PREFIX and ORIGIN name.
+    /// Prints the state of the route of PREFIX and ORIGIN.
     Route {
         vrps: &'a str,
         prefix: &'a str,
         origin: &'a str,
     },
-    /// So many connections on a port of this machine, served one after the other by a cache of this name, whose one version is the list of
-    /// the file `vrps`.
+    /// Serves this many connections on a local port, one after the other. The cache has this name, and one version, the list of the file `vrps`.
     Serve {
         port: u16,
         name: CacheName,
         vrps: &'a str,
         connections: u32,
     },
-    /// What a router that speaks this version of the protocol fetches from a cache on a port of this machine.
+    /// Fetches from a cache on a local port in this protocol version, and prints the set.
     Fetch {
         port: u16,
         version: Version,
     },
-    /// Both ends over a connection of this machine: what the router fetches from a cache of this name and of the list of the file `vrps`, and
-    /// then the state of the route that PREFIX and ORIGIN name.
+    /// Fetches from a cache over a local connection, and prints the state of the route of PREFIX and ORIGIN. The cache has this name and the list
+    /// of the file `vrps`.
     Loop {
         name: CacheName,
         vrps: &'a str,
         prefix: &'a str,
         origin: &'a str,
     },
-    /// What the script in FILE does to a world of one cache and its routers.
+    /// Runs the script in FILE on a world of one cache and its routers.
     World {
         file: &'a str,
     },
@@ -223,13 +221,13 @@ fn value<'a>(found: &ArgMatches<'a>, name: &str) -> Result<&'a str, CommandFault
     found.get_str(name).ok_or(CommandFault::Invalid)
 }
 
-/// The number of 16 bits under this name.
+/// The number of 16 bits of this name.
 fn number_16(found: &ArgMatches<'_>, name: &str) -> Result<u16, CommandFault> {
     let number = decimal(value(found, name)?).ok_or(CommandFault::Invalid)?;
     u16::try_from(number).map_err(|_| CommandFault::Invalid)
 }
 
-/// The number of 16 bits under this name, or this one where the option is left out.
+/// The number of 16 bits of this name, or `number` if the option is missing.
 fn number_16_or(found: &ArgMatches<'_>, name: &str, number: u16) -> Result<u16, CommandFault> {
     match found.get_str(name) {
         None => Ok(number),
@@ -237,7 +235,7 @@ fn number_16_or(found: &ArgMatches<'_>, name: &str, number: u16) -> Result<u16, 
     }
 }
 
-/// The version of the protocol under this name, or 1 where the option is left out.
+/// The protocol version of this name, or 1 if the option is missing.
 fn version(found: &ArgMatches<'_>, name: &str) -> Result<Version, CommandFault> {
     match number_16_or(found, name, 1)? {
         0 => Ok(Version::V0),
@@ -246,13 +244,13 @@ fn version(found: &ArgMatches<'_>, name: &str) -> Result<Version, CommandFault> 
     }
 }
 
-/// The number of 32 bits under this name.
+/// The number of 32 bits of this name.
 fn number_32(found: &ArgMatches<'_>, name: &str) -> Result<u32, CommandFault> {
     let number = decimal(value(found, name)?).ok_or(CommandFault::Invalid)?;
     u32::try_from(number).map_err(|_| CommandFault::Invalid)
 }
 
-/// The name of a cache: its session, that in version 0 where it is given, and the number under `serial`.
+/// The name of a cache: its session, its session in version 0 if given, and the number under `serial`.
 fn cache_name(found: &ArgMatches<'_>, serial: &str) -> Result<CacheName, CommandFault> {
     let session = number_16(found, "session")?;
     Ok(CacheName {
@@ -348,7 +346,7 @@ fn world_command<'a>(found: &ArgMatches<'a>) -> Result<Command<'a>, CommandFault
     })
 }
 
-/// The order that the words spell.
+/// Parses the words of a command line.
 pub fn read_words(alloc: Global, words: &[String]) -> Result<Command<'_>, CommandFault> {
     let command = command_line(alloc)?;
     let matches = command.try_get_matches_from(words).map_err(fault_of)?;
