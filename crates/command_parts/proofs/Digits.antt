@@ -13,7 +13,7 @@ pub digits-nil : encode_lower [] ≡ []
 unfolding encode_with
 digits-nil = refl
 
--- the digits of two lists of bytes, one behind the other
+-- the digits of two lists of bytes, one after the other
 pub digits-append : (xs ys : List ℕ) → encode_lower (xs ++ ys) ≡ encode_lower xs ++ encode_lower ys
 unfolding encode_with
 digits-append [] ys = refl

@@ -11,7 +11,7 @@ abbrev pub OriginText : Option ℕ → List ℕ → Type 0
 OriginText (Some n) text = (n < 2 ^ 32) × (text ≡ decimal n)
 OriginText None text = text ≡ codes "none"
 
--- Two words name a route.
+-- Two words are a route.
 pub record RouteText (r : Route) (prefix origin : List ℕ) : Type 0 where
   pub prefix_is : PrefixText r.prefix prefix
   pub origin_is : OriginText r.origin origin

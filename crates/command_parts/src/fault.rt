@@ -1,11 +1,11 @@
-//! Why a command did not end well, and what it refuses.
+//! Why a command fails, and how it refuses input.
 ghost use Rattle.std.specs.Prelude.{◌≤◌, IfOk};
 
 use std::alloc::AllocError;
 use std::io::{self, ErrorKind, Write};
 use thiserror::Error;
 
-/// Why a command did not end well. The text is what the program writes on standard error.
+/// Why a command fails. The text is written on standard error.
 #[derive(Debug, Drop, Error)]
 pub enum ProgramFault {
     /// The words do not parse. Status 2.
@@ -35,7 +35,7 @@ impl From<io::Error> for ProgramFault {
     }
 }
 
-/// Prints what was refused, as a line, with the status.
+/// Prints a refusal as a line, and answers the exit status.
 pub fn refuse<O: Write>(what: &str, out: &mut O) -> Result<u8, ProgramFault>
     ensures { IfOk result (λ s. s ≤ 1) }
 {

@@ -13,7 +13,7 @@ pub fn read_file<R: Files + AllocGlobal>(rt: &R, file: &str) -> io::Result<Vec<u
     Ok(bytes)
 }
 
-/// The set of the payload list in a file, or `None` where the file holds no payload list.
+/// The set of the payload list in a file, or `None` if the file is not a payload list.
 pub fn read_set<R: Files + AllocGlobal>(
     rt: &R,
     file: &str,

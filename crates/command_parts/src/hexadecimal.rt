@@ -7,7 +7,7 @@ use std::alloc::AllocError;
 use std::io::{self, Write};
 use std::str;
 
-/// So many bytes at most are turned into digits at a time.
+/// The number of bytes that are converted at a time.
 const PIECE: usize = 32;
 
 /// Prints at most 32 bytes.
@@ -21,7 +21,7 @@ fn print_piece<W: Write>(piece: &[u8], out: &mut W) -> io::Result<()>
     out.write_all(written)
 }
 
-/// Prints bytes. It takes no memory.
+/// Prints bytes. It allocates nothing.
 pub fn print_hex<W: Write>(bytes: &[u8], out: &mut W) -> io::Result<()>
     ensures { OnOk result (Appends (W.contents out.old) (W.contents out.new) (encode_lower bytes.now)) }
 {
@@ -48,7 +48,7 @@ fn push_piece(text: &mut String, piece: &[u8]) -> Result<(), AllocError>
     text.push_str(more)
 }
 
-/// Appends bytes to a text. It takes no memory but the text's own.
+/// Appends bytes to a text. Only the text allocates.
 pub fn push_hex(text: &mut String, bytes: &[u8]) -> Result<(), AllocError>
     ensures { OnOk result (string_bytes text.new ≡ string_bytes text.old ++ encode_lower bytes.now) }
 {

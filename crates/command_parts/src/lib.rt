@@ -1,6 +1,6 @@
-//! What several commands of the program share: why one did not end well ([`ProgramFault`]), the files that it reads ([`read_file`],
-//! [`read_set`]), what it refuses ([`refuse`]), bytes in hexadecimal ([`print_hex`], [`push_hex`]), the words of a route and of its state
-//! ([`read_route`], [`word_of`]), numbers ([`decimal`]) and the name of a version ([`CacheName`]).
+//! What the commands of the program share: their faults ([`ProgramFault`]), the files that they read ([`read_file`], [`read_set`]), their
+//! refusals ([`refuse`]), and bytes in hexadecimal ([`print_hex`], [`push_hex`]). Also the words of a route and of its state ([`read_route`],
+//! [`word_of`]), numbers ([`decimal`]) and the name of a version ([`CacheName`]).
 //!
 //! For example, where `rt` is the runtime that `main` is handed:
 //!

@@ -6,7 +6,7 @@ ghost use Rattle.command_parts.specs.RouteWords.{OriginText, RouteText, state_wo
 use prefixes::{Asn, IpPrefix, Route};
 use vrps::OriginState;
 
-/// The route that two words name: a prefix, and the number of an AS or `none`.
+/// The route of two words: a prefix, and the number of an AS or `none`.
 pub fn read_route(prefix: &str, origin: &str) -> Option<Route>
     ensures some { IfSome result (λ route. RouteText route prefix.now origin.now) }
     ensures none { IfNone result ((route : Route) → ¬ (RouteText route prefix.now origin.now)) }
@@ -18,7 +18,7 @@ pub fn read_route(prefix: &str, origin: &str) -> Option<Route>
     Some(Route { prefix, origin })
 }
 
-/// The origin that a word names.
+/// The origin of a word.
 fn read_origin(word: &str) -> Option<Option<u32>>
     ensures some { IfSome result (λ origin. OriginText origin word.now) }
     ensures none { IfNone result ((origin : Option ℕ) → ¬ (OriginText origin word.now)) }

@@ -1,17 +1,17 @@
-//! Words that several commands read.
+//! Words that several commands parse.
 
-/// What names the version that a cache has published: the session in version 1 of the protocol, that in version 0, and the serial.
+/// The name of a published version: the session in protocol version 1, the session in version 0, and the serial.
 #[derive(Clone, Copy, Debug, PartialEq, Eq)]
 pub struct CacheName {
     /// The session in version 1.
     pub session: u16,
     /// The session in version 0.
     pub session0: u16,
-    /// The serial number.
+    /// The serial.
     pub serial: u32,
 }
 
-/// The number that a text writes in decimal digits without a leading zero or a sign.
+/// The number of a text in decimal digits, without a leading zero or a sign.
 pub fn decimal(text: &str) -> Option<u64> {
     match text.as_bytes() {
         [b'+', ..] => None,
