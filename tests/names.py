@@ -33,9 +33,10 @@ REPLACED = {
         "Visits": "Connections", "Place": "Entry", "AdmitFault": "HttpAdmitFault", "has_line": "has_token",
     },
     "status_pages": {"Told": "FileMetric", "Traffic": "TotalTraffic", "PduCounts": "PdusByType"},
-    "daemon_parts": {
+    "session_names": {"VersionNames": "SessionIds", "IsLater": "AllSerialsLater"},
+    "event_log": {
         "VersionNames": "SessionIds", "LogForm": "LogFormat", "Departure": "ClientClosed", "Event": "LogEvent", "Told": "LogValue",
-        "told_value": "log_value", "told_pair": "log_pair", "told_char": "log_char", "TellsEvent": "LogsEvent", "IsLater": "AllSerialsLater",
+        "told_value": "log_value", "told_pair": "log_pair", "told_char": "log_char", "TellsEvent": "LogsEvent",
     },
     "daemon_words": {
         "Asked": "Command", "Matter": "OptionGroup", "Choice": "OptionSpec", "Kind": "OptionKind", "WordsFault": "OptionFault",

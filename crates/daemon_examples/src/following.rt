@@ -1,12 +1,12 @@
 //! A daemon follows its files.
 use crate::stage::{Accepting, LIST, Stage};
 use crate::wires::{Router, Wire};
-use daemon_parts::SessionIds;
 use example_values::hex::bytes;
 use example_values::units::ANSWER;
 use rtr_daemon::{Daemon, Paths, Plan};
 use rtr_ends::{Cache, Timing};
 use rtr_server::Server;
+use session_names::SessionIds;
 use std::alloc::{AllocGlobal, Global};
 use std::process::Abort;
 use std::test::Fail;

@@ -1,6 +1,6 @@
-//! Examples of a daemon, which are the tests of the public items of `daemon_words`, `daemon_parts` and `rtr_daemon`: its command line, the
-//! names of its versions, their pace, its clock, the lines of its log, and what it does, with sockets, files, time and log in memory. They
-//! stand apart, as a crate with tests is proved twice.
+//! Examples of a daemon, which are the tests of `session_names`, `event_log`, `daemon_words` and `rtr_daemon`: its sessions and serials, their
+//! pace, its clock, the lines of its log, its command line, and its turns, with sockets, files, clocks and log in memory. They are a crate of
+//! their own, as a crate with tests is proved twice.
 #![tactic(auto)]
 
 #[cfg(test)]

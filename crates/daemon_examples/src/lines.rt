@@ -1,7 +1,6 @@
 //! Lines of the log, in both forms.
-use daemon_parts::{
-    ClientClosed, LogEvent, LogFormat, PeerReport, Publication, SessionIds, write_event,
-};
+use event_log::{ClientClosed, LogEvent, LogFormat, PeerReport, Publication, write_event};
+use session_names::SessionIds;
 use std::alloc::Global;
 use std::net::{IpAddr, Ipv4Addr, Ipv6Addr, SocketAddr};
 use std::test::Fail;

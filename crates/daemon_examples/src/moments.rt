@@ -1,6 +1,6 @@
 //! The moments of a clock that counts seconds.
-use daemon_parts::moment_at;
 use der_lite::Moment;
+use event_log::moment_at;
 use std::process::Abort;
 
 /// Seconds since 1970, and the text of their moment.

@@ -1,6 +1,6 @@
-//! The names of versions over restarts, and their pace.
-use daemon_parts::laws::restart_is_later;
-use daemon_parts::{Pace, first_serial, is_machine_id, session_of, session0_of};
+//! Sessions and serials over restarts, and the pace of versions.
+use session_names::laws::restart_is_later;
+use session_names::{Pace, first_serial, is_machine_id, session_of, session0_of};
 
 #[test]
 fn names_of_versions(rt: HostRuntime) {

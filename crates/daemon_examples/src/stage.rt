@@ -1,6 +1,6 @@
 //! Sockets, files, time and log in memory.
 use crate::wires::{Router, Shared, Wire, is_list, shared, wire};
-use daemon_parts::{LogEvent, LogFormat, write_event};
+use event_log::{LogEvent, LogFormat, write_event};
 use payload_commands::Directory;
 use rtr_daemon::{AcceptResult, Disk, EventLog, Ready, Sockets, Stamp, Time};
 use std::alloc::{AllocError, Global};

@@ -2,7 +2,7 @@
 ghost use Rattle.std.specs.Prelude.{◌≡◌, ◌≤◌, ◌+◌, true, IsSome, vec_len};
 ghost use Rattle.daemon_words.specs.Bounds.{is_within};
 
-use daemon_parts::LogFormat;
+use event_log::LogFormat;
 use rtr_ends::Timing;
 use std::net::SocketAddr;
 

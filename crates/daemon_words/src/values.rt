@@ -5,7 +5,7 @@ ghost use Rattle.daemon_words.specs.Bounds.{is_within};
 
 use crate::fault::{OptionFault, Wanted};
 use clap::ArgMatches;
-use daemon_parts::LogFormat;
+use event_log::LogFormat;
 use std::alloc::Global;
 use std::net::SocketAddr;
 

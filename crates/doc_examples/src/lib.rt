@@ -4,11 +4,11 @@
 #[cfg(test)]
 mod command_parts_example;
 #[cfg(test)]
-mod daemon_parts_example;
-#[cfg(test)]
 mod daemon_words_example;
 #[cfg(test)]
 mod der_lite_example;
+#[cfg(test)]
+mod event_log_example;
 #[cfg(test)]
 mod exports_example;
 #[cfg(test)]
@@ -45,6 +45,8 @@ mod rtr_pdu_example;
 mod rtr_server_example;
 #[cfg(test)]
 mod rtr_world_example;
+#[cfg(test)]
+mod session_names_example;
 #[cfg(test)]
 mod slurm_example;
 #[cfg(test)]

@@ -1,6 +1,6 @@
 //! The sessions and the first serial of a run.
-use daemon_parts::{SessionIds, first_serial, is_machine_id, session_of, session0_of};
 use daemon_words::Settings;
+use session_names::{SessionIds, first_serial, is_machine_id, session_of, session0_of};
 use std::alloc::{AllocError, Global};
 use std::fs;
 use std::io::{self, ErrorKind};

@@ -1,7 +1,7 @@
 //! The system: sockets over `mio`, files, clocks, and standard error.
 use crate::connection::Connection;
 use crate::running::refuse_sockets;
-use daemon_parts::{LogEvent, LogFormat, write_event};
+use event_log::{LogEvent, LogFormat, write_event};
 use mio::net::{TcpListener, TcpStream};
 use mio::{Events, Interest, Poll, Token};
 use payload_commands::{Directory, read_directories};

@@ -4,7 +4,7 @@ ghost use Rattle.rtr_daemon.specs.Serving.{GoesOn};
 
 use crate::daemon::Daemon;
 use crate::environment::{AcceptResult, EventLog, Sockets, Time};
-use daemon_parts::LogEvent;
+use event_log::LogEvent;
 use rtr_server::{AdmitFault, Stream};
 use std::alloc::{AllocError, Global};
 use std::io;

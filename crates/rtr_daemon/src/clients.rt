@@ -5,7 +5,7 @@ ghost use Rattle.rtr_daemon.specs.Serving.{GoesOn};
 use crate::daemon::Daemon;
 use crate::environment::{EventLog, Ready, Sockets, Time};
 use crate::status::with_counters;
-use daemon_parts::{ClientClosed, LogEvent, PeerReport};
+use event_log::{ClientClosed, LogEvent, PeerReport};
 use rtr_pdu::Version;
 use rtr_server::{ByteCounts, Client, CloseReason, PdusByKind, Report, Stream, Turn};
 use std::net::SocketAddr;

@@ -1,5 +1,5 @@
 //! The environment of a daemon: sockets, files, clocks, and the event log. Each trait has two implementations: over the system, and in memory.
-use daemon_parts::LogEvent;
+use event_log::LogEvent;
 use payload_commands::Directory;
 use std::io;
 use std::net::SocketAddr;

@@ -9,7 +9,7 @@ use crate::refusals::Refusals;
 use crate::service::Service;
 use crate::statistics::Statistics;
 use crate::watched_file::{Look, Source, WatchedFile};
-use daemon_parts::LogEvent;
+use event_log::LogEvent;
 use payloads::decode_manifest;
 use rtr_server::Stream;
 use std::alloc::Global;

@@ -6,7 +6,7 @@ ghost use Rattle.rtr_daemon.specs.Serving.{GoesOn, IsServedAt, Issues, KeepsSour
 
 use crate::refusal::Refusal;
 use crate::set_changes::change_counts;
-use daemon_parts::moment_at;
+use event_log::moment_at;
 use payload_commands::Directory;
 use points::{Offered, PointFault};
 use rtr_server::{AdmitFault, Client, Server, Stream, Turn};

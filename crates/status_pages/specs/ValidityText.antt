@@ -3,7 +3,7 @@ use Rattle.std.specs.Prelude.{ℕ, Bool, if◌then◌else◌, List, [], ◌∷�
 use Rattle.std.specs.Fmt.{decimal}
 use Rattle.std.specs.Io.KnownBytes.{Appends}
 use Rattle.std.specs.List.{concat, flat_map}
-use Rattle.daemon_parts.specs.Clock.{IsTimeOf}
+use Rattle.event_log.specs.Clock.{IsTimeOf}
 use Rattle.prefixes.specs.Payload.{Payload}
 use Rattle.prefixes.specs.Text.{written_text}
 use Rattle.prefixes.specs.declared.prefix.IpPrefix.{IpPrefix}

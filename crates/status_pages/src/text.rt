@@ -5,7 +5,7 @@ ghost use Rattle.std.specs.List.{flat_map};
 ghost use Rattle.std.specs.Str.{chars};
 ghost use Rattle.status_pages.specs.Escapes.{html_char, label_char};
 
-use daemon_parts::time_at;
+use event_log::time_at;
 use std::io::{self, Write};
 
 /// Writes a character in HTML. `&`, `<`, `>` and quotes are written as character references.

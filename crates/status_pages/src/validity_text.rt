@@ -6,7 +6,7 @@ ghost use Rattle.status_pages.specs.Kinds.{has_origin};
 ghost use Rattle.status_pages.specs.ValidityText.{TellsValidity, after_comma, beginning, description, ending, joined_vrps, judged_text, last_list, listed, lists_text, middle, origin_text, prefix_text, reason_text, route_text, state_text, state_word, validity_text, vrp_text, vrps_text};
 
 use crate::validity::{Validity, is_origin};
-use daemon_parts::time_at;
+use event_log::time_at;
 use prefixes::{IpPrefix, Route, Vrp};
 use std::io::{self, Write};
 use vrps::OriginState;

@@ -1,8 +1,0 @@
-use Rattle.std.proofs.Common.{flat_map}
-use Rattle.std.specs.Io.KnownBytes.{Appends}
-use Rattle.daemon_parts.specs.Lines.{escaped}
-use Rattle.daemon_parts.proofs.line.write_escaped.Given as goal
-
--- the characters so far are written
-abbrev pub invariant-loop-character : goal.invariant-loop-character
-invariant-loop-character g l = Appends (g.W.Write.contents l.initial.out) (g.W.Write.contents l.out) (flat_map escaped l.yielded)

@@ -1,0 +1,2 @@
+pub mod ClockLaws
+pub mod LineLaws

@@ -1,0 +1,132 @@
+-- The log entry of an event: a word, and values under keys.
+use Rattle.std.specs.Prelude.{ℕ, Bool, true, false, List, [], ◌∷◌, codes, Option, None, Some}
+use Rattle.std.specs.declared.net.socket_addr.SocketAddr.{SocketAddr}
+use Rattle.event_log.specs.declared.event.ClientClosed.{ClientClosed}
+use Rattle.event_log.specs.declared.event.LogEvent.{LogEvent}
+use Rattle.event_log.specs.declared.event.LogEvent.TheVariants as event
+use Rattle.event_log.specs.declared.event.PeerReport.{PeerReport}
+use Rattle.event_log.specs.declared.event.Publication.{Publication}
+use Rattle.event_log.specs.ReportNames.{report_name}
+use Rattle.session_names.specs.declared.names.SessionIds.{SessionIds}
+use Rattle.event_log.specs.declared.entries.Value.{Value}
+use Rattle.event_log.specs.declared.entries.Value.TheVariants as value
+use Rattle.event_log.specs.declared.entries.Pair.{Pair}
+
+-- a value: nothing, a number, an address with a port, or a text
+pub data LogValue : Type 0 where
+  Nothing : LogValue
+  Number : (n : ℕ) → LogValue
+  Address : (a : SocketAddr) → LogValue
+  Text : (s : List ℕ) → LogValue
+
+-- a value under its key
+pub record Entry : Type 0 where
+  pub key : List ℕ
+  pub value : LogValue
+
+abbrev pub entry : List ℕ → LogValue → Entry
+entry key value = record { key = key; value = value }
+
+-- the value that a value of the program represents
+abbrev pub log_value : Value → LogValue
+log_value value.Nothing = Nothing
+log_value (value.Number n) = Number n
+log_value (value.Address a) = Address a
+log_value (value.Text s) = Text s.now
+
+abbrev pub log_pair : Pair → Entry
+log_pair p = entry p.key.now (log_value p.value)
+
+-- the protocol version of a client, if any
+abbrev pub spoken : Option ℕ → LogValue
+spoken None = Nothing
+spoken (Some version) = Number version
+
+abbrev pub at : SocketAddr → Entry
+at address = entry (codes "address") (Address address)
+
+abbrev pub of_number : List ℕ → ℕ → Entry
+of_number key n = entry key (Number n)
+
+abbrev pub of_text : List ℕ → List ℕ → Entry
+of_text key s = entry key (Text s)
+
+-- the entries of a run's sessions and serial,
+abbrev pub session_entries : SessionIds → List Entry
+session_entries n = of_number (codes "session") n.session ∷ of_number (codes "session0") n.session0 ∷ of_number (codes "serial") n.serial ∷ []
+
+-- of a client that was closed,
+abbrev pub client_closed_entries : ClientClosed → List Entry
+client_closed_entries d =
+    at d.address ∷ of_text (codes "why") d.why.now ∷ entry (codes "version") (spoken d.version)
+    ∷ of_number (codes "read") d.read ∷ of_number (codes "written") d.written ∷ of_number (codes "seconds") d.seconds ∷ []
+
+-- of an Error Report,
+abbrev pub direction : Bool → List ℕ
+direction true = codes "received"
+direction false = codes "sent"
+
+abbrev pub report_entries : PeerReport → List Entry
+report_entries r =
+    at r.address ∷ of_text (codes "direction") (direction r.is_received) ∷ of_number (codes "code") r.code
+    ∷ of_text (codes "name") (report_name r.code) ∷ of_text (codes "text") r.text.now ∷ []
+
+-- and of a published version
+abbrev pub publication_entries : Publication → List Entry
+publication_entries p =
+    of_number (codes "session") p.session ∷ of_number (codes "serial") p.serial ∷ of_number (codes "announced") p.announced
+    ∷ of_number (codes "withdrawn") p.withdrawn ∷ of_number (codes "records") p.records ∷ of_number (codes "ms") p.milliseconds ∷ []
+
+-- the word of an event,
+abbrev pub word_of : LogEvent → List ℕ
+word_of (event.Started names) = codes "started"
+word_of (event.Limited clients) = codes "limited"
+word_of (event.Listening address) = codes "listening"
+word_of (event.Status address) = codes "status"
+word_of event.Ready = codes "ready"
+word_of (event.ClientCame address) = codes "client-came"
+word_of (event.ClientGone closed) = codes "client-gone"
+word_of (event.ErrorReport report) = codes "error-report"
+word_of (event.Stalled address) = codes "stalled"
+word_of (event.Full address clients) = codes "full"
+word_of (event.AddressFull address clients) = codes "address-full"
+word_of event.NoDescriptor = codes "no-descriptor"
+word_of (event.Published publication) = codes "published"
+word_of (event.LeftOut records) = codes "left-out"
+word_of (event.Refused file reason) = codes "refused"
+word_of (event.Taken file) = codes "taken"
+word_of (event.Old file age) = codes "old"
+word_of (event.Fresh file age) = codes "fresh"
+word_of (event.Expired file entries) = codes "expired"
+word_of (event.Clock behind) = codes "clock"
+word_of (event.Warning reason) = codes "warning"
+word_of (event.Memory what) = codes "memory"
+word_of (event.Failed what reason) = codes "failed"
+word_of (event.Stopped reason) = codes "stopped"
+
+-- and its values
+abbrev pub entries_of : LogEvent → List Entry
+entries_of (event.Started names) = session_entries names
+entries_of (event.Limited clients) = of_number (codes "clients") clients ∷ []
+entries_of (event.Listening address) = at address ∷ []
+entries_of (event.Status address) = at address ∷ []
+entries_of event.Ready = []
+entries_of (event.ClientCame address) = at address ∷ []
+entries_of (event.ClientGone closed) = client_closed_entries closed
+entries_of (event.ErrorReport report) = report_entries report
+entries_of (event.Stalled address) = at address ∷ []
+entries_of (event.Full address clients) = at address ∷ of_number (codes "clients") clients ∷ []
+entries_of (event.AddressFull address clients) = at address ∷ of_number (codes "clients") clients ∷ []
+entries_of event.NoDescriptor = []
+entries_of (event.Published publication) = publication_entries publication
+entries_of (event.LeftOut records) = of_number (codes "records") records ∷ []
+entries_of (event.Refused file reason) = of_text (codes "file") file.now ∷ of_text (codes "reason") reason.now ∷ []
+entries_of (event.Taken file) = of_text (codes "file") file.now ∷ []
+entries_of (event.Old file age) = of_text (codes "file") file.now ∷ of_number (codes "age") age ∷ []
+entries_of (event.Fresh file age) = of_text (codes "file") file.now ∷ of_number (codes "age") age ∷ []
+entries_of (event.Expired file entries) = of_text (codes "file") file.now ∷ of_number (codes "entries") entries ∷ []
+entries_of (event.Clock behind) = of_number (codes "behind") behind ∷ []
+entries_of (event.Warning reason) = of_text (codes "reason") reason.now ∷ []
+entries_of (event.Memory what) = of_text (codes "what") what.now ∷ []
+entries_of (event.Failed what reason) = of_text (codes "what") what.now ∷ of_text (codes "reason") reason.now ∷ []
+entries_of (event.Stopped reason) = of_text (codes "reason") reason.now ∷ []

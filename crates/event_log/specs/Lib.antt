@@ -1,0 +1,6 @@
+pub mod Clock
+pub mod ClockRows
+pub mod ReportNames
+pub mod Entries
+pub mod Lines
+pub mod LineRows

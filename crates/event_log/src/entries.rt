@@ -1,0 +1,156 @@
+//! The log entry of an event: a word, and values under keys.
+ghost use Rattle.std.specs.Prelude.{◌≡◌, codes, map};
+ghost use Rattle.event_log.specs.Entries.{at, client_closed_entries, direction, entry, session_entries, of_number, of_text, publication_entries, report_entries, spoken, log_pair, log_value, word_of};
+
+use crate::event::{ClientClosed, LogEvent, PeerReport, Publication};
+use crate::report::report_name;
+use session_names::SessionIds;
+use std::net::SocketAddr;
+
+/// A value of an event.
+#[derive(Clone, Copy, Debug)]
+pub(crate) enum Value<'a> {
+    Nothing,
+    Number(u64),
+    Address(SocketAddr),
+    Text(&'a str),
+}
+
+/// A value under its key.
+#[derive(Clone, Copy, Debug)]
+pub(crate) struct Pair<'a> {
+    pub(crate) key: &'static str,
+    pub(crate) value: Value<'a>,
+}
+
+pub(crate) fn text<'a>(key: &'static str, value: &'a str) -> Pair<'a>
+    ensures { log_pair result ≡ of_text key.now value.now }
+{
+    Pair {
+        key,
+        value: Value::Text(value),
+    }
+}
+
+pub(crate) fn number<'a>(key: &'static str, value: u64) -> Pair<'a>
+    ensures { log_pair result ≡ of_number key.now value }
+{
+    Pair {
+        key,
+        value: Value::Number(value),
+    }
+}
+
+pub(crate) fn address<'a>(value: &SocketAddr) -> Pair<'a>
+    ensures { log_pair result ≡ at value.now }
+{
+    Pair {
+        key: "address",
+        value: Value::Address(*value),
+    }
+}
+
+fn spoken<'a>(version: Option<u8>) -> Value<'a>
+    ensures { log_value result ≡ spoken version }
+{
+    match version {
+        None => Value::Nothing,
+        Some(version) => Value::Number(u64::from(version)),
+    }
+}
+
+fn version<'a>(value: Option<u8>) -> Pair<'a>
+    ensures { log_pair result ≡ entry (codes "version") (spoken value) }
+{
+    Pair {
+        key: "version",
+        value: spoken(value),
+    }
+}
+
+pub(crate) fn session_pairs<'a>(names: &SessionIds) -> [Pair<'a>; 3]
+    ensures { map log_pair result ≡ session_entries names.now }
+{
+    [
+        number("session", u64::from(names.session)),
+        number("session0", u64::from(names.session0)),
+        number("serial", u64::from(names.serial)),
+    ]
+}
+
+pub(crate) fn client_closed_pairs<'a>(closed: &ClientClosed<'a>) -> [Pair<'a>; 6]
+    ensures { map log_pair result ≡ client_closed_entries closed.now }
+{
+    [
+        address(&closed.address),
+        text("why", closed.why),
+        version(closed.version),
+        number("read", closed.read),
+        number("written", closed.written),
+        number("seconds", closed.seconds),
+    ]
+}
+
+/// The direction of a report.
+fn direction(is_received: bool) -> &'static str
+    ensures { result.now ≡ direction is_received }
+{
+    if is_received { "received" } else { "sent" }
+}
+
+pub(crate) fn report_pairs<'a>(report: &PeerReport<'a>) -> [Pair<'a>; 5]
+    ensures { map log_pair result ≡ report_entries report.now }
+{
+    [
+        address(&report.address),
+        text("direction", direction(report.is_received)),
+        number("code", u64::from(report.code)),
+        text("name", report_name(report.code)),
+        text("text", report.text),
+    ]
+}
+
+pub(crate) fn publication_pairs<'a>(publication: &Publication) -> [Pair<'a>; 6]
+    ensures { map log_pair result ≡ publication_entries publication.now }
+{
+    [
+        number("session", u64::from(publication.session)),
+        number("serial", u64::from(publication.serial)),
+        number("announced", publication.announced),
+        number("withdrawn", publication.withdrawn),
+        number("records", publication.records),
+        number("ms", publication.milliseconds),
+    ]
+}
+
+/// The word of an event.
+pub(crate) fn word_of(event: &LogEvent<'_>) -> &'static str
+    ensures { result.now ≡ word_of event.now }
+{
+    match event {
+        LogEvent::Started(_) => "started",
+        LogEvent::Limited { .. } => "limited",
+        LogEvent::Listening { .. } => "listening",
+        LogEvent::Status { .. } => "status",
+        LogEvent::Ready => "ready",
+        LogEvent::ClientCame { .. } => "client-came",
+        LogEvent::ClientGone(_) => "client-gone",
+        LogEvent::ErrorReport(_) => "error-report",
+        LogEvent::Stalled { .. } => "stalled",
+        LogEvent::Full { .. } => "full",
+        LogEvent::AddressFull { .. } => "address-full",
+        LogEvent::NoDescriptor => "no-descriptor",
+        LogEvent::Published(_) => "published",
+        LogEvent::LeftOut { .. } => "left-out",
+        LogEvent::Refused { .. } => "refused",
+        LogEvent::Taken { .. } => "taken",
+        LogEvent::Old { .. } => "old",
+        LogEvent::Fresh { .. } => "fresh",
+        LogEvent::Expired { .. } => "expired",
+        LogEvent::Clock { .. } => "clock",
+        LogEvent::Warning { .. } => "warning",
+        LogEvent::Memory { .. } => "memory",
+        LogEvent::Failed { .. } => "failed",
+        LogEvent::Stopped { .. } => "stopped",
+    }
+}

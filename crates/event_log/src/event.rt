@@ -1,0 +1,171 @@
+//! The events of the log.
+use session_names::SessionIds;
+use std::net::SocketAddr;
+
+/// Why a client was closed, and its counters.
+#[derive(Clone, Copy, Debug, PartialEq, Eq)]
+pub struct ClientClosed<'a> {
+    /// The client's address and port.
+    pub address: SocketAddr,
+    /// Why it was closed, in a few words.
+    pub why: &'a str,
+    /// The client's protocol version, 0 or 1, or `None` if it sent no whole header.
+    pub version: Option<u8>,
+    /// How many bytes were read from it.
+    pub read: u64,
+    /// How many bytes were written to it.
+    pub written: u64,
+    /// How many seconds it was connected.
+    pub seconds: u64,
+}
+
+/// An Error Report (RFC 8210 section 5.11) between the daemon and a client.
+#[derive(Clone, Copy, Debug, PartialEq, Eq)]
+pub struct PeerReport<'a> {
+    /// The client's address and port.
+    pub address: SocketAddr,
+    /// Whether the client sent it. If not, it was sent to the client.
+    pub is_received: bool,
+    /// Its code.
+    pub code: u16,
+    /// Its text, or the start of it.
+    pub text: &'a str,
+}
+
+/// The counters of a publication.
+#[derive(Clone, Copy, Debug, PartialEq, Eq)]
+pub struct Publication {
+    /// The session in protocol version 1.
+    pub session: u16,
+    /// The version's serial.
+    pub serial: u32,
+    /// How many records it announces.
+    pub announced: u64,
+    /// How many records it withdraws.
+    pub withdrawn: u64,
+    /// How many records it has.
+    pub records: u64,
+    /// How many milliseconds the publication took.
+    pub milliseconds: u64,
+}
+
+/// An event. Each event is one log line: a word, and values under keys.
+#[derive(Clone, Copy, Debug, PartialEq, Eq)]
+pub enum LogEvent<'a> {
+    /// `started`: the daemon starts, with these sessions and this serial.
+    Started(SessionIds),
+    /// `limited`: the system's limit of descriptors allows fewer clients than the settings.
+    Limited {
+        /// How many clients there may be at once.
+        clients: u64,
+    },
+    /// `listening`: a listener for routers is open at an address.
+    Listening {
+        /// The address and the port.
+        address: SocketAddr,
+    },
+    /// `status`: the status pages are at an address.
+    Status {
+        /// The address and the port.
+        address: SocketAddr,
+    },
+    /// `ready`: the first version is published.
+    Ready,
+    /// `client-came`: a client has connected.
+    ClientCame {
+        /// The client's address and port.
+        address: SocketAddr,
+    },
+    /// `client-gone`: a client was closed.
+    ClientGone(ClientClosed<'a>),
+    /// `error-report`: a client that was closed had sent or received an Error Report.
+    ErrorReport(PeerReport<'a>),
+    /// `stalled`: a client was blocked on writing for too long, and is closed.
+    Stalled {
+        /// The client's address and port.
+        address: SocketAddr,
+    },
+    /// `full`: a client was closed at once, as the limit of clients is reached.
+    Full {
+        /// The address and the port of the client that was closed.
+        address: SocketAddr,
+        /// How many clients there are.
+        clients: u64,
+    },
+    /// `address-full`: a client was closed at once, as the limit of its address is reached.
+    AddressFull {
+        /// The address and the port of the client that was closed.
+        address: SocketAddr,
+        /// How many clients the address has.
+        clients: u64,
+    },
+    /// `no-descriptor`: the system has no descriptor for a pending connection.
+    NoDescriptor,
+    /// `published`: a version was published.
+    Published(Publication),
+    /// `left-out`: the number of records of length 0 that are left out has changed.
+    LeftOut {
+        /// How many.
+        records: u64,
+    },
+    /// `refused`: a file or a publication point is refused. The served set stays.
+    Refused {
+        /// The path of the file or of the directory.
+        file: &'a str,
+        /// Why, in words.
+        reason: &'a str,
+    },
+    /// `taken`: a file or a publication point that was refused is loaded again.
+    Taken {
+        /// The path of the file or of the directory.
+        file: &'a str,
+    },
+    /// `old`: the data of a file have become older than the maximum age.
+    Old {
+        /// The path of the file.
+        file: &'a str,
+        /// How many seconds ago they were made.
+        age: u64,
+    },
+    /// `fresh`: the data of a file are no longer old.
+    Fresh {
+        /// The path of the file.
+        file: &'a str,
+        /// How many seconds ago they were made.
+        age: u64,
+    },
+    /// `expired`: entries of a file have expired, or all objects of a publication point. They are not served.
+    Expired {
+        /// The path of the file.
+        file: &'a str,
+        /// How many. For a publication point, this is the number of objects that its manifest lists.
+        entries: u64,
+    },
+    /// `clock`: the clock was set back.
+    Clock {
+        /// How many seconds it is behind the start plus the seconds since.
+        behind: u64,
+    },
+    /// `warning`: the daemon continues, and the operator should know this.
+    Warning {
+        /// What, in words.
+        reason: &'a str,
+    },
+    /// `memory`: memory ran out.
+    Memory {
+        /// For what, in a few words.
+        what: &'a str,
+    },
+    /// `failed`: a call of the system failed.
+    Failed {
+        /// For what, in a few words.
+        what: &'a str,
+        /// Why, in words.
+        reason: &'a str,
+    },
+    /// `stopped`: the daemon stops.
+    Stopped {
+        /// Why, in words.
+        reason: &'a str,
+    },
+}

@@ -1,0 +1,4 @@
+pub mod Names
+pub mod NameRows
+pub mod Runs
+pub mod RunRows
