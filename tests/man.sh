@@ -8,7 +8,7 @@ folder=$(mktemp -d) || exit 1
 trap 'rm -rf "$folder"' EXIT
 cd "$folder" || exit 1
 failed=0
-source=$top/crates/daemon_words/src/options.rt
+source=$top/crates/rpkirtrd_cli/src/options.rt
 
 # Both files have the same lines, which are told where they differ.
 same() { # same WHAT WANTED FOUND

@@ -38,7 +38,7 @@ REPLACED = {
         "VersionNames": "SessionIds", "LogForm": "LogFormat", "Departure": "ClientClosed", "Event": "LogEvent", "Told": "LogValue",
         "told_value": "log_value", "told_pair": "log_pair", "told_char": "log_char", "TellsEvent": "LogsEvent",
     },
-    "daemon_words": {
+    "rpkirtrd_cli": {
         "Asked": "Command", "Matter": "OptionGroup", "Choice": "OptionSpec", "Kind": "OptionKind", "WordsFault": "OptionFault",
         "Served": "SourcePaths", "log_form": "log_format",
     },

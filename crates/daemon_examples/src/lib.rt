@@ -1,4 +1,4 @@
-//! Examples of a daemon, which are the tests of `session_names`, `event_log`, `daemon_words` and `rtr_daemon`: its sessions and serials, their
+//! Examples of a daemon, which are the tests of `session_names`, `event_log`, `rpkirtrd_cli` and `rtr_daemon`: its sessions and serials, their
 //! pace, its clock, the lines of its log, its command line, and its turns, with sockets, files, clocks and log in memory. They are a crate of
 //! their own, as a crate with tests is proved twice.
 #![tactic(auto)]

@@ -1,5 +1,5 @@
 //! The words of the command line: every option, what stands where it is left out, and what is refused.
-use daemon_words::{Command, OptionFault, Settings, read_words};
+use rpkirtrd_cli::{Command, OptionFault, Settings, read_words};
 use std::alloc::{AllocGlobal, Global};
 use std::process::Abort;
 use std::test::Fail;

@@ -4,8 +4,6 @@
 #[cfg(test)]
 mod command_parts_example;
 #[cfg(test)]
-mod daemon_words_example;
-#[cfg(test)]
 mod der_lite_example;
 #[cfg(test)]
 mod event_log_example;
@@ -33,6 +31,8 @@ mod prefix_texts_example;
 mod prefixes_example;
 #[cfg(test)]
 mod printed;
+#[cfg(test)]
+mod rpkirtrd_cli_example;
 #[cfg(test)]
 mod rtr_commands_example;
 #[cfg(test)]

@@ -1,5 +1,5 @@
 //! The sessions and the first serial of a run.
-use daemon_words::Settings;
+use rpkirtrd_cli::Settings;
 use session_names::{SessionIds, first_serial, is_machine_id, session_of, session0_of};
 use std::alloc::{AllocError, Global};
 use std::fs;

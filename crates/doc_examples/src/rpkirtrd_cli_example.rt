@@ -1,4 +1,4 @@
-use daemon_words::{Command, read_words};
+use rpkirtrd_cli::{Command, read_words};
 use std::test::Fail;
 
 #[test]

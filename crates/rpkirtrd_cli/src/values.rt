@@ -1,7 +1,7 @@
 //! The values of options.
 ghost use Rattle.std.specs.Prelude.{◌≡◌, ◌≤◌, true, IfOk, IfSome};
-ghost use Rattle.daemon_words.specs.Decimals.{ReadsBetween, ReadsNumber};
-ghost use Rattle.daemon_words.specs.Bounds.{is_within};
+ghost use Rattle.rpkirtrd_cli.specs.Decimals.{ReadsBetween, ReadsNumber};
+ghost use Rattle.rpkirtrd_cli.specs.Bounds.{is_within};
 
 use crate::fault::{OptionFault, Wanted};
 use clap::ArgMatches;

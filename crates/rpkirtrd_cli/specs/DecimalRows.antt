@@ -1,7 +1,7 @@
 -- Numbers on a command line, worked out.
 use Rattle.std.specs.Prelude.{◌≡◌, codes, [], None, Some}
 use Rattle.std.proofs.Common.{lit<, refl, arith}
-use Rattle.daemon_words.specs.Decimals.{ReadsNumber}
+use Rattle.rpkirtrd_cli.specs.Decimals.{ReadsNumber}
 
 nothing_but_zero : ReadsNumber (codes "0") (Some 0)
 nothing_but_zero = record { digits = (lit< tt, (lit< tt, tt)); no_zero_first = λ e. refl; value = refl }

@@ -1,6 +1,6 @@
 //! The settings of a run.
 ghost use Rattle.std.specs.Prelude.{◌≡◌, ◌≤◌, ◌+◌, true, IsSome, vec_len};
-ghost use Rattle.daemon_words.specs.Bounds.{is_within};
+ghost use Rattle.rpkirtrd_cli.specs.Bounds.{is_within};
 
 use event_log::LogFormat;
 use rtr_ends::Timing;

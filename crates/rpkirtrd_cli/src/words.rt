@@ -1,6 +1,6 @@
 //! The parsed command line.
 ghost use Rattle.std.specs.Prelude.{◌≡◌, ◌≤◌, ◌+◌, true, IfOk, IsSome, vec_len};
-ghost use Rattle.daemon_words.specs.Bounds.{is_within};
+ghost use Rattle.rpkirtrd_cli.specs.Bounds.{is_within};
 
 use crate::fault::OptionFault;
 use crate::help::{help, version};

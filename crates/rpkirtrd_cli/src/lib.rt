@@ -4,7 +4,7 @@
 //! For example, where `rt` is the runtime that `main` is handed:
 //!
 //! ```rust
-//! use daemon_words::{Command, read_words};
+//! use rpkirtrd_cli::{Command, read_words};
 //!
 //! let mut words = Vec::new(rt.alloc());
 //! for word in ["--vrps", "vrps.json", "--keep", "8"] {
