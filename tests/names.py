@@ -42,7 +42,7 @@ REPLACED = {
         "Asked": "Command", "Matter": "OptionGroup", "Choice": "OptionSpec", "Kind": "OptionKind", "WordsFault": "OptionFault",
         "Served": "SourcePaths", "log_form": "log_format",
     },
-    "orders": {"Order": "Command", "WordsFault": "CommandFault", "NoOrder": "Invalid", "Form": "CommandSpec"},
+    "rpkirtr_cli": {"Order": "Command", "WordsFault": "CommandFault", "NoOrder": "Invalid", "Form": "CommandSpec"},
 }
 
 # The public type names that two libraries may declare, with the reason.

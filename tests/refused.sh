@@ -58,7 +58,7 @@ changed crates/rtr_ends/proofs/router/Router/receive/Answers.antt '$s|$| |' 'rtr
 # a contract, a definition, and a type
 changed crates/rtr_ends/src/router.rt 's|ensures within { result ≤ |ensures within { 0 + result ≤ |' 'feed rpkirtr rpkirtrd_cli rtr_commands rtr_daemon rtr_ends rtr_server rtr_world world_scripts '
 changed crates/rtr_pdu/specs/Version.antt '$s|$|\nmore : ℕ\nmore = 1|' 'feed rpkirtr rpkirtrd_cli rtr_commands rtr_daemon rtr_ends rtr_pdu rtr_server rtr_world world_scripts '
-changed crates/orders/src/lib.rt '$s|$|\npub struct More;|' 'rpkirtr '
+changed crates/rpkirtr_cli/src/lib.rt '$s|$|\npub struct More;|' 'rpkirtr '
 # a lemma that is named from above, and one that is not
 changed crates/rtr_ends/proofs/TableLaws.antt '$s|$| |' 'rtr_commands rtr_ends rtr_server rtr_world '
 changed crates/rtr_ends/proofs/LinkCells.antt '$s|$| |' 'rtr_ends '

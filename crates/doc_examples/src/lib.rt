@@ -16,8 +16,6 @@ mod feed_example;
 #[cfg(test)]
 mod json_texts_example;
 #[cfg(test)]
-mod orders_example;
-#[cfg(test)]
 mod payload_commands_example;
 #[cfg(test)]
 mod payload_lists_example;
@@ -31,6 +29,8 @@ mod prefix_texts_example;
 mod prefixes_example;
 #[cfg(test)]
 mod printed;
+#[cfg(test)]
+mod rpkirtr_cli_example;
 #[cfg(test)]
 mod rpkirtrd_cli_example;
 #[cfg(test)]

@@ -2,8 +2,8 @@
 ghost use Rattle.std.specs.Prelude.{◌≡◌, ◌≤◌, IfOk};
 
 use command_parts::ProgramFault;
-use orders::{Command, read_words};
 use payload_commands::{manifest, payloads, roa, route};
+use rpkirtr_cli::{Command, read_words};
 use rtr_commands::{answer, both_ends, fetch, serve, units};
 use std::io::Write;
 use std::net::Net;

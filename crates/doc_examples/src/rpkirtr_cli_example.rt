@@ -1,4 +1,4 @@
-use orders::{Command, read_words};
+use rpkirtr_cli::{Command, read_words};
 use std::test::Fail;
 
 #[test]

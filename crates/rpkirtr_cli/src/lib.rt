@@ -3,7 +3,7 @@
 //! For example, where `rt` is the runtime that `main` is handed:
 //!
 //! ```rust
-//! use orders::{Command, read_words};
+//! use rpkirtr_cli::{Command, read_words};
 //!
 //! let mut words = Vec::new(rt.alloc());
 //! for word in ["roa", "a.roa"] {
