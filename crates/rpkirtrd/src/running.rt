@@ -34,8 +34,8 @@ pub fn out_of_memory<E: Write>(err: &mut E) -> u8 {
     4
 }
 
-/// Runs a command line, and answers the exit status: 0 done, 1 refused input, 2 the words do not parse, 3 a file, a socket or an output failed, 4
-/// out of memory.
+/// Runs a command line, and answers the exit status. It is 0 if all is done, 1 for refused input, and 2 if the words do not parse. It is 3 if a
+/// file, a socket or an output failed, and 4 if memory ran out.
 pub fn run_words<
     R: Files + Net + Clock + RandomSource + AllocGlobal + Clone + Drop,
     O: Write,

@@ -1,5 +1,5 @@
-//! The sessions and the first serial of a daemon, so that a restart empties no router (RFC 8210 section 5.1): [`session_of`],
-//! [`session0_of`], [`first_serial`], the pace of its versions ([`Pace`]), and the law of restarts ([`laws::restart_is_later`]).
+//! The sessions and the first serial of a daemon, by which a restart empties no router (RFC 8210 section 5.1): [`session_of`],
+//! [`session0_of`] and [`first_serial`]. [`Pace`] is the pace of its versions, and [`laws::restart_is_later`] the law of restarts.
 //!
 //! For example, where `rt` is the runtime that `main` is handed:
 //!
