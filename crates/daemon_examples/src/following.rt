@@ -1,4 +1,4 @@
-//! A daemon follows its files.
+//! A daemon polls its files and serves its clients.
 use crate::stage::{Accepting, LIST, Stage};
 use crate::wires::{Router, Wire};
 use example_values::hex::bytes;
@@ -37,34 +37,34 @@ const NAMES: SessionIds = SessionIds {
     serial: 5,
 };
 
-/// What happens at a daemon, and what has to come of it. A router is named by its place among those that have come.
+/// A step of a test: an input of the daemon, or a check. A router is named by its place in the order of arrival.
 enum Step {
     /// The list has this text from now on.
     Writes(&'static str),
-    /// The list is written anew, with the same text, at each look from now on, or is not any more.
+    /// Whether the list is rewritten with the same text at each poll from now on.
     IsRestless(bool),
-    /// The system takes connections so from now on.
+    /// The result of each accept from now on.
     Accepts(Accepting),
-    /// A router comes.
+    /// A router connects.
     Comes(Router),
     Turns(u32),
-    /// The wall clock is set back by so many seconds, or ahead.
+    /// The wall clock is set back, or ahead, by this many seconds.
     SetsBack(u64),
     SetsAhead(u64),
-    /// So many routers are served.
+    /// This many clients are connected.
     Serves(usize),
-    /// A router has got these PDUs, and no more.
+    /// A router received these PDUs, and no others.
     Has(usize, &'static str),
 }
 
-/// A server of session 4660, whose first serial is 5.
+/// A server of session 4660 and first serial 5.
 fn server(alloc: Global) -> Result<Server<VersionLog, Wire>, Fail> {
     let store = VersionLog::new(alloc, 4660, 5, 4)?;
     let cache = Cache::new(alloc, store, Timing::default());
     Ok(Server::new(alloc, cache, 2))
 }
 
-/// The list is all that is served.
+/// The list is the only source.
 fn paths(alloc: Global) -> Result<Paths, Fail> {
     let mut files = Vec::new(alloc);
     files.push(String::from_str(alloc, LIST)?)?;
@@ -75,7 +75,7 @@ fn paths(alloc: Global) -> Result<Paths, Fail> {
     })
 }
 
-/// A daemon that follows the list.
+/// A daemon that polls the list.
 fn opened(alloc: Global, plan: Plan, stage: &mut Stage) -> Result<Daemon<VersionLog, Wire>, Fail> {
     let paths = paths(alloc)?;
     let server = server(alloc)?;
@@ -85,7 +85,7 @@ fn opened(alloc: Global, plan: Plan, stage: &mut Stage) -> Result<Daemon<Version
     }
 }
 
-/// Whether so many turns go well.
+/// Whether this many turns succeed.
 fn turns(daemon: &mut Daemon<VersionLog, Wire>, stage: &mut Stage, count: u32) -> bool {
     for _turn in 0..count {
         if daemon.turn(stage).is_err() {
@@ -95,7 +95,7 @@ fn turns(daemon: &mut Daemon<VersionLog, Wire>, stage: &mut Stage, count: u32) -
     true
 }
 
-/// Whether a step goes as it has to.
+/// Whether a step succeeds.
 fn goes(daemon: &mut Daemon<VersionLog, Wire>, stage: &mut Stage, step: &Step) -> bool {
     match step {
         Step::Writes(text) => stage.write(text),
@@ -111,7 +111,7 @@ fn goes(daemon: &mut Daemon<VersionLog, Wire>, stage: &mut Stage, step: &Step) -
     true
 }
 
-/// Goes through steps.
+/// Runs the steps.
 fn go_on<R: Abort>(
     rt: &R,
     daemon: &mut Daemon<VersionLog, Wire>,
@@ -123,12 +123,12 @@ fn go_on<R: Abort>(
     }
 }
 
-/// Plays steps at a daemon that follows the list, which has the first text, and compares its log.
+/// Runs steps with a daemon that polls the list, which has the first text, and compares the log.
 fn play<R: AllocGlobal + Abort>(rt: &R, steps: &[Step], log: &str) -> Result<(), Fail> {
     play_by(rt, PLAN, ONE, steps, log)
 }
 
-/// The same by a plan, from a text of the list.
+/// The same with other settings and another text.
 fn play_by<R: AllocGlobal + Abort>(
     rt: &R,
     plan: Plan,
@@ -143,7 +143,7 @@ fn play_by<R: AllocGlobal + Abort>(
     Ok(())
 }
 
-/// A router has the table, is notified of the next list, and of no list that cannot be taken.
+/// A router gets the set, and is notified of the next valid list, but not of a refused one.
 const FOLLOWS: &[Step] = &[
     Step::Comes(Router::Asks),
     Step::Turns(7),
@@ -167,7 +167,7 @@ const FOLLOWS_LOG: &str =
     2026-11-25T18:47:00Z taken file=list.json\n\
     2026-11-25T18:47:00Z published session=4660 serial=6 announced=1 withdrawn=1 records=1 ms=0\n";
 
-/// A router that takes nothing is closed after the time that is said, and one more than may be there at once; another is served.
+/// A blocked router is closed after the timeout. One more router than the limit is closed at once. Another router is served.
 const CLOSES: &[Step] = &[
     Step::Turns(2),
     Step::Comes(Router::TakesNothing),
@@ -201,7 +201,7 @@ fn closes_who_takes_nothing(rt: HostRuntime) -> Result<(), Fail> {
     play(&rt, CLOSES, CLOSES_LOG)
 }
 
-/// A list that is refused, and is another one at each look, is reported at the third look.
+/// A list that is refused, and differs at each poll, is reported at the third poll.
 const CHANGES: &[Step] = &[
     Step::Turns(2),
     Step::Writes("[{"),
@@ -221,7 +221,7 @@ const CHANGES_LOG: &str =
     2026-11-25T18:40:01Z ready\n\
     2026-11-25T18:43:00Z refused file=list.json reason=\"not JSON at line 1, column 3 (fault 1)\"\n";
 
-/// A version is published although the wall clock is set back by a day.
+/// A version is published even if the wall clock was set back by a day.
 const GOES_BACK: &[Step] = &[
     Step::Turns(2),
     Step::SetsBack(86_400),
@@ -245,7 +245,7 @@ fn publishes_after_the_clock_goes_back(rt: HostRuntime) -> Result<(), Fail> {
     play(&rt, GOES_BACK, GOES_BACK_LOG)
 }
 
-/// A router that takes a byte now and then is not stalled, as a write is tried each second.
+/// A router that reads a byte now and then is not stalled, as a write is tried each second.
 const GOES_SLOWLY: &[Step] = &[
     Step::Turns(2),
     Step::Comes(Router::TakesSlowly),
@@ -263,7 +263,7 @@ fn leaves_who_takes_slowly(rt: HostRuntime) -> Result<(), Fail> {
     play(&rt, GOES_SLOWLY, GOES_SLOWLY_LOG)
 }
 
-/// A client that has sent no whole query within a minute is closed, and one that has is not.
+/// A client that sent no whole query within a minute is closed, and another is not.
 const ASKS_NOTHING: &[Step] = &[
     Step::Turns(2),
     Step::Comes(Router::IsSilent),
@@ -295,7 +295,7 @@ fn closes_who_asks_nothing(rt: HostRuntime) -> Result<(), Fail> {
     play(&rt, ASKS_NOTHING, ASKS_NOTHING_LOG)
 }
 
-/// An address has one client at most, and may have another when that one has gone.
+/// An address may have one client, and another after that one is closed.
 const ONE_EACH: Plan = Plan {
     clients_per_address: Some(1),
     ..PLAN
@@ -327,7 +327,7 @@ fn an_address_has_so_many_clients(rt: HostRuntime) -> Result<(), Fail> {
     play_by(&rt, ONE_EACH, ONE, COMES_TWICE, COMES_TWICE_LOG)
 }
 
-/// A connection that cannot be taken is tried again each second. That is reported once, until one is taken.
+/// A connection that cannot be accepted is tried again each second. The failure is reported once, until one is accepted.
 const WAITS_AT_THE_GATE: &[Step] = &[
     Step::Turns(2),
     Step::Accepts(Accepting::NoRoom),
@@ -356,7 +356,7 @@ fn tries_again_to_take_a_connection(rt: HostRuntime) -> Result<(), Fail> {
     play(&rt, WAITS_AT_THE_GATE, WAITS_AT_THE_GATE_LOG)
 }
 
-/// A list that changes while it is read, at each look, is reported at the second look. When it stands still it is taken.
+/// A list that changes during each read is reported at the second poll. When it no longer changes it is loaded.
 const STANDS_NEVER_STILL: &[Step] = &[
     Step::Turns(3),
     Step::IsRestless(true),
@@ -380,7 +380,7 @@ fn reports_a_list_that_never_stands_still(rt: HostRuntime) -> Result<(), Fail> {
 const ENDS: &str =
     "{\"roas\":[{\"asn\":64496,\"prefix\":\"192.0.2.0/24\",\"maxLength\":24,\"expires\":1795635600}]}";
 
-/// A record that is left out as the clock is ahead comes again when the clock is set right.
+/// A record that expired while the clock was ahead is served again when the clock is set right.
 const GOES_AHEAD: &[Step] = &[
     Step::Turns(3),
     Step::SetsAhead(7200),
@@ -401,7 +401,7 @@ fn a_record_comes_again_after_the_clock_is_set_right(rt: HostRuntime) -> Result<
     play_by(&rt, PLAN, ENDS, GOES_AHEAD, GOES_AHEAD_LOG)
 }
 
-/// Exports that do not say when they were made, or say a time in milliseconds, are as old as their files.
+/// Exports without a time, or with one in milliseconds, are as old as their files.
 const SHORT_LIVED: Plan = Plan {
     max_age: Some(100),
     ..PLAN
@@ -428,7 +428,7 @@ fn a_list_without_a_time_grows_old(rt: HostRuntime) -> Result<(), Fail> {
     play_by(&rt, SHORT_LIVED, ONE, GROWS_OLD, GROWS_OLD_LOG)
 }
 
-/// A client has eight calls of its stream a turn: one that reads its query, and then one for each byte that it takes.
+/// A client has eight calls of its stream in a turn: one that reads its query, and then one for each byte that it reads.
 const TAKES_TURNS: &[Step] = &[
     Step::Turns(2),
     Step::Comes(Router::TakesBytes),
@@ -448,7 +448,7 @@ fn a_client_has_so_many_calls_a_turn(rt: HostRuntime) -> Result<(), Fail> {
     play(&rt, TAKES_TURNS, TAKES_TURNS_LOG)
 }
 
-/// Two versions are published in different seconds, however often files are looked at.
+/// Two versions are published in different seconds, however often files are polled.
 const OFTEN: Plan = Plan { check: 100, ..PLAN };
 
 const CHANGES_AT_ONCE: &[Step] = &[Step::Turns(12), Step::Writes(TWO), Step::Turns(10)];
@@ -463,7 +463,7 @@ fn no_two_versions_in_a_second(rt: HostRuntime) -> Result<(), Fail> {
     play_by(&rt, OFTEN, ONE, CHANGES_AT_ONCE, CHANGES_AT_ONCE_LOG)
 }
 
-/// Records of length 0 are left out if that is asked for, and it is said how many.
+/// Records of length 0 are left out if that is set, and their number is logged.
 const NARROW: Plan = Plan {
     leaves_out_length_0: true,
     ..PLAN

@@ -1,4 +1,4 @@
-//! Lines of the log, in both forms.
+//! Lines of the log, in both formats.
 use event_log::{ClientClosed, LogEvent, LogFormat, PeerReport, Publication, write_event};
 use session_names::SessionIds;
 use std::alloc::Global;
@@ -21,7 +21,7 @@ fn is_line(
     Ok(told.as_slice() == line.as_bytes())
 }
 
-/// Whether an event is logged so at 2026-11-25T18:40:00Z: by a word, and by values, which stand behind the time and the word.
+/// Whether an event has this text line at 2026-11-25T18:40:00Z: the time, the word, and the values.
 fn is_plain(alloc: Global, event: &LogEvent<'_>, word: &str, values: &str) -> Result<bool, Fail> {
     let line = format!(in alloc; "2026-11-25T18:40:00Z {word}{values}\n")?;
     is_line(alloc, LogFormat::Text, MOMENT, event, line.as_str())
@@ -39,10 +39,10 @@ fn address() -> SocketAddr {
     SocketAddr::new(IpAddr::V4(Ipv4Addr::new(192, 0, 2, 1)), 40_000)
 }
 
-/// Events, and what is logged of them: the word, and the values in both forms.
+/// Events, each with its word and its values in both formats.
 type Told = (LogEvent<'static>, &'static str, &'static str, &'static str);
 
-/// The events of the daemon and of its files.
+/// The events of the daemon and of its sources.
 fn daemon_events() -> [Told; 10] {
     [
         (
@@ -116,7 +116,7 @@ fn daemon_events() -> [Told; 10] {
     ]
 }
 
-/// The events of files, with names that break no line.
+/// The events of files, with names that must not break a line.
 fn file_events() -> [Told; 7] {
     [
         (
@@ -276,7 +276,7 @@ fn client_events() -> [Told; 10] {
     ]
 }
 
-/// Whether each of these events is logged as it should be, in both forms.
+/// Whether each of these events has its line, in both formats.
 fn all_are_told(alloc: Global, events: &[Told]) -> Result<bool, Fail> {
     for (event, word, plain, json) in events {
         if !is_plain(alloc, event, word, plain)? || !is_object(alloc, event, word, json)? {
@@ -307,7 +307,7 @@ const TIMES: &[(u64, &str)] = &[
     (18_446_744_073_709_551_615, "9999-12-31T23:59:59Z ready\n"),
 ];
 
-/// Whether each of these times stands in the line of an event.
+/// Whether each of these times is in the line of an event.
 fn all_times_are_told(alloc: Global, times: &[(u64, &str)]) -> Result<bool, Fail> {
     for &(seconds, line) in times {
         if !is_line(alloc, LogFormat::Text, seconds, &LogEvent::Ready, line)? {

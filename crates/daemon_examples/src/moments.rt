@@ -1,9 +1,9 @@
-//! The moments of a clock that counts seconds.
+//! The times of seconds since 1970.
 use der_lite::Moment;
 use event_log::moment_at;
 use std::process::Abort;
 
-/// Seconds since 1970, and the text of their moment.
+/// Seconds since 1970, and the text of their time.
 const MOMENTS: &[(u64, &str)] = &[
     (0, "19700101000000Z"),
     (951_782_399, "20000228235959Z"),
@@ -17,13 +17,13 @@ const MOMENTS: &[(u64, &str)] = &[
     (253_402_300_799, "99991231235959Z"),
 ];
 
-/// Whether the moment of these seconds has this text.
+/// Whether the time of these seconds has this text.
 fn is_moment(seconds: u64, text: &str) -> bool {
     let moment = moment_at(seconds);
     moment.is_some() && moment == Moment::parse(text)
 }
 
-/// Checks each moment.
+/// Checks each time.
 fn expect_moments<R: Abort>(rt: &R, moments: &[(u64, &str)]) {
     for &(seconds, text) in moments {
         assert!(rt; is_moment(seconds, text), "{seconds}");

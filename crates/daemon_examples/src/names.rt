@@ -14,7 +14,7 @@ fn names_of_versions(rt: HostRuntime) {
     restart_is_later();
 }
 
-/// What a session is made of, and the session, which is worked out with Python's hashlib.
+/// What a session is made of, and the session, which was computed with Python's hashlib.
 const SESSIONS: &[(&str, &str, &str, &str, u16)] = &[
     ("", "", "", "", 0x6668),
     (

@@ -1,4 +1,4 @@
-//! Sockets, files, time and log in memory.
+//! Sockets, files, clocks and log in memory.
 use crate::wires::{Router, Shared, Wire, is_list, shared, wire};
 use event_log::{LogEvent, LogFormat, write_event};
 use payload_commands::Directory;
@@ -12,42 +12,42 @@ use std::net::SocketAddr;
 /// The path of the one file.
 pub(crate) const LIST: &str = "list.json";
 
-/// How the system takes connections.
+/// The result of an accept.
 #[derive(Clone, Copy, PartialEq, Eq)]
 pub(crate) enum Accepting {
     Well,
-    /// It has no descriptor left.
+    /// The system has no descriptor left.
     NoRoom,
-    /// It refuses for another reason.
+    /// Another error.
     Fails,
 }
 
-/// The surroundings of a daemon, in memory. Waiting makes time pass.
+/// The environment of a daemon, in memory. Each wait advances the clocks.
 #[derive(Drop)]
 pub(crate) struct Stage {
     alloc: Global,
-    /// What the list holds, how often it was written, and when, in seconds since 1970.
+    /// The text of the list, how often it was written, and when, in seconds since 1970.
     list: &'static str,
     times: u64,
     modified: u64,
-    /// Whether the list is written anew, with the same text, at each look.
+    /// Whether the list is rewritten with the same text at each poll.
     is_restless: bool,
     accepting: Accepting,
-    /// The moment at the beginning in seconds since 1970, and the milliseconds that have passed.
+    /// The start in seconds since 1970, and the milliseconds since.
     began: u64,
     millis: u64,
-    /// The lines of routers that were not taken yet, and how many have come that were not told of.
+    /// The connections that are pending, and how many of them were not reported yet.
     arriving: VecDeque<Wire>,
     untold: usize,
-    /// How many lines were taken.
+    /// How many connections were accepted.
     connections: usize,
-    /// What each router has got.
+    /// The bytes that each router received.
     got: Vec<Shared>,
     pub(crate) log: Vec<u8>,
 }
 
 impl Stage {
-    /// A stage at a moment in seconds since 1970, whose list has this text.
+    /// An environment at a time in seconds since 1970, whose list has this text.
     pub(crate) fn new(alloc: Global, began: u64, list: &'static str) -> Stage {
         Stage {
             alloc,
@@ -66,19 +66,19 @@ impl Stage {
         }
     }
 
-    /// Writes the list anew.
+    /// Rewrites the list.
     pub(crate) fn write(&mut self, list: &'static str) {
         self.list = list;
         self.times = self.times.saturating_add(1);
         self.modified = self.seconds();
     }
 
-    /// The list is written anew at each look, or is not any more.
+    /// Sets whether the list is rewritten at each poll.
     pub(crate) fn set_restless(&mut self, is_restless: bool) {
         self.is_restless = is_restless;
     }
 
-    /// Connections are taken so from now on.
+    /// Sets the result of each accept from now on.
     pub(crate) fn set_accepting(&mut self, accepting: Accepting) {
         self.accepting = accepting;
     }
@@ -102,7 +102,7 @@ impl Stage {
         Ok(())
     }
 
-    /// Whether the router of this place among those that have come has got these bytes and no others.
+    /// Whether the router of this place in the order of arrival received exactly these bytes.
     pub(crate) fn has_got(&self, router: usize, bytes: &[u8]) -> bool {
         match self.got.get(router) {
             None => false,

@@ -1,4 +1,4 @@
-//! Lines in memory.
+//! Connections in memory.
 use rtr_server::Duplex;
 use std::alloc::{AllocError, Global};
 use std::cell::RefCell;
@@ -6,7 +6,7 @@ use std::io;
 use std::io::{ErrorKind, Read, Write};
 use std::rc::Rc;
 
-/// Bytes that the test and a line hold both.
+/// Bytes that the test and a connection share.
 pub(crate) type Shared = Rc<RefCell<Vec<u8>>>;
 
 /// No bytes yet.
@@ -22,24 +22,24 @@ pub(crate) fn is_list(list: &Shared, bytes: &[u8]) -> bool {
     }
 }
 
-/// What a router does.
+/// The behaviour of a router.
 #[derive(Clone, Copy, PartialEq, Eq)]
 pub(crate) enum Router {
-    /// It asks for all.
+    /// It sends a Reset Query.
     Asks,
     /// It sends nothing.
     IsSilent,
     /// It sends the header of a Serial Query, and nothing more.
     SendsHeader,
-    /// It asks for all, and takes nothing.
+    /// It sends a Reset Query, and reads nothing.
     TakesNothing,
-    /// It asks for all, and takes one byte of each write.
+    /// It sends a Reset Query, and reads one byte of each write.
     TakesBytes,
-    /// It asks for all, and takes one byte of every other write.
+    /// It sends a Reset Query, and reads one byte of every other write.
     TakesSlowly,
 }
 
-/// What comes of a router: where nothing is left it waits.
+/// The bytes from a router. When none are left, a read would block.
 #[derive(Drop)]
 pub(crate) struct Feed {
     left: &'static [u8],
@@ -57,7 +57,7 @@ impl Read for Feed {
     }
 }
 
-/// What goes to it, at so many bytes a write, and whether the next write would wait.
+/// The bytes to it, with the most bytes of a write, and whether the next write would block.
 #[derive(Drop)]
 pub(crate) struct Sink {
     list: Shared,
@@ -67,7 +67,7 @@ pub(crate) struct Sink {
 }
 
 impl Sink {
-    /// Whether this write would wait: each one if it takes nothing, and every other one if it is slow.
+    /// Whether this write would block: each one if it reads nothing, and every other one if it is slow.
     fn take_turn(&mut self) -> bool {
         let waits = self.waits;
         self.waits = self.most == 0 || (self.is_slow && !waits);
@@ -105,7 +105,7 @@ const RESET_QUERY: &[u8] = b"\x01\x02\x00\x00\x00\x00\x00\x08";
 /// The header of a Serial Query of version 1 (RFC 8210 section 5.3).
 const HEADER: &[u8] = b"\x01\x01\x12\x34\x00\x00\x00\x0c";
 
-/// The line of a router. What goes out stands in `output`.
+/// The connection of a router. The bytes to it are in `output`.
 pub(crate) fn wire(output: &Shared, router: Router) -> Result<Wire, AllocError> {
     let left = match router {
         Router::IsSilent => b"".as_slice(),

@@ -1,10 +1,10 @@
-//! The words of the command line: every option, what stands where it is left out, and what is refused.
+//! The command line: every option, its default, and what is refused.
 use rpkirtrd_cli::{Command, OptionFault, Settings, read_words};
 use std::alloc::{AllocGlobal, Global};
 use std::process::Abort;
 use std::test::Fail;
 
-/// The words of a line, which have blanks between them.
+/// The words of a line, separated by blanks.
 fn words_of(alloc: Global, line: &str) -> Result<Vec<String>, Fail> {
     let mut words = Vec::new(alloc);
     for word in line.split_whitespace() {
@@ -21,7 +21,7 @@ fn told(alloc: Global, fault: &OptionFault) -> Result<String, Fail> {
     Ok(format!(in alloc; "{fault}")?)
 }
 
-/// What the words of a line ask for, as `Debug` shows it, or why they ask for nothing.
+/// The `Debug` text of a parsed line, or its fault.
 fn answer_to(alloc: Global, line: &str) -> Result<String, Fail> {
     let words = words_of(alloc, line)?;
     match read_words(alloc, words.as_slice()) {
@@ -39,7 +39,7 @@ const DEFAULTS: &str =
     stop_when_old: false, max_size: 2147483648, leave_out_length_0: false, clients: 256, clients_per_address: None, \
     stall: 120, status: None, log: Text, once: false, test: false }";
 
-/// Lines, and a part of what they ask for.
+/// Lines, and a part of their parsed form.
 const LINES: &[(&str, &str)] = &[
     ("--vrps a", DEFAULTS),
     ("--vrps=a", DEFAULTS),
@@ -110,7 +110,7 @@ const LINES: &[(&str, &str)] = &[
     ("-V", "rpkirtrd 1.0.0"),
 ];
 
-/// Checks what each line asks for.
+/// Checks each line.
 fn expect_parts<R: AllocGlobal + Abort>(rt: &R, lines: &[(&str, &str)]) -> Result<(), Fail> {
     for &(line, part) in lines {
         let told = answer_to(rt.alloc(), line)?;
@@ -124,7 +124,7 @@ fn lines_are_read(rt: HostRuntime) -> Result<(), Fail> {
     expect_parts(&rt, LINES)
 }
 
-/// Lines that ask for nothing, and what is said of them: of words that are unknown, missing, too many, or do not go together.
+/// Lines that are refused, and their faults: unknown, missing, repeated or conflicting words.
 const REFUSED_WORDS: &[(&str, &str)] = &[
     (
         "",
@@ -191,7 +191,7 @@ const REFUSED_WORDS: &[(&str, &str)] = &[
     ("--vrps a --reload", "unexpected argument '--reload' found"),
 ];
 
-/// The same of numbers: of what is kept, and of sessions and serials.
+/// The same for numbers: kept versions, sessions and serials.
 const REFUSED_NUMBERS: &[(&str, &str)] = &[
     (
         "--vrps a --max-size 0",
@@ -271,7 +271,7 @@ const REFUSED_NUMBERS: &[(&str, &str)] = &[
     ),
 ];
 
-/// The same of intervals, and of how many clients there may be.
+/// The same for intervals, and for the limit of clients.
 const REFUSED_BOUNDS: &[(&str, &str)] = &[
     (
         "--vrps a --refresh 86401",
@@ -331,7 +331,7 @@ const REFUSED_BOUNDS: &[(&str, &str)] = &[
     ),
 ];
 
-/// The same of addresses.
+/// The same for addresses.
 const REFUSED_ADDRESSES: &[(&str, &str)] = &[
     (
         "--vrps a --listen localhost:323",
@@ -383,7 +383,7 @@ const REFUSED_ADDRESSES: &[(&str, &str)] = &[
     ),
 ];
 
-/// Checks why each line is refused.
+/// Checks the fault of each line.
 fn expect_reasons<R: AllocGlobal + Abort>(rt: &R, lines: &[(&str, &str)]) -> Result<(), Fail> {
     for &(line, reason) in lines {
         let told = answer_to(rt.alloc(), line)?;
@@ -400,7 +400,7 @@ fn lines_are_refused(rt: HostRuntime) -> Result<(), Fail> {
     expect_reasons(&rt, REFUSED_ADDRESSES)
 }
 
-/// The options with what stands behind them, and what the help says of their bounds and of what stands in their place.
+/// The options with their values, and what the help says of their ranges and defaults.
 const OPTIONS: &[(&str, &str)] = &[
     ("--vrps FILE", "may stand several times."),
     ("--points DIR", "may stand several times."),
@@ -450,7 +450,7 @@ fn fits_a_screen(text: &str) -> bool {
         .all(|line| line.len() <= 80 && !line.ends_with(' '))
 }
 
-/// What the help says of an option, in one line.
+/// The help of an option, in one line.
 fn said_of(alloc: Global, help: &str, option: &str) -> Result<String, Fail> {
     let head = format!(in alloc; "\n  {option}\n")?;
     let (_, behind) = help.split_once(head.as_str()).ok_or("no such option")?;
@@ -461,7 +461,7 @@ fn said_of(alloc: Global, help: &str, option: &str) -> Result<String, Fail> {
     Ok(said)
 }
 
-/// Checks what the help says of each option.
+/// Checks the help of each option.
 fn expect_said<R: AllocGlobal + Abort>(
     rt: &R,
     help: &str,

@@ -1,4 +1,4 @@
-//! Visitors over streams in memory.
+//! HTTP connections over streams in memory.
 use crate::values::{NOW, small};
 use crate::wires::{Shared, Wire, has, is_list, shared};
 use bytes::Bytes;
@@ -12,7 +12,7 @@ use std::hash::RandomState;
 use std::test::Fail;
 use vrps::{OriginIndex, VrpSet};
 
-/// A cache that has one record, or has published nothing yet.
+/// A cache with one record, or without a version.
 #[derive(Drop)]
 struct Small {
     alloc: Global,
@@ -53,7 +53,7 @@ fn source(alloc: Global) -> Result<Small, Fail> {
     })
 }
 
-/// What comes of one visitor that sends this, at so many bytes a call, and what it is sent.
+/// The outcome of a connection that sends this, at this many bytes a call, and the response.
 fn answered(
     rt: &HostRuntime,
     request: &[u8],
@@ -63,7 +63,7 @@ fn answered(
     answered_by(rt, &mut source, request, piece)
 }
 
-/// The same of a cache.
+/// The same with a given source.
 fn answered_by(
     rt: &HostRuntime,
     source: &mut Small,
@@ -78,7 +78,7 @@ fn answered_by(
     Ok((answered, output))
 }
 
-/// A request, and what the answer begins with, and has in it.
+/// A request, with the start and a part of its response.
 type Answer = (&'static str, &'static str, &'static str);
 
 const ANSWERS: &[Answer] = &[
@@ -137,7 +137,7 @@ fn requests_are_answered(rt: HostRuntime) -> Result<(), Fail> {
     Ok(())
 }
 
-/// Requests that need a version, and what the answer has in it before the first is published.
+/// Requests that need a version, and a part of their response before the first version.
 const EARLY: &[(&str, &str)] = &[
     (
         "GET /vrps.json HTTP/1.1\r\nHost: a\r\n\r\n",
@@ -165,7 +165,7 @@ fn nothing_is_said_of_records_before_a_version(rt: HostRuntime) -> Result<(), Fa
     Ok(())
 }
 
-/// Requests that end a visit, and what the answer begins with.
+/// Requests after which the connection is closed, and the start of their response.
 const ENDS: &[(&str, &str)] = &[
     (
         "GET /vrps.json HTTP/1.1\r\nHost: a\r\nconnection: close\r\n\r\n",

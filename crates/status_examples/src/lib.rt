@@ -1,4 +1,4 @@
-//! Examples of what a cache reports of itself, which are the tests of the public items of `status_pages` and `status_server`. They stand apart, as
+//! Examples of the status pages, which are the tests of the public items of `status_pages` and `status_server`. They are a crate of their own, as
 //! a crate with tests is proved twice.
 #![tactic(auto)]
 

@@ -11,7 +11,7 @@ fn metrics_of(alloc: Global, status: &Status) -> Result<String, Fail> {
     Ok(String::from_str(alloc, str::from_utf8(&out)?)?)
 }
 
-/// The metrics of a cache that has published nothing yet, but for those of PDUs.
+/// The metrics of a cache without a version, but for those of PDUs.
 const EMPTY: &str = "\
 # HELP rpkirtrd_build_info The version of the program; the value is 1.
 # TYPE rpkirtrd_build_info gauge
@@ -40,7 +40,7 @@ fn a_cache_without_a_version(rt: HostRuntime) -> Result<(), Fail> {
     Ok(())
 }
 
-/// Lines that stand in the metrics of a small cache.
+/// Lines of the metrics of a small cache.
 const LINES: &[&str] = &[
     "\nrpkirtrd_clock_behind_seconds 3600\n",
     "\nrpkirtrd_vrps{family=\"ipv4\"} 400000\nrpkirtrd_vrps{family=\"ipv6\"} 123456\n",

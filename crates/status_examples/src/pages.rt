@@ -11,7 +11,7 @@ fn page_of(alloc: Global, status: &Status) -> Result<String, Fail> {
     Ok(String::from_str(alloc, str::from_utf8(&out)?)?)
 }
 
-/// What stands on the page of a cache that has published nothing yet.
+/// Parts of the page of a cache without a version.
 const EMPTY: &[&str] = &[
     "<!doctype html>\n<html lang=\"en\">\n<head>\n<meta charset=\"utf-8\">\n<meta name=\"viewport\" content=\"width=device-width, initial-scale=1\">\n<title>",
     "<p class=\"dim\">Version 0.1.0. Started <time datetime=\"2026-11-26T00:36:55Z\">2026-11-26 00:36:55</time> <span class=\"dim\">5\u{202f}s ago</span>.",
@@ -36,7 +36,7 @@ fn a_cache_without_a_version(rt: HostRuntime) -> Result<(), Fail> {
     Ok(())
 }
 
-/// What stands on the page of a small cache.
+/// Parts of the page of a small cache.
 const SMALL: &[&str] = &[
     "</p>\n<p class=\"warn\">The clock was set back by 3\u{202f}600 s since the start.</p>\n</header>\n",
     "<dt>Serial</dt><dd>1795653120</dd>",

@@ -1,4 +1,4 @@
-//! Queries for the state of a route.
+//! Queries for the validity of a route.
 use prefixes::{IpPrefix, PrefixFault, Route};
 use status_pages::{QueryFault, read_query};
 use std::test::Fail;
@@ -26,7 +26,7 @@ fn queries_that_ask_for_a_route(rt: HostRuntime) -> Result<(), Fail> {
     Ok(())
 }
 
-/// Queries that ask for none, and why.
+/// Queries that are refused, and why.
 const REFUSED: &[(&str, QueryFault)] = &[
     ("", QueryFault::Keys),
     ("asn=64496", QueryFault::Keys),

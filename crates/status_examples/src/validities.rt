@@ -1,4 +1,4 @@
-//! What records say of routes, and as JSON.
+//! The validity of routes, and its JSON.
 use crate::values::NOW;
 use prefixes::{Asn, IpPrefix, Route, Vrp};
 use status_pages::laws::{covering_is_parted, reason_is_by_origin};
@@ -39,7 +39,7 @@ const CASES: &[Case] = &[
     ),
 ];
 
-/// Whether the state is this, and the three lists are so long.
+/// Whether the state is this, and the three lists have these lengths.
 fn is_told(validity: &Validity, state: OriginState, lists: &[usize; 3]) -> bool {
     validity.state == state
         && validity.matched.len() == lists[0]
@@ -47,7 +47,7 @@ fn is_told(validity: &Validity, state: OriginState, lists: &[usize; 3]) -> bool 
         && validity.unmatched_as.len() == lists[2]
 }
 
-/// Whether this is said of a route.
+/// Whether a route has this validity.
 fn is_judged<R: AllocGlobal>(
     rt: &R,
     text: &str,
@@ -71,7 +71,7 @@ fn records_are_told_by_kind(rt: HostRuntime) -> Result<(), Fail> {
     Ok(())
 }
 
-/// Whether what is said of a route is this text.
+/// Whether the validity of a route has this text.
 fn tells<R: AllocGlobal + Abort>(rt: &R, text: &str, asn: u32, want: &str) -> Result<bool, Fail> {
     let index = index(rt.alloc())?;
     let route = route(text, Some(asn))?;
@@ -81,7 +81,7 @@ fn tells<R: AllocGlobal + Abort>(rt: &R, text: &str, asn: u32, want: &str) -> Re
     Ok(out.as_slice() == want.as_bytes())
 }
 
-/// A route with its AS, and what is said of it.
+/// A route with its AS, and the text of its validity.
 const TOLD: &[(&str, u32, &str)] = &[
     (
         "192.0.2.0/25",

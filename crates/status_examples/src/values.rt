@@ -1,4 +1,4 @@
-//! What a cache may be.
+//! The status of some caches.
 use status_pages::{
     ChangeStatus, ClientStatus, ClientTraffic, FileStatus, PdusByType, Status, TotalTraffic,
 };
@@ -21,7 +21,7 @@ const NO_PDUS: PdusByType = PdusByType {
     error_report: 0,
 };
 
-/// A cache that has published nothing yet.
+/// A cache without a version.
 pub(crate) fn empty(alloc: Global) -> Status {
     Status {
         version: "0.1.0",
@@ -64,7 +64,7 @@ fn change(serial: u32, at: u64, announced: u64, withdrawn: u64, records: u64) ->
     }
 }
 
-/// Files: one that is taken, and one that is refused, with signs that mean something in HTML and in labels.
+/// Files: one that is loaded, and one that is refused, with characters that are special in HTML and in labels.
 fn put_files(alloc: Global, status: &mut Status) -> Result<(), AllocError> {
     status.files.push(FileStatus {
         path: String::from_str(alloc, "/var/db/rpki-client/json")?,
@@ -88,7 +88,7 @@ fn put_files(alloc: Global, status: &mut Status) -> Result<(), AllocError> {
     Ok(())
 }
 
-/// A client that sent so many queries.
+/// A client that sent this many queries.
 fn client(address: IpAddr, version: Option<u8>, serial: Option<u32>, ago: u64) -> ClientStatus {
     ClientStatus {
         address: SocketAddr::new(address, 40_000),

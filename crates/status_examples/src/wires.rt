@@ -6,7 +6,7 @@ use std::rc::Rc;
 use std::test::Fail;
 use std::{io, str};
 
-/// Bytes that the test and a stream hold both.
+/// Bytes that the test and a stream share.
 pub(crate) type Shared = Rc<RefCell<Vec<u8>>>;
 
 pub(crate) fn shared(alloc: Global, bytes: &[u8]) -> Result<Shared, Fail> {
@@ -23,7 +23,7 @@ pub(crate) fn is_list(list: &Shared, other: &Shared) -> bool {
     }
 }
 
-/// Whether it begins with one text, and has another in it.
+/// Whether it begins with one text, and contains another.
 pub(crate) fn has(alloc: Global, list: &Shared, begin: &str, part: &str) -> Result<bool, Fail> {
     match list.try_borrow() {
         Err(_) => Ok(false),
@@ -34,7 +34,7 @@ pub(crate) fn has(alloc: Global, list: &Shared, begin: &str, part: &str) -> Resu
     }
 }
 
-/// A stream: what `input` has comes, at most `piece` bytes a call, and then it waits; what goes out, at most as many, stands in `output`.
+/// A stream. Reads give the bytes of `input`, at most `piece` bytes a call, and then would block. Writes append at most as many to `output`.
 #[derive(Debug, Drop)]
 pub(crate) struct Wire {
     input: Shared,
