@@ -20,7 +20,7 @@ struct RawPair<'a> {
 
 /// A name and its value, decoded.
 #[derive(Drop)]
-struct Pair<'a> {
+struct DecodedPair<'a> {
     name: CowStr<'a>,
     value: CowStr<'a>,
 }
@@ -42,13 +42,13 @@ fn two_pairs(query: &str) -> Option<(RawPair<'_>, RawPair<'_>)>
 }
 
 /// A pair, decoded.
-fn decoded<'a>(alloc: Global, pair: &RawPair<'a>) -> Result<Pair<'a>, AllocError>
+fn decoded<'a>(alloc: Global, pair: &RawPair<'a>) -> Result<DecodedPair<'a>, AllocError>
     ensures name { IfOk result (λ p. cow_str_bytes p.name ≡ text_of pair.now.name.now) }
     ensures value { IfOk result (λ p. cow_str_bytes p.value ≡ text_of pair.now.value.now) }
 {
     let name = decode(alloc, pair.name)?;
     let value = decode(alloc, pair.value)?;
-    Ok(Pair { name, value })
+    Ok(DecodedPair { name, value })
 }
 
 /// The AS number of a decimal text.
@@ -90,7 +90,7 @@ fn route_of(asn: &str, prefix: &str) -> Result<Route, QueryFault>
 }
 
 /// The route of two pairs.
-fn route_of_pairs(one: &Pair<'_>, other: &Pair<'_>) -> Result<Route, QueryFault>
+fn route_of_pairs(one: &DecodedPair<'_>, other: &DecodedPair<'_>) -> Result<Route, QueryFault>
     ensures { FindsIn ((cow_str_bytes one.now.name, cow_str_bytes one.now.value) ∷ (cow_str_bytes other.now.name, cow_str_bytes other.now.value) ∷ []) result }
 {
     match (one.name.as_str(), other.name.as_str()) {
