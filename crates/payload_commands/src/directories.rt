@@ -6,9 +6,9 @@ use std::io::ErrorKind;
 use std::rt::Files;
 use std::{fs, io};
 
-/// A file as it was read.
+/// A file that was read: its name, the object, and its content.
 #[derive(Debug, Drop)]
-struct Fetched {
+struct ReadFile {
     name: String,
     object: Vec<u8>,
     content: Vec<u8>,
@@ -19,7 +19,7 @@ struct Fetched {
 pub struct Directory<'a> {
     name: &'a str,
     manifest: Vec<u8>,
-    files: Vec<Fetched>,
+    files: Vec<ReadFile>,
 }
 
 impl<'a> Directory<'a> {
@@ -75,7 +75,7 @@ fn read_directory<'a, R: Files + AllocGlobal + Clone + Drop>(
         let object = path_in(alloc, objects.as_str(), file.as_str())?;
         if is_regular(rt, object.as_str())? {
             let content = path_in(alloc, contents.as_str(), file.as_str())?;
-            files.push(Fetched {
+            files.push(ReadFile {
                 name: file,
                 object: read_file(rt, object.as_str())?,
                 content: read_or_empty(rt, content.as_str())?,
