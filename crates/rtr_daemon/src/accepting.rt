@@ -34,7 +34,7 @@ pub(crate) struct Listeners {
 
 impl Listener {
     /// Whether a connection may be pending and the listener is not paused.
-    fn has_pending(&self, now: u64) -> bool {
+    fn can_accept(&self, now: u64) -> bool {
         self.pending && self.next_try() <= now
     }
 
@@ -86,14 +86,14 @@ impl Listeners {
 
     /// The earliest time at which a listener with a pending connection can be tried.
     pub(crate) fn next_try(&self) -> Option<u64> {
-        let waiting = self.listeners.iter().filter(|it| it.pending);
-        waiting.map(|it| it.next_try()).min()
+        let pending = self.listeners.iter().filter(|it| it.pending);
+        pending.map(|it| it.next_try()).min()
     }
 
-    fn has_pending(&self, listener: usize, now: u64) -> bool {
+    fn can_accept(&self, listener: usize, now: u64) -> bool {
         self.listeners
             .get(listener)
-            .is_some_and(|it| it.has_pending(now))
+            .is_some_and(|it| it.can_accept(now))
     }
 
     /// Marks a failure to accept as reported. It answers true if none was reported since a connection was accepted last.
@@ -123,7 +123,7 @@ impl<S: VersionStore, T: Stream + Drop> Daemon<S, T> {
         ensures { GoesOn S.holds T.remaining T.contents self.old.service self.new.service }
     {
         for _connection in 0..AT_ONCE {
-            if !self.listeners.has_pending(listener, env.millis()) {
+            if !self.listeners.can_accept(listener, env.millis()) {
                 return;
             }
             self.accept_one(listener, env);
@@ -215,7 +215,7 @@ impl<S: VersionStore, T: Stream + Drop> Daemon<S, T> {
         }
     }
 
-    /// Pauses a listener for another reason that the system gives.
+    /// Pauses a listener after an accept that failed for another reason.
     fn note_accept_failure<W: Time + EventLog>(
         &mut self,
         listener: usize,

@@ -49,7 +49,7 @@ impl ClientTable {
     }
 
     /// The length of the queue.
-    pub(crate) fn waiting(&self) -> usize {
+    pub(crate) fn queue_len(&self) -> usize {
         self.queue.len()
     }
 

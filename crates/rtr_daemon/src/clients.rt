@@ -48,7 +48,7 @@ impl<S: VersionStore, T: Stream + Drop> Daemon<S, T> {
     pub(crate) fn serve_all<W: Time + EventLog>(&mut self, env: &mut W)
         ensures { GoesOn S.holds T.remaining T.contents self.old.service self.new.service }
     {
-        for _client in 0..self.clients.waiting() {
+        for _client in 0..self.clients.queue_len() {
             self.serve_next(env);
         }
     }
