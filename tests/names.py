@@ -29,7 +29,7 @@ REPLACED = {
         "world": "env", "Asked": "Command",
     },
     "status_server": {
-        "Told": "StatusSource", "told": "source", "Visitor": "HttpConnection", "Visitors": "HttpConnections", "Visit": "Progress",
+        "Told": "StatusSource", "told": "source", "Visitor": "HttpConnection", "Visitors": "HttpConnections", "Visit": "HttpProgress",
         "Visits": "Connections", "Place": "Entry", "AdmitFault": "HttpAdmitFault", "has_line": "has_token",
     },
     "status_pages": {"Told": "FileMetric", "Traffic": "TotalTraffic", "PduCounts": "PdusByType"},
@@ -42,6 +42,7 @@ REPLACED = {
         "Asked": "Command", "Matter": "OptionGroup", "Choice": "OptionSpec", "Kind": "OptionKind", "WordsFault": "OptionFault",
         "Served": "SourcePaths", "log_form": "log_format",
     },
+    "rtr_server": {"Carried": "ByteCounts", "Pdus": "PdusByKind", "Moved": "Progress"},
     "rpkirtr_cli": {"Order": "Command", "WordsFault": "CommandFault", "NoOrder": "Invalid", "Form": "CommandSpec"},
 }
 

@@ -8,7 +8,7 @@ use prefixes::Route;
 use rpkirtrd_cli::VERSION;
 use rtr_daemon::{Daemon, Time};
 use status_pages::{Status, Validity};
-use status_server::{HttpConnections, Progress, StatusSource};
+use status_server::{HttpConnections, HttpProgress, StatusSource};
 use std::alloc::{AllocError, Global};
 use std::collections::VecDeque;
 use std::fmt::{self, Debug};
@@ -198,7 +198,7 @@ impl StatusEndpoint {
     fn serve_all(&mut self, snapshot: &mut Snapshot<'_>) {
         for _visitor in 0..self.queue.len() {
             if let Some(token) = self.queue.pop_front() {
-                if self.connections.serve(token, snapshot, BUDGET) == Some(Progress::Busy) {
+                if self.connections.serve(token, snapshot, BUDGET) == Some(HttpProgress::Busy) {
                     self.wake(token);
                 }
             }

@@ -5,7 +5,7 @@ use bytes::Bytes;
 use prefixes::{Asn, IpPrefix, Route, Vrp};
 use status_pages::{Status, Validity};
 use status_server::{
-    CONNECTION_MILLIS, HttpAdmitFault, HttpConnections, MAX_CONNECTIONS, Progress, StatusSource,
+    CONNECTION_MILLIS, HttpAdmitFault, HttpConnections, MAX_CONNECTIONS, HttpProgress, StatusSource,
 };
 use std::alloc::{AllocError, Global};
 use std::hash::RandomState;
@@ -58,7 +58,7 @@ fn answered(
     rt: &HostRuntime,
     request: &[u8],
     piece: usize,
-) -> Result<(Option<Progress>, Shared), Fail> {
+) -> Result<(Option<HttpProgress>, Shared), Fail> {
     let mut source = source(rt.alloc())?;
     answered_by(rt, &mut source, request, piece)
 }
@@ -69,7 +69,7 @@ fn answered_by(
     source: &mut Small,
     request: &[u8],
     piece: usize,
-) -> Result<(Option<Progress>, Shared), Fail> {
+) -> Result<(Option<HttpProgress>, Shared), Fail> {
     let output = shared(rt.alloc(), b"")?;
     let wire = Wire::of(&shared(rt.alloc(), request)?, &output, piece)?;
     let mut connections = HttpConnections::new(rt.alloc(), RandomState::new(rt)?);
@@ -128,10 +128,10 @@ const ANSWERS: &[Answer] = &[
 fn requests_are_answered(rt: HostRuntime) -> Result<(), Fail> {
     for &(request, begin, part) in ANSWERS {
         let (came, output) = answered(&rt, request.as_bytes(), 4096)?;
-        assert!(rt; came == Some(Progress::WouldBlock), "{request}");
+        assert!(rt; came == Some(HttpProgress::WouldBlock), "{request}");
         assert!(rt; has(rt.alloc(), &output, begin, part)?, "{request}");
         let (came, slow) = answered(&rt, request.as_bytes(), 1)?;
-        assert!(rt; came == Some(Progress::WouldBlock), "{request}");
+        assert!(rt; came == Some(HttpProgress::WouldBlock), "{request}");
         assert!(rt; is_list(&slow, &output), "{request}");
     }
     Ok(())
@@ -159,7 +159,7 @@ fn nothing_is_said_of_records_before_a_version(rt: HostRuntime) -> Result<(), Fa
             index: None,
         };
         let (came, output) = answered_by(&rt, &mut source, request.as_bytes(), 4096)?;
-        assert!(rt; came == Some(Progress::WouldBlock), "{request}");
+        assert!(rt; came == Some(HttpProgress::WouldBlock), "{request}");
         assert!(rt; has(rt.alloc(), &output, begin, part)?, "{request}");
     }
     Ok(())
@@ -182,7 +182,7 @@ const ENDS: &[(&str, &str)] = &[
 fn visits_end(rt: HostRuntime) -> Result<(), Fail> {
     for &(request, begin) in ENDS {
         let (came, output) = answered(&rt, request.as_bytes(), 4096)?;
-        assert!(rt; came == Some(Progress::Closed), "{request}");
+        assert!(rt; came == Some(HttpProgress::Closed), "{request}");
         assert!(rt; has(rt.alloc(), &output, begin, "\r\n")?, "{request}");
     }
     let mut long = Vec::new(rt.alloc());
@@ -191,7 +191,7 @@ fn visits_end(rt: HostRuntime) -> Result<(), Fail> {
         long.push(b'a')?;
     }
     let (came, output) = answered(&rt, &long, 4096)?;
-    assert!(rt; came == Some(Progress::Closed));
+    assert!(rt; came == Some(HttpProgress::Closed));
     assert!(rt; has(rt.alloc(), &output, "HTTP/1.1 414 URI Too Long\r\n", "\r\n")?);
     Ok(())
 }
@@ -200,7 +200,7 @@ fn visits_end(rt: HostRuntime) -> Result<(), Fail> {
 fn requests_behind_one_another(rt: HostRuntime) -> Result<(), Fail> {
     let twice = b"GET /vrps.json HTTP/1.1\r\nHost: a\r\n\r\nHEAD /a HTTP/1.1\r\nHost: a\r\n\r\n";
     let (came, output) = answered(&rt, twice, 4096)?;
-    assert!(rt; came == Some(Progress::WouldBlock));
+    assert!(rt; came == Some(HttpProgress::WouldBlock));
     assert!(rt;
         has(
             rt.alloc(),
@@ -221,10 +221,10 @@ fn a_turn_is_bounded(rt: HostRuntime) -> Result<(), Fail> {
     let mut source = source(rt.alloc())?;
     assert!(rt; connections.serve(7, &mut source, 8) == None);
     connections.admit(7, wire, 0)?;
-    assert!(rt; connections.serve(7, &mut source, 0) == Some(Progress::Busy));
-    assert!(rt; connections.serve(7, &mut source, 27) == Some(Progress::Busy));
+    assert!(rt; connections.serve(7, &mut source, 0) == Some(HttpProgress::Busy));
+    assert!(rt; connections.serve(7, &mut source, 27) == Some(HttpProgress::Busy));
     assert!(rt; is_list(&output, &shared(rt.alloc(), b"")?));
-    assert!(rt; connections.serve(7, &mut source, 1) == Some(Progress::Busy));
+    assert!(rt; connections.serve(7, &mut source, 1) == Some(HttpProgress::Busy));
     assert!(rt; is_list(&output, &shared(rt.alloc(), b"H")?));
     Ok(())
 }

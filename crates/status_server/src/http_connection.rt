@@ -7,7 +7,7 @@ use std::io::{ErrorKind, Read, Write};
 
 /// The outcome of a turn of a connection.
 #[derive(Clone, Copy, Debug, PartialEq, Eq)]
-pub enum Progress {
+pub enum HttpProgress {
     /// The stream would block.
     WouldBlock,
     /// All calls of the budget were made.
@@ -43,23 +43,23 @@ impl<T: Read + Write> HttpConnection<T> {
     }
 
     /// Serves the connection until its stream would block, or until this many calls were made.
-    pub(crate) fn serve<S: Service>(&mut self, service: &mut S, budget: u32) -> Progress {
+    pub(crate) fn serve<S: Service>(&mut self, service: &mut S, budget: u32) -> HttpProgress {
         for _call in 0..budget {
             if let Some(visit) = self.step(service) {
                 return visit;
             }
         }
-        Progress::Busy
+        HttpProgress::Busy
     }
 
     /// Makes one call of the stream: it writes if bytes are due, and reads otherwise.
-    fn step<S: Service>(&mut self, service: &mut S) -> Option<Progress> {
+    fn step<S: Service>(&mut self, service: &mut S) -> Option<HttpProgress> {
         let moved = if self.connection.wants_write() {
             self.connection.write_to(&mut self.stream)
         } else if self.connection.wants_read() {
             self.connection.read_from(&mut self.stream)
         } else {
-            return Some(Progress::Closed);
+            return Some(HttpProgress::Closed);
         };
         match moved {
             Ok(_count) => {
@@ -67,9 +67,9 @@ impl<T: Read + Write> HttpConnection<T> {
                 None
             }
             Err(error) => match error.kind() {
-                ErrorKind::WouldBlock => Some(Progress::WouldBlock),
+                ErrorKind::WouldBlock => Some(HttpProgress::WouldBlock),
                 ErrorKind::Interrupted => None,
-                _ => Some(Progress::Closed),
+                _ => Some(HttpProgress::Closed),
             },
         }
     }

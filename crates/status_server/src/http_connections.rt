@@ -4,7 +4,7 @@ ghost use Rattle.std.specs.List.{list_any};
 ghost use Rattle.status_server.specs.Connections.{has_token, in_time, others};
 
 use crate::answers::Answers;
-use crate::http_connection::{HttpConnection, Progress};
+use crate::http_connection::{HttpConnection, HttpProgress};
 use crate::status_source::StatusSource;
 use std::alloc::Global;
 use std::fmt::{self, Debug};
@@ -59,7 +59,7 @@ impl<T> Model for HttpConnections<T> {
 
 impl<T: Read + Write> Entry<T> {
     /// Serves the connection.
-    fn serve<S: StatusSource>(&mut self, answers: &mut Answers<'_, S>, budget: u32) -> Progress
+    fn serve<S: StatusSource>(&mut self, answers: &mut Answers<'_, S>, budget: u32) -> HttpProgress
         ensures token { self.new.token ≡ self.old.token }
         ensures came { self.new.came ≡ self.old.came }
     {
@@ -94,7 +94,7 @@ fn serve_in<T: Read + Write, S: StatusSource>(
     index: usize,
     answers: &mut Answers<'_, S>,
     budget: u32,
-) -> Progress
+) -> HttpProgress
     requires { index < length entries.old }
     ensures { map {B = ℕ × ℕ} (λ p. (p.token, p.came)) entries.new ≡ map {B = ℕ × ℕ} (λ p. (p.token, p.came)) entries.old }
 {
@@ -164,7 +164,7 @@ impl<T: Read + Write + Drop> HttpConnections<T> {
     }
 
     /// Serves the connection at an index.
-    fn serve_at<S: StatusSource>(&mut self, index: usize, source: &mut S, budget: u32) -> Progress
+    fn serve_at<S: StatusSource>(&mut self, index: usize, source: &mut S, budget: u32) -> HttpProgress
         requires { index < length self.old }
         ensures { self.new ≡ self.old }
     {
@@ -189,16 +189,16 @@ impl<T: Read + Write + Drop> HttpConnections<T> {
         token: usize,
         source: &mut S,
         budget: u32,
-    ) -> Option<Progress>
+    ) -> Option<HttpProgress>
         ensures none { IsNone result ↔ (has_token token self.old ≡ false) }
-        ensures gone { result ≡ Some Progress.Closed → self.new ≡ others token self.old }
-        ensures stays { ¬ (result ≡ Some Progress.Closed) → self.new ≡ self.old }
+        ensures gone { result ≡ Some HttpProgress.Closed → self.new ≡ others token self.old }
+        ensures stays { ¬ (result ≡ Some HttpProgress.Closed) → self.new ≡ self.old }
     {
         let index = self.index_of(token)?;
         let progress = self.serve_at(index, source, budget);
         match progress {
-            Progress::Closed => self.remove(token),
-            Progress::WouldBlock | Progress::Busy => {}
+            HttpProgress::Closed => self.remove(token),
+            HttpProgress::WouldBlock | HttpProgress::Busy => {}
         }
         Some(progress)
     }

@@ -42,6 +42,6 @@ mod http_connection;
 mod http_connections;
 mod status_source;
 
-pub use http_connection::Progress;
+pub use http_connection::HttpProgress;
 pub use http_connections::{CONNECTION_MILLIS, HttpAdmitFault, HttpConnections, MAX_CONNECTIONS};
 pub use status_source::StatusSource;
