@@ -136,12 +136,13 @@ def owner_of(head):
     plain = re.sub(r"\bwhere\b.*", "", head, flags=re.S)
     while re.search(r"<[^<>]*>", plain):
         plain = re.sub(r"<[^<>]*>", "", plain)
-    words = plain.replace("impl", "", 1).replace("&", "").split()
-    names = [it.split("::")[-1] for it in words if it not in ("for", "mut")]
-    # (a check adds the arguments of the trait, as in SetFaultFromAllocError and ProgramFaultFromIoError)
-    given = re.match(r"impl(?:<[^>]*>)?\s+[\w:]+<([\w:]+)>\s+for", head)
-    given = "".join(it[:1].upper() + it[1:] for it in given[1].split("::")) if given else ""
-    return f"{names[1]}{names[0]}{given}" if "for" in words else names[0]
+    # (a check writes Ref for a reference, as in RefVrpSetIntoIterator)
+    words = re.sub(r"&('\w+ )?", "Ref ", plain.replace("impl", "", 1)).split()
+    names = [it.split("::")[-1] for it in words if it not in ("for", "mut", "Ref")]
+    # (a check adds the arguments of the trait, as in SetFaultFromAllocError, ProgramFaultFromIoError and VrpSetTryFromVecVrp)
+    given = re.match(r"impl(?:<[^>]*>)?\s+[\w:]+<([\w:]+(?:<[\w:]+>)?)>\s+for", head)
+    given = "".join(it[:1].upper() + it[1:] for it in re.findall(r"\w+", given[1])) if given else ""
+    return f"{'Ref' * ('Ref' in words)}{names[1]}{names[0]}{given}" if "for" in words else names[0]
 
 
 def packed(edits):
