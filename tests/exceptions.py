@@ -50,7 +50,7 @@ def arrays_of(text):
         file = None
         unless(False, 1, "not JSON")
     unless(deep(file) <= 127, 1, "not JSON")
-    unless(not any(it.doubled for it in objects_in(file)), 8, "a name stands twice in an object")
+    unless(not any(it.doubled for it in objects_in(file)), 8, "a name is repeated in an object")
     unless(is_of(file, ["slurmVersion", *OBJECTS]), 2, "the file is no object of exactly its members")
     unless(is_whole(file["slurmVersion"]) and file["slurmVersion"] == 1, 3, "slurmVersion is not 1")
     for name, keys in zip(OBJECTS, (ARRAYS[:2], ARRAYS[2:])):

@@ -46,7 +46,7 @@ def number(digits):
 
 
 class Members(dict):
-    """An object, in which the last of a name's members counts, and the names that stand twice in it."""
+    """An object, in which the last of a name's members counts, and the names that are repeated in it."""
 
     doubled = frozenset()
 
@@ -161,9 +161,9 @@ def read_objects(value):
 
 
 def judge_names(value):
-    """Refuses an export of the object form in which a name that is read stands twice in its object."""
+    """Refuses an export of the object form in which a name that is read is repeated in its object."""
     if isinstance(value, dict) and any(isinstance(it, dict) and it.doubled & names for it, names in read_objects(value)):
-        raise Refused("fault 6: a name that is read stands twice in an object (fault 6)")
+        raise Refused("fault 6: a name that is read is repeated in an object (fault 6)")
 
 
 def entries_of(value):

@@ -163,10 +163,10 @@ def refusals_in_words(given):
     put("slurm.json", SLURM)
     spoiled = [
         ("export.json", json.dumps({"roas": [entry_of(*FIRST[0]), entry_of("::ffff:0:0/96x", 96, 1)]}), 'entry 1 of roas: prefix "::ffff:0:0/96x" is no prefix (fault 3)'),
-        ("export.json", '{"roas":[],"roas":[]}', "roas stands twice in the file (fault 6)"),
+        ("export.json", '{"roas":[],"roas":[]}', "roas is repeated in the file (fault 6)"),
         ("export.json", '{\n"roas":[,]}', "not JSON at line 2, column 9 (fault 1)"),
         ("slurm.json", json.dumps({**EXCEPTIONS, "slurmVersion": 2}), "slurmVersion is 2, and not 1 (fault 3)"),
-        ("slurm.json", SLURM.replace('"bgpsecFilters": []', '"prefixFilters": []'), '"prefixFilters" stands twice in validationOutputFilters (fault 8)'),
+        ("slurm.json", SLURM.replace('"bgpsecFilters": []', '"prefixFilters": []'), '"prefixFilters" is repeated in validationOutputFilters (fault 8)'),
     ]
     with running(given.program, "--vrps", "export.json", "--slurm", "slurm.json", "--listen", "127.0.0.1:0", "--check", "1") as daemon:
         daemon.wait("ready")

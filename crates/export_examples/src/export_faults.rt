@@ -70,7 +70,7 @@ fn json_of_neither_form(rt: HostRuntime) {
     assert!(rt; all_have(rt.alloc(), OF_NEITHER_FORM, &ExportFault::NoRoas));
 }
 
-/// Names that are read and stand twice: in the export, in the metadata, in an entry; before an entry that cannot be read, and where there
+/// Names that are read and repeated: in the export, in the metadata, in an entry; before an entry that cannot be read, and where there
 /// are no `roas`.
 const REPEATED: &[&[u8]] = &[
     b"{\"roas\":[],\"roas\":[]}",
@@ -227,7 +227,7 @@ const FAULTS: &[(ExportFault, u8, &str)] = &[
     (
         ExportFault::Repeated,
         6,
-        "a name that is read stands twice in an object (fault 6)",
+        "a name that is read is repeated in an object (fault 6)",
     ),
 ];
 

@@ -20,6 +20,19 @@ const ROWS: &[(&[u8], &str)] = &[
         "not JSON at line 2, column 12 (fault 1)",
     ),
     (b"{\"roas\":[]}]", "not JSON at line 1, column 12 (fault 1)"),
+    (b"[}", "not JSON at line 1, column 2 (fault 1)"),
+    (
+        b"{\"roas\":[] 7}",
+        "not JSON at line 1, column 12 (fault 1)",
+    ),
+    (b"{\"roas\":[]", "not JSON at line 1, column 11 (fault 1)"),
+    (b"[\n[1,]\n]", "not JSON at line 2, column 4 (fault 1)"),
+    (b"[\"asn\":1]", "not JSON at line 1, column 2 (fault 1)"),
+    (b"{1}", "not JSON at line 1, column 2 (fault 1)"),
+    (b"{\"asn\"}", "not JSON at line 1, column 2 (fault 1)"),
+    (b"[1 2]", "not JSON at line 1, column 4 (fault 1)"),
+    (b"[] []", "not JSON at line 1, column 4 (fault 1)"),
+    (b"", "not JSON at line 1, column 1 (fault 1)"),
     (
         b"{\"roas\":[\n\xff]}",
         "not UTF-8 at line 2, column 1 (fault 1)",
@@ -35,6 +48,14 @@ const ROWS: &[(&[u8], &str)] = &[
     (
         b"{\"roa\":[]}",
         "neither a payload list nor an object with an array roas: roas is missing (fault 2)",
+    ),
+    (
+        b"{\"roas\":{\"asn\":[1]}}",
+        "neither a payload list nor an object with an array roas: roas is an object (fault 2)",
+    ),
+    (
+        b"{\"roas\":null}",
+        "neither a payload list nor an object with an array roas: roas is null (fault 2)",
     ),
     (
         b"{\"roas\":\"x\"}",
@@ -85,7 +106,7 @@ const ENTRIES: &[(&str, &str)] = &[
     ),
     (
         r#"{"asn":1,"asn":1,"prefix":"10.0.0.0/8","maxLength":8}"#,
-        "asn stands twice in entry 1 of roas (fault 6)",
+        "asn is repeated in entry 1 of roas (fault 6)",
     ),
 ];
 
@@ -93,11 +114,23 @@ const ENTRIES: &[(&str, &str)] = &[
 const REPEATED: &[(&[u8], &str)] = &[
     (
         b"{\"roas\":[],\"roas\":[]}",
-        "roas stands twice in the file (fault 6)",
+        "roas is repeated in the file (fault 6)",
     ),
     (
         b"{\"metadata\":{\"generated\":1,\"generated\":2},\"roas\":[]}",
-        "generated stands twice in metadata (fault 6)",
+        "generated is repeated in metadata (fault 6)",
+    ),
+    (
+        b"{\"roas\":[{\"ta\":1,\"ta\":2},{\"expires\":1,\"expires\":2}],\"metadata\":{\"buildtime\":1,\"buildtime\":1}}",
+        "expires is repeated in entry 1 of roas (fault 6)",
+    ),
+    (
+        b"{\"roas\":7,\"x\":[],\"metadata\":{\"buildtime\":1,\"generated\":2,\"buildtime\":1},\"roas\":[]}",
+        "buildtime is repeated in metadata (fault 6)",
+    ),
+    (
+        b"{\"roas\":[7,[]],\"metadata\":[],\"metadata\":1}",
+        "metadata is repeated in the file (fault 6)",
     ),
 ];
 

@@ -36,11 +36,11 @@ const FILES: &[(&str, &str)] = &[
     ),
     (
         r#"{"slurmVersion":1,"slurmVersion":1}"#,
-        r#""slurmVersion" stands twice in the file (fault 8)"#,
+        r#""slurmVersion" is repeated in the file (fault 8)"#,
     ),
     (
         r#"{"validationOutputFilters":{"prefixFilters":[{"asn":64496}],"prefixFilters":[]}}"#,
-        r#""prefixFilters" stands twice in validationOutputFilters (fault 8)"#,
+        r#""prefixFilters" is repeated in validationOutputFilters (fault 8)"#,
     ),
 ];
 
@@ -94,7 +94,7 @@ const ENTRIES: &[([&str; 4], &str)] = &[
             r#"[{"asn":1,"prefix":"192.0.2.0/24"},{"asn":1,"prefix":"192.0.2.0/24","asn":2}]"#,
             "[]",
         ],
-        r#""asn" stands twice in prefixAssertions[1] (fault 8)"#,
+        r#""asn" is repeated in prefixAssertions[1] (fault 8)"#,
     ),
 ];
 

@@ -1,10 +1,10 @@
--- Whether a name stands twice is what is computed of it.
+-- Whether a name is repeated is what is computed of it.
 use Rattle.std.proofs.Common.{◌≡◌, ℕ, Bool, true, false, cond, ◌||◌, List, Option, Some, None, MatchBool, bytes_eq, codes, refl, sym, subst, ◌∙◌, inl, inr}
 use Rattle.std.specs.Prelude.{◌⊎◌}
 use Rattle.std.proofs.lemmas.Slice.Eq.{bytes_eq-Decides}
 use Rattle.json.specs.Json.{Json, null, boolean, number, string, array, object, Items, no_items, item, Members, no_members, member}
 use Rattle.payload_lists.proofs.Entries.{one_some}
-use Rattle.exports.specs.Repeating.{entry_repeats, export_twice, items_repeat, member_repeats, members_repeat, metadata_repeat, roas_repeat, stands, twice}
+use Rattle.exports.specs.Repeating.{entry_repeats, export_repeats, export_twice, items_repeat, member_repeats, members_repeat, metadata_repeat, roas_repeat, stands, twice}
 use Rattle.exports.specs.Repeats.{EntryRepeats, ExportRepeats, ItemsRepeat, MembersRepeat, MetadataRepeat, Repeats, RoasRepeat, Stands, StandsTwice, tree}
 
 abbrev pub Says : Bool → Type 0 → Type 0
@@ -162,28 +162,26 @@ says_of : (text : List ℕ) (j : Json) (b : Bool) → tree text ≡ Some j → S
 says_of text j true is h = (j, is, h)
 says_of text j false is h = λ r. h (subst ExportRepeats (one_some r.0 j (tree text) r.1 is) r.2)
 
--- A text is an object.
-pub of_object : (text : List ℕ) (ms : Members) (b : Bool) → tree text ≡ Some (object ms) → b ≡ export_twice ms → Says b (Repeats text)
-of_object text ms b is same = subst (λ x. Says x (Repeats text)) (sym same) (says_of text (object ms) (export_twice ms) is (export_says ms))
+export_repeats_say : (j : Json) → Says (export_repeats j) (ExportRepeats j)
+export_repeats_say null = never
+export_repeats_say (boolean b) = never
+export_repeats_say (number s) = never
+export_repeats_say (string s) = never
+export_repeats_say (array js) = never
+export_repeats_say (object ms) = export_says ms
+
+-- Whether names are repeated in a text is computed of its tree.
+pub of_tree : (text : List ℕ) (j : Json) (b : Bool) → tree text ≡ Some j → b ≡ export_repeats j → Says b (Repeats text)
+of_tree text j b is same = subst (λ x. Says x (Repeats text)) (sym same) (says_of text j (export_repeats j) is (export_repeats_say j))
 
 -- computed, for worked rows
 abbrev pub repeated : Option Json → Bool
 repeated None = false
-repeated (Some null) = false
-repeated (Some (boolean b)) = false
-repeated (Some (number s)) = false
-repeated (Some (string s)) = false
-repeated (Some (array js)) = false
-repeated (Some (object ms)) = export_twice ms
+repeated (Some j) = export_repeats j
 
 repeated_says : (text : List ℕ) (o : Option Json) → tree text ≡ o → Says (repeated o) (Repeats text)
 repeated_says text None is = λ r. let no : None ≡ Some r.0 = sym is ∙ r.1 in cc
-repeated_says text (Some null) is = says_of text null false is never
-repeated_says text (Some (boolean b)) is = says_of text (boolean b) false is never
-repeated_says text (Some (number s)) is = says_of text (number s) false is never
-repeated_says text (Some (string s)) is = says_of text (string s) false is never
-repeated_says text (Some (array js)) is = says_of text (array js) false is never
-repeated_says text (Some (object ms)) is = says_of text (object ms) (export_twice ms) is (export_says ms)
+repeated_says text (Some j) is = of_tree text j (export_repeats j) is refl
 
 pub stand_once : (text : List ℕ) → repeated (tree text) ≡ false → ¬ (Repeats text)
 stand_once text is = subst (λ b. Says b (Repeats text)) is (repeated_says text (tree text) refl)

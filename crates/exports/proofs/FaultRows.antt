@@ -220,7 +220,7 @@ two_values : HasFault (codes "{\"roas\":[]} {}") 0 NotJson
 unfolding serde_json_on_literals
 two_values = no_value (codes "{\"roas\":[]} {}") refl
 
--- Of a text that is no JSON a name that stands twice is not reported,
+-- Of a text that is no JSON a name that is repeated is not reported,
 twice_and_more : HasFault (codes "{\"roas\":[],\"roas\":[]} x") 0 NotJson
 unfolding serde_json_on_literals
 twice_and_more = no_value (codes "{\"roas\":[],\"roas\":[]} x") refl

@@ -415,7 +415,7 @@ empty_row = record {
   until = refl;
 }
 
--- A name that is not read may stand twice, here `ta` in an entry and `x` in the export,
+-- A name that is not read may be repeated, here `ta` in an entry and `x` in the export,
 abbrev ta_twice : List ℕ
 ta_twice = codes "{\"x\":1,\"roas\":[{\"asn\":64496,\"prefix\":\"192.0.2.0/24\",\"maxLength\":24,\"ta\":\"a\",\"ta\":\"b\"}],\"x\":2}"
 

@@ -6,6 +6,7 @@ pub mod Times
 pub mod PlainSteps
 pub mod PlainParts
 pub mod Deciding
+pub mod ListParts
 pub mod PlainWhole
 pub mod Ascii
 pub mod FaultRows

@@ -25,16 +25,16 @@ use Rattle.exports.specs.declared.plain.Metadata.{Metadata}
 use Rattle.exports.specs.declared.plain.Seen.{Seen}
 
 -- What stands under the name that was put, and what under another one
-number_put : (k : List ℕ) (d : Data) (ms : Members) → whole_at k (object (put k d ms)) ≡ whole d
+pub number_put : (k : List ℕ) (d : Data) (ms : Members) → whole_at k (object (put k d ms)) ≡ whole d
 number_put k d ms = ap (λ o. option_and_then as_u64 (option_and_then as_number o)) (get_member-put k d ms)
 
-text_put : (k : List ℕ) (d : Data) (ms : Members) → text_at k (object (put k d ms)) ≡ as_str d
+pub text_put : (k : List ℕ) (d : Data) (ms : Members) → text_at k (object (put k d ms)) ≡ as_str d
 text_put k d ms = ap (λ o. option_and_then as_str o) (get_member-put k d ms)
 
-number_kept : (q k : List ℕ) (d : Data) (ms : Members) → (q ≡ k → ⊥) → whole_at q (object (put k d ms)) ≡ whole_at q (object ms)
+pub number_kept : (q k : List ℕ) (d : Data) (ms : Members) → (q ≡ k → ⊥) → whole_at q (object (put k d ms)) ≡ whole_at q (object ms)
 number_kept q k d ms other = ap (λ o. option_and_then as_u64 (option_and_then as_number o)) (get_member-put_other q k d ms other)
 
-text_kept : (q k : List ℕ) (d : Data) (ms : Members) → (q ≡ k → ⊥) → text_at q (object (put k d ms)) ≡ text_at q (object ms)
+pub text_kept : (q k : List ℕ) (d : Data) (ms : Members) → (q ≡ k → ⊥) → text_at q (object (put k d ms)) ≡ text_at q (object ms)
 text_kept q k d ms other = ap (λ o. option_and_then as_str o) (get_member-put_other q k d ms other)
 
 expiry_kept : (k : List ℕ) (d : Data) (ms : Members) → (codes "expires" ≡ k → ⊥) → option_map whole (get_member (codes "expires") (put k d ms)) ≡ option_map whole (get_member (codes "expires") ms)
@@ -151,7 +151,7 @@ told_all now ds (Broken i w) h = fails_all ds i w h
 abbrev pub EntriesSoFar : ℕ → ℕ → Entries → Bool → (json.Items → json.Items) → List Data → Type 0
 EntriesSoFar now index entries repeat f ds = (length ds ≡ index) × TellsListed now ds entries × ((rest : json.Items) → items_repeat (f rest) ≡ (repeat || items_repeat rest))
 
--- One more of which a name stands twice, or does not
+-- One more of which a name is repeated, or is not
 pub or_more : (a b c : Bool) → (a || (b || c)) ≡ ((a || b) || c)
 or_more true b c = refl
 or_more false b c = refl

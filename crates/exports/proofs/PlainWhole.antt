@@ -1,11 +1,12 @@
 -- The members of an export, and its whole text.
-use Rattle.std.proofs.Common.{inr, ◌≡◌, ◌≢◌, ◌||◌, ℕ, Bool, true, false, cond, bytes_eq, List, [], ◌∷◌, Option, Some, None, Result, Ok, Err, refl, sym, ap, subst, ◌∙◌}
-use Rattle.std.specs.Prelude.{IfOk, MatchOption, codes, is_some, option_and_then, ⊤}
+use Rattle.std.proofs.Common.{inr, ◌≡◌, ◌≢◌, ◌||◌, ℕ, Bool, true, false, cond, bytes_eq, List, [], ◌∷◌, Vec, Global, Option, Some, None, Result, Ok, Err, refl, sym, ap, subst, ◌∙◌}
+use Rattle.std.specs.Prelude.{IfOk, MatchBool, MatchOption, codes, is_some, option_and_then}
 use Rattle.json.specs.Token.{Token}
 use Rattle.json.specs.Json as json
 use Rattle.json.specs.Json.{value}
 use Rattle.json.specs.Lex.{tokens}
-use Rattle.serde_json.specs.Data.{Data, Items, Members, array, no_members, object, put}
+use Rattle.serde_json.specs.Data.{Data, Items, Members, array, boolean, no_items, no_members, null, number, object, put, string}
+use Rattle.prefixes.specs.Payload.{Payload}
 use Rattle.serde_json.specs.Find.{as_array, as_object, get}
 use Rattle.serde_json.specs.Read.{of_json, of_members, read}
 use Rattle.serde_json.proofs.Views.{get_member-put, get_member-put_other}
@@ -14,20 +15,20 @@ use Rattle.payload_lists.specs.PayloadList.{text_at, whole_at}
 use Rattle.exports.specs.Built.{IsBuilt, buildtime, generated}
 use Rattle.exports.specs.Export.{roas}
 use Rattle.exports.specs.Found.{IsLasting}
-use Rattle.exports.specs.PlainForm.{HasEntries, HasParts, IsNoObject, IsSeen, ReadsBuilt, ReadsExport, ReadsMembers, ReadsNoMembers, ReadsNone, ReadsPart, ReadsParts, ReadsRoas, ReadsSome, TellsBuilt, TellsEntries, TellsRoas}
-use Rattle.exports.specs.Repeating.{AreMet, export_twice, member_repeats, members_repeat, metadata_repeat, roas_repeat}
+use Rattle.exports.specs.ListForm.{ReadsRecords, Records}
+use Rattle.exports.specs.PlainForm.{HasEntries, HasParts, IsSeen, ReadsBuilt, ReadsForm, ReadsListParts, ReadsMembers, ReadsNoItems, ReadsNoMembers, ReadsNone, ReadsPart, ReadsParts, ReadsRoas, ReadsSome, TellsBuilt, TellsEntries, TellsParts, TellsRoas, before}
+use Rattle.exports.specs.Repeating.{AreMet, export_repeats, export_twice, member_repeats, members_repeat, metadata_repeat, roas_repeat}
 use Rattle.exports.specs.Repeats.{ExportRepeats, Repeats, tree}
-use Rattle.exports.specs.declared.fault.ExportFault.{ExportFault}
 use Rattle.exports.specs.declared.gathered.Gathered.{Gathered}
 use Rattle.exports.specs.declared.names.Names.{Names}
 use Rattle.exports.specs.declared.plain.Entries.{Entries}
 use Rattle.exports.specs.declared.plain.Entries.TheVariants.{Whole, Broken}
 use Rattle.exports.specs.declared.plain.Parts.{Parts}
 use Rattle.exports.specs.declared.plain.Seen.{Seen}
-use Rattle.exports.proofs.Deciding.{names_differ, of_object}
+use Rattle.exports.proofs.Deciding.{names_differ, of_tree}
 use Rattle.exports.proofs.Items.{gather_list}
-use Rattle.exports.proofs.PlainParts.{made_by, no_object_here, or_false, or_more}
-use Rattle.exports.proofs.PlainSteps.{Unread, no_object, none_at_end, object_read, other, unread}
+use Rattle.exports.proofs.PlainParts.{made_by, no_array_here, no_object_here, object_first, or_false, or_more}
+use Rattle.exports.proofs.PlainSteps.{Unread, array_read, no_array, no_object, object_read, other, unread}
 
 pub has_none : (now : ℕ) → HasParts now no_members (record { entries = None; built = None; repeats = false })
 has_none now = record { entries = refl; built = λ t e m says. absurd (cc) }
@@ -89,7 +90,7 @@ part_other now k p s old new no_roas no_metadata read =
       sym (ap (λ b. p.repeats || b) (none_repeats k j no_roas no_metadata) ∙ or_false p.repeats),
     )) read
 
--- A member more of which a name stands twice, or does not
+-- A member more of which a name is repeated, or is not
 pub parts_more : (f : json.Members → json.Members) (p q : Parts) (name : List ℕ) (j : json.Json) → ((rest : json.Members) → members_repeat (f rest) ≡ (p.repeats || members_repeat rest)) → q.repeats ≡ (p.repeats || member_repeats name j)
     → (rest : json.Members) → members_repeat (f (json.member name j rest)) ≡ (q.repeats || members_repeat rest)
 parts_more f p q name j so_far is rest = so_far (json.member name j rest) ∙ or_more p.repeats (member_repeats name j) (members_repeat rest) ∙ ap (λ b. b || members_repeat rest) (sym is)
@@ -102,14 +103,6 @@ whole_value text reader rest Is whole value_read over =
     let v = value_read.1 in
     let is : tree text ≡ Some v.0 = ap (option_and_then (λ p. json.if_last p.0 p.1)) (ap (value 127) (sym whole) ∙ v.3) ∙ ap (λ ts. json.if_last v.0 ts) over in
     (v.0, v.1, is, ap (option_and_then of_json) is ∙ v.4, v.2)
-
-pub whole_export : (text : List ℕ) (now : ℕ) (p : Parts) (reader ts rest : List Token) → reader ≡ tokens text → reader ≡ Token.begin_object ∷ ts → ReadsMembers 126 (λ js ms. HasParts now ms p × (p.repeats ≡ export_twice js)) ts rest → rest ≡ [] → ReadsExport now text p
-whole_export text now p reader ts rest whole first members over =
-    let Is : json.Json → Data → Type 0 = λ j d. (js : json.Members) × (ms : Members) × (j ≡ json.object js) × (d ≡ object ms) × HasParts now ms p × (p.repeats ≡ export_twice js) in
-    let o = object_read 126 (λ js ms. HasParts now ms p × (p.repeats ≡ export_twice js)) Is reader ts rest first members (λ js ms h. (js, ms, refl, refl, h.0, h.1)) in
-    let v = whole_value text reader rest Is whole o over in
-    let m = v.4 in
-    record { js = m.0; ms = m.1; tree_is = v.2 ∙ ap (λ x. Some x) m.2; reads = v.3 ∙ ap (λ x. Some x) m.3; parts = m.4; repeats = m.5 }
 
 -- ---- what is no JSON
 
@@ -124,32 +117,10 @@ no_json text reader whole none = ap (λ ts. option_and_then of_json (option_and_
     by None h = refl
     by (Some p) h = last p.0 p.1 h
 
-pub no_export : (text : List ℕ) (reader ts : List Token) → reader ≡ tokens text → reader ≡ Token.begin_object ∷ ts → ReadsNoMembers 126 ts → read text ≡ None
-no_export text reader ts whole first none = no_json text reader whole (no_object 126 reader ts first none)
-
 pub more_than_json : (text : List ℕ) (Is : json.Json → Data → Type 0) (reader rest later : List Token) (t : Token) → reader ≡ tokens text → ReadsSome 127 Is reader rest → rest ≡ t ∷ later → read text ≡ None
 more_than_json text Is reader rest later t whole some more =
     let v = some.1 in
     ap (λ ts. option_and_then of_json (option_and_then (λ p. json.if_last p.0 p.1) (value 127 ts))) (sym whole) ∙ ap (λ o. option_and_then of_json (option_and_then (λ p. json.if_last p.0 p.1) o)) v.3 ∙ ap (λ ts. option_and_then of_json (json.if_last v.0 ts)) more
-
-pub more_than_export : (text : List ℕ) (Are : json.Members → Members → Type 0) (reader ts rest later : List Token) (t : Token) → reader ≡ tokens text → reader ≡ Token.begin_object ∷ ts → ReadsMembers 126 Are ts rest → rest ≡ t ∷ later → read text ≡ None
-more_than_export text Are reader ts rest later t whole first members more =
-    more_than_json text (λ j d. ⊤) reader rest later t whole (object_read 126 Are (λ j d. ⊤) reader ts rest first members (λ js ms h. tt)) more
-
--- A text that begins with another token is no object.
-pub another_first : (text : List ℕ) (reader ts : List Token) (t : Token) → reader ≡ tokens text → reader ≡ t ∷ ts → t ≢ Token.begin_object → IsNoObject text
-another_first text reader ts t whole first other ms is = by (value 127 (t ∷ ts)) refl (ap (λ x. option_and_then of_json (option_and_then (λ p. json.if_last p.0 p.1) (value 127 x))) (sym first ∙ whole) ∙ is)
-  where
-    last : (j : json.Json) (rest : List Token) → option_and_then of_json (json.if_last j rest) ≡ Some (object ms) → of_json j ≡ Some (object ms)
-    last j [] h = h
-    last j (t ∷ ts) h = absurd (cc)
-
-    by : (o : Option (json.Json × List Token)) → value 127 (t ∷ ts) ≡ o → option_and_then of_json (option_and_then (λ p. json.if_last p.0 p.1) o) ≡ Some (object ms) → ⊥
-    by None at h = cc
-    by (Some p) at h = let none = no_object_here 127 t ts p.1 p.0 (object ms) other (last p.0 p.1 h) at in let no : true ≡ false = none.0 in cc
-
-pub nothing_first : (text : List ℕ) (reader : List Token) → reader ≡ tokens text → reader ≡ [] → IsNoObject text
-nothing_first text reader whole none ms is = let no : None ≡ Some (object ms) = sym (no_json text reader whole (none_at_end 127 reader none)) ∙ is in cc
 
 -- ---- either form
 
@@ -158,38 +129,91 @@ told_some now ms None h = (h, λ es l. let no : None ≡ Some l.items = l.is_arr
 told_some now ms (Some (Whole g)) h = (h.2.0, inr (record { items = h.0; roas_are = h.1; entries = h.2.1 }), h.2.2)
 told_some now ms (Some (Broken i w)) h = (h.0, h.1, h.2)
 
-pub tells_parts : (text : List ℕ) (now : ℕ) (p : Parts) → ReadsExport now text p → ReadsParts now text p
-tells_parts text now p h = record {
-  value = object h.ms;
-  reads = h.reads;
-  parts = record { entries = told_some now h.ms p.entries h.parts.entries; built = h.parts.built };
-  repeats = of_object text h.js p.repeats h.tree_is h.repeats;
+pub object_form : {E : Type 0} (now : ℕ) (old ts new : List Token) (r : Result (Option Parts) E) → old ≡ Token.begin_object ∷ ts
+    → IfOk r (λ found. MatchOption found (ReadsNoMembers 126 ts) (λ p. ReadsMembers 126 (λ js ms. HasParts now ms p × (p.repeats ≡ export_twice js)) ts new))
+    → IfOk r (λ found. MatchOption found (ReadsNone 127 old) (λ p. ReadsForm now old new p))
+object_form now old ts new (Err e) first h = tt
+object_form now old ts new (Ok None) first h = no_object 126 old ts first h
+object_form now old ts new (Ok (Some p)) first h =
+    object_read 126 (λ js ms. HasParts now ms p × (p.repeats ≡ export_twice js)) (λ j d. TellsParts now d p × (p.repeats ≡ export_repeats j)) old ts new first h
+    (λ js ms is. (record { entries = told_some now ms p.entries is.0.entries; built = is.0.built }, is.1))
+
+pub list_form : {E : Type 0} (now : ℕ) (old ts new : List Token) (r : Result (Option Parts) E) → old ≡ Token.begin_array ∷ ts
+    → IfOk r (λ found. MatchOption found (ReadsNoItems 126 ts) (λ p. ReadsListParts now ts new p)) → IfOk r (λ found. MatchOption found (ReadsNone 127 old) (λ p. ReadsForm now old new p))
+list_form now old ts new (Err e) first h = tt
+list_form now old ts new (Ok None) first h = no_array 126 old ts first h
+list_form now old ts new (Ok (Some p)) first h =
+    array_read 126 (λ js ds. TellsParts now (array (before ds no_items)) p × (p.repeats ≡ false)) (λ j d. TellsParts now d p × (p.repeats ≡ export_repeats j)) old ts new first h (λ js ds is. is)
+
+-- What was read of a value that is neither an array nor an object
+abbrev pub no_parts : Parts
+no_parts = record { entries = None; built = None; repeats = false }
+
+of_neither : (now : ℕ) (d : Data) → is_some (as_object d) ≡ false → as_array d ≡ None → TellsParts now d no_parts
+of_neither now null no_object no_array = record { entries = (refl, λ es l. let no : None ≡ Some l.items = l.is_array in absurd (cc)); built = λ t f m says. absurd (cc) }
+of_neither now (boolean b) no_object no_array = record { entries = (refl, λ es l. let no : None ≡ Some l.items = l.is_array in absurd (cc)); built = λ t f m says. absurd (cc) }
+of_neither now (number n) no_object no_array = record { entries = (refl, λ es l. let no : None ≡ Some l.items = l.is_array in absurd (cc)); built = λ t f m says. absurd (cc) }
+of_neither now (string s) no_object no_array = record { entries = (refl, λ es l. let no : None ≡ Some l.items = l.is_array in absurd (cc)); built = λ t f m says. absurd (cc) }
+of_neither now (array ds) no_object no_array = absurd (cc)
+of_neither now (object ms) no_object no_array = absurd (let no : true ≡ false = no_object in cc)
+
+never_repeats : (j : json.Json) → ((ms : json.Members) → j ≡ json.object ms → ⊥) → false ≡ export_repeats j
+never_repeats json.null other = refl
+never_repeats (json.boolean b) other = refl
+never_repeats (json.number s) other = refl
+never_repeats (json.string s) other = refl
+never_repeats (json.array js) other = refl
+never_repeats (json.object ms) other = absurd (other ms refl)
+
+pub other_form : (now : ℕ) (s : Seen) (old ts new : List Token) (t : Token) → old ≡ t ∷ ts → t ≢ Token.begin_object → t ≢ Token.begin_array → ReadsSome 127 (λ j d. IsSeen d s) (t ∷ ts) new → ReadsForm now old new no_parts
+other_form now s old ts new t first not_object not_array read =
+    subst (λ xs. ReadsForm now xs new no_parts) (sym first)
+    (other 127 (λ j d. IsSeen d s) (λ j d. TellsParts now d no_parts × (false ≡ export_repeats j)) (t ∷ ts) new
+    (λ j d made at is. (
+      of_neither now d (no_object_here 127 t ts new j d not_object made at).0 (no_array_here 127 t ts new j d not_array made at).0,
+      never_repeats j (λ ms object_is. not_object (object_first 127 t ts new ms (at ∙ ap (λ x. Some (x, new)) object_is))),
+    )) read)
+
+same_items : (ds es : Items) → Some ds ≡ Some es → ds ≡ es
+same_items ds es e = cc
+
+-- An array whose items have these payloads, or are not all entries
+pub list_of : (now : ℕ) (ds : Items) (g : Gathered) → IsLasting g → lists.AreEntries ds g.records.items → TellsParts now (array ds) (record { entries = Some (Whole g); built = None; repeats = false })
+list_of now ds g for_ever are = record { entries = gather_list (array ds) ds now g refl are for_ever; built = λ t e m says. absurd (cc) }
+
+pub no_list_of : (now : ℕ) (ds : Items) → ((vs : List Payload) → ¬ (lists.AreEntries ds vs)) → TellsParts now (array ds) no_parts
+no_list_of now ds none = record {
+  entries = (refl, λ es l. none l.payloads (subst (λ xs. lists.AreEntries xs l.payloads) (sym (same_items ds l.items l.is_array)) l.listed));
+  built = λ t e m says. absurd (cc);
 }
 
-pub if_object : (text : List ℕ) (now : ℕ) (r : Result (Option Parts) ExportFault) → IfOk r (λ found. MatchOption found (IsNoObject text) (λ p. ReadsExport now text p)) → IfOk r (λ found. MatchOption found (IsNoObject text) (λ p. ReadsParts now text p))
-if_object text now (Err e) h = h
-if_object text now (Ok None) h = h
-if_object text now (Ok (Some p)) h = tells_parts text now p h
+pub list_parts_read : (old new : List Token) (o : Option (Vec Payload Global)) (p : Parts) → ReadsRecords old new o → ((now : ℕ) (ds : Items) → Records ds o → TellsParts now (array ds) p) → p.repeats ≡ false → (now : ℕ) → ReadsListParts now old new p
+list_parts_read old new o p read parts once now = let r = read.1 in (read.0, (r.0, r.1, (parts now (before r.1 no_items) r.2, once), r.3, r.4))
 
--- In a text that is no object no name stands twice.
-pub never_repeats : (text : List ℕ) (d : Data) → read text ≡ Some d → ((ms : Members) → d ≡ object ms → ⊥) → ¬ (Repeats text)
-never_repeats text d is other r = by r.0 r.2 (sym (ap (option_and_then of_json) r.1) ∙ is)
+-- ---- the whole text
+
+pub whole_form : (text : List ℕ) (now : ℕ) (p : Parts) (reader rest : List Token) → reader ≡ tokens text → ReadsForm now reader rest p → rest ≡ [] → ReadsParts now text p
+whole_form text now p reader rest whole form over =
+    let v = whole_value text reader rest (λ j d. TellsParts now d p × (p.repeats ≡ export_repeats j)) whole form over in
+    record { value = v.1; reads = v.3; parts = v.4.0; repeats = of_tree text v.0 p.repeats v.2 v.4.1 }
+
+-- In a text that is an array no name is repeated.
+array_once : (text : List ℕ) (ds : Items) → read text ≡ Some (array ds) → ¬ (Repeats text)
+array_once text ds is r = by r.0 r.2 (sym (ap (option_and_then of_json) r.1) ∙ is)
   where
-    by : (j : json.Json) → ExportRepeats j → of_json j ≡ Some d → ⊥
+    by : (j : json.Json) → ExportRepeats j → of_json j ≡ Some (array ds) → ⊥
     by json.null h e = h
     by (json.boolean b) h e = h
     by (json.number s) h e = h
     by (json.string s) h e = h
     by (json.array js) h e = h
-    by (json.object ms) h e = let o = made_by object (of_members ms no_members) d e in other o.0 o.1
+    by (json.object ms) h e = let o = made_by object (of_members ms no_members) (array ds) e in let no : true ≡ false = ap (λ d. is_some (as_array d)) o.1 in cc
 
-not_object : (ds : Items) (ms : Members) → array ds ≡ object ms → ⊥
-not_object ds ms e = let no : is_some (as_object (array ds)) ≡ true = ap (λ d. is_some (as_object d)) e in let false_is : false ≡ true = no in cc
-
-pub tells_list : (text : List ℕ) (now : ℕ) (g : Gathered) → IsLasting g → (ds : Items) × (read text ≡ Some (array ds)) × lists.AreEntries ds g.records.items → ReadsParts now text (record { entries = Some (Whole g); built = None; repeats = false })
-tells_list text now g for_ever h = record {
-  value = array h.0;
-  reads = h.1;
-  parts = record { entries = gather_list (array h.0) h.0 now g refl h.2 for_ever; built = λ t e m says. absurd (cc) };
-  repeats = never_repeats text (array h.0) h.1 (not_object h.0);
+-- A payload list in its plain form
+pub plain_form : (text : List ℕ) (now : ℕ) (p : Parts) (vs : List Payload) → ((ds : Items) → lists.AreEntries ds vs → TellsParts now (array ds) p) → p.repeats ≡ false → (ds : Items) × (read text ≡ Some (array ds)) × lists.AreEntries ds vs → ReadsParts now text p
+plain_form text now p vs parts once list = record {
+  value = array list.0;
+  reads = list.1;
+  parts = parts list.0 list.2;
+  repeats = subst (λ b. MatchBool b (Repeats text) (¬ (Repeats text))) (sym once) (array_once text list.0 list.1);
 }

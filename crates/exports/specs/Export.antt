@@ -63,7 +63,7 @@ pub record IsExport (bytes : List ℕ) (now : ℕ) (x : Export) : Type 0 where
 abbrev pub ReadsOnce : List ℕ → Data → Type 0
 ReadsOnce bytes d = Reads bytes d × ¬ (Repeats bytes)
 
--- What is wrong first: they are no JSON; a name that is read stands twice in its object; they are of neither form; an entry cannot be
+-- What is wrong first: they are no JSON; a name that is read is repeated in its object; they are of neither form; an entry cannot be
 -- read; too many different payloads count.
 abbrev pub HasFault : List ℕ → ℕ → ExportFault → Type 0
 HasFault bytes now NotJson = (d : Data) → ¬ (Reads bytes d)

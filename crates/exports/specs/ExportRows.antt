@@ -79,7 +79,7 @@ no_entries : in_text roas (codes "{\"roas\":[]}") ≡ Some no_items
 unfolding serde_json_on_literals
 no_entries = refl
 
--- Of a name that stands twice a value has the last. (Such a text is refused: `twice_roas`, below.)
+-- Of a name that is repeated a value has the last. (Such a text is refused: `twice_roas`, below.)
 last_roas : in_text roas (codes "{\"roas\":7,\"roas\":[7]}") ≡ Some (item (number (unsigned 7)) no_items)
 unfolding serde_json_on_literals
 last_roas = refl
@@ -164,7 +164,7 @@ as_zero : SaysAsn (said (only_as (string (codes "AS0")))) 0
 unfolding digits
 as_zero = (lit< tt, (codes "AS0", refl, inr refl))
 
--- Of a name that stands twice a value has the last, whether a number or a text. (Such a text is refused too.)
+-- Of a name that is repeated a value has the last, whether a number or a text. (Such a text is refused too.)
 number_last : in_text (λ d. (said d).asn_number) (codes "{\"asn\":\"AS1\",\"asn\":2}") ≡ Some 2
 unfolding serde_json_on_literals
 number_last = refl
@@ -185,7 +185,7 @@ not_an_object = inl (refl, refl)
 the_first_of_two : FailsAt (item null (item null no_items)) 0 faults.NoObject
 the_first_of_two = not_an_object
 
--- ---- names that stand twice
+-- ---- names that are repeated
 
 -- in the export: `roas`, once by an escape, and `metadata`
 abbrev no_roas : tree.Json

@@ -1,9 +1,7 @@
 -- Steps of reading entries.
 use Rattle.std.specs.Prelude.{◌≡◌, ℕ, ◌<◌, List, length, replicate, None, option_map, ⊤}
-use Rattle.serde_json.specs.Data.{Items}
 use Rattle.prefixes.specs.Payload.{Payload}
 use Rattle.vrps.specs.VrpSet.{set_of, size}
-use Rattle.payload_lists.specs.PayloadList as lists
 use Rattle.exports.specs.Entry.{Said, current, expired}
 use Rattle.exports.specs.Lasting.{last_seconds}
 use Rattle.exports.specs.Until.{IsFirst, endings}
@@ -35,15 +33,6 @@ pub record IsLasting (g : Gathered) : Type 0 where
   pub lasts : g.lasts.items ≡ replicate (length g.records.items) 18446744073709551615
   pub expired : g.expired ≡ 0
   pub until : g.until ≡ None
-
--- What is wrong with the items of an array, where they are no payload list
-abbrev pub ListFails : Items → ExportFault → Type 0
-ListFails ds NoRoas = (vs : List Payload) → ¬ (lists.AreEntries ds vs)
-ListFails ds Memory = ⊤
-ListFails ds NotJson = ⊥
-ListFails ds (Entry i w) = ⊥
-ListFails ds TooMany = ⊥
-ListFails ds Repeated = ⊥
 
 -- Why there is no set of some payloads
 abbrev pub SetFails : List Payload → ExportFault → Type 0

@@ -9,6 +9,7 @@ pub mod Lasting
 pub mod Found
 pub mod Repeating
 pub mod PlainForm
+pub mod ListForm
 pub mod ExportRows
 pub mod LastingRows
 pub mod ExportLaws

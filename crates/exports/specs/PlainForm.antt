@@ -1,10 +1,10 @@
 -- Steps of reading an export token by token. A text nests 127 deep at most, so the members of an export 126, entries 125, and their
 -- members 124.
-use Rattle.std.specs.Prelude.{◌≡◌, ◌||◌, Bool, MatchBool, ℕ, zero, suc, ◌<◌, List, [], ◌∷◌, length, Option, Some, None, Result, Ok, Err, is_some, option_map, codes, ⊤}
+use Rattle.std.specs.Prelude.{◌≡◌, ◌||◌, Bool, false, MatchBool, ℕ, zero, suc, ◌<◌, List, [], ◌∷◌, length, Option, Some, None, Result, Ok, Err, is_some, option_map, codes, ⊤}
 use Rattle.json.specs.Token.{Token}
 use Rattle.json.specs.Json as json
 use Rattle.json.specs.Json.{Json, items, members, value}
-use Rattle.serde_json.specs.Data.{Data, object, Items, no_items, item, Members, no_members, put}
+use Rattle.serde_json.specs.Data.{Data, array, object, Items, no_items, item, Members, no_members, put}
 use Rattle.serde_json.specs.Find.{as_array, as_object, as_str}
 use Rattle.serde_json.specs.Read.{of_items, of_json, of_members, converted, read}
 use Rattle.payload_lists.specs.PayloadList.{text_at, whole_at}
@@ -12,8 +12,8 @@ use Rattle.exports.specs.Built.{IsBuilt, buildtime, generated}
 use Rattle.exports.specs.Entry.{AreEntries, FailsAt, IsEntry, IsNoEntry, said, whole}
 use Rattle.exports.specs.Export.{IsList, Lists, roas}
 use Rattle.exports.specs.Found.{Gathers, said_by}
-use Rattle.exports.specs.Repeating.{entry_repeats, export_twice, items_repeat, member_repeats, metadata_repeat, roas_repeat}
-use Rattle.exports.specs.Repeats.{Repeats, tree}
+use Rattle.exports.specs.Repeating.{entry_repeats, export_repeats, items_repeat, member_repeats, metadata_repeat, roas_repeat}
+use Rattle.exports.specs.Repeats.{Repeats}
 use Rattle.exports.specs.declared.entry.Found.{Found}
 use Rattle.exports.specs.declared.entry.Listed.{Listed}
 use Rattle.exports.specs.declared.fault.EntryFault.{EntryFault}
@@ -106,11 +106,11 @@ abbrev pub TellsItems : ℕ → Items → Entries → Type 0
 TellsItems now ds (Whole g) = (es : List Listed) × AreEntries ds es × Gathers now es g
 TellsItems now ds (Broken i w) = FailsAt ds i w
 
--- An entry was read, and whether a name stands twice in it.
+-- An entry was read, and whether a name is repeated in it.
 abbrev pub ReadsEntry : List Token → List Token → Result Listed EntryFault × Bool → Type 0
 ReadsEntry old new r = ReadsSome 125 (λ j d. IsJudged d r.0 × (r.1 ≡ entry_repeats j)) old new
 
--- The entries of which this is told were read to the end of their array, and whether a name stands twice in one of them.
+-- The entries of which this is told were read to the end of their array, and whether a name is repeated in one of them.
 abbrev pub ReadsEntries : ℕ → List Token → List Token → Entries × Bool → Type 0
 ReadsEntries now old new r = ReadsItems 125 (λ js ds. TellsListed now ds r.0 × (r.1 ≡ items_repeat js)) old new
 
@@ -119,11 +119,11 @@ abbrev pub TellsRoas : ℕ → Data → Option Entries → Type 0
 TellsRoas now d None = as_array d ≡ None
 TellsRoas now d (Some entries) = (ds : Items) × (as_array d ≡ Some ds) × TellsItems now ds entries
 
--- The value roas was read, of which this is told, and whether a name stands twice in an entry.
+-- The value roas was read, of which this is told, and whether a name is repeated in an entry.
 abbrev pub ReadsRoas : ℕ → List Token → List Token → Option Entries × Bool → Type 0
 ReadsRoas now old new r = ReadsSome 126 (λ j d. TellsRoas now d r.0 × (r.1 ≡ roas_repeat j)) old new
 
--- The metadata were read: when the export was made, and whether a name stands twice in them.
+-- The metadata were read: when the export was made, and whether a name is repeated in them.
 abbrev pub ReadsBuilt : List Token → List Token → Option ℕ × Bool → Type 0
 ReadsBuilt old new r = ReadsSome 126 (λ j d. TellsBuilt d r.0 × (r.1 ≡ metadata_repeat j)) old new
 
@@ -160,18 +160,13 @@ pub record ReadsParts (now : ℕ) (text : List ℕ) (p : Parts) : Type 0 where
   pub parts : TellsParts now value p
   pub repeats : MatchBool p.repeats (Repeats text) (¬ (Repeats text))
 
--- The text of an object was read.
-pub record ReadsExport (now : ℕ) (text : List ℕ) (p : Parts) : Type 0 where
-  pub js : json.Members
-  pub ms : Members
-  pub tree_is : tree text ≡ Some (json.object js)
-  pub reads : read text ≡ Some (object ms)
-  pub parts : HasParts now ms p
-  pub repeats : p.repeats ≡ export_twice js
+-- A value of either form was read, and whether a name that is read is repeated in its object.
+abbrev pub ReadsForm : ℕ → List Token → List Token → Parts → Type 0
+ReadsForm now old new p = ReadsSome 127 (λ j d. TellsParts now d p × (p.repeats ≡ export_repeats j)) old new
 
--- A text is no object.
-abbrev pub IsNoObject : List ℕ → Type 0
-IsNoObject text = (ms : Members) → ¬ (read text ≡ Some (object ms))
+-- The items of an array were read.
+abbrev pub ReadsListParts : ℕ → List Token → List Token → Parts → Type 0
+ReadsListParts now old new p = ReadsItems 126 (λ js ds. TellsParts now (array (before ds no_items)) p × (p.repeats ≡ false)) old new
 
 -- Why a text gives no parts
 abbrev pub TextFails : List ℕ → ExportFault → Type 0

@@ -1,4 +1,4 @@
--- Names that stand twice, noted while members are read.
+-- Names that are repeated, noted while members are read.
 use Rattle.std.specs.Prelude.{◌≡◌, ℕ, Bool, true, false, cond, ◌||◌, List, bytes_eq, codes}
 use Rattle.json.specs.Json.{Json, null, boolean, number, string, array, object, Items, no_items, item, Members, no_members, member}
 use Rattle.exports.specs.declared.names.EntryNames.{EntryNames}
@@ -61,9 +61,17 @@ members_repeat (member k j ms) = member_repeats k j || members_repeat ms
 abbrev pub export_twice : Members → Bool
 export_twice ms = two_twice (codes "roas") (codes "metadata") ms || members_repeat ms
 
+abbrev pub export_repeats : Json → Bool
+export_repeats null = false
+export_repeats (boolean b) = false
+export_repeats (number s) = false
+export_repeats (string s) = false
+export_repeats (array js) = false
+export_repeats (object ms) = export_twice ms
+
 -- ---- what was met of a name in the members so far
 
--- whether it stands twice, if these are to come
+-- whether it is repeated, if these are to come
 abbrev pub yet : Met → List ℕ → Members → Bool
 yet Never name rest = twice name rest
 yet Once name rest = stands name rest

@@ -1,4 +1,4 @@
--- Names that stand twice in an export. A value of `serde_json` keeps the last of two members of one name, and the tree of the text has both.
+-- Names that are repeated in an export. A value of `serde_json` keeps the last of two members of one name, and the tree of the text has both.
 use Rattle.std.specs.Prelude.{◌≡◌, ◌⊎◌, ℕ, List, Option, Some, option_and_then, codes}
 use Rattle.json.specs.Json.{Json, array, object, Items, no_items, item, Members, no_members, member, if_last, value}
 use Rattle.json.specs.Lex.{tokens}
@@ -18,7 +18,7 @@ abbrev pub StandsTwice : List ℕ → Members → Type 0
 StandsTwice name no_members = ⊥
 StandsTwice name (member k j ms) = ((name ≡ k) × Stands name ms) ⊎ StandsTwice name ms
 
--- A name that is read stands twice in the metadata,
+-- A name that is read is repeated in the metadata,
 abbrev pub MetadataRepeat : Json → Type 0
 MetadataRepeat (object ms) = StandsTwice (codes "generated") ms ⊎ StandsTwice (codes "buildtime") ms
 MetadataRepeat j = ⊥
@@ -47,6 +47,6 @@ abbrev pub ExportRepeats : Json → Type 0
 ExportRepeats (object ms) = StandsTwice (codes "roas") ms ⊎ StandsTwice (codes "metadata") ms ⊎ MembersRepeat ms
 ExportRepeats j = ⊥
 
--- In the text of an object a name that is read stands twice in its object.
+-- In the text of an object a name that is read is repeated in its object.
 abbrev pub Repeats : List ℕ → Type 0
 Repeats text = (j : Json) × (tree text ≡ Some j) × ExportRepeats j

@@ -1,24 +1,16 @@
 //! Exports, read from JSON.
-ghost use Rattle.std.specs.Prelude.{◌≡◌, ◌≤◌, ℕ, List, MatchOption, Some, IfOk, IfErr};
-ghost use Rattle.serde_json.specs.Data.{Items, array};
-ghost use Rattle.serde_json.specs.Read.{read};
-ghost use Rattle.serde_json.specs.View.{items_view, view};
-ghost use Rattle.prefixes.specs.Payload.{Payload};
+ghost use Rattle.std.specs.Prelude.{◌≡◌, ◌≤◌, ℕ, IfOk, IfErr};
 ghost use Rattle.vrps.specs.VrpSet.{set_of, size};
-ghost use Rattle.payload_lists.specs.PayloadList.{AreEntries};
 ghost use Rattle.exports.specs.Export.{HasFault, IsExport};
-ghost use Rattle.exports.specs.Found.{IsLasting, ListFails, SetFails};
+ghost use Rattle.exports.specs.Found.{SetFails};
 ghost use Rattle.exports.specs.Lasting.{AreLasts, IsExportLasting};
-ghost use Rattle.exports.specs.PlainForm.{IsNoObject, ReadsParts, TextFails};
 ghost use Rattle.exports.specs.Until.{IsBefore, IsExportUntil};
 
 use crate::fault::ExportFault;
 use crate::gathered::Gathered;
 use crate::lasting::set_lasting;
-use crate::plain::{Entries, Parts, is_array, plain_export};
-use payload_lists::ListFault;
-use payload_lists::parts::{plain_list, records_of};
-use serde_json::Value;
+use crate::plain::{Entries, Parts};
+use crate::text::parts_of_text;
 use std::alloc::Global;
 use std::str;
 use vrps::VrpSet;
@@ -56,18 +48,6 @@ pub struct ExportLasting {
     pub lasts: Vec<u64>,
 }
 
-/// Gathers the payloads of a payload list.
-fn gather_list(alloc: Global, list: &[Value]) -> Result<Gathered, ExportFault>
-    ensures ok { IfOk result (λ g. AreEntries (items_view list.now) g.records.items × IsLasting g) }
-    ensures fault { IfErr result (λ fault. ListFails (items_view list.now) fault) }
-{
-    match records_of(alloc, list) {
-        Ok(records) => Ok(Gathered::lasting(alloc, records)?),
-        Err(ListFault::NoList) => Err(ExportFault::NoRoas),
-        Err(ListFault::Memory) => Err(ExportFault::Memory),
-    }
-}
-
 /// The export of what was gathered.
 fn export_of(
     alloc: Global,
@@ -98,83 +78,16 @@ fn export_of(
     })
 }
 
-/// The value of a text, which takes several times as much memory.
-fn value_of(alloc: Global, text: &str) -> Result<Value, ExportFault>
-    ensures ok { IfOk result (λ value. read text.now ≡ Some (view value)) }
-    ensures fault { IfErr result (λ fault. TextFails text.now fault) }
-{
-    match Value::from_str(alloc, text) {
-        Ok(value) => Ok(value),
-        Err(error) if error.is_memory() => Err(ExportFault::Memory),
-        Err(_) => Err(ExportFault::NotJson),
-    }
-}
-
-/// The export of a text that is no object, read as a whole.
-fn read_whole(alloc: Global, text: &str, now: u64) -> Result<ExportLasting, ExportFault>
-    requires { IsNoObject text.now }
-    ensures ok { IfOk result (λ x. IsExportLasting text.now now x) }
-    ensures fault { IfErr result (λ fault. HasFault text.now now fault) }
-{
-    match is_array(alloc, text)? {
-        Some(_) => {}
-        None => return Err(ExportFault::NotJson),
-    }
-    let value = value_of(alloc, text)?;
-    let Some(list) = value.as_array() else {
-        return Err(ExportFault::NoRoas);
-    };
-    let gathered = gather_list(alloc, list.as_slice())?;
-    export_of(alloc, gathered, None)
-}
-
-/// The parts of a text of which it is known that it is no payload list: of an array none.
-fn no_parts(alloc: Global, text: &str, now: u64) -> Result<Option<Parts>, ExportFault>
-    requires { (ds : Items) → read text.now ≡ Some (array ds) → (vs : List Payload) → ¬ (AreEntries ds vs) }
-    ensures ok { IfOk result (λ found. MatchOption found (IsNoObject text.now) (λ parts. ReadsParts now text.now parts)) }
-    ensures fault { IfErr result (λ fault. TextFails text.now fault) }
-{
-    match is_array(alloc, text)? {
-        Some(true) => Ok(Some(Parts {
-            entries: None,
-            built: None,
-            repeats: false,
-        })),
-        Some(false) => plain_export(alloc, text, now),
-        None => Err(ExportFault::NotJson),
-    }
-}
-
-/// Reads a text of either form token by token. `None`: it is no object, and has to be read as a whole.
-fn gather_plain(alloc: Global, text: &str, now: u64) -> Result<Option<Parts>, ExportFault>
-    ensures ok { IfOk result (λ found. MatchOption found (IsNoObject text.now) (λ parts. ReadsParts now text.now parts)) }
-    ensures fault { IfErr result (λ fault. TextFails text.now fault) }
-{
-    match plain_list(alloc, text) {
-        Ok(Some(records)) => Ok(Some(Parts {
-            entries: Some(Entries::Whole(Gathered::lasting(alloc, records)?)),
-            built: None,
-            repeats: false,
-        })),
-        Ok(None) => plain_export(alloc, text, now),
-        Err(ListFault::NoList) => no_parts(alloc, text, now),
-        Err(ListFault::Memory) => Err(ExportFault::Memory),
-    }
-}
-
 /// The export of a text.
 fn read_text(alloc: Global, text: &str, now: u64) -> Result<ExportLasting, ExportFault>
     ensures ok { IfOk result (λ x. IsExportLasting text.now now x) }
     ensures fault { IfErr result (λ fault. HasFault text.now now fault) }
 {
-    let Some(parts) = gather_plain(alloc, text, now)? else {
-        return read_whole(alloc, text, now);
-    };
     let Parts {
         entries,
         built,
         repeats,
-    } = parts;
+    } = parts_of_text(alloc, text, now)?;
     if repeats {
         return Err(ExportFault::Repeated);
     }
@@ -188,12 +101,11 @@ fn read_text(alloc: Global, text: &str, now: u64) -> Result<ExportLasting, Expor
 
 /// The export that these bytes are, at a moment in seconds since 1970: a payload list, or an object whose member `roas` is an array of
 /// entries. An entry is an object with `asn` (a whole number below 2^32, or a text of one, with `AS` before it or without), `prefix`,
-/// `maxLength`, and perhaps `expires`, in seconds since 1970: it counts at moments before that one. Other members are passed over. A name
-/// that is read stands once in its object. (Of an entry of a payload list it may stand more often: the last of them counts.)
+/// `maxLength`, and perhaps `expires`, in seconds since 1970: it counts before that second. Other members are ignored. A name that is read
+/// must not be repeated in its object. (It may be repeated in an entry of a payload list: the last value counts.)
 ///
-/// An object is read token by token, and so is a payload list in which each name of an entry stands once and numbers are of digits alone;
-/// any other array is read as a whole. The first fault is reported: `NotJson`, `Repeated`, `NoRoas`, `Entry`, `TooMany`. `Memory`: memory
-/// ran out. After a fault nothing was taken.
+/// The text is read token by token: no tree is built of it. The first fault is reported: `NotJson`, `Repeated`, `NoRoas`, `Entry`,
+/// `TooMany`. `Memory`: out of memory.
 pub fn read_export(alloc: Global, bytes: &[u8], now: u64) -> Result<Export, ExportFault>
     ensures ok { IfOk result (λ export. IsExport bytes.now now export) }
     ensures fault { IfErr result (λ fault. HasFault bytes.now now fault) }

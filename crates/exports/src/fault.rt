@@ -4,7 +4,7 @@ ghost use Rattle.std.specs.Prelude.{◌≡◌};
 use std::alloc::AllocError;
 use thiserror::Error;
 
-/// What of an entry cannot be read. Where several cannot, it is the first in this order.
+/// What of an entry cannot be read: the first fault in this order.
 #[derive(Clone, Copy, Debug, Drop, PartialEq, Eq, Error)]
 pub enum EntryFault {
     /// The entry is no object.
@@ -27,7 +27,7 @@ pub enum EntryFault {
 /// Why bytes give no export. The numbers are fixed.
 #[derive(Clone, Copy, Debug, Drop, PartialEq, Eq, Error)]
 pub enum ExportFault {
-    /// The bytes are no JSON.
+    /// The bytes are not JSON.
     #[error("not JSON (fault 1)")]
     NotJson,
     /// They are no payload list, and no object with an array `roas`.
@@ -42,9 +42,9 @@ pub enum ExportFault {
     /// Out of memory.
     #[error("out of memory (fault 5)")]
     Memory,
-    /// A name that is read stands twice in its object: `roas` or `metadata` in the export, `generated` or `buildtime` in the metadata,
+    /// A name that is read is repeated in its object: `roas` or `metadata` in the export, `generated` or `buildtime` in the metadata,
     /// `asn`, `prefix`, `maxLength` or `expires` in an entry. It is reported before all other faults but `NotJson`.
-    #[error("a name that is read stands twice in an object (fault 6)")]
+    #[error("a name that is read is repeated in an object (fault 6)")]
     Repeated,
 }
 

@@ -4,7 +4,7 @@ ghost use Rattle.std.specs.Prelude.{◌<◌, length, IfOk, IfNone};
 use crate::walk::{NESTING, find_member};
 use crate::words::{member_text, shown};
 use json::{Error, Reader, Scratch, Token, Value as Tree};
-use json_texts::name_text;
+use json_texts::{cut_text, name_text};
 use prefixes::{Asn, IpPrefix, Vrp};
 use std::alloc::{AllocError, Global};
 
@@ -90,7 +90,20 @@ fn list_text(alloc: Global, reader: &mut Reader<'_>) -> Result<String, AllocErro
         }
         index = index.saturating_add(1);
     }
-    String::from_str(alloc, "a name stands twice in an entry")
+    String::from_str(alloc, "a name is repeated in an entry")
+}
+
+/// A value of which this is the first token, as a message shows it.
+fn shown_token(alloc: Global, token: &Token<'_>) -> Result<String, AllocError> {
+    match token {
+        Token::String(text) => name_text(alloc, text),
+        Token::Number(text) => cut_text(alloc, text),
+        Token::Bool(true) => String::from_str(alloc, "true"),
+        Token::Bool(false) => String::from_str(alloc, "false"),
+        Token::BeginArray => String::from_str(alloc, "an array"),
+        Token::BeginObject => String::from_str(alloc, "an object"),
+        _ => String::from_str(alloc, "null"),
+    }
 }
 
 /// Why an object has no array `roas`. Its members come next.
@@ -98,13 +111,12 @@ fn object_text(alloc: Global, reader: &mut Reader<'_>) -> Result<String, AllocEr
     if !find_member(reader, "roas") {
         return String::from_str(alloc, "roas is missing");
     }
-    match Tree::read(alloc, reader, NESTING) {
-        Ok(value) => {
-            let shown = shown(alloc, &value)?;
+    match reader.next() {
+        Some(token) => {
+            let shown = shown_token(alloc, &token)?;
             format!(in alloc; "roas is {shown}")
         }
-        Err(Error::OutOfMemory) => Err(AllocError),
-        Err(_) => String::from_str(alloc, "roas cannot be read"),
+        None => String::from_str(alloc, "roas cannot be read"),
     }
 }
 

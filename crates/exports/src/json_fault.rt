@@ -1,47 +1,114 @@
-//! Why a text is no JSON, and where.
+//! Why a text is not JSON, and where.
 use crate::numbers::seen_number;
-use crate::walk::NESTING;
+use crate::plain::NESTING;
 use json::{Reader, Scratch, Token};
 use json_texts::{Position, cut_text};
 use std::alloc::{AllocError, Global};
 
-/// The next number that is too large for a float, and where the text before it ends.
-fn large_number<'a>(reader: &mut Reader<'a>) -> Option<(&'a str, usize)> {
-    let mut offset = reader.offset();
-    while let Some(token) = reader.next() {
-        if let Token::Number(number) = token {
-            if seen_number(number).is_none() {
-                return Some((number, offset));
+/// The arrays and objects that are open at a place of a text, and what may follow there.
+#[derive(Debug, Drop)]
+struct Open {
+    /// Whether each of them is an object, the innermost one last.
+    objects: Vec<bool>,
+    /// A name was read, and its value comes next.
+    is_named: bool,
+    /// The value of the whole text was read.
+    is_over: bool,
+}
+
+impl Open {
+    /// Nothing was read.
+    fn new(alloc: Global) -> Open {
+        Open {
+            objects: Vec::new(alloc),
+            is_named: false,
+            is_over: false,
+        }
+    }
+
+    /// Whether the innermost one is an object, if one is open.
+    fn innermost(&self) -> Option<bool> {
+        self.objects.last().copied()
+    }
+
+    /// Notes that a value begins. Whether one may.
+    fn begin_value(&mut self) -> bool {
+        let may = match self.innermost() {
+            Some(true) => self.is_named,
+            Some(false) => true,
+            None => !self.is_over,
+        };
+        self.is_named = false;
+        self.is_over = self.objects.is_empty();
+        may
+    }
+
+    /// Notes that an array or an object begins. Whether one may.
+    fn open(&mut self, is_object: bool) -> Result<bool, AllocError> {
+        let may = self.begin_value() && self.objects.len() < NESTING;
+        self.objects.push(is_object)?;
+        Ok(may)
+    }
+
+    /// Notes that an array or an object ends. Whether it may.
+    fn close(&mut self, is_object: bool) -> bool {
+        !self.is_named && self.objects.pop() == Some(is_object)
+    }
+
+    /// Notes a name. Whether one may come.
+    fn name(&mut self) -> bool {
+        let may = self.innermost() == Some(true) && !self.is_named;
+        self.is_named = true;
+        may
+    }
+
+    /// Notes a token. Whether it may come.
+    fn note(&mut self, token: &Token<'_>) -> Result<bool, AllocError> {
+        match token {
+            Token::BeginArray => self.open(false),
+            Token::BeginObject => self.open(true),
+            Token::EndArray => Ok(self.close(false)),
+            Token::EndObject => Ok(self.close(true)),
+            Token::Key(_) => Ok(self.name()),
+            Token::Bad => Ok(false),
+            Token::String(_) | Token::Number(_) | Token::Bool(_) | Token::Null => {
+                Ok(self.begin_value())
             }
         }
-        offset = reader.offset();
     }
-    None
 }
 
-/// Where a number is too large, in a text that is JSON but for such numbers.
-fn number_text(alloc: Global, text: &str) -> Result<String, AllocError> {
-    let mut scratch = Scratch::new(alloc);
-    let mut reader = Reader::new(text, &mut scratch)?;
-    match large_number(&mut reader) {
-        Some((number, offset)) => {
+/// The text of a token, if it is a number that is too large for a float.
+fn large_number<'a>(token: &Token<'a>) -> Option<&'a str> {
+    match token {
+        Token::Number(text) if seen_number(text).is_none() => Some(*text),
+        _ => None,
+    }
+}
+
+/// What of a text is not JSON. `at` is where, in a text that is not JSON at this byte.
+fn reason(alloc: Global, at: Position, number: Option<&str>) -> Result<String, AllocError> {
+    match number {
+        Some(number) => {
             let shown = cut_text(alloc, number)?;
-            let position = Position::at(text.as_bytes(), offset);
-            format!(in alloc; "not JSON at {position}: the number {shown} is too large")
+            format!(in alloc; "not JSON at {at}: the number {shown} is too large")
         }
-        None => String::from_str(alloc, "not JSON"),
+        None => format!(in alloc; "not JSON at {at}"),
     }
 }
 
-/// Why a text is no JSON: the line and the column at which it is none, or the number in it that is too large.
+/// Why a text is not JSON: the line and the column at which it is not, or the number in it that is too large.
 pub(crate) fn json_fault_text(alloc: Global, text: &str) -> Result<String, AllocError> {
     let mut scratch = Scratch::new(alloc);
     let mut reader = Reader::new(text, &mut scratch)?;
-    let is_value = reader.skip_value(NESTING).is_ok();
-    let end = reader.offset();
-    if is_value && reader.next().is_none() {
-        return number_text(alloc, text);
+    let mut open = Open::new(alloc);
+    let mut offset = reader.offset();
+    while let Some(token) = reader.next() {
+        let number = large_number(&token);
+        if number.is_some() || !open.note(&token)? {
+            return reason(alloc, Position::at(text.as_bytes(), offset), number);
+        }
+        offset = reader.offset();
     }
-    let position = Position::at(text.as_bytes(), end);
-    format!(in alloc; "not JSON at {position}")
+    reason(alloc, Position::at(text.as_bytes(), offset), None)
 }

@@ -26,10 +26,12 @@ mod gathered;
 mod json_fault;
 mod lasting;
 pub mod laws;
+mod lists;
 mod names;
 mod numbers;
 mod plain;
 mod repeated;
+mod text;
 mod walk;
 mod words;
 

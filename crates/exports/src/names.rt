@@ -1,4 +1,4 @@
-//! Names of members that stand twice in an object, noted while it is read.
+//! Names of members that are repeated in an object, noted while it is read.
 ghost use Rattle.std.specs.Prelude.{◌≡◌, List, ℕ};
 ghost use Rattle.json.specs.Json.{Json, Members, member, no_members};
 ghost use Rattle.exports.specs.Repeating.{AreMet, EntryMet, IsMet, entry_twice, twice, two_twice};

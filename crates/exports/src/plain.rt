@@ -4,31 +4,28 @@ ghost use Rattle.json.specs.Json.{Json, member, read_key};
 ghost use Rattle.json.specs.Reads.{token_of};
 ghost use Rattle.json.specs.Token.{Token as SpecToken};
 ghost use Rattle.serde_json.specs.Data.{Data, Members, put};
-ghost use Rattle.serde_json.specs.Find.{as_array};
-ghost use Rattle.serde_json.specs.Read.{read};
-ghost use Rattle.std.specs.Option.{is_some};
 ghost use Rattle.exports.specs.Repeating.{entry_twice, export_twice, two_twice};
-ghost use Rattle.exports.specs.PlainForm.{HasParts, IsFound, IsJudged, IsMetadata, IsNoObject, IsSeen, PassesItems, PassesMembers, ReadsBuilt, ReadsEntries, ReadsEntry, ReadsExport, ReadsMembers, ReadsNoItems, ReadsNoMembers, ReadsNone, ReadsPart, ReadsRoas, ReadsSome, TellsListed, TextFails};
+ghost use Rattle.exports.specs.PlainForm.{HasParts, IsFound, IsJudged, IsMetadata, IsSeen, PassesItems, PassesMembers, ReadsBuilt, ReadsEntries, ReadsEntry, ReadsMembers, ReadsNoItems, ReadsNoMembers, ReadsNone, ReadsPart, ReadsRoas, ReadsSome, TellsListed};
 
 use crate::built::built;
 use crate::entry::{Found, Listed, judged};
-use crate::fault::{EntryFault, ExportFault};
+use crate::fault::EntryFault;
 use crate::gathered::Gathered;
 use crate::names::{EntryNames, Names};
 use crate::numbers::seen_number;
-use json::{Reader, Scratch, Token};
+use json::{Reader, Token};
 use std::alloc::{AllocError, Global};
 
 /// How deep a text may nest.
-const NESTING: usize = 127;
+pub(crate) const NESTING: usize = 127;
 
 /// What was seen of a value: the whole number or the text that it is, if it is one, and whether it is an array or an object.
 #[derive(Clone, Copy, Debug, Drop)]
 pub struct Seen<'a> {
-    number: Option<u64>,
-    text: Option<&'a str>,
-    array: bool,
-    object: bool,
+    pub(crate) number: Option<u64>,
+    pub(crate) text: Option<&'a str>,
+    pub(crate) array: bool,
+    pub(crate) object: bool,
 }
 
 /// What is seen of a value that is none of these.
@@ -56,7 +53,7 @@ const OBJECT: Seen<'static> = Seen {
 };
 
 /// The name of the next member, or none at the end of the object.
-fn next_name<'a>(reader: &mut Reader<'a>) -> Option<Option<&'a str>>
+pub(crate) fn next_name<'a>(reader: &mut Reader<'a>) -> Option<Option<&'a str>>
     ensures { MatchOption result (read_key reader.old ≡ None) (λ k. read_key reader.old ≡ Some (option_map (λ s. s.now) k, reader.new)) }
 {
     match reader.next_key() {
@@ -67,7 +64,7 @@ fn next_name<'a>(reader: &mut Reader<'a>) -> Option<Option<&'a str>>
 
 /// Reads a value, in which arrays and objects nest no deeper than this.
 #[cycle(passing)]
-fn see<'a>(reader: &mut Reader<'a>, depth: usize) -> Option<Seen<'a>>
+pub(crate) fn see<'a>(reader: &mut Reader<'a>, depth: usize) -> Option<Seen<'a>>
     ensures { MatchOption result (ReadsNone depth reader.old) (λ s. ReadsSome depth (λ j d. IsSeen d s) reader.old reader.new) }
 {
     let token = reader.next()?;
@@ -76,7 +73,11 @@ fn see<'a>(reader: &mut Reader<'a>, depth: usize) -> Option<Seen<'a>>
 
 /// Reads the rest of a value of which this is the first token.
 #[cycle(passing)]
-fn see_rest<'a>(reader: &mut Reader<'a>, token: Token<'a>, depth: usize) -> Option<Seen<'a>>
+pub(crate) fn see_rest<'a>(
+    reader: &mut Reader<'a>,
+    token: Token<'a>,
+    depth: usize,
+) -> Option<Seen<'a>>
     ensures { MatchOption result (ReadsNone depth (token_of token.entry ∷ reader.old)) (λ s. ReadsSome depth (λ j d. IsSeen d s) (token_of token.entry ∷ reader.old) reader.new) }
 {
     match token {
@@ -184,7 +185,7 @@ fn with_member<'a>(found: Found<'a>, name: &str, seen: Seen<'a>) -> Found<'a>
     }
 }
 
-/// Reads the members of an entry, to its end: what was found, and whether a name that is read stands there twice.
+/// Reads the members of an entry, to its end: what was found, and whether a name that is read is repeated.
 fn plain_members<'a>(reader: &mut Reader<'a>) -> Option<(Found<'a>, bool)>
     ensures { MatchOption result (ReadsNoMembers 124 reader.old) (λ r. ReadsMembers 124 (λ js ms. IsFound ms r.0 × (r.1 ≡ entry_twice js)) reader.old reader.new) }
 {
@@ -208,13 +209,13 @@ fn plain_members<'a>(reader: &mut Reader<'a>) -> Option<(Found<'a>, bool)>
 }
 
 /// Whether a token begins an object.
-fn begins_object(token: &Token<'_>) -> bool
+pub(crate) fn begins_object(token: &Token<'_>) -> bool
     ensures { MatchBool result (token_of token.now ≡ SpecToken.begin_object) (token_of token.now ≢ SpecToken.begin_object) }
 {
     matches!(token, Token::BeginObject)
 }
 
-/// Reads an entry: what it lists, or what of it cannot be read, and whether a name that is read stands there twice.
+/// Reads an entry: what it lists, or what of it cannot be read, and whether a name that is read is repeated.
 fn plain_entry(reader: &mut Reader<'_>) -> Option<(Result<Listed, EntryFault>, bool)>
     ensures { MatchOption result (ReadsNone 125 reader.old) (λ r. ReadsEntry reader.old reader.new r) }
 {
@@ -251,7 +252,7 @@ fn with_detail<'a>(metadata: Metadata<'a>, name: &str, seen: Seen<'a>) -> Metada
     }
 }
 
-/// Reads the members of the metadata, to their end: what was found, and whether a name that is read stands there twice.
+/// Reads the members of the metadata, to their end: what was found, and whether a name that is read is repeated.
 fn plain_metadata<'a>(reader: &mut Reader<'a>) -> Option<(Metadata<'a>, bool)>
     ensures { MatchOption result (ReadsNoMembers 125 reader.old) (λ r. ReadsMembers 125 (λ js ms. IsMetadata ms r.0 × (r.1 ≡ two_twice (codes "generated") (codes "buildtime") js)) reader.old reader.new) }
 {
@@ -271,7 +272,7 @@ fn plain_metadata<'a>(reader: &mut Reader<'a>) -> Option<(Metadata<'a>, bool)>
     }
 }
 
-/// Reads the metadata: when the export was made, if they are an object and say so, and whether a name that is read stands there twice.
+/// Reads the metadata: when the export was made, if they are an object and say so, and whether a name that is read is repeated.
 fn plain_built(reader: &mut Reader<'_>) -> Option<(Option<u64>, bool)>
     ensures { MatchOption result (ReadsNone 126 reader.old) (λ r. ReadsBuilt reader.old reader.new r) }
 {
@@ -316,7 +317,7 @@ fn with_entry(
     Ok(Entries::Whole(gathered))
 }
 
-/// Reads the entries of an array, to its end, and whether in one of them a name that is read stands twice.
+/// Reads the entries of an array, to its end, and whether a name that is read is repeated in one of them.
 fn gather_entries(
     alloc: Global,
     reader: &mut Reader<'_>,
@@ -342,13 +343,13 @@ fn gather_entries(
 }
 
 /// Whether a token begins an array.
-fn begins_array(token: &Token<'_>) -> bool
+pub(crate) fn begins_array(token: &Token<'_>) -> bool
     ensures { MatchBool result (token_of token.now ≡ SpecToken.begin_array) (token_of token.now ≢ SpecToken.begin_array) }
 {
     matches!(token, Token::BeginArray)
 }
 
-/// Reads the value `roas`: its entries, if it is an array, and whether in one of them a name that is read stands twice.
+/// Reads the value `roas`: its entries, if it is an array, and whether a name that is read is repeated in one of them.
 fn plain_roas(
     alloc: Global,
     reader: &mut Reader<'_>,
@@ -371,8 +372,8 @@ fn plain_roas(
     Ok(Some((Some(entries), repeat)))
 }
 
-/// What was read of the members of an export: the entries of `roas`, where it is an array, when the export was made, and whether a name
-/// that is read stands twice in its object.
+/// What was read of an export: its entries, if it has the form of one, when it was made, and whether a name that is read is repeated in its
+/// object.
 #[derive(Debug, Drop)]
 pub struct Parts {
     pub(crate) entries: Option<Entries>,
@@ -415,7 +416,7 @@ fn with_part(
 }
 
 /// Reads the members of an export, to its end.
-fn plain_parts(
+pub(crate) fn plain_parts(
     alloc: Global,
     reader: &mut Reader<'_>,
     now: u64,
@@ -441,46 +442,5 @@ fn plain_parts(
         };
         parts = more;
         names = names.with("roas", "metadata", name);
-    }
-}
-
-/// Reads an export that is an object, and its names. `None`: the text is no object. `NotJson`: it is no JSON.
-pub(crate) fn plain_export(
-    alloc: Global,
-    text: &str,
-    now: u64,
-) -> Result<Option<Parts>, ExportFault>
-    ensures ok { IfOk result (λ found. MatchOption found (IsNoObject text.now) (λ parts. ReadsExport now text.now parts)) }
-    ensures fault { IfErr result (λ fault. TextFails text.now fault) }
-{
-    let mut scratch = Scratch::new(alloc);
-    let mut reader = Reader::new(text, &mut scratch)?;
-    let Some(token) = reader.next() else {
-        return Ok(None);
-    };
-    if !begins_object(&token) {
-        return Ok(None);
-    }
-    let Some(parts) = plain_parts(alloc, &mut reader, now)? else {
-        return Err(ExportFault::NotJson);
-    };
-    if reader.next().is_some() {
-        return Err(ExportFault::NotJson);
-    }
-    Ok(Some(parts))
-}
-
-/// Whether a text is an array. `None`: it is no JSON.
-pub(crate) fn is_array(alloc: Global, text: &str) -> Result<Option<bool>, AllocError>
-    ensures { IfOk result (λ found. MatchOption found (read text.now ≡ None) (λ yes. (d : Data) × (read text.now ≡ Some d) × (is_some (as_array d) ≡ yes))) }
-{
-    let mut scratch = Scratch::new(alloc);
-    let mut reader = Reader::new(text, &mut scratch)?;
-    let Some(seen) = see(&mut reader, NESTING) else {
-        return Ok(None);
-    };
-    match reader.next() {
-        None => Ok(Some(seen.array)),
-        Some(_) => Ok(None),
     }
 }

@@ -1,132 +1,141 @@
-//! Which name stands twice in an export, and where.
-ghost use Rattle.std.specs.Prelude.{◌<◌, length, IfOk, IfNone};
+//! Which name is repeated in an export, and where.
+ghost use Rattle.std.specs.Prelude.{◌<◌, length, IfOk, IfNone, IfSome};
 
-use crate::walk::{NESTING, begins_array, begins_object, find_member};
-use json::{Error, Reader, Scratch, Value as Tree};
+use crate::names::{EntryNames, Names};
+use crate::plain::{NESTING, begins_array, begins_object, next_name, see, see_rest};
+use json::{Reader, Scratch};
 use std::alloc::{AllocError, Global};
 
-/// The names that are read at the root, in the metadata, and in an entry.
-const ROOT: &[&str] = &["roas", "metadata"];
-
-const METADATA: &[&str] = &["generated", "buildtime"];
-
-const ENTRY: &[&str] = &["asn", "prefix", "maxLength", "expires"];
-
-/// The first of these names that stands twice in an object whose members come next.
-fn repeated<'a>(
-    alloc: Global,
-    reader: &mut Reader<'a>,
-    names: &[&str],
-) -> Result<Option<&'a str>, AllocError> {
-    let mut seen = Vec::new(alloc);
-    while let Ok(Some(name)) = reader.next_key() {
-        if names.iter().any(|known| *known == name) {
-            if seen.contains(&name) {
-                return Ok(Some(name));
-            }
-            seen.push(name)?;
-        }
-        if reader.skip_value(NESTING).is_err() {
-            return Ok(None);
-        }
-    }
-    Ok(None)
-}
-
-/// The name that stands twice at the root.
-fn at_root(alloc: Global, text: &str) -> Result<Option<String>, AllocError> {
-    let mut scratch = Scratch::new(alloc);
-    let mut reader = Reader::new(text, &mut scratch)?;
-    if !begins_object(&mut reader) {
-        return Ok(None);
-    }
-    match repeated(alloc, &mut reader, ROOT)? {
-        Some(name) => Ok(Some(format!(in alloc; "{name} stands twice in the file")?)),
-        None => Ok(None),
-    }
-}
-
-/// The name that stands twice in the metadata.
-fn in_metadata(alloc: Global, text: &str) -> Result<Option<String>, AllocError> {
-    let mut scratch = Scratch::new(alloc);
-    let mut reader = Reader::new(text, &mut scratch)?;
-    let is_there = begins_object(&mut reader)
-        && find_member(&mut reader, "metadata")
-        && begins_object(&mut reader);
-    if !is_there {
-        return Ok(None);
-    }
-    match repeated(alloc, &mut reader, METADATA)? {
-        Some(name) => Ok(Some(format!(in alloc; "{name} stands twice in metadata")?)),
-        None => Ok(None),
-    }
-}
-
-/// How often a name stands in an entry.
-fn count(entry: &Tree<'_>, name: &str) -> usize {
-    match entry {
-        Tree::Object(members) => members.iter().filter(|member| member.0 == name).count(),
-        _ => 0,
-    }
-}
-
-/// The first name of an entry that stands twice in it.
-fn in_entry(entry: &Tree<'_>) -> Option<&'static str> {
-    for name in ENTRY {
-        if count(entry, name) > 1 {
-            return Some(*name);
-        }
-    }
-    None
-}
-
-/// The name that stands twice in the entry that comes next.
-fn in_next(alloc: Global, reader: &mut Reader<'_>) -> Result<Option<&'static str>, AllocError>
-    ensures { IfOk result (λ found. IfNone found (length reader.new < length reader.old)) }
+/// The first name that is repeated in an entry whose members come next. `None`: they cannot be read.
+fn in_members<'a>(reader: &mut Reader<'a>) -> Option<Option<&'a str>>
+    ensures { IfSome result (λ found. IfNone found (length reader.new < length reader.old)) }
 {
-    match Tree::read(alloc, reader, NESTING) {
-        Ok(entry) => Ok(in_entry(&entry)),
-        Err(Error::OutOfMemory) => Err(AllocError),
-        Err(_) => Ok(Some("a name")),
+    let mut names = EntryNames::NONE;
+    loop {
+        let Some(name) = next_name(reader)? else {
+            return Some(None);
+        };
+        names = names.with(name);
+        if names.repeat() {
+            return Some(Some(name));
+        }
+        let _passed = see(reader, NESTING)?;
     }
 }
 
-/// The name that stands twice in one of the entries that come next, and the entry.
-fn in_entries(alloc: Global, reader: &mut Reader<'_>) -> Result<Option<String>, AllocError> {
+/// The first name that is repeated in the item that comes next. `None`: it cannot be read.
+fn in_item<'a>(reader: &mut Reader<'a>) -> Option<Option<&'a str>>
+    ensures { IfSome result (λ found. IfNone found (length reader.new < length reader.old)) }
+{
+    let token = reader.next()?;
+    if begins_object(&token) {
+        return in_members(reader);
+    }
+    let _passed = see_rest(reader, token, NESTING)?;
+    Some(None)
+}
+
+/// The first name that is repeated in an entry of `roas`, which comes next, and the entry. `None`: the value cannot be read.
+fn in_roas(alloc: Global, reader: &mut Reader<'_>) -> Result<Option<Option<String>>, AllocError>
+    ensures { IfOk result (λ read. IfSome read (λ found. IfNone found (length reader.new < length reader.old))) }
+{
+    let Some(token) = reader.next() else {
+        return Ok(None);
+    };
+    if !begins_array(&token) {
+        return match see_rest(reader, token, NESTING) {
+            Some(_passed) => Ok(Some(None)),
+            None => Ok(None),
+        };
+    }
     let mut index = 0usize;
     while !reader.take_end_array() {
-        if let Some(name) = in_next(alloc, reader)? {
-            return Ok(Some(format!(in alloc; "{name} stands twice in entry {index} of roas")?));
+        let Some(found) = in_item(reader) else {
+            return Ok(None);
+        };
+        if let Some(name) = found {
+            let text = format!(in alloc; "{name} is repeated in entry {index} of roas")?;
+            return Ok(Some(Some(text)));
         }
         index = index.saturating_add(1);
     }
+    Ok(Some(None))
+}
+
+/// The first name that is repeated in the metadata, which come next. `None`: they cannot be read.
+fn in_metadata<'a>(reader: &mut Reader<'a>) -> Option<Option<&'a str>>
+    ensures { IfSome result (λ found. IfNone found (length reader.new < length reader.old)) }
+{
+    let token = reader.next()?;
+    if !begins_object(&token) {
+        let _passed = see_rest(reader, token, NESTING)?;
+        return Some(None);
+    }
+    let mut names = Names::NONE;
+    loop {
+        let Some(name) = next_name(reader)? else {
+            return Some(None);
+        };
+        names = names.with("generated", "buildtime", name);
+        if names.repeat() {
+            return Some(Some(name));
+        }
+        let _passed = see(reader, NESTING)?;
+    }
+}
+
+/// Which name is repeated in the value of a member of the export, which comes next, and where. `None`: it cannot be read.
+fn in_value(
+    alloc: Global,
+    reader: &mut Reader<'_>,
+    member: &str,
+) -> Result<Option<Option<String>>, AllocError>
+    ensures { IfOk result (λ read. IfSome read (λ found. IfNone found (length reader.new < length reader.old))) }
+{
+    match member {
+        "roas" => in_roas(alloc, reader),
+        "metadata" => match in_metadata(reader) {
+            Some(Some(name)) => {
+                let text = format!(in alloc; "{name} is repeated in metadata")?;
+                Ok(Some(Some(text)))
+            }
+            Some(None) => Ok(Some(None)),
+            None => Ok(None),
+        },
+        _ => match see(reader, NESTING) {
+            Some(_passed) => Ok(Some(None)),
+            None => Ok(None),
+        },
+    }
+}
+
+/// Which name is repeated in an export whose members come next, and where.
+fn in_export(alloc: Global, reader: &mut Reader<'_>) -> Result<Option<String>, AllocError> {
+    let mut names = Names::NONE;
+    while let Some(Some(name)) = next_name(reader) {
+        names = names.with("roas", "metadata", name);
+        if names.repeat() {
+            return Ok(Some(format!(in alloc; "{name} is repeated in the file")?));
+        }
+        match in_value(alloc, reader, name)? {
+            Some(None) => {}
+            Some(found) => return Ok(found),
+            None => return Ok(None),
+        }
+    }
     Ok(None)
 }
 
-/// The name that stands twice in an entry of `roas`.
-fn in_roas(alloc: Global, text: &str) -> Result<Option<String>, AllocError> {
+/// Which name is repeated in one object of a text, and in which: the first one in the text.
+pub(crate) fn repeated_text(alloc: Global, text: &str) -> Result<String, AllocError> {
     let mut scratch = Scratch::new(alloc);
     let mut reader = Reader::new(text, &mut scratch)?;
-    let is_there = begins_object(&mut reader)
-        && find_member(&mut reader, "roas")
-        && begins_array(&mut reader);
-    if is_there {
-        in_entries(alloc, &mut reader)
-    } else {
-        Ok(None)
-    }
-}
-
-/// The name that stands twice in one object of a text, and the object.
-pub(crate) fn repeated_text(alloc: Global, text: &str) -> Result<String, AllocError> {
-    if let Some(found) = at_root(alloc, text)? {
-        return Ok(found);
-    }
-    if let Some(found) = in_metadata(alloc, text)? {
-        return Ok(found);
-    }
-    match in_roas(alloc, text)? {
+    let found = match reader.next() {
+        Some(token) if begins_object(&token) => in_export(alloc, &mut reader)?,
+        _ => None,
+    };
+    match found {
         Some(found) => Ok(found),
-        None => String::from_str(alloc, "a name that is read stands twice in an object"),
+        None => String::from_str(alloc, "a name is repeated in an object"),
     }
 }

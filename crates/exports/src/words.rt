@@ -137,9 +137,9 @@ fn joined(alloc: Global, place: &str, why: &str, fault: ExportFault) -> Result<S
     format!(in alloc; "{place}{why} (fault {})", fault.number())
 }
 
-/// A fault of these bytes in words. It names the entry, counted from 0, the member and its value; or the name that stands twice; or, if the bytes
-/// are not JSON, the line and the column. A value is shown as JSON; if that has over 80 bytes, only its first 80. The bytes are read again, but no
-/// tree is built of more than one entry.
+/// A fault of these bytes in words. It names the entry, counted from 0, the member and its value; or the name that is repeated; or, if the bytes
+/// are not JSON, the line and the column. A value is shown as JSON; if that has over 80 bytes, only its first 80. The bytes are read again,
+/// token by token; a tree is built of one entry at most.
 pub fn fault_text(alloc: Global, bytes: &[u8], fault: ExportFault) -> Result<String, AllocError>
     ensures { IfOk result (λ text. (why : List ℕ) × (string_bytes text ≡ place fault ++ why ++ number_text fault)) }
 {

@@ -143,8 +143,8 @@ pub enum SlurmFault {
     /// Out of memory.
     #[error("out of memory (fault 7)")]
     Memory,
-    /// A name stands twice in an object, at any depth.
-    #[error("a name stands twice in an object (fault 8)")]
+    /// A name is repeated in an object, at any depth.
+    #[error("a name is repeated in an object (fault 8)")]
     Repeated,
 }
 

@@ -32,7 +32,7 @@ fn value_of(alloc: Global, text: &str) -> Result<Value, SlurmFault>
     }
 }
 
-/// Whether no name stands twice in an object of a JSON text, at any depth. `Memory`: out of memory.
+/// Whether no name is repeated in an object of a JSON text, at any depth. `Memory`: out of memory.
 fn has_names_once(alloc: Global, text: &str) -> Result<bool, SlurmFault>
     ensures ok { IfOk result (λ once. MatchBool once (NamesOnce text.now) (¬ (NamesOnce text.now))) }
     ensures memory { OnErr result (result ≡ Err SlurmFault.Memory) }
@@ -113,7 +113,7 @@ fn read(alloc: Global, bytes: &[u8]) -> Result<Slurm, SlurmFault>
 /// The exceptions that a SLURM file says: an object with exactly the members `slurmVersion`, which is 1, `validationOutputFilters` and
 /// `locallyAddedAssertions`, which have exactly the arrays `prefixFilters` and `bgpsecFilters`, `prefixAssertions` and
 /// `bgpsecAssertions` (RFC 8416 section 3.2). The entries of each have exactly their members (sections 3.3 and 3.4); those of the two arrays on
-/// BGPsec have no effect, and whether an `SKI` or a `routerPublicKey` is Base64 is not judged. No name stands twice in an object.
+/// BGPsec have no effect, and whether an `SKI` or a `routerPublicKey` is Base64 is not judged. No name is repeated in an object.
 ///
 /// The first fault is reported: `NotJson`; `Repeated`; `Members` of the file, and `Version`; `Members` of the filters' object and then of the
 /// assertions'; `NoArray` of the four arrays in this order; `Entry` of the first entry, in this order of the arrays, that cannot be read,

@@ -1,4 +1,4 @@
-//! Names that stand twice in an object, found.
+//! Names that are repeated in an object, found.
 
 use crate::fault::{SlurmArray, SlurmObject};
 use json::{Scratch, Value as Tree};
@@ -16,7 +16,7 @@ const ARRAYS: &[SlurmArray] = &[
     SlurmArray::BgpsecAssertions,
 ];
 
-/// The least name that stands twice in an object.
+/// The least name that is repeated in an object.
 fn repeated<'a>(alloc: Global, tree: &Tree<'a>) -> Result<Option<&'a str>, AllocError> {
     let Tree::Object(members) = tree else {
         return Ok(None);
@@ -36,7 +36,7 @@ fn twice<'a>(names: &[&'a str]) -> Option<&'a str> {
     None
 }
 
-/// The first of the two objects in which a name stands twice.
+/// The first of the two objects in which a name is repeated.
 fn in_object<'a>(
     alloc: Global,
     file: &Tree<'a>,
@@ -51,7 +51,7 @@ fn in_object<'a>(
     Ok(None)
 }
 
-/// The first entry of an array in which a name stands twice.
+/// The first entry of an array in which a name is repeated.
 fn in_entry<'a>(alloc: Global, array: &Tree<'a>) -> Result<Option<(usize, &'a str)>, AllocError> {
     let Tree::Array(items) = array else {
         return Ok(None);
@@ -85,22 +85,22 @@ fn in_array<'a>(
     Ok(None)
 }
 
-/// Which name stands twice, and where.
+/// Which name is repeated, and where.
 fn found_text(alloc: Global, file: &Tree<'_>) -> Result<String, AllocError> {
     if let Some(name) = repeated(alloc, file)? {
         let shown = name_text(alloc, name)?;
-        return format!(in alloc; "{shown} stands twice in the file");
+        return format!(in alloc; "{shown} is repeated in the file");
     }
     if let Some((object, name)) = in_object(alloc, file)? {
         let shown = name_text(alloc, name)?;
-        return format!(in alloc; "{shown} stands twice in {}", object.name());
+        return format!(in alloc; "{shown} is repeated in {}", object.name());
     }
     match in_array(alloc, file)? {
         Some((array, index, name)) => {
             let shown = name_text(alloc, name)?;
-            format!(in alloc; "{shown} stands twice in {}[{index}]", array.key())
+            format!(in alloc; "{shown} is repeated in {}[{index}]", array.key())
         }
-        None => String::from_str(alloc, "a name stands twice in an object"),
+        None => String::from_str(alloc, "a name is repeated in an object"),
     }
 }
 
@@ -112,6 +112,6 @@ pub(crate) fn repeated_text(alloc: Global, bytes: &[u8]) -> Result<String, Alloc
     };
     match Tree::parse(alloc, text, &mut scratch) {
         Ok(file) => found_text(alloc, &file),
-        Err(_) => String::from_str(alloc, "a name stands twice in an object"),
+        Err(_) => String::from_str(alloc, "a name is repeated in an object"),
     }
 }
