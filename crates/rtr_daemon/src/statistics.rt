@@ -47,7 +47,12 @@ impl TrafficTotals {
     }
 
     /// With the traffic of one more connection.
-    pub(crate) fn and(self, carried: ByteCounts, received: PdusByKind, sent: PdusByKind) -> TrafficTotals {
+    pub(crate) fn and(
+        self,
+        carried: ByteCounts,
+        received: PdusByKind,
+        sent: PdusByKind,
+    ) -> TrafficTotals {
         TrafficTotals {
             received: with(self.received, carried.read, received),
             sent: with(self.sent, carried.written, sent),

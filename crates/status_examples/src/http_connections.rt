@@ -5,7 +5,7 @@ use bytes::Bytes;
 use prefixes::{Asn, IpPrefix, Route, Vrp};
 use status_pages::{Status, Validity};
 use status_server::{
-    CONNECTION_MILLIS, HttpAdmitFault, HttpConnections, MAX_CONNECTIONS, HttpProgress, StatusSource,
+    CONNECTION_MILLIS, HttpAdmitFault, HttpConnections, HttpProgress, MAX_CONNECTIONS, StatusSource,
 };
 use std::alloc::{AllocError, Global};
 use std::hash::RandomState;

@@ -164,7 +164,12 @@ impl<T: Read + Write + Drop> HttpConnections<T> {
     }
 
     /// Serves the connection at an index.
-    fn serve_at<S: StatusSource>(&mut self, index: usize, source: &mut S, budget: u32) -> HttpProgress
+    fn serve_at<S: StatusSource>(
+        &mut self,
+        index: usize,
+        source: &mut S,
+        budget: u32,
+    ) -> HttpProgress
         requires { index < length self.old }
         ensures { self.new ≡ self.old }
     {
