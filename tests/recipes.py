@@ -1,6 +1,6 @@
 #!/usr/bin/env python3
 """Tries recipes of docs/OPERATING.md, as they are on the page: the scripts' syntax, the script that fetches a list (against an HTTPS server on
-127.0.0.1), its units, BIRD's two caches, and the lines for Prometheus.
+127.0.0.1), its units, BIRD's two caches, the lines for Prometheus, and how docs/Containerfile unpacks the delivered program.
 
 usage: tests/recipes.py RPKIRTRD
 
@@ -140,9 +140,20 @@ def fetch_units(folder):
     expect("the units", (done.returncode, said), (0, []))
 
 
+def unpacked(folder):
+    """The first RUN of docs/Containerfile, in a folder in place of /dist; and with another sum it fails."""
+    line = re.search(r"(?m)^RUN ((?:.*\\\n)*.*)$", read(f"{TOP}/docs/Containerfile")).group(1)
+    for name, wanted in (("dist", True), ("spoiled", False)):
+        shutil.copytree(f"{TOP}/dist/x86_64-linux", f"{folder}/{name}")
+        if not wanted:
+            write(f"{folder}/{name}/SOURCES", re.sub(r"(?m)^(rpkirtrd .*) \w+$", rf"\1 {'0' * 64}", read(f"{folder}/{name}/SOURCES")))
+        done = run(["sh", "-c", line.replace("cd /dist", f"cd {folder}/{name}")])
+        expect(f"Containerfile, {name}", done.returncode == 0, wanted)
+
+
 def main(rpkirtrd):
     with tempfile.TemporaryDirectory() as folder:
-        for heading in ("Validators on the same machine", "A list from another machine, over HTTPS"):
+        for heading in ("Validators on the same machine", "A list from another machine, over HTTPS", "In a container"):
             passes(heading, ["sh", "-n", "-c", block(heading, 1, "sh")])
         if has("curl", "openssl"):
             fetch_recipe(folder, rpkirtrd)
@@ -154,6 +165,7 @@ def main(rpkirtrd):
         if has("promtool"):
             write(f"{folder}/prometheus.yml", re.sub(r"\[/.*\]", f"[{TOP}/docs/alerts.yml]", block("Alerts", 1)))
             passes("Prometheus", ["promtool", "check", "config", f"{folder}/prometheus.yml"])
+        unpacked(folder)
     return 0
 
 
