@@ -42,7 +42,7 @@ runs() { # runs HOW
     # (the numbers from which systemd takes its own users)
     [ "$user" -ge 61184 ] && [ "$user" -le 65519 ] || fail "$1: the daemon runs as user $user"
     journalctl --no-pager --unit rpkirtrd | grep -q ' ready' || fail "$1: the journal does not say ready"
-    man rpkirtrd | grep -A 3 -e '^ *--check SECONDS' | grep -q 'looked at' || fail "$1: the manual page does not say what --check does"
+    man rpkirtrd | grep -A 3 -e '^ *--check SECONDS' | grep -q 'poll' || fail "$1: the manual page does not say what --check does"
     systemctl restart rpkirtrd && sleep 1 || fail "$1: no restart"
     serves_bird || fail "$1: a restart takes records from BIRD"
     echo "$1: BIRD has 3 records; $(journalctl --output cat --no-pager --unit rpkirtrd | grep -m 1 ' published')"
