@@ -7,9 +7,7 @@ The cases stand in tests/cases, in a module for each command. Without names all 
 (`a-reset-query`) or both (`answer/a-reset-query`) is given. Each runs in a folder of its own, which has its files and no others. Status,
 output and errors are compared whole, and a failure is told with the file and the line of its case. The last line says how many ran and
 how many failed. The exit status is 0 where none failed, 1 where one did or two cases have one name, and 2 where a name is unknown."""
-import importlib
 import os
-import pkgutil
 import shlex
 import subprocess
 import sys
@@ -18,21 +16,9 @@ from concurrent.futures import ThreadPoolExecutor
 
 import cases
 from cases.shared import FULL, Case
+from common import clashes, load_modules
 
 SECONDS = 60
-
-
-def collected():
-    """All cases that stand in a module of tests/cases."""
-    for module in pkgutil.iter_modules(cases.__path__):
-        importlib.import_module(f"cases.{module.name}")
-    return Case.every
-
-
-def clashes(every):
-    """A line for each case with the name of an earlier one."""
-    first = {}
-    return [f"{it.place}: {it.label} stands at {first[it.label].place} too" for it in every if first.setdefault(it.label, it) is not it]
 
 
 def write(folder, files):
@@ -86,8 +72,9 @@ def failure(case, found):
 
 
 def main(program, *names):
-    every = collected()
-    if clashing := clashes(every):
+    load_modules(cases)
+    every = Case.every
+    if clashing := clashes(every, lambda it: it.label):
         print(*clashing, sep="\n")
         return 1
     if unknown := [name for name in names if not any(it.is_called(name) for it in every)]:

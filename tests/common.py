@@ -1,5 +1,7 @@
-"""What the scripts of tests/ and bench/ share: ports, connections to a server that may not listen yet, and files."""
+"""What the scripts of tests/ and bench/ share: ports, connections to a server that may not listen yet, files, and tests in modules."""
+import importlib
 import os
+import pkgutil
 import socket
 import time
 
@@ -43,3 +45,15 @@ def write(path, content):
 def put(path, content):
     """Replaces a file in one step, as validators do."""
     os.replace(write(f"{path}.new", content), path)
+
+
+def load_modules(package):
+    """Imports each module of a package, so that the tests in them are declared."""
+    for module in pkgutil.iter_modules(package.__path__):
+        importlib.import_module(f"{package.__name__}.{module.name}")
+
+
+def clashes(every, name):
+    """A line for each test whose name an earlier one has. `name` gives the name of a test, and its `place` says where it is."""
+    first = {}
+    return [f"{it.place}: {name(it)} is at {first[name(it)].place} too" for it in every if first.setdefault(name(it), it) is not it]

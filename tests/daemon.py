@@ -13,10 +13,8 @@ of a daemon is then refused in turn. --rpkirtr names the other program: the stat
 command `route`. The last line says how many parts passed, failed and were skipped. The exit status is 0 if none failed; 1 if one did, none
 passed, or two parts have one name; and 2 if a name is unknown, or a part that was named needs an option that is missing."""
 import argparse
-import importlib
 import multiprocessing.connection
 import os
-import pkgutil
 import random
 import sys
 import tempfile
@@ -24,21 +22,8 @@ import time
 
 import checks
 import daemon
-from common import put
+from common import clashes, load_modules, put
 from daemon.shared import FIRST, Part, Skipped, text_of
-
-
-def collected():
-    """All parts of the modules in tests/daemon."""
-    for module in pkgutil.iter_modules(daemon.__path__):
-        importlib.import_module(f"daemon.{module.name}")
-    return Part.every
-
-
-def clashes(every):
-    """A line for each part with the name of an earlier one."""
-    first = {}
-    return [f"{it.place}: {it.name} is at {first[it.name].place} too" for it in every if first.setdefault(it.name, it) is not it]
 
 
 def play(part, given):
@@ -121,8 +106,9 @@ def refused(*lines):
 
 
 def main(arguments):
-    given, every = words_of(arguments), collected()
-    if clashing := clashes(every):
+    load_modules(daemon)
+    given, every = words_of(arguments), Part.every
+    if clashing := clashes(every, lambda it: it.name):
         print(*clashing, sep="\n")
         return 1
     if unknown := [name for name in given.parts if not any(it.is_called(name) for it in every)]:
