@@ -16,4 +16,4 @@ mod position;
 mod shown;
 
 pub use position::Position;
-pub use shown::{cut_text, name_text, value_text};
+pub use shown::{NO_ASN, NO_MAX_LENGTH, NO_PREFIX, cut_text, name_text, value_text};
