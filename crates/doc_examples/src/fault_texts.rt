@@ -12,7 +12,7 @@ use rtr_ends::{AskFault, StreamFault, TimingFault};
 use rtr_pdu::{ReadFault, UnitFault};
 use rtr_server::AdmitFault;
 use rtr_world::{CatchFault, WorldFault};
-use slurm::{EntryFault as ExceptionFault, SlurmArray, SlurmFault, SlurmObject};
+use slurm::{SlurmArray, SlurmEntryFault, SlurmFault, SlurmObject};
 use std::alloc::Global;
 use std::fmt::Display;
 use vrps::{PathFault, SetFault};
@@ -162,7 +162,7 @@ fn faults_of_exports_and_exceptions(rt: HostRuntime) {
         SlurmFault::Repeated,
     ];
     assert!(rt; all_tell(rt.alloc(), "fault", &faults));
-    let fault = SlurmFault::Entry(SlurmArray::PrefixFilters, 7, ExceptionFault::NeitherKey);
+    let fault = SlurmFault::Entry(SlurmArray::PrefixFilters, 7, SlurmEntryFault::NeitherKey);
     assert!(rt;
         is_text(
             rt.alloc(),

@@ -1,5 +1,5 @@
 //! What comes of the cases in a file: `tests/exports.py` makes them at random, and compares this with what it reads itself.
-use exports::{ExportUntil, read_export_until};
+use exports::{TimedExport, read_export_until};
 use payload_lists::write_list;
 use std::alloc::Global;
 use std::io::Write;
@@ -21,7 +21,7 @@ fn second(alloc: Global, second: Option<u64>) -> Result<String, Fail> {
 /// fault and its text.
 fn outcome(alloc: Global, now: u64, text: &[u8]) -> Result<String, Fail> {
     match read_export_until(alloc, text, now) {
-        Ok(ExportUntil { export, until }) => {
+        Ok(TimedExport { export, until }) => {
             let list = write_list(alloc, export.set.as_slice())?;
             let built = second(alloc, export.built)?;
             let end = second(alloc, until)?;

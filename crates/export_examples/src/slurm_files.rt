@@ -1,6 +1,8 @@
 use example_values::sets::{Row, set_of};
 use prefixes::Asn;
-use slurm::{EntryFault, PrefixFilter, Slurm, SlurmArray, SlurmFault, SlurmObject, read_slurm};
+use slurm::{
+    PrefixFilter, Slurm, SlurmArray, SlurmEntryFault, SlurmFault, SlurmObject, read_slurm,
+};
 use std::alloc::Global;
 use std::test::Fail;
 
@@ -170,7 +172,7 @@ const ENTRIES: &[([&str; 4], SlurmFault)] = &[
     ),
     (
         [r#"[{"asn":1},7]"#, "[7]", "[7]", "[7]"],
-        SlurmFault::Entry(SlurmArray::PrefixFilters, 1, EntryFault::NoObject),
+        SlurmFault::Entry(SlurmArray::PrefixFilters, 1, SlurmEntryFault::NoObject),
     ),
     (
         [r#"[{"asn":1,"asn":1}]"#, "2", "3", "4"],
@@ -182,19 +184,19 @@ const ENTRIES: &[([&str; 4], SlurmFault)] = &[
     ),
     (
         [r#"[{"asn":1,"more":1}]"#, "[]", "[]", "[]"],
-        SlurmFault::Entry(SlurmArray::PrefixFilters, 0, EntryFault::OtherKey),
+        SlurmFault::Entry(SlurmArray::PrefixFilters, 0, SlurmEntryFault::OtherKey),
     ),
     (
         [r#"[{"comment":"all"}]"#, "[]", "[]", "[]"],
-        SlurmFault::Entry(SlurmArray::PrefixFilters, 0, EntryFault::NeitherKey),
+        SlurmFault::Entry(SlurmArray::PrefixFilters, 0, SlurmEntryFault::NeitherKey),
     ),
     (
         [r#"[{"asn":"64496"}]"#, "[]", "[]", "[]"],
-        SlurmFault::Entry(SlurmArray::PrefixFilters, 0, EntryFault::Asn),
+        SlurmFault::Entry(SlurmArray::PrefixFilters, 0, SlurmEntryFault::Asn),
     ),
     (
         [r#"[{"asn":-1}]"#, "[]", "[]", "[]"],
-        SlurmFault::Entry(SlurmArray::PrefixFilters, 0, EntryFault::Asn),
+        SlurmFault::Entry(SlurmArray::PrefixFilters, 0, SlurmEntryFault::Asn),
     ),
     (
         [
@@ -203,31 +205,31 @@ const ENTRIES: &[([&str; 4], SlurmFault)] = &[
             "[]",
             "[]",
         ],
-        SlurmFault::Entry(SlurmArray::PrefixFilters, 1, EntryFault::Asn),
+        SlurmFault::Entry(SlurmArray::PrefixFilters, 1, SlurmEntryFault::Asn),
     ),
     (
         [r#"[{"asn":1,"comment":2,"prefix":3}]"#, "[]", "[]", "[]"],
-        SlurmFault::Entry(SlurmArray::PrefixFilters, 0, EntryFault::Comment),
+        SlurmFault::Entry(SlurmArray::PrefixFilters, 0, SlurmEntryFault::Comment),
     ),
     (
         [r#"[{"prefix":"192.0.2.1/24"}]"#, "[]", "[]", "[]"],
-        SlurmFault::Entry(SlurmArray::PrefixFilters, 0, EntryFault::Prefix),
+        SlurmFault::Entry(SlurmArray::PrefixFilters, 0, SlurmEntryFault::Prefix),
     ),
     (
         [r#"[{"prefix":"::ffff:192.0.2.1/120"}]"#, "[]", "[]", "[]"],
-        SlurmFault::Entry(SlurmArray::PrefixFilters, 0, EntryFault::Prefix),
+        SlurmFault::Entry(SlurmArray::PrefixFilters, 0, SlurmEntryFault::Prefix),
     ),
     (
         ["[]", r#"[{"asn":1},{"SKI":"Zm9v"},[]]"#, "[7]", "[7]"],
-        SlurmFault::Entry(SlurmArray::BgpsecFilters, 2, EntryFault::NoObject),
+        SlurmFault::Entry(SlurmArray::BgpsecFilters, 2, SlurmEntryFault::NoObject),
     ),
     (
         ["[]", "[]", r#"[{"prefix":"192.0.2.0/24"}]"#, "[7]"],
-        SlurmFault::Entry(SlurmArray::PrefixAssertions, 0, EntryFault::Asn),
+        SlurmFault::Entry(SlurmArray::PrefixAssertions, 0, SlurmEntryFault::Asn),
     ),
     (
         ["[]", "[]", r#"[{"asn":1}]"#, "[]"],
-        SlurmFault::Entry(SlurmArray::PrefixAssertions, 0, EntryFault::Prefix),
+        SlurmFault::Entry(SlurmArray::PrefixAssertions, 0, SlurmEntryFault::Prefix),
     ),
     (
         [
@@ -236,7 +238,7 @@ const ENTRIES: &[([&str; 4], SlurmFault)] = &[
             r#"[{"asn":1,"prefix":"192.0.2.0/24","maxPrefixLength":23}]"#,
             "[]",
         ],
-        SlurmFault::Entry(SlurmArray::PrefixAssertions, 0, EntryFault::MaxLength),
+        SlurmFault::Entry(SlurmArray::PrefixAssertions, 0, SlurmEntryFault::MaxLength),
     ),
     (
         [
@@ -245,7 +247,7 @@ const ENTRIES: &[([&str; 4], SlurmFault)] = &[
             r#"[{"asn":1,"prefix":"192.0.2.0/24","maxPrefixLength":33}]"#,
             "[]",
         ],
-        SlurmFault::Entry(SlurmArray::PrefixAssertions, 0, EntryFault::MaxLength),
+        SlurmFault::Entry(SlurmArray::PrefixAssertions, 0, SlurmEntryFault::MaxLength),
     ),
     (
         [
@@ -254,7 +256,7 @@ const ENTRIES: &[([&str; 4], SlurmFault)] = &[
             r#"[{"asn":1,"prefix":"192.0.2.0/24","maxPrefixLength":"24"}]"#,
             "[]",
         ],
-        SlurmFault::Entry(SlurmArray::PrefixAssertions, 0, EntryFault::MaxLength),
+        SlurmFault::Entry(SlurmArray::PrefixAssertions, 0, SlurmEntryFault::MaxLength),
     ),
     (
         [
@@ -263,11 +265,11 @@ const ENTRIES: &[([&str; 4], SlurmFault)] = &[
             r#"[{"asn":1,"prefix":"192.0.2.0/24","maxLength":24}]"#,
             "[]",
         ],
-        SlurmFault::Entry(SlurmArray::PrefixAssertions, 0, EntryFault::OtherKey),
+        SlurmFault::Entry(SlurmArray::PrefixAssertions, 0, SlurmEntryFault::OtherKey),
     ),
     (
         ["[]", "[]", "[]", "[\"SKI\"]"],
-        SlurmFault::Entry(SlurmArray::BgpsecAssertions, 0, EntryFault::NoObject),
+        SlurmFault::Entry(SlurmArray::BgpsecAssertions, 0, SlurmEntryFault::NoObject),
     ),
 ];
 
@@ -275,23 +277,23 @@ const ENTRIES: &[([&str; 4], SlurmFault)] = &[
 const KEYS: &[([&str; 4], SlurmFault)] = &[
     (
         ["[]", r#"[{"asn":1},{"comment":"all"}]"#, "[7]", "[7]"],
-        SlurmFault::Entry(SlurmArray::BgpsecFilters, 1, EntryFault::NeitherSki),
+        SlurmFault::Entry(SlurmArray::BgpsecFilters, 1, SlurmEntryFault::NeitherSki),
     ),
     (
         ["[]", r#"[{"asn":1,"prefix":"192.0.2.0/24"}]"#, "[7]", "[7]"],
-        SlurmFault::Entry(SlurmArray::BgpsecFilters, 0, EntryFault::OtherKey),
+        SlurmFault::Entry(SlurmArray::BgpsecFilters, 0, SlurmEntryFault::OtherKey),
     ),
     (
         ["[]", r#"[{"SKI":"Zm9v"},{"SKI":7}]"#, "[7]", "[7]"],
-        SlurmFault::Entry(SlurmArray::BgpsecFilters, 1, EntryFault::Ski),
+        SlurmFault::Entry(SlurmArray::BgpsecFilters, 1, SlurmEntryFault::Ski),
     ),
     (
         ["[]", r#"[{"SKI":7,"asn":1,"comment":2}]"#, "[7]", "[7]"],
-        SlurmFault::Entry(SlurmArray::BgpsecFilters, 0, EntryFault::Comment),
+        SlurmFault::Entry(SlurmArray::BgpsecFilters, 0, SlurmEntryFault::Comment),
     ),
     (
         ["[]", r#"[{"SKI":7,"asn":4294967296}]"#, "[7]", "[7]"],
-        SlurmFault::Entry(SlurmArray::BgpsecFilters, 0, EntryFault::Asn),
+        SlurmFault::Entry(SlurmArray::BgpsecFilters, 0, SlurmEntryFault::Asn),
     ),
     (
         [
@@ -300,15 +302,19 @@ const KEYS: &[([&str; 4], SlurmFault)] = &[
             "[]",
             r#"[{"SKI":"Zm9v","routerPublicKey":"YmFy"}]"#,
         ],
-        SlurmFault::Entry(SlurmArray::BgpsecAssertions, 0, EntryFault::Asn),
+        SlurmFault::Entry(SlurmArray::BgpsecAssertions, 0, SlurmEntryFault::Asn),
     ),
     (
         ["[]", "[]", "[]", r#"[{"asn":1,"routerPublicKey":"YmFy"}]"#],
-        SlurmFault::Entry(SlurmArray::BgpsecAssertions, 0, EntryFault::Ski),
+        SlurmFault::Entry(SlurmArray::BgpsecAssertions, 0, SlurmEntryFault::Ski),
     ),
     (
         ["[]", "[]", "[]", r#"[{"asn":1,"SKI":"Zm9v"}]"#],
-        SlurmFault::Entry(SlurmArray::BgpsecAssertions, 0, EntryFault::RouterPublicKey),
+        SlurmFault::Entry(
+            SlurmArray::BgpsecAssertions,
+            0,
+            SlurmEntryFault::RouterPublicKey,
+        ),
     ),
     (
         [
@@ -317,7 +323,7 @@ const KEYS: &[([&str; 4], SlurmFault)] = &[
             "[]",
             r#"[{"asn":1,"SKI":"Zm9v","routerPublicKey":"YmFy","comment":""},{"asn":1,"SKI":"Zm9v","routerPublicKey":"YmFy","prefix":1}]"#,
         ],
-        SlurmFault::Entry(SlurmArray::BgpsecAssertions, 1, EntryFault::OtherKey),
+        SlurmFault::Entry(SlurmArray::BgpsecAssertions, 1, SlurmEntryFault::OtherKey),
     ),
 ];
 
@@ -371,7 +377,7 @@ fn is_told(alloc: Global, fault: &SlurmFault, text: &str) -> Result<bool, Fail> 
 const ENTRY: SlurmFault = SlurmFault::Entry(
     SlurmArray::PrefixAssertions,
     12,
-    EntryFault::MaxLength,
+    SlurmEntryFault::MaxLength,
 );
 
 const ENTRY_TEXT: &str =

@@ -11,21 +11,21 @@ use Rattle.serde_json.specs.Find.{as_array}
 use Rattle.std.specs.Str.{IsUtf8}
 use Rattle.exports.specs.PlainForm.{ReadsParts, TellsEntries}
 use Rattle.exports.specs.declared.fault.ExportFault.TheVariants.{NotJson, NoRoas, Entry, TooMany, Memory, Repeated}
-use Rattle.exports.specs.declared.plain.Entries.{Entries}
-use Rattle.exports.specs.declared.plain.Parts.{Parts}
+use Rattle.exports.specs.declared.streaming.Entries.{Entries}
+use Rattle.exports.specs.declared.streaming.ExportMembers.{ExportMembers}
 use Rattle.vrps.specs.VrpSet.{set_of, size}
 use Rattle.exports.specs.Built.{IsBuilt, buildtime, generated}
 use Rattle.exports.specs.Entry.{counts_at, current, expired, is_after}
 use Rattle.exports.specs.Export.{HasFault, IsExport, Lists, ReadsOnce}
 use Rattle.exports.specs.Repeats.{Repeats}
-use Rattle.exports.specs.Found.{Gathers, SetFails}
+use Rattle.exports.specs.Gathering.{Gathers, SetFails}
 use Rattle.exports.specs.Lasting.{AreLasts, IsExportLasting, counting}
 use Rattle.exports.specs.Until.{IsBefore, IsExportUntil, IsFirst, endings}
-use Rattle.exports.specs.declared.entry.Listed.{Listed}
+use Rattle.exports.specs.declared.entry.ExportEntry.{ExportEntry}
 use Rattle.exports.specs.declared.export.ExportLasting.{ExportLasting}
-use Rattle.exports.specs.declared.export.ExportUntil.{ExportUntil}
+use Rattle.exports.specs.declared.export.TimedExport.{TimedExport}
 use Rattle.exports.specs.declared.fault.ExportFault.{ExportFault}
-use Rattle.exports.specs.declared.gathered.Gathered.{Gathered}
+use Rattle.exports.specs.declared.gathered.EntryRecords.{EntryRecords}
 use Rattle.exports.proofs.Lasts.{counting_current}
 
 -- ---- the first of two lists of seconds
@@ -48,13 +48,13 @@ first_of_one None = refl
 first_of_one (Some t) = ((0, omega arith, refl), All-cons (λ x. t ≤ x) t [] (omega arith) (All-nil (λ x. t ≤ x)))
 
 -- The first of an entry that counts is its expiry, and of one that does not there is none.
-pub ends_of_one : (now : ℕ) (e : Listed) → true ≡ counts_at now e → IsFirst (endings now (e ∷ [])) e.expires
+pub ends_of_one : (now : ℕ) (e : ExportEntry) → true ≡ counts_at now e → IsFirst (endings now (e ∷ [])) e.expires
 ends_of_one now e counts = subst (λ b. IsFirst (filter_map (λ x. x.expires) (cond b (e ∷ []) [])) e.expires) counts (first_of_one e.expires)
 
 -- ---- before that second nothing changes
 
 -- The seconds of one entry more
-pub endings-cons : (now : ℕ) (e : Listed) (es : List Listed) → endings now (e ∷ es) ≡ cond (counts_at now e) (cons_option e.expires (endings now es)) (endings now es)
+pub endings-cons : (now : ℕ) (e : ExportEntry) (es : List ExportEntry) → endings now (e ∷ es) ≡ cond (counts_at now e) (cons_option e.expires (endings now es)) (endings now es)
 endings-cons now e es = by_count (counts_at now e)
   where
     by_count : (b : Bool) → filter_map (λ x. x.expires) (cond b (e ∷ filter (counts_at now) es) (filter (counts_at now) es)) ≡ cond b (cons_option e.expires (endings now es)) (endings now es)
@@ -73,7 +73,7 @@ still now t (Some s) rest later all = by_test (nat_lt now s) refl all
     by_test true is all = (lt_true t s (all 0 0 (omega arith)) ∙ sym is, All-tail (λ s. t < s) s rest all)
     by_test false is all = let no : nat_lt t s ≡ false = grind (arith, nat_tests) in (no ∙ sym is, all)
 
-kept : (now t : ℕ) (es : List Listed) → now ≤ t → All (λ s. t < s) (endings now es) → (filter (counts_at t) es ≡ filter (counts_at now) es) × (expired t es ≡ expired now es)
+kept : (now t : ℕ) (es : List ExportEntry) → now ≤ t → All (λ s. t < s) (endings now es) → (filter (counts_at t) es ≡ filter (counts_at now) es) × (expired t es ≡ expired now es)
 kept now t [] later all = (refl, refl)
 kept now t (e ∷ es) later all =
     let head = still now t e.expires (endings now es) later (subst (λ ts. All (λ s. t < s) ts) (endings-cons now e es) all) in
@@ -87,7 +87,7 @@ all_after t None ts none before = subst (λ us. All (λ s. t < s) us) (sym none)
 all_after t (Some end) ts first before = All-weaker (λ s. end ≤ s) (λ s. t < s) (λ s far. omega (arith, before, far)) ts first.1
 
 -- At each second before the first end the bytes are the same export.
-pub lasts : (bytes : List ℕ) (now : ℕ) (x : ExportUntil) → IsExportUntil bytes now x → (t : ℕ) → now ≤ t → IsBefore t x.until → IsExport bytes t x.export
+pub lasts : (bytes : List ℕ) (now : ℕ) (x : TimedExport) → IsExportUntil bytes now x → (t : ℕ) → now ≤ t → IsBefore t x.until → IsExport bytes t x.export
 lasts bytes now x is t later before =
     let same = kept now t is.export.entries later (all_after t x.until (endings now is.export.entries) is.until before) in
     record {
@@ -102,23 +102,23 @@ lasts bytes now x is t later before =
       built_is = is.export.built_is;
     }
 
-pub if_lasts : (bytes : List ℕ) (now : ℕ) (r : Result ExportUntil ExportFault) → IfOk r (λ x. IsExportUntil bytes now x)
+pub if_lasts : (bytes : List ℕ) (now : ℕ) (r : Result TimedExport ExportFault) → IfOk r (λ x. IsExportUntil bytes now x)
     → IfOk r (λ x. (t : ℕ) → now ≤ t → IsBefore t x.until → IsExport bytes t x.export)
 if_lasts bytes now (Ok x) h = lasts bytes now x h
 if_lasts bytes now (Err e) h = tt
 
 -- ---- an export of what was gathered
 
-pub record Made (g : Gathered) (built : Option ℕ) (x : ExportLasting) : Type 0 where
+pub record Made (g : EntryRecords) (built : Option ℕ) (x : ExportLasting) : Type 0 where
   pub set : (x.export.set ≡ set_of g.records.items) × (size x.export.set ≤ 16777215)
   pub lasts : AreLasts g.records.items g.lasts.items x.export.set x.lasts.items
   pub rest : (x.export.expired ≡ g.expired) × (x.export.built ≡ built) × (x.until ≡ g.until)
 
 -- By its last seconds that counts then of what was gathered that the entries list then.
-later_counts : (now t : ℕ) (es : List Listed) (g : Gathered) → Gathers now es g → now ≤ t → t < 2 ^ 64 → counting t g.records.items g.lasts.items ≡ current t es
+later_counts : (now t : ℕ) (es : List ExportEntry) (g : EntryRecords) → Gathers now es g → now ≤ t → t < 2 ^ 64 → counting t g.records.items g.lasts.items ≡ current t es
 later_counts now t es g is later small = (λ i. counting t (is.records i) (is.lasts i)) ∙ counting_current now t es later small
 
-pub is_made : (bytes : List ℕ) (now : ℕ) (d : Data) (g : Gathered) (built : Option ℕ) (x : ExportLasting) → ReadsOnce bytes d → (es : List Listed) × Lists d es × Gathers now es g → IsBuilt (generated d) (buildtime d) built → Made g built x → IsExportLasting bytes now x
+pub is_made : (bytes : List ℕ) (now : ℕ) (d : Data) (g : EntryRecords) (built : Option ℕ) (x : ExportLasting) → ReadsOnce bytes d → (es : List ExportEntry) × Lists d es × Gathers now es g → IsBuilt (generated d) (buildtime d) built → Made g built x → IsExportLasting bytes now x
 is_made bytes now d g built x reads found is made = record {
   export = record {
     value = d;
@@ -137,7 +137,7 @@ is_made bytes now d g built x reads found is made = record {
 }
 
 -- If there is no set of what was gathered, the bytes have that fault.
-pub set_fails : (bytes : List ℕ) (now : ℕ) (d : Data) (g : Gathered) (f : ExportFault) → ReadsOnce bytes d → (es : List Listed) × Lists d es × Gathers now es g → SetFails g.records.items f → HasFault bytes now f
+pub set_fails : (bytes : List ℕ) (now : ℕ) (d : Data) (g : EntryRecords) (f : ExportFault) → ReadsOnce bytes d → (es : List ExportEntry) × Lists d es × Gathers now es g → SetFails g.records.items f → HasFault bytes now f
 set_fails bytes now d g NotJson reads found fails = absurd fails
 set_fails bytes now d g NoRoas reads found fails = absurd fails
 set_fails bytes now d g (Entry i w) reads found fails = absurd fails
@@ -146,7 +146,7 @@ set_fails bytes now d g Memory reads found fails = tt
 set_fails bytes now d g Repeated reads found fails = absurd fails
 
 -- What was read of a text in its plain form, and what is wrong with it
-pub entries_of : (text : List ℕ) (now : ℕ) (p : Parts) (e : Option Entries) → IsUtf8 text → ReadsParts now text p → p.repeats ≡ false → p.entries ≡ e → (d : Data) × ReadsOnce text d × TellsEntries now d e × IsBuilt (generated d) (buildtime d) p.built
+pub entries_of : (text : List ℕ) (now : ℕ) (p : ExportMembers) (e : Option Entries) → IsUtf8 text → ReadsParts now text p → p.repeats ≡ false → p.entries ≡ e → (d : Data) × ReadsOnce text d × TellsEntries now d e × IsBuilt (generated d) (buildtime d) p.built
 entries_of text now p e utf8 told once has = (
   told.value,
   ((utf8, told.reads), subst (λ b. MatchBool b (Repeats text) (¬ (Repeats text))) once told.repeats),
@@ -154,13 +154,13 @@ entries_of text now p e utf8 told once has = (
   told.parts.built,
 )
 
-pub if_made : (bytes : List ℕ) (now : ℕ) (d : Data) (g : Gathered) (built : Option ℕ) (r : Result ExportLasting ExportFault) → ReadsOnce bytes d → (es : List Listed) × Lists d es × Gathers now es g → IsBuilt (generated d) (buildtime d) built
+pub if_made : (bytes : List ℕ) (now : ℕ) (d : Data) (g : EntryRecords) (built : Option ℕ) (r : Result ExportLasting ExportFault) → ReadsOnce bytes d → (es : List ExportEntry) × Lists d es × Gathers now es g → IsBuilt (generated d) (buildtime d) built
     → IfOk r (λ x. (x.export.set ≡ set_of g.records.items) × (size x.export.set ≤ 16777215)) → IfOk r (λ x. AreLasts g.records.items g.lasts.items x.export.set x.lasts.items)
     → IfOk r (λ x. (x.export.expired ≡ g.expired) × (x.export.built ≡ built) × (x.until ≡ g.until)) → IfOk r (λ x. IsExportLasting bytes now x)
 if_made bytes now d g built (Ok x) reads found is set lasts rest = is_made bytes now d g built x reads found is (record { set = set; lasts = lasts; rest = rest })
 if_made bytes now d g built (Err e) reads found is set lasts rest = tt
 
-pub if_fails : (bytes : List ℕ) (now : ℕ) (d : Data) (g : Gathered) (r : Result ExportLasting ExportFault) → ReadsOnce bytes d → (es : List Listed) × Lists d es × Gathers now es g → IfErr r (λ f. SetFails g.records.items f) → IfErr r (λ f. HasFault bytes now f)
+pub if_fails : (bytes : List ℕ) (now : ℕ) (d : Data) (g : EntryRecords) (r : Result ExportLasting ExportFault) → ReadsOnce bytes d → (es : List ExportEntry) × Lists d es × Gathers now es g → IfErr r (λ f. SetFails g.records.items f) → IfErr r (λ f. HasFault bytes now f)
 if_fails bytes now d g (Ok x) reads found fails = tt
 if_fails bytes now d g (Err f) reads found fails = set_fails bytes now d g f reads found fails
 

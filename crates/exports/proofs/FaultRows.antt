@@ -22,7 +22,7 @@ use Rattle.payload_lists.specs.PayloadList as lists
 use Rattle.vrps.specs.VrpSet.{set_of, size}
 use Rattle.exports.specs.Entry.{AsnText, IsEntry, Said, SaysAsn, SaysExpiry, SaysFault, SaysMaxLen, SaysPrefix, current, said}
 use Rattle.exports.specs.Export.{HasFault, Lists, ReadsOnce}
-use Rattle.exports.specs.declared.entry.Listed.{Listed}
+use Rattle.exports.specs.declared.entry.ExportEntry.{ExportEntry}
 use Rattle.exports.specs.Faults.{export_fault_number}
 use Rattle.exports.specs.declared.fault.EntryFault.TheVariants as faults
 use Rattle.exports.specs.declared.fault.ExportFault.TheVariants.{NotJson, NoRoas, Entry, TooMany, Memory, Repeated}
@@ -361,13 +361,13 @@ the_second_of_three : HasFault three 0 (Entry 1 faults.Asn)
 the_second_of_three = (object (member (codes "roas") (array three_items) no_members), ((utf8 three refl, read_three), three_once), (three_items, refl, ((record { payload = record { prefix = ten; max_len = 8; asn = 1 }; expires = None }, well_is), inr (refl, as_minus_one))))
 
 -- Of 16,777,216 different payloads there are too many, and of one less not.
-one_too_many : (bytes : List ℕ) (d : Data) (es : List Listed) → ReadsOnce bytes d → Lists d es → size (set_of (current 0 es)) ≡ 16777216 → HasFault bytes 0 TooMany
+one_too_many : (bytes : List ℕ) (d : Data) (es : List ExportEntry) → ReadsOnce bytes d → Lists d es → size (set_of (current 0 es)) ≡ 16777216 → HasFault bytes 0 TooMany
 one_too_many bytes d es reads lists_it is = (d, reads, (es, lists_it, omega (arith, is)))
 
 meaning : OneMeaning
 meaning = record { of_lists = one_reading; of_entries = one_saying }
 
-not_too_many : (bytes : List ℕ) (d : Data) (es : List Listed) → ReadsOnce bytes d → Lists d es → size (set_of (current 0 es)) ≡ 16777215 → ¬ (HasFault bytes 0 TooMany)
+not_too_many : (bytes : List ℕ) (d : Data) (es : List ExportEntry) → ReadsOnce bytes d → Lists d es → size (set_of (current 0 es)) ≡ 16777215 → ¬ (HasFault bytes 0 TooMany)
 not_too_many bytes d es reads lists_it is h =
     let value = one_value bytes h.0 d h.1.0 reads.0 in
     let same = one_lists meaning d h.2.0 es (subst (λ x. Lists x h.2.0) value h.2.1) lists_it in

@@ -25,7 +25,7 @@ use Rattle.exports.specs.Export.{IsExport, lasting}
 use Rattle.exports.specs.Lasting.{AreLasts, IsExportLasting, counting}
 use Rattle.exports.specs.Repeats.{Repeats}
 use Rattle.exports.specs.Until.{IsExportUntil}
-use Rattle.exports.specs.declared.entry.Listed.{Listed}
+use Rattle.exports.specs.declared.entry.ExportEntry.{ExportEntry}
 use Rattle.exports.proofs.Ascii.{utf8}
 use Rattle.exports.proofs.Deciding.{stand_once}
 use Rattle.exports.proofs.Ends.{lasts}
@@ -94,7 +94,7 @@ w_spelled : SpellsPrefix w.prefix (codes "2001:db8::/32")
 w_spelled = plain_spells (codes "2001:db8::/32") w.prefix w_text
 
 -- what an entry lists
-abbrev listed : Payload → Option ℕ → Listed
+abbrev listed : Payload → Option ℕ → ExportEntry
 listed p end = record { payload = p; expires = end }
 
 abbrev both : VrpSet
@@ -143,7 +143,7 @@ rpki_client_once : ¬ (Repeats rpki_client)
 unfolding json_on_literals
 rpki_client_once = stand_once rpki_client refl
 
-abbrev rpki_client_listed : List Listed
+abbrev rpki_client_listed : List ExportEntry
 rpki_client_listed = listed v (Some 1700050000) ∷ listed gone (Some 1700000000) ∷ listed w (Some 1700040000) ∷ []
 
 rpki_client_entries : AreEntries rpki_client_items rpki_client_listed
@@ -189,7 +189,7 @@ routinator_once : ¬ (Repeats routinator)
 unfolding json_on_literals
 routinator_once = stand_once routinator refl
 
-abbrev routinator_listed : List Listed
+abbrev routinator_listed : List ExportEntry
 routinator_listed = listed v None ∷ listed w None ∷ []
 
 routinator_entries : AreEntries routinator_items routinator_listed
@@ -232,7 +232,7 @@ fort_once : ¬ (Repeats fort)
 unfolding json_on_literals
 fort_once = stand_once fort refl
 
-abbrev fort_listed : List Listed
+abbrev fort_listed : List ExportEntry
 fort_listed = listed v None ∷ listed w None ∷ []
 
 fort_entries : AreEntries fort_items fort_listed
@@ -275,7 +275,7 @@ stayrtr_once : ¬ (Repeats stayrtr)
 unfolding json_on_literals
 stayrtr_once = stand_once stayrtr refl
 
-abbrev stayrtr_listed : List Listed
+abbrev stayrtr_listed : List ExportEntry
 stayrtr_listed = listed v (Some 1700050000) ∷ listed w None ∷ []
 
 stayrtr_entries : AreEntries stayrtr_items stayrtr_listed
@@ -318,7 +318,7 @@ rtrdump_once : ¬ (Repeats rtrdump)
 unfolding json_on_literals
 rtrdump_once = stand_once rtrdump refl
 
-abbrev rtrdump_listed : List Listed
+abbrev rtrdump_listed : List ExportEntry
 rtrdump_listed = listed v None ∷ listed w None ∷ []
 
 rtrdump_entries : AreEntries rtrdump_items rtrdump_listed

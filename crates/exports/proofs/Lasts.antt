@@ -19,7 +19,7 @@ use Rattle.vrps.proofs.SetLaws.{has-set_of, listing_ascends, same_set, same_vrp,
 use Rattle.exports.specs.Entry.{counts_at, current, is_after}
 use Rattle.exports.specs.Export.{lasting}
 use Rattle.exports.specs.Lasting.{AreLasts, counting, last_at, last_second, last_seconds}
-use Rattle.exports.specs.declared.entry.Listed.{Listed}
+use Rattle.exports.specs.declared.entry.ExportEntry.{ExportEntry}
 
 -- ---- the last seconds of entries
 
@@ -38,7 +38,7 @@ never_again now t None later h = h
 never_again now t (Some s) later h = let by : s ≤ now = grind (arith, nat_tests) in let over : s ≤ t = omega (arith, by, later) in let no : nat_lt t s ≡ false = grind (arith, nat_tests) in no
 
 -- By their last seconds those of some entries count that count then.
-pub counting_current : (now t : ℕ) (es : List Listed) → now ≤ t → t < 2 ^ 64 → counting t (current now es) (last_seconds now es) ≡ current t es
+pub counting_current : (now t : ℕ) (es : List ExportEntry) → now ≤ t → t < 2 ^ 64 → counting t (current now es) (last_seconds now es) ≡ current t es
 counting_current now t [] later small = refl
 counting_current now t (e ∷ es) later small = by_test (counts_at now e) refl (counting_current now t es later small)
   where
@@ -52,7 +52,7 @@ counting_current now t (e ∷ es) later small = by_test (counts_at now e) refl (
     by_test true is more = (λ i. cond (upto_last now t e.expires later small is i) (e.payload ∷ more i) (more i)) ∙ ends (counts_at t e)
     by_test false is more = more ∙ ap (λ b. map (λ x. x.payload) (cond b (e ∷ filter (counts_at t) es) (filter (counts_at t) es))) (sym (never_again now t e.expires later is))
 
-pub last_seconds-append : (now : ℕ) (es fs : List Listed) → last_seconds now (es ++ fs) ≡ last_seconds now es ++ last_seconds now fs
+pub last_seconds-append : (now : ℕ) (es fs : List ExportEntry) → last_seconds now (es ++ fs) ≡ last_seconds now es ++ last_seconds now fs
 last_seconds-append now es fs = ap (map (λ e. last_second e.expires)) (filter-append (counts_at now) es fs) ∙ map-append (λ e. last_second e.expires) (filter (counts_at now) es) (filter (counts_at now) fs)
 
 pub last_seconds-lasting : (now : ℕ) (vs : List Payload) → last_seconds now (map lasting vs) ≡ replicate (length vs) 18446744073709551615

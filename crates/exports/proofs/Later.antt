@@ -14,9 +14,9 @@ use Rattle.exports.specs.Export.{IsExport, Lists}
 use Rattle.exports.specs.ExportLaws.{LaterExports}
 use Rattle.exports.specs.Lasting.{counting}
 use Rattle.exports.specs.Until.{IsBefore, IsExportUntil, IsFirst, endings}
-use Rattle.exports.specs.declared.entry.Listed.{Listed}
+use Rattle.exports.specs.declared.entry.ExportEntry.{ExportEntry}
 use Rattle.exports.specs.declared.export.Export.{Export}
-use Rattle.exports.specs.declared.export.ExportUntil.{ExportUntil}
+use Rattle.exports.specs.declared.export.TimedExport.{TimedExport}
 use Rattle.exports.proofs.Ends.{endings-cons, lasts}
 use Rattle.exports.proofs.Lasts.{never_again}
 use Rattle.exports.proofs.Once.{OneMeaning}
@@ -28,7 +28,7 @@ use Rattle.exports.proofs.Outcomes.{one_lists, one_value}
 abbrev missing : Bool → ℕ
 missing counts = cond (not counts) 1 0
 
-expired-cons : (now : ℕ) (e : Listed) (es : List Listed) → expired now (e ∷ es) ≡ missing (counts_at now e) + expired now es
+expired-cons : (now : ℕ) (e : ExportEntry) (es : List ExportEntry) → expired now (e ∷ es) ≡ missing (counts_at now e) + expired now es
 expired-cons now e es = sum_by-cons (λ x. cond (not (counts_at now x)) 1 0) e es
 
 -- What does not count does not count later.
@@ -41,7 +41,7 @@ no_less now t (Some s) later = by_tests (nat_lt now s) (nat_lt t s) refl refl
     by_tests false false first second = omega arith
     by_tests false true first second = let no : s ≤ now = grind (arith, nat_tests) in let yes : t < s = grind (arith, nat_tests) in absurd (omega (arith, no, yes, later))
 
-expired-more : (now t : ℕ) (es : List Listed) → now ≤ t → expired now es ≤ expired t es
+expired-more : (now t : ℕ) (es : List ExportEntry) → now ≤ t → expired now es ≤ expired t es
 expired-more now t [] later = omega arith
 expired-more now t (e ∷ es) later = omega (arith, expired-cons now e es, expired-cons t e es, no_less now t e.expires later, expired-more now t es later)
 
@@ -59,14 +59,14 @@ ends_here now t s (Some u) rest by h = by_test (nat_lt now u) refl h
     by_test true first (suc k, inside, is) = inr (k, omega (arith, inside), is)
 
 -- One entry more, of those that end here or not
-one_more : (now t : ℕ) (e : Listed) (es : List Listed) → now ≤ t → Over now t e.expires ⊎ (expired now es < expired t es) → expired now (e ∷ es) < expired t (e ∷ es)
+one_more : (now t : ℕ) (e : ExportEntry) (es : List ExportEntry) → now ≤ t → Over now t e.expires ⊎ (expired now es < expired t es) → expired now (e ∷ es) < expired t (e ∷ es)
 one_more now t e es later (inl over) =
     let none : missing (counts_at now e) ≡ 0 = ap missing over.0 in
     let one : missing (counts_at t e) ≡ 1 = ap missing over.1 in
     omega (arith, expired-cons now e es, expired-cons t e es, none, one, expired-more now t es later)
 one_more now t e es later (inr more) = omega (arith, expired-cons now e es, expired-cons t e es, no_less now t e.expires later, more)
 
-expired-grows : (now t s : ℕ) (es : List Listed) → now ≤ t → s ≤ t → Contains (endings now es) s → expired now es < expired t es
+expired-grows : (now t s : ℕ) (es : List ExportEntry) → now ≤ t → s ≤ t → Contains (endings now es) s → expired now es < expired t es
 expired-grows now t s [] later by h = absurd (omega (arith, h.1))
 expired-grows now t s (e ∷ es) later by h =
     one_more now t e es later (among (λ there. expired-grows now t s es later by there) (ends_here now t s e.expires (endings now es) by (subst (λ ts. Contains ts s) (endings-cons now e es) h)))
@@ -77,7 +77,7 @@ expired-grows now t s (e ∷ es) later by h =
 
 -- ---- the law
 
-still_before : (now t : ℕ) (until : Option ℕ) (es : List Listed) → now ≤ t → IsFirst (endings now es) until → expired t es ≡ expired now es → IsBefore t until
+still_before : (now t : ℕ) (until : Option ℕ) (es : List ExportEntry) → now ≤ t → IsFirst (endings now es) until → expired t es ≡ expired now es → IsBefore t until
 still_before now t None es later first same = tt
 still_before now t (Some end) es later first same = by_test (nat_lt t end) refl
   where
@@ -85,19 +85,19 @@ still_before now t (Some end) es later first same = by_test (nat_lt t end) refl
     by_test true is = grind (arith, nat_tests)
     by_test false is = let over : end ≤ t = grind (arith, nat_tests) in let more = expired-grows now t end es later over first.0 in absurd (omega (arith, more, same))
 
-then_before : OneMeaning → (bytes : List ℕ) (now : ℕ) (x : ExportUntil) → IsExportUntil bytes now x → (t : ℕ) → now ≤ t → IsExport bytes t x.export → IsBefore t x.until
+then_before : OneMeaning → (bytes : List ℕ) (now : ℕ) (x : TimedExport) → IsExportUntil bytes now x → (t : ℕ) → now ≤ t → IsExport bytes t x.export → IsBefore t x.until
 then_before one bytes now x is t later then =
     let value = one_value bytes then.value is.export.value then.reads is.export.reads in
     let entries = one_lists one is.export.value then.entries is.export.entries (subst (λ d. Lists d then.entries) value then.lists) is.export.lists in
     still_before now t x.until is.export.entries later is.until (ap (expired t) (sym entries) ∙ sym then.expired_is ∙ is.export.expired_is)
 
-pub same_until : OneMeaning → (bytes : List ℕ) (now : ℕ) (x : ExportUntil) → IsExportUntil bytes now x → (t : ℕ) → now ≤ t → (IsExport bytes t x.export ↔ IsBefore t x.until)
+pub same_until : OneMeaning → (bytes : List ℕ) (now : ℕ) (x : TimedExport) → IsExportUntil bytes now x → (t : ℕ) → now ≤ t → (IsExport bytes t x.export ↔ IsBefore t x.until)
 same_until one bytes now x is t later = (then_before one bytes now x is t later, lasts bytes now x is t later)
 
 -- ---- what counts later
 
 -- What counts later counts now.
-counts_now : (now t : ℕ) (q : Payload) (es : List Listed) → now ≤ t → list_any (same_vrp q) (current t es) ≡ true → list_any (same_vrp q) (current now es) ≡ true
+counts_now : (now t : ℕ) (q : Payload) (es : List ExportEntry) → now ≤ t → list_any (same_vrp q) (current t es) ≡ true → list_any (same_vrp q) (current now es) ≡ true
 counts_now now t q [] later h = h
 counts_now now t q (e ∷ es) later h = by_tests (counts_at now e) (counts_at t e) (λ no. never_again now t e.expires later no) (counts_now now t q es later) h
   where
@@ -113,13 +113,13 @@ counts_now now t q (e ∷ es) later h = by_tests (counts_at now e) (counts_at t 
     by_tests false true never rest h = absurd (let no : true ≡ false = never refl in cc)
     by_tests false false never rest h = rest h
 
-no_more : (now t : ℕ) (es : List Listed) → now ≤ t → size (set_of (current t es)) ≤ size (set_of (current now es))
+no_more : (now t : ℕ) (es : List ExportEntry) → now ≤ t → size (set_of (current t es)) ≤ size (set_of (current now es))
 no_more now t es later = size_le (set_of (current t es)) (set_of (current now es)) (λ q one. has-set_of (current now es) q ∙ counts_now now t q es later (sym (has-set_of (current t es) q) ∙ one))
 
 pub later_exports : OneMeaning → LaterExports
 later_exports one bytes now x is t later small = (stays, same)
   where
-    es : List Listed
+    es : List ExportEntry
     es = is.export.entries
 
     stays : (y : Export) × IsExport bytes t y

@@ -14,4 +14,3 @@ pub mod FileRows
 pub mod Once
 pub mod Outcomes
 pub mod Later
-mod ThreeParts

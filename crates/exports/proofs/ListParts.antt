@@ -13,9 +13,9 @@ use Rattle.payload_lists.specs.PayloadList.{AreEntries, IsEntry, member_count, t
 use Rattle.payload_lists.specs.PlainForm.{one_if}
 use Rattle.payload_lists.proofs.Entries.{is_entry, one_some}
 use Rattle.exports.specs.ListForm.{HoldsEntry, IsListed, OnlyThree, of_three, three}
-use Rattle.exports.specs.PlainForm.{IsSeen, before}
+use Rattle.exports.specs.PlainForm.{IsScalar, before}
 use Rattle.exports.specs.declared.lists.ListEntry.{ListEntry}
-use Rattle.exports.specs.declared.plain.Seen.{Seen}
+use Rattle.exports.specs.declared.streaming.Scalar.{Scalar}
 use Rattle.exports.proofs.PlainParts.{number_kept, number_put, text_kept, text_put}
 
 -- ---- how many members there are
@@ -110,27 +110,27 @@ counted_prefix d ms =
 pub holds_nothing : HoldsEntry no_members (record { asn = None; max_len = None; prefix = None; has_others = false })
 holds_nothing = record { asn = refl; max_len = refl; prefix = refl; others = (None, None, None, refl) }
 
-pub holds_asn : (ms : Members) (d : Data) (f : ListEntry) (s : Seen) → HoldsEntry ms f → IsSeen d s → HoldsEntry (put (codes "asn") d ms) (record f { asn = s.number })
-holds_asn ms d f s h seen = record {
-  asn = number_put (codes "asn") d ms ∙ seen.0;
+pub holds_asn : (ms : Members) (d : Data) (f : ListEntry) (s : Scalar) → HoldsEntry ms f → IsScalar d s → HoldsEntry (put (codes "asn") d ms) (record f { asn = s.number })
+holds_asn ms d f s h scalar = record {
+  asn = number_put (codes "asn") d ms ∙ scalar.0;
   max_len = number_kept (codes "maxLength") (codes "asn") d ms (λ e. cc) ∙ h.max_len;
   prefix = text_kept (codes "prefix") (codes "asn") d ms (λ e. cc) ∙ h.prefix;
   others = still_others f.has_others (codes "asn") d ms (counted_asn d ms) (still_only (codes "asn") d ms (λ a m p. (Some d, m, p, put_asn d a m p))) h.others;
 }
 
-pub holds_max_len : (ms : Members) (d : Data) (f : ListEntry) (s : Seen) → HoldsEntry ms f → IsSeen d s → HoldsEntry (put (codes "maxLength") d ms) (record f { max_len = s.number })
-holds_max_len ms d f s h seen = record {
+pub holds_max_len : (ms : Members) (d : Data) (f : ListEntry) (s : Scalar) → HoldsEntry ms f → IsScalar d s → HoldsEntry (put (codes "maxLength") d ms) (record f { max_len = s.number })
+holds_max_len ms d f s h scalar = record {
   asn = number_kept (codes "asn") (codes "maxLength") d ms (λ e. cc) ∙ h.asn;
-  max_len = number_put (codes "maxLength") d ms ∙ seen.0;
+  max_len = number_put (codes "maxLength") d ms ∙ scalar.0;
   prefix = text_kept (codes "prefix") (codes "maxLength") d ms (λ e. cc) ∙ h.prefix;
   others = still_others f.has_others (codes "maxLength") d ms (counted_max_len d ms) (still_only (codes "maxLength") d ms (λ a m p. (a, Some d, p, put_max_len d a m p))) h.others;
 }
 
-pub holds_prefix : (ms : Members) (d : Data) (f : ListEntry) (s : Seen) → HoldsEntry ms f → IsSeen d s → HoldsEntry (put (codes "prefix") d ms) (record f { prefix = s.text })
-holds_prefix ms d f s h seen = record {
+pub holds_prefix : (ms : Members) (d : Data) (f : ListEntry) (s : Scalar) → HoldsEntry ms f → IsScalar d s → HoldsEntry (put (codes "prefix") d ms) (record f { prefix = s.text })
+holds_prefix ms d f s h scalar = record {
   asn = number_kept (codes "asn") (codes "prefix") d ms (λ e. cc) ∙ h.asn;
   max_len = number_kept (codes "maxLength") (codes "prefix") d ms (λ e. cc) ∙ h.max_len;
-  prefix = text_put (codes "prefix") d ms ∙ seen.1;
+  prefix = text_put (codes "prefix") d ms ∙ scalar.1;
   others = still_others f.has_others (codes "prefix") d ms (counted_prefix d ms) (still_only (codes "prefix") d ms (λ a m p. (a, m, Some d, put_prefix d a m p))) h.others;
 }
 

@@ -11,7 +11,7 @@ use Rattle.prefix_texts.specs.MixedText.{SaysText}
 use Rattle.serde_json.specs.Data.{Data, Items, no_items, item}
 use Rattle.payload_lists.proofs.Entries.{one_some}
 use Rattle.exports.specs.Entry.{AreEntries, AsnText, FailsAt, IsEntry, IsNoEntry, Said, SaysAsn, SaysEntry, SaysExpiry, SaysFault, SaysMaxLen, SaysPrefix, SpellsAsn, said}
-use Rattle.exports.specs.declared.entry.Listed.{Listed}
+use Rattle.exports.specs.declared.entry.ExportEntry.{ExportEntry}
 use Rattle.exports.specs.declared.fault.EntryFault.{EntryFault}
 use Rattle.exports.specs.declared.fault.EntryFault.TheVariants as faults
 
@@ -46,7 +46,7 @@ one_expiry s None (Some u) h i = absurd (cc)
 one_expiry s (Some t) None h i = absurd (cc)
 one_expiry s (Some t) (Some u) h i = cc
 
-one_listed : OneSaying → (s : Said) (e f : Listed) → SaysEntry s e → SaysEntry s f → e ≡ f
+one_listed : OneSaying → (s : Said) (e f : ExportEntry) → SaysEntry s e → SaysEntry s f → e ≡ f
 one_listed one s e f h i =
     let p = one_prefix one s e.payload.prefix f.payload.prefix h.prefix i.prefix in
     let m = one_some e.payload.max_len f.payload.max_len s.max_len h.max_len.0 i.max_len.0 in
@@ -54,7 +54,7 @@ one_listed one s e f h i =
     let t = one_expiry s e.expires f.expires h.expires i.expires in
     λ i. record { payload = record { prefix = p i; max_len = m i; asn = n i }; expires = t i }
 
-pub one_entry : OneSaying → (d : Data) (e f : Listed) → IsEntry d e → IsEntry d f → e ≡ f
+pub one_entry : OneSaying → (d : Data) (e f : ExportEntry) → IsEntry d e → IsEntry d f → e ≡ f
 one_entry one d e f h i = one_listed one (said d) e f h.1 i.1
 
 -- ---- faults
@@ -62,7 +62,7 @@ one_entry one d e f h i = one_listed one (said d) e f h.1 i.1
 right_maximum : OneSaying → (s : Said) (p : IpPrefix) (v : IpPrefix) (m : ℕ) → SaysPrefix s p → SaysPrefix s v → SaysMaxLen s v m → SaysMaxLen s p m
 right_maximum one s p v m hp hv h = subst (λ q. SaysMaxLen s q m) (one_prefix one s v p hv hp) h
 
-no_fault_said : OneSaying → (s : Said) (e : Listed) (w : EntryFault) → SaysEntry s e → SaysFault s w → ⊥
+no_fault_said : OneSaying → (s : Said) (e : ExportEntry) (w : EntryFault) → SaysEntry s e → SaysFault s w → ⊥
 no_fault_said one s e faults.NoObject h k = k
 no_fault_said one s e faults.Asn h k = k e.payload.asn h.asn
 no_fault_said one s e faults.Prefix h k = k.1 e.payload.prefix h.prefix
@@ -95,7 +95,7 @@ one_fault_said one s faults.Expires faults.Expires h k = refl
 apart : {P : Type 0} (b : Bool) → b ≡ true → b ≡ false → P
 apart b t f = let no : true ≡ false = sym t ∙ f in absurd (cc)
 
-no_fault : OneSaying → (d : Data) (e : Listed) (w : EntryFault) → IsEntry d e → IsNoEntry d w → ⊥
+no_fault : OneSaying → (d : Data) (e : ExportEntry) (w : EntryFault) → IsEntry d e → IsNoEntry d w → ⊥
 no_fault one d e w h (inl k) = apart _ h.0 k.0
 no_fault one d e w h (inr k) = no_fault_said one (said d) e w h.1 k.1
 
@@ -107,7 +107,7 @@ one_fault one d v w (inr h) (inr k) = one_fault_said one (said d) v w h.1 k.1
 
 -- ---- entries
 
-pub one_entries : OneSaying → (ds : Items) (es fs : List Listed) → AreEntries ds es → AreEntries ds fs → es ≡ fs
+pub one_entries : OneSaying → (ds : Items) (es fs : List ExportEntry) → AreEntries ds es → AreEntries ds fs → es ≡ fs
 one_entries one no_items [] [] h k = refl
 one_entries one no_items [] (f ∷ fs) h k = absurd k
 one_entries one no_items (e ∷ es) fs h k = absurd h
@@ -115,7 +115,7 @@ one_entries one (item d ds) (e ∷ es) (f ∷ fs) h k = ap₂ (λ x xs. x ∷ xs
 one_entries one (item d ds) (e ∷ es) [] h k = absurd k
 one_entries one (item d ds) [] fs h k = absurd h
 
-pub none_fails : OneSaying → (ds : Items) (es : List Listed) (i : ℕ) (w : EntryFault) → AreEntries ds es → FailsAt ds i w → ⊥
+pub none_fails : OneSaying → (ds : Items) (es : List ExportEntry) (i : ℕ) (w : EntryFault) → AreEntries ds es → FailsAt ds i w → ⊥
 none_fails one no_items es i w h k = k
 none_fails one (item d ds) [] i w h k = h
 none_fails one (item d ds) (e ∷ es) zero w h k = no_fault one d e w h.0 k

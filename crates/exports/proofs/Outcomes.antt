@@ -13,7 +13,7 @@ use Rattle.payload_lists.proofs.PlainLists.{one_list}
 use Rattle.exports.specs.Built.{IsBuilt, IsTimeOf, SaysTime, buildtime, generated}
 use Rattle.exports.specs.Entry.{AreEntries, FailsAt, current, expired}
 use Rattle.exports.specs.Export.{HasFault, HasRoas, IsExport, IsList, Lists, Reads, lasting, roas}
-use Rattle.exports.specs.declared.entry.Listed.{Listed}
+use Rattle.exports.specs.declared.entry.ExportEntry.{ExportEntry}
 use Rattle.exports.specs.declared.export.Export.{Export}
 use Rattle.exports.specs.declared.fault.EntryFault.{EntryFault}
 use Rattle.exports.specs.declared.fault.ExportFault.{ExportFault}
@@ -51,18 +51,18 @@ not_both (string s) ds es h k = absurd (cc)
 not_both (array xs) ds es h k = absurd (cc)
 not_both (object ms) ds es h k = absurd (cc)
 
-one_of_list : OneMeaning → (d : Data) (es fs : List Listed) → IsList d es → IsList d fs → es ≡ fs
+one_of_list : OneMeaning → (d : Data) (es fs : List ExportEntry) → IsList d es → IsList d fs → es ≡ fs
 one_of_list one d es fs h k =
     let items = one_some k.items h.items (as_array d) k.is_array h.is_array in
     let same = one_list one.of_lists h.items h.payloads k.payloads h.listed (subst (λ ds. lists.AreEntries ds k.payloads) items k.listed) in
     h.entries_are ∙ ap (map lasting) (sym same) ∙ sym k.entries_are
 
-one_of_roas : OneMeaning → (d : Data) (es fs : List Listed) → HasRoas d es → HasRoas d fs → es ≡ fs
+one_of_roas : OneMeaning → (d : Data) (es fs : List ExportEntry) → HasRoas d es → HasRoas d fs → es ≡ fs
 one_of_roas one d es fs h k =
     let items = one_some k.items h.items (roas d) k.roas_are h.roas_are in
     one_entries one.of_entries h.items es fs h.entries (subst (λ ds. AreEntries ds fs) items k.entries)
 
-pub one_lists : OneMeaning → (d : Data) (es fs : List Listed) → Lists d es → Lists d fs → es ≡ fs
+pub one_lists : OneMeaning → (d : Data) (es fs : List ExportEntry) → Lists d es → Lists d fs → es ≡ fs
 one_lists one d es fs (inl h) (inl k) = one_of_list one d es fs h k
 one_lists one d es fs (inl h) (inr k) = not_both d h.items k.items h.is_array k.roas_are
 one_lists one d es fs (inr h) (inl k) = not_both d k.items h.items k.is_array h.roas_are
@@ -79,11 +79,11 @@ one_export one bytes now x y h k =
     let built = one_built (generated h.value) (buildtime h.value) x.built y.built h.built_is (subst (λ d. IsBuilt (generated d) (buildtime d) y.built) value k.built_is) in
     λ i. record { set = set i; expired = count i; built = built i }
 
-not_neither : {P : Type 0} (d : Data) (es : List Listed) → Lists d es → roas d ≡ None → ((fs : List Listed) → ¬ (IsList d fs)) → P
+not_neither : {P : Type 0} (d : Data) (es : List ExportEntry) → Lists d es → roas d ≡ None → ((fs : List ExportEntry) → ¬ (IsList d fs)) → P
 not_neither d es (inl h) none no_list = absurd (no_list es h)
 not_neither d es (inr h) none no_list = let no : Some h.items ≡ None = sym h.roas_are ∙ none in absurd (cc)
 
-not_failing : {P : Type 0} → OneMeaning → (d : Data) (es : List Listed) (ds : Items) (i : ℕ) (w : EntryFault) → Lists d es → roas d ≡ Some ds → FailsAt ds i w → P
+not_failing : {P : Type 0} → OneMeaning → (d : Data) (es : List ExportEntry) (ds : Items) (i : ℕ) (w : EntryFault) → Lists d es → roas d ≡ Some ds → FailsAt ds i w → P
 not_failing one d es ds i w (inl h) are fails = not_both d h.items ds h.is_array are
 not_failing one d es ds i w (inr h) are fails =
     let same = one_some h.items ds (roas d) h.roas_are are in absurd (none_fails one.of_entries ds es i w (subst (λ xs. AreEntries xs es) same h.entries) fails)

@@ -14,15 +14,15 @@ use Rattle.serde_json.proofs.Views.{get_member-put, get_member-put_other}
 use Rattle.payload_lists.specs.PayloadList.{text_at, whole_at}
 use Rattle.exports.specs.Built.{IsBuilt}
 use Rattle.exports.specs.Entry.{AreEntries, FailsAt, IsEntry, IsNoEntry, Said, SaysEntry, SaysFault, said, whole}
-use Rattle.exports.specs.PlainForm.{AreListed, FailsIn, IsFound, IsJudged, IsMetadata, IsSeen, ReadsEntries, ReadsNone, ReadsRoas, ReadsSome, TellsBuilt, TellsItems, TellsListed, TellsRoas, before}
+use Rattle.exports.specs.PlainForm.{AreListed, FailsIn, IsRawEntry, IsJudged, IsMetadata, IsScalar, ReadsEntries, ReadsNone, ReadsRoas, ReadsSome, TellsBuilt, TellsItems, TellsListed, TellsRoas, before}
 use Rattle.exports.proofs.PlainSteps.{array_read}
-use Rattle.exports.specs.declared.entry.Listed.{Listed}
+use Rattle.exports.specs.declared.entry.ExportEntry.{ExportEntry}
 use Rattle.exports.specs.declared.fault.EntryFault.{EntryFault}
-use Rattle.exports.specs.declared.plain.Entries.{Entries}
-use Rattle.exports.specs.declared.plain.Entries.TheVariants.{Whole, Broken}
-use Rattle.exports.specs.declared.entry.Found.{Found}
-use Rattle.exports.specs.declared.plain.Metadata.{Metadata}
-use Rattle.exports.specs.declared.plain.Seen.{Seen}
+use Rattle.exports.specs.declared.streaming.Entries.{Entries}
+use Rattle.exports.specs.declared.streaming.Entries.TheVariants.{Whole, Broken}
+use Rattle.exports.specs.declared.entry.RawEntry.{RawEntry}
+use Rattle.exports.specs.declared.streaming.Metadata.{Metadata}
+use Rattle.exports.specs.declared.streaming.Scalar.{Scalar}
 
 -- What stands under the name that was put, and what under another one
 pub number_put : (k : List ℕ) (d : Data) (ms : Members) → whole_at k (object (put k d ms)) ≡ whole d
@@ -42,47 +42,47 @@ expiry_kept k d ms other = ap (option_map whole) (get_member-put_other (codes "e
 
 -- ---- an entry
 
-pub found_nothing : IsFound no_members (record { asn_number = None; asn_text = None; prefix = None; max_len = None; expires = None })
+pub found_nothing : IsRawEntry no_members (record { asn_number = None; asn_text = None; prefix = None; max_len = None; expires = None })
 found_nothing = refl
 
-pub found_asn : (ms : Members) (d : Data) (f : Found) (s : Seen) → IsFound ms f → IsSeen d s → IsFound (put (codes "asn") d ms) (record f { asn_number = s.number; asn_text = s.text })
-found_asn ms d f s is seen =
-    let n = number_put (codes "asn") d ms ∙ seen.0 in
-    let t = text_put (codes "asn") d ms ∙ seen.1 in
+pub found_asn : (ms : Members) (d : Data) (f : RawEntry) (s : Scalar) → IsRawEntry ms f → IsScalar d s → IsRawEntry (put (codes "asn") d ms) (record f { asn_number = s.number; asn_text = s.text })
+found_asn ms d f s is scalar =
+    let n = number_put (codes "asn") d ms ∙ scalar.0 in
+    let t = text_put (codes "asn") d ms ∙ scalar.1 in
     let p = text_kept (codes "prefix") (codes "asn") d ms (λ e. cc) ∙ ap (λ x. x.prefix) is in
     let m = number_kept (codes "maxLength") (codes "asn") d ms (λ e. cc) ∙ ap (λ x. x.max_len) is in
     let e = expiry_kept (codes "asn") d ms (λ e. cc) ∙ ap (λ x. x.expires) is in
     λ i. record { asn_number = n i; asn_text = t i; prefix = p i; max_len = m i; expires = e i }
 
-pub found_prefix : (ms : Members) (d : Data) (f : Found) (s : Seen) → IsFound ms f → IsSeen d s → IsFound (put (codes "prefix") d ms) (record f { prefix = s.text })
-found_prefix ms d f s is seen =
+pub found_prefix : (ms : Members) (d : Data) (f : RawEntry) (s : Scalar) → IsRawEntry ms f → IsScalar d s → IsRawEntry (put (codes "prefix") d ms) (record f { prefix = s.text })
+found_prefix ms d f s is scalar =
     let n = number_kept (codes "asn") (codes "prefix") d ms (λ e. cc) ∙ ap (λ x. x.asn_number) is in
     let t = text_kept (codes "asn") (codes "prefix") d ms (λ e. cc) ∙ ap (λ x. x.asn_text) is in
-    let p = text_put (codes "prefix") d ms ∙ seen.1 in
+    let p = text_put (codes "prefix") d ms ∙ scalar.1 in
     let m = number_kept (codes "maxLength") (codes "prefix") d ms (λ e. cc) ∙ ap (λ x. x.max_len) is in
     let e = expiry_kept (codes "prefix") d ms (λ e. cc) ∙ ap (λ x. x.expires) is in
     λ i. record { asn_number = n i; asn_text = t i; prefix = p i; max_len = m i; expires = e i }
 
-pub found_max_len : (ms : Members) (d : Data) (f : Found) (s : Seen) → IsFound ms f → IsSeen d s → IsFound (put (codes "maxLength") d ms) (record f { max_len = s.number })
-found_max_len ms d f s is seen =
+pub found_max_len : (ms : Members) (d : Data) (f : RawEntry) (s : Scalar) → IsRawEntry ms f → IsScalar d s → IsRawEntry (put (codes "maxLength") d ms) (record f { max_len = s.number })
+found_max_len ms d f s is scalar =
     let n = number_kept (codes "asn") (codes "maxLength") d ms (λ e. cc) ∙ ap (λ x. x.asn_number) is in
     let t = text_kept (codes "asn") (codes "maxLength") d ms (λ e. cc) ∙ ap (λ x. x.asn_text) is in
     let p = text_kept (codes "prefix") (codes "maxLength") d ms (λ e. cc) ∙ ap (λ x. x.prefix) is in
-    let m = number_put (codes "maxLength") d ms ∙ seen.0 in
+    let m = number_put (codes "maxLength") d ms ∙ scalar.0 in
     let e = expiry_kept (codes "maxLength") d ms (λ e. cc) ∙ ap (λ x. x.expires) is in
     λ i. record { asn_number = n i; asn_text = t i; prefix = p i; max_len = m i; expires = e i }
 
-pub found_expires : (ms : Members) (d : Data) (f : Found) (s : Seen) → IsFound ms f → IsSeen d s → IsFound (put (codes "expires") d ms) (record f { expires = Some s.number })
-found_expires ms d f s is seen =
+pub found_expires : (ms : Members) (d : Data) (f : RawEntry) (s : Scalar) → IsRawEntry ms f → IsScalar d s → IsRawEntry (put (codes "expires") d ms) (record f { expires = Some s.number })
+found_expires ms d f s is scalar =
     let n = number_kept (codes "asn") (codes "expires") d ms (λ e. cc) ∙ ap (λ x. x.asn_number) is in
     let t = text_kept (codes "asn") (codes "expires") d ms (λ e. cc) ∙ ap (λ x. x.asn_text) is in
     let p = text_kept (codes "prefix") (codes "expires") d ms (λ e. cc) ∙ ap (λ x. x.prefix) is in
     let m = number_kept (codes "maxLength") (codes "expires") d ms (λ e. cc) ∙ ap (λ x. x.max_len) is in
-    let e = ap (option_map whole) (get_member-put (codes "expires") d ms) ∙ ap Some seen.0 in
+    let e = ap (option_map whole) (get_member-put (codes "expires") d ms) ∙ ap Some scalar.0 in
     λ i. record { asn_number = n i; asn_text = t i; prefix = p i; max_len = m i; expires = e i }
 
-pub found_other : (k : List ℕ) (ms : Members) (d : Data) (f : Found) → (k ≡ codes "asn" → ⊥) → (k ≡ codes "prefix" → ⊥) → (k ≡ codes "maxLength" → ⊥) → (k ≡ codes "expires" → ⊥)
-    → IsFound ms f → IsFound (put k d ms) f
+pub found_other : (k : List ℕ) (ms : Members) (d : Data) (f : RawEntry) → (k ≡ codes "asn" → ⊥) → (k ≡ codes "prefix" → ⊥) → (k ≡ codes "maxLength" → ⊥) → (k ≡ codes "expires" → ⊥)
+    → IsRawEntry ms f → IsRawEntry (put k d ms) f
 found_other k ms d f asn prefix max_len expires is =
     let n = number_kept (codes "asn") k d ms (λ e. asn (sym e)) ∙ ap (λ x. x.asn_number) is in
     let t = text_kept (codes "asn") k d ms (λ e. asn (sym e)) ∙ ap (λ x. x.asn_text) is in
@@ -99,11 +99,11 @@ apart e = let first : ◌≡◌ {A = ℕ} 103 98 = ap (λ (l : List ℕ). get_or
 pub told_nothing : IsMetadata no_members (record { generated = None; buildtime = None })
 told_nothing = (refl, refl)
 
-pub told_generated : (ms : Members) (d : Data) (m : Metadata) (s : Seen) → IsMetadata ms m → IsSeen d s → IsMetadata (put (codes "generated") d ms) (record m { generated = s.number })
-told_generated ms d m s is seen = (number_put (codes "generated") d ms ∙ seen.0, text_kept (codes "buildtime") (codes "generated") d ms (λ e. apart (sym e)) ∙ is.1)
+pub told_generated : (ms : Members) (d : Data) (m : Metadata) (s : Scalar) → IsMetadata ms m → IsScalar d s → IsMetadata (put (codes "generated") d ms) (record m { generated = s.number })
+told_generated ms d m s is scalar = (number_put (codes "generated") d ms ∙ scalar.0, text_kept (codes "buildtime") (codes "generated") d ms (λ e. apart (sym e)) ∙ is.1)
 
-pub told_buildtime : (ms : Members) (d : Data) (m : Metadata) (s : Seen) → IsMetadata ms m → IsSeen d s → IsMetadata (put (codes "buildtime") d ms) (record m { buildtime = s.text })
-told_buildtime ms d m s is seen = (number_kept (codes "generated") (codes "buildtime") d ms apart ∙ is.0, text_put (codes "buildtime") d ms ∙ seen.1)
+pub told_buildtime : (ms : Members) (d : Data) (m : Metadata) (s : Scalar) → IsMetadata ms m → IsScalar d s → IsMetadata (put (codes "buildtime") d ms) (record m { buildtime = s.text })
+told_buildtime ms d m s is scalar = (number_kept (codes "generated") (codes "buildtime") d ms apart ∙ is.0, text_put (codes "buildtime") d ms ∙ scalar.1)
 
 pub told_other : (k : List ℕ) (ms : Members) (d : Data) (m : Metadata) → (k ≡ codes "generated" → ⊥) → (k ≡ codes "buildtime" → ⊥) → IsMetadata ms m → IsMetadata (put k d ms) m
 told_other k ms d m generated buildtime is = (number_kept (codes "generated") k d ms (λ e. generated (sym e)) ∙ is.0, text_kept (codes "buildtime") k d ms (λ e. buildtime (sym e)) ∙ is.1)
@@ -113,13 +113,13 @@ built_by ms m built is h = subst (λ n. IsBuilt n (text_at (codes "buildtime") (
 
 -- ---- entries
 
-pub are_more : (ds : List Data) (es : List Listed) (d : Data) (e : Listed) → AreListed ds es → IsEntry d e → AreListed (ds ++ d ∷ []) (es ++ e ∷ [])
+pub are_more : (ds : List Data) (es : List ExportEntry) (d : Data) (e : ExportEntry) → AreListed ds es → IsEntry d e → AreListed (ds ++ d ∷ []) (es ++ e ∷ [])
 are_more [] [] d e h is = (is, tt)
 are_more (x ∷ ds) (y ∷ es) d e h is = (h.0, are_more ds es d e h.1 is)
 are_more [] (y ∷ es) d e h is = absurd h
 are_more (x ∷ ds) [] d e h is = absurd h
 
-are_all : (ds : List Data) (es : List Listed) → AreListed ds es → AreEntries (before ds no_items) es
+are_all : (ds : List Data) (es : List ExportEntry) → AreListed ds es → AreEntries (before ds no_items) es
 are_all [] [] h = tt
 are_all (x ∷ ds) (y ∷ es) h = (h.0, are_all ds es h.1)
 are_all [] (y ∷ es) h = absurd h
@@ -132,7 +132,7 @@ fails_more (x ∷ ds) d zero w h = h
 fails_more (x ∷ ds) d (suc i) w h = (h.0, fails_more ds d i w h.1)
 
 -- and behind entries the next one is.
-pub fails_last : (ds : List Data) (es : List Listed) (d : Data) (w : EntryFault) → AreListed ds es → IsNoEntry d w → FailsIn (ds ++ d ∷ []) (length ds) w
+pub fails_last : (ds : List Data) (es : List ExportEntry) (d : Data) (w : EntryFault) → AreListed ds es → IsNoEntry d w → FailsIn (ds ++ d ∷ []) (length ds) w
 fails_last [] [] d w h none = none
 fails_last (x ∷ ds) (e ∷ es) d w h none = ((e, h.0), fails_last ds es d w h.1 none)
 fails_last [] (e ∷ es) d w h none = absurd h
@@ -290,6 +290,6 @@ an_array (string s) h = absurd (let no : false ≡ true = h in cc)
 an_array (array ds) h = (ds, refl)
 an_array (object ms) h = absurd (let no : false ≡ true = h in cc)
 
-pub judged_of : (ms : Members) (s : Said) (r : Result Listed EntryFault) → said (object ms) ≡ s → IfOk r (λ e. SaysEntry s e) → IfErr r (λ w. SaysFault s w) → IsJudged (object ms) r
+pub judged_of : (ms : Members) (s : Said) (r : Result ExportEntry EntryFault) → said (object ms) ≡ s → IfOk r (λ e. SaysEntry s e) → IfErr r (λ w. SaysFault s w) → IsJudged (object ms) r
 judged_of ms s (Ok e) same ok fault = (refl, subst (λ x. SaysEntry x e) (sym same) ok)
 judged_of ms s (Err w) same ok fault = inr (refl, subst (λ x. SaysFault x w) (sym same) fault)

@@ -14,17 +14,17 @@ use Rattle.payload_lists.specs.PayloadList as lists
 use Rattle.payload_lists.specs.PayloadList.{text_at, whole_at}
 use Rattle.exports.specs.Built.{IsBuilt, buildtime, generated}
 use Rattle.exports.specs.Export.{roas}
-use Rattle.exports.specs.Found.{IsLasting}
+use Rattle.exports.specs.Gathering.{IsLasting}
 use Rattle.exports.specs.ListForm.{ReadsRecords, Records}
-use Rattle.exports.specs.PlainForm.{HasEntries, HasParts, IsSeen, ReadsBuilt, ReadsForm, ReadsListParts, ReadsMembers, ReadsNoItems, ReadsNoMembers, ReadsNone, ReadsPart, ReadsParts, ReadsRoas, ReadsSome, TellsBuilt, TellsEntries, TellsParts, TellsRoas, before}
+use Rattle.exports.specs.PlainForm.{HasEntries, HasParts, IsScalar, ReadsBuilt, ReadsForm, ReadsListParts, ReadsMembers, ReadsNoItems, ReadsNoMembers, ReadsNone, ReadsPart, ReadsParts, ReadsRoas, ReadsSome, TellsBuilt, TellsEntries, TellsParts, TellsRoas, before}
 use Rattle.exports.specs.Repeating.{AreMet, export_repeats, export_twice, member_repeats, members_repeat, metadata_repeat, roas_repeat}
 use Rattle.exports.specs.Repeats.{ExportRepeats, Repeats, tree}
-use Rattle.exports.specs.declared.gathered.Gathered.{Gathered}
+use Rattle.exports.specs.declared.gathered.EntryRecords.{EntryRecords}
 use Rattle.exports.specs.declared.names.Names.{Names}
-use Rattle.exports.specs.declared.plain.Entries.{Entries}
-use Rattle.exports.specs.declared.plain.Entries.TheVariants.{Whole, Broken}
-use Rattle.exports.specs.declared.plain.Parts.{Parts}
-use Rattle.exports.specs.declared.plain.Seen.{Seen}
+use Rattle.exports.specs.declared.streaming.Entries.{Entries}
+use Rattle.exports.specs.declared.streaming.Entries.TheVariants.{Whole, Broken}
+use Rattle.exports.specs.declared.streaming.ExportMembers.{ExportMembers}
+use Rattle.exports.specs.declared.streaming.Scalar.{Scalar}
 use Rattle.exports.proofs.Deciding.{names_differ, of_tree}
 use Rattle.exports.proofs.Items.{gather_list}
 use Rattle.exports.proofs.PlainParts.{made_by, no_array_here, no_object_here, object_first, or_false, or_more}
@@ -48,10 +48,10 @@ built_kept : (d e : Data) (b : Option ℕ) → get (codes "metadata") e ≡ get 
 built_kept d e b same h = subst (λ o. IsBuilt (option_and_then (whole_at (codes "generated")) o) (option_and_then (text_at (codes "buildtime")) o) b) (sym same) h
 
 -- The members so far were read, and how often the names that are read stand among them.
-abbrev pub PartsSoFar : ℕ → Parts → Names → (json.Members → json.Members) → Members → Type 0
+abbrev pub PartsSoFar : ℕ → ExportMembers → Names → (json.Members → json.Members) → Members → Type 0
 PartsSoFar now p names f ms = HasParts now ms p × AreMet (codes "roas") (codes "metadata") f names × ((rest : json.Members) → members_repeat (f rest) ≡ (p.repeats || members_repeat rest))
 
-pub part_roas : (now : ℕ) (p : Parts) (r : Option Entries × Bool) (old new : List Token) → ReadsRoas now old new r → ReadsPart now (codes "roas") p (record { entries = r.0; built = p.built; repeats = p.repeats || r.1 }) old new
+pub part_roas : (now : ℕ) (p : ExportMembers) (r : Option Entries × Bool) (old new : List Token) → ReadsRoas now old new r → ReadsPart now (codes "roas") p (record { entries = r.0; built = p.built; repeats = p.repeats || r.1 }) old new
 part_roas now p r old new read =
     other 126 (λ j d. TellsRoas now d r.0 × (r.1 ≡ roas_repeat j))
     (λ j d. ((ms : Members) → HasParts now ms p → HasParts now (put (codes "roas") d ms) (record { entries = r.0; built = p.built; repeats = p.repeats || r.1 })) × ((p.repeats || r.1) ≡ (p.repeats || member_repeats (codes "roas") j))) old new
@@ -63,7 +63,7 @@ part_roas now p r old new read =
       ap (λ b. p.repeats || b) is.1,
     )) read
 
-pub part_metadata : (now : ℕ) (p : Parts) (r : Option ℕ × Bool) (old new : List Token) → ReadsBuilt old new r → ReadsPart now (codes "metadata") p (record { entries = p.entries; built = r.0; repeats = p.repeats || r.1 }) old new
+pub part_metadata : (now : ℕ) (p : ExportMembers) (r : Option ℕ × Bool) (old new : List Token) → ReadsBuilt old new r → ReadsPart now (codes "metadata") p (record { entries = p.entries; built = r.0; repeats = p.repeats || r.1 }) old new
 part_metadata now p r old new read =
     other 126 (λ j d. TellsBuilt d r.0 × (r.1 ≡ metadata_repeat j))
     (λ j d. ((ms : Members) → HasParts now ms p → HasParts now (put (codes "metadata") d ms) (record { entries = p.entries; built = r.0; repeats = p.repeats || r.1 })) × ((p.repeats || r.1) ≡ (p.repeats || member_repeats (codes "metadata") j))) old new
@@ -79,9 +79,9 @@ none_repeats : (k : List ℕ) (j : json.Json) → (k ≡ codes "roas" → ⊥) �
 none_repeats k j no_roas no_metadata =
     ap (λ b. cond b (roas_repeat j) (cond (bytes_eq k (codes "metadata")) (metadata_repeat j) false)) (names_differ k (codes "roas") no_roas) ∙ ap (λ b. cond b (metadata_repeat j) false) (names_differ k (codes "metadata") no_metadata)
 
-pub part_other : (now : ℕ) (k : List ℕ) (p : Parts) (s : Seen) (old new : List Token) → (k ≡ codes "roas" → ⊥) → (k ≡ codes "metadata" → ⊥) → ReadsSome 126 (λ j d. IsSeen d s) old new → ReadsPart now k p p old new
+pub part_other : (now : ℕ) (k : List ℕ) (p : ExportMembers) (s : Scalar) (old new : List Token) → (k ≡ codes "roas" → ⊥) → (k ≡ codes "metadata" → ⊥) → ReadsSome 126 (λ j d. IsScalar d s) old new → ReadsPart now k p p old new
 part_other now k p s old new no_roas no_metadata read =
-    other 126 (λ j d. IsSeen d s) (λ j d. ((ms : Members) → HasParts now ms p → HasParts now (put k d ms) p) × (p.repeats ≡ (p.repeats || member_repeats k j))) old new
+    other 126 (λ j d. IsScalar d s) (λ j d. ((ms : Members) → HasParts now ms p → HasParts now (put k d ms) p) × (p.repeats ≡ (p.repeats || member_repeats k j))) old new
     (λ j d made at is. (
       λ ms h. record {
         entries = entries_kept now (object ms) (object (put k d ms)) p.entries (ap (option_and_then as_array) (get_member-put_other (codes "roas") k d ms (λ e. no_roas (sym e)))) h.entries;
@@ -91,7 +91,7 @@ part_other now k p s old new no_roas no_metadata read =
     )) read
 
 -- A member more of which a name is repeated, or is not
-pub parts_more : (f : json.Members → json.Members) (p q : Parts) (name : List ℕ) (j : json.Json) → ((rest : json.Members) → members_repeat (f rest) ≡ (p.repeats || members_repeat rest)) → q.repeats ≡ (p.repeats || member_repeats name j)
+pub parts_more : (f : json.Members → json.Members) (p q : ExportMembers) (name : List ℕ) (j : json.Json) → ((rest : json.Members) → members_repeat (f rest) ≡ (p.repeats || members_repeat rest)) → q.repeats ≡ (p.repeats || member_repeats name j)
     → (rest : json.Members) → members_repeat (f (json.member name j rest)) ≡ (q.repeats || members_repeat rest)
 parts_more f p q name j so_far is rest = so_far (json.member name j rest) ∙ or_more p.repeats (member_repeats name j) (members_repeat rest) ∙ ap (λ b. b || members_repeat rest) (sym is)
 
@@ -129,7 +129,7 @@ told_some now ms None h = (h, λ es l. let no : None ≡ Some l.items = l.is_arr
 told_some now ms (Some (Whole g)) h = (h.2.0, inr (record { items = h.0; roas_are = h.1; entries = h.2.1 }), h.2.2)
 told_some now ms (Some (Broken i w)) h = (h.0, h.1, h.2)
 
-pub object_form : {E : Type 0} (now : ℕ) (old ts new : List Token) (r : Result (Option Parts) E) → old ≡ Token.begin_object ∷ ts
+pub object_form : {E : Type 0} (now : ℕ) (old ts new : List Token) (r : Result (Option ExportMembers) E) → old ≡ Token.begin_object ∷ ts
     → IfOk r (λ found. MatchOption found (ReadsNoMembers 126 ts) (λ p. ReadsMembers 126 (λ js ms. HasParts now ms p × (p.repeats ≡ export_twice js)) ts new))
     → IfOk r (λ found. MatchOption found (ReadsNone 127 old) (λ p. ReadsForm now old new p))
 object_form now old ts new (Err e) first h = tt
@@ -138,7 +138,7 @@ object_form now old ts new (Ok (Some p)) first h =
     object_read 126 (λ js ms. HasParts now ms p × (p.repeats ≡ export_twice js)) (λ j d. TellsParts now d p × (p.repeats ≡ export_repeats j)) old ts new first h
     (λ js ms is. (record { entries = told_some now ms p.entries is.0.entries; built = is.0.built }, is.1))
 
-pub list_form : {E : Type 0} (now : ℕ) (old ts new : List Token) (r : Result (Option Parts) E) → old ≡ Token.begin_array ∷ ts
+pub list_form : {E : Type 0} (now : ℕ) (old ts new : List Token) (r : Result (Option ExportMembers) E) → old ≡ Token.begin_array ∷ ts
     → IfOk r (λ found. MatchOption found (ReadsNoItems 126 ts) (λ p. ReadsListParts now ts new p)) → IfOk r (λ found. MatchOption found (ReadsNone 127 old) (λ p. ReadsForm now old new p))
 list_form now old ts new (Err e) first h = tt
 list_form now old ts new (Ok None) first h = no_array 126 old ts first h
@@ -146,7 +146,7 @@ list_form now old ts new (Ok (Some p)) first h =
     array_read 126 (λ js ds. TellsParts now (array (before ds no_items)) p × (p.repeats ≡ false)) (λ j d. TellsParts now d p × (p.repeats ≡ export_repeats j)) old ts new first h (λ js ds is. is)
 
 -- What was read of a value that is neither an array nor an object
-abbrev pub no_parts : Parts
+abbrev pub no_parts : ExportMembers
 no_parts = record { entries = None; built = None; repeats = false }
 
 of_neither : (now : ℕ) (d : Data) → is_some (as_object d) ≡ false → as_array d ≡ None → TellsParts now d no_parts
@@ -165,10 +165,10 @@ never_repeats (json.string s) other = refl
 never_repeats (json.array js) other = refl
 never_repeats (json.object ms) other = absurd (other ms refl)
 
-pub other_form : (now : ℕ) (s : Seen) (old ts new : List Token) (t : Token) → old ≡ t ∷ ts → t ≢ Token.begin_object → t ≢ Token.begin_array → ReadsSome 127 (λ j d. IsSeen d s) (t ∷ ts) new → ReadsForm now old new no_parts
+pub other_form : (now : ℕ) (s : Scalar) (old ts new : List Token) (t : Token) → old ≡ t ∷ ts → t ≢ Token.begin_object → t ≢ Token.begin_array → ReadsSome 127 (λ j d. IsScalar d s) (t ∷ ts) new → ReadsForm now old new no_parts
 other_form now s old ts new t first not_object not_array read =
     subst (λ xs. ReadsForm now xs new no_parts) (sym first)
-    (other 127 (λ j d. IsSeen d s) (λ j d. TellsParts now d no_parts × (false ≡ export_repeats j)) (t ∷ ts) new
+    (other 127 (λ j d. IsScalar d s) (λ j d. TellsParts now d no_parts × (false ≡ export_repeats j)) (t ∷ ts) new
     (λ j d made at is. (
       of_neither now d (no_object_here 127 t ts new j d not_object made at).0 (no_array_here 127 t ts new j d not_array made at).0,
       never_repeats j (λ ms object_is. not_object (object_first 127 t ts new ms (at ∙ ap (λ x. Some (x, new)) object_is))),
@@ -178,7 +178,7 @@ same_items : (ds es : Items) → Some ds ≡ Some es → ds ≡ es
 same_items ds es e = cc
 
 -- An array whose items have these payloads, or are not all entries
-pub list_of : (now : ℕ) (ds : Items) (g : Gathered) → IsLasting g → lists.AreEntries ds g.records.items → TellsParts now (array ds) (record { entries = Some (Whole g); built = None; repeats = false })
+pub list_of : (now : ℕ) (ds : Items) (g : EntryRecords) → IsLasting g → lists.AreEntries ds g.records.items → TellsParts now (array ds) (record { entries = Some (Whole g); built = None; repeats = false })
 list_of now ds g for_ever are = record { entries = gather_list (array ds) ds now g refl are for_ever; built = λ t e m says. absurd (cc) }
 
 pub no_list_of : (now : ℕ) (ds : Items) → ((vs : List Payload) → ¬ (lists.AreEntries ds vs)) → TellsParts now (array ds) no_parts
@@ -187,12 +187,12 @@ no_list_of now ds none = record {
   built = λ t e m says. absurd (cc);
 }
 
-pub list_parts_read : (old new : List Token) (o : Option (Vec Payload Global)) (p : Parts) → ReadsRecords old new o → ((now : ℕ) (ds : Items) → Records ds o → TellsParts now (array ds) p) → p.repeats ≡ false → (now : ℕ) → ReadsListParts now old new p
+pub list_parts_read : (old new : List Token) (o : Option (Vec Payload Global)) (p : ExportMembers) → ReadsRecords old new o → ((now : ℕ) (ds : Items) → Records ds o → TellsParts now (array ds) p) → p.repeats ≡ false → (now : ℕ) → ReadsListParts now old new p
 list_parts_read old new o p read parts once now = let r = read.1 in (read.0, (r.0, r.1, (parts now (before r.1 no_items) r.2, once), r.3, r.4))
 
 -- ---- the whole text
 
-pub whole_form : (text : List ℕ) (now : ℕ) (p : Parts) (reader rest : List Token) → reader ≡ tokens text → ReadsForm now reader rest p → rest ≡ [] → ReadsParts now text p
+pub whole_form : (text : List ℕ) (now : ℕ) (p : ExportMembers) (reader rest : List Token) → reader ≡ tokens text → ReadsForm now reader rest p → rest ≡ [] → ReadsParts now text p
 whole_form text now p reader rest whole form over =
     let v = whole_value text reader rest (λ j d. TellsParts now d p × (p.repeats ≡ export_repeats j)) whole form over in
     record { value = v.1; reads = v.3; parts = v.4.0; repeats = of_tree text v.0 p.repeats v.2 v.4.1 }
@@ -210,7 +210,7 @@ array_once text ds is r = by r.0 r.2 (sym (ap (option_and_then of_json) r.1) ∙
     by (json.object ms) h e = let o = made_by object (of_members ms no_members) (array ds) e in let no : true ≡ false = ap (λ d. is_some (as_array d)) o.1 in cc
 
 -- A payload list in its plain form
-pub plain_form : (text : List ℕ) (now : ℕ) (p : Parts) (vs : List Payload) → ((ds : Items) → lists.AreEntries ds vs → TellsParts now (array ds) p) → p.repeats ≡ false → (ds : Items) × (read text ≡ Some (array ds)) × lists.AreEntries ds vs → ReadsParts now text p
+pub plain_form : (text : List ℕ) (now : ℕ) (p : ExportMembers) (vs : List Payload) → ((ds : Items) → lists.AreEntries ds vs → TellsParts now (array ds) p) → p.repeats ≡ false → (ds : Items) × (read text ≡ Some (array ds)) × lists.AreEntries ds vs → ReadsParts now text p
 plain_form text now p vs parts once list = record {
   value = array list.0;
   reads = list.1;

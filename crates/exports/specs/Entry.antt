@@ -7,7 +7,7 @@ use Rattle.prefixes.specs.Payload.{Payload, block_of, width_of}
 use Rattle.prefixes.specs.declared.prefix.IpPrefix.{IpPrefix}
 use Rattle.prefix_texts.specs.MixedText.{SpellsPrefix}
 use Rattle.payload_lists.specs.PayloadList.{text_at, whole_at}
-use Rattle.exports.specs.declared.entry.Listed.{Listed}
+use Rattle.exports.specs.declared.entry.ExportEntry.{ExportEntry}
 use Rattle.exports.specs.declared.fault.EntryFault.{EntryFault}
 use Rattle.exports.specs.declared.fault.EntryFault.TheVariants as faults
 
@@ -58,7 +58,7 @@ abbrev pub SaysExpiry : Said → Option ℕ → Type 0
 SaysExpiry s None = s.expires ≡ None
 SaysExpiry s (Some t) = s.expires ≡ Some (Some t)
 
-pub record SaysEntry (s : Said) (e : Listed) : Type 0 where
+pub record SaysEntry (s : Said) (e : ExportEntry) : Type 0 where
   pub asn : SaysAsn s e.payload.asn
   pub prefix : SaysPrefix s e.payload.prefix
   pub max_len : SaysMaxLen s e.payload.prefix e.payload.max_len
@@ -75,7 +75,7 @@ SaysFault s faults.Expires =
     ((n : ℕ) × SaysAsn s n) × ((p : IpPrefix) × SaysPrefix s p × ((m : ℕ) × SaysMaxLen s p m)) × ((t : Option ℕ) → ¬ (SaysExpiry s t))
 
 -- An entry is an object; its other members are passed over.
-abbrev pub IsEntry : Data → Listed → Type 0
+abbrev pub IsEntry : Data → ExportEntry → Type 0
 IsEntry d e = (is_some (as_object d) ≡ true) × SaysEntry (said d) e
 
 abbrev pub IsNoEntry : Data → EntryFault → Type 0
@@ -83,7 +83,7 @@ IsNoEntry d w = ((is_some (as_object d) ≡ false) × (w ≡ faults.NoObject)) �
 
 -- ---- entries
 
-abbrev pub AreEntries : Items → List Listed → Type 0
+abbrev pub AreEntries : Items → List ExportEntry → Type 0
 AreEntries no_items [] = ⊤
 AreEntries (item d ds) (e ∷ es) = IsEntry d e × AreEntries ds es
 AreEntries no_items (e ∷ es) = ⊥
@@ -93,18 +93,18 @@ AreEntries (item d ds) [] = ⊥
 abbrev pub FailsAt : Items → ℕ → EntryFault → Type 0
 FailsAt no_items i w = ⊥
 FailsAt (item d ds) zero w = IsNoEntry d w
-FailsAt (item d ds) (suc i) w = ((e : Listed) × IsEntry d e) × FailsAt ds i w
+FailsAt (item d ds) (suc i) w = ((e : ExportEntry) × IsEntry d e) × FailsAt ds i w
 
 abbrev pub is_after : ℕ → Option ℕ → Bool
 is_after now None = true
 is_after now (Some t) = nat_lt now t
 
 -- An entry counts at a moment, a second since 1970, if it has no expiry or a later one.
-abbrev pub counts_at : ℕ → Listed → Bool
+abbrev pub counts_at : ℕ → ExportEntry → Bool
 counts_at now e = is_after now e.expires
 
-abbrev pub current : ℕ → List Listed → List Payload
+abbrev pub current : ℕ → List ExportEntry → List Payload
 current now es = map (λ e. e.payload) (filter (counts_at now) es)
 
-abbrev pub expired : ℕ → List Listed → ℕ
+abbrev pub expired : ℕ → List ExportEntry → ℕ
 expired now es = count_by (λ e. not (counts_at now e)) es

@@ -10,7 +10,7 @@ use Rattle.payload_lists.specs.PayloadList as lists
 use Rattle.exports.specs.Built.{IsBuilt, buildtime, generated}
 use Rattle.exports.specs.Entry.{AreEntries, FailsAt, current, expired}
 use Rattle.exports.specs.Repeats.{Repeats}
-use Rattle.exports.specs.declared.entry.Listed.{Listed}
+use Rattle.exports.specs.declared.entry.ExportEntry.{ExportEntry}
 use Rattle.exports.specs.declared.export.Export.{Export}
 use Rattle.exports.specs.declared.fault.ExportFault.{ExportFault}
 use Rattle.exports.specs.declared.fault.ExportFault.TheVariants.{NotJson, NoRoas, Entry, TooMany, Memory, Repeated}
@@ -18,10 +18,10 @@ use Rattle.exports.specs.declared.fault.ExportFault.TheVariants.{NotJson, NoRoas
 -- ---- the two forms
 
 -- An entry of a payload list has no expiry.
-abbrev pub lasting : Payload → Listed
+abbrev pub lasting : Payload → ExportEntry
 lasting v = record { payload = v; expires = None }
 
-pub record IsList (d : Data) (es : List Listed) : Type 0 where
+pub record IsList (d : Data) (es : List ExportEntry) : Type 0 where
   pub items : Items
   pub is_array : as_array d ≡ Some items
   pub payloads : List Payload
@@ -32,12 +32,12 @@ pub record IsList (d : Data) (es : List Listed) : Type 0 where
 abbrev pub roas : Data → Option Items
 roas d = option_and_then as_array (get (codes "roas") d)
 
-pub record HasRoas (d : Data) (es : List Listed) : Type 0 where
+pub record HasRoas (d : Data) (es : List ExportEntry) : Type 0 where
   pub items : Items
   pub roas_are : roas d ≡ Some items
   pub entries : AreEntries items es
 
-abbrev pub Lists : Data → List Listed → Type 0
+abbrev pub Lists : Data → List ExportEntry → Type 0
 Lists d es = IsList d es ⊎ HasRoas d es
 
 -- ---- an export
@@ -52,7 +52,7 @@ pub record IsExport (bytes : List ℕ) (now : ℕ) (x : Export) : Type 0 where
   pub value : Data
   pub reads : Reads bytes value
   pub names_once : ¬ (Repeats bytes)
-  pub entries : List Listed
+  pub entries : List ExportEntry
   pub lists : Lists value entries
   pub set_is : x.set ≡ set_of (current now entries)
   pub within_limit : size x.set ≤ 16777215
@@ -68,7 +68,7 @@ ReadsOnce bytes d = Reads bytes d × ¬ (Repeats bytes)
 abbrev pub HasFault : List ℕ → ℕ → ExportFault → Type 0
 HasFault bytes now NotJson = (d : Data) → ¬ (Reads bytes d)
 HasFault bytes now Repeated = (d : Data) × Reads bytes d × Repeats bytes
-HasFault bytes now NoRoas = (d : Data) × ReadsOnce bytes d × (roas d ≡ None) × ((es : List Listed) → ¬ (IsList d es))
+HasFault bytes now NoRoas = (d : Data) × ReadsOnce bytes d × (roas d ≡ None) × ((es : List ExportEntry) → ¬ (IsList d es))
 HasFault bytes now (Entry i w) = (d : Data) × ReadsOnce bytes d × ((ds : Items) × (roas d ≡ Some ds) × FailsAt ds i w)
-HasFault bytes now TooMany = (d : Data) × ReadsOnce bytes d × ((es : List Listed) × Lists d es × (16777215 < size (set_of (current now es))))
+HasFault bytes now TooMany = (d : Data) × ReadsOnce bytes d × ((es : List ExportEntry) × Lists d es × (16777215 < size (set_of (current now es))))
 HasFault bytes now Memory = ⊤

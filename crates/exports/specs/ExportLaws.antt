@@ -6,7 +6,7 @@ use Rattle.exports.specs.Lasting.{IsExportLasting, counting}
 use Rattle.exports.specs.Until.{IsBefore, IsExportUntil}
 use Rattle.exports.specs.declared.export.Export.{Export}
 use Rattle.exports.specs.declared.export.ExportLasting.{ExportLasting}
-use Rattle.exports.specs.declared.export.ExportUntil.{ExportUntil}
+use Rattle.exports.specs.declared.export.TimedExport.{TimedExport}
 use Rattle.exports.specs.declared.fault.ExportFault.{ExportFault}
 use Rattle.exports.specs.declared.fault.ExportFault.TheVariants.{Memory}
 
@@ -25,7 +25,7 @@ OneFault =
 
 -- Bytes are the same export just until its end.
 abbrev pub SameUntil : Type 0
-SameUntil = (bytes : List ℕ) (now : ℕ) (x : ExportUntil) → IsExportUntil bytes now x → (t : ℕ) → now ≤ t → (IsExport bytes t x.export ↔ IsBefore t x.until)
+SameUntil = (bytes : List ℕ) (now : ℕ) (x : TimedExport) → IsExportUntil bytes now x → (t : ℕ) → now ≤ t → (IsExport bytes t x.export ↔ IsBefore t x.until)
 
 -- At a later second bytes are an export, and its set is what counts then, by the last seconds, of an earlier one's.
 abbrev pub LaterExports : Type 0

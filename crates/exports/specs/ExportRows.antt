@@ -16,7 +16,7 @@ use Rattle.exports.specs.Entry.{FailsAt, IsNoEntry, SaysAsn, current, expired, i
 use Rattle.exports.specs.Export.{roas}
 use Rattle.exports.specs.Repeats.{Repeats}
 use Rattle.exports.specs.Until.{IsBefore, IsFirst, endings}
-use Rattle.exports.specs.declared.entry.Listed.{Listed}
+use Rattle.exports.specs.declared.entry.ExportEntry.{ExportEntry}
 use Rattle.exports.specs.declared.fault.EntryFault.TheVariants as faults
 
 -- ---- the moment of an expiry
@@ -38,7 +38,7 @@ without_expiry = refl
 abbrev of_as : ℕ → Payload
 of_as n = record { prefix = V4 (record { addr = 167772160; len = 8 }); max_len = 8; asn = n }
 
-abbrev three : List Listed
+abbrev three : List ExportEntry
 three = record { payload = of_as 1; expires = Some 100 } ∷ record { payload = of_as 2; expires = Some 101 } ∷ record { payload = of_as 3; expires = None } ∷ []
 
 those_that_count : current 100 three ≡ of_as 2 ∷ of_as 3 ∷ []

@@ -5,14 +5,14 @@ use Rattle.vrps.specs.VrpSet.{set_of, size}
 use Rattle.exports.specs.Entry.{Said, current, expired}
 use Rattle.exports.specs.Lasting.{last_seconds}
 use Rattle.exports.specs.Until.{IsFirst, endings}
-use Rattle.exports.specs.declared.entry.Found.{Found}
-use Rattle.exports.specs.declared.entry.Listed.{Listed}
-use Rattle.exports.specs.declared.gathered.Gathered.{Gathered}
+use Rattle.exports.specs.declared.entry.RawEntry.{RawEntry}
+use Rattle.exports.specs.declared.entry.ExportEntry.{ExportEntry}
+use Rattle.exports.specs.declared.gathered.EntryRecords.{EntryRecords}
 use Rattle.exports.specs.declared.fault.ExportFault.{ExportFault}
 use Rattle.exports.specs.declared.fault.ExportFault.TheVariants.{NotJson, NoRoas, Entry, TooMany, Memory, Repeated}
 
 -- what was found in an entry
-abbrev pub said_by : Found → Said
+abbrev pub said_by : RawEntry → Said
 said_by f = record {
   asn_number = f.asn_number;
   asn_text = option_map (λ s. s.now) f.asn_text;
@@ -22,14 +22,14 @@ said_by f = record {
 }
 
 -- This was gathered of these entries.
-pub record Gathers (now : ℕ) (es : List Listed) (g : Gathered) : Type 0 where
+pub record Gathers (now : ℕ) (es : List ExportEntry) (g : EntryRecords) : Type 0 where
   pub records : g.records.items ≡ current now es
   pub lasts : g.lasts.items ≡ last_seconds now es
   pub expired : g.expired ≡ expired now es
   pub until : IsFirst (endings now es) g.until
 
 -- This was gathered of entries that have no expiry.
-pub record IsLasting (g : Gathered) : Type 0 where
+pub record IsLasting (g : EntryRecords) : Type 0 where
   pub lasts : g.lasts.items ≡ replicate (length g.records.items) 18446744073709551615
   pub expired : g.expired ≡ 0
   pub until : g.until ≡ None

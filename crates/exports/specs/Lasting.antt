@@ -5,7 +5,7 @@ use Rattle.vrps.specs.VrpSet.{VrpSet, listing, set_of, size}
 use Rattle.exports.specs.Entry.{counts_at, current}
 use Rattle.exports.specs.Export.{IsExport}
 use Rattle.exports.specs.Until.{IsFirst, endings}
-use Rattle.exports.specs.declared.entry.Listed.{Listed}
+use Rattle.exports.specs.declared.entry.ExportEntry.{ExportEntry}
 use Rattle.exports.specs.declared.export.ExportLasting.{ExportLasting}
 
 -- The last second at which an entry counts, in 64 bits: the one before its expiry. An entry without one counts at each.
@@ -14,7 +14,7 @@ last_second None = 18446744073709551615
 last_second (Some t) = t - 1
 
 -- The last seconds of the entries that count at a moment
-abbrev pub last_seconds : ℕ → List Listed → List ℕ
+abbrev pub last_seconds : ℕ → List ExportEntry → List ℕ
 last_seconds now es = map (λ e. last_second e.expires) (filter (counts_at now) es)
 
 -- The payloads whose last second is not before a moment. One beside which none stands counts.

@@ -4,17 +4,17 @@ use Rattle.prefixes.specs.Payload.{Payload}
 use Rattle.prefixes.specs.declared.prefix.IpPrefix.TheVariants.{V4}
 use Rattle.exports.specs.Entry.{current}
 use Rattle.exports.specs.Lasting.{counting, last_at, last_second, last_seconds}
-use Rattle.exports.specs.declared.entry.Listed.{Listed}
+use Rattle.exports.specs.declared.entry.ExportEntry.{ExportEntry}
 
 -- 10.0.0.0/8 of this AS
 abbrev of_as : ℕ → Payload
 of_as n = record { prefix = V4 (record { addr = 167772160; len = 8 }); max_len = 8; asn = n }
 
 -- an entry of it, with an expiry and without
-abbrev ends : ℕ → ℕ → Listed
+abbrev ends : ℕ → ℕ → ExportEntry
 ends n t = record { payload = of_as n; expires = Some t }
 
-abbrev stays : ℕ → Listed
+abbrev stays : ℕ → ExportEntry
 stays n = record { payload = of_as n; expires = None }
 
 -- ---- the last second of an entry

@@ -6,7 +6,7 @@ pub mod Repeats
 pub mod Export
 pub mod Until
 pub mod Lasting
-pub mod Found
+pub mod Gathering
 pub mod Repeating
 pub mod PlainForm
 pub mod ListForm

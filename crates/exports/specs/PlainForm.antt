@@ -11,19 +11,19 @@ use Rattle.payload_lists.specs.PayloadList.{text_at, whole_at}
 use Rattle.exports.specs.Built.{IsBuilt, buildtime, generated}
 use Rattle.exports.specs.Entry.{AreEntries, FailsAt, IsEntry, IsNoEntry, said, whole}
 use Rattle.exports.specs.Export.{IsList, Lists, roas}
-use Rattle.exports.specs.Found.{Gathers, said_by}
+use Rattle.exports.specs.Gathering.{Gathers, said_by}
 use Rattle.exports.specs.Repeating.{entry_repeats, export_repeats, items_repeat, member_repeats, metadata_repeat, roas_repeat}
 use Rattle.exports.specs.Repeats.{Repeats}
-use Rattle.exports.specs.declared.entry.Found.{Found}
-use Rattle.exports.specs.declared.entry.Listed.{Listed}
+use Rattle.exports.specs.declared.entry.RawEntry.{RawEntry}
+use Rattle.exports.specs.declared.entry.ExportEntry.{ExportEntry}
 use Rattle.exports.specs.declared.fault.EntryFault.{EntryFault}
 use Rattle.exports.specs.declared.fault.ExportFault.{ExportFault}
 use Rattle.exports.specs.declared.fault.ExportFault.TheVariants.{NotJson, NoRoas, Entry, TooMany, Memory, Repeated}
-use Rattle.exports.specs.declared.plain.Entries.{Entries}
-use Rattle.exports.specs.declared.plain.Entries.TheVariants.{Whole, Broken}
-use Rattle.exports.specs.declared.plain.Metadata.{Metadata}
-use Rattle.exports.specs.declared.plain.Parts.{Parts}
-use Rattle.exports.specs.declared.plain.Seen.{Seen}
+use Rattle.exports.specs.declared.streaming.Entries.{Entries}
+use Rattle.exports.specs.declared.streaming.Entries.TheVariants.{Whole, Broken}
+use Rattle.exports.specs.declared.streaming.Metadata.{Metadata}
+use Rattle.exports.specs.declared.streaming.ExportMembers.{ExportMembers}
+use Rattle.exports.specs.declared.streaming.Scalar.{Scalar}
 
 -- A value was read, of whose tree and value this holds. It nests no deeper than k.
 abbrev pub ReadsSome : ℕ → (Json → Data → Type 0) → List Token → List Token → Type 0
@@ -61,14 +61,14 @@ PassesItems k = ReadsItems k (λ js ds. ⊤)
 abbrev pub PassesMembers : ℕ → List Token → List Token → Type 0
 PassesMembers k = ReadsMembers k (λ js ms. ⊤)
 
--- what was seen of a value
-abbrev pub IsSeen : Data → Seen → Type 0
-IsSeen d s =
+-- what was scalar of a value
+abbrev pub IsScalar : Data → Scalar → Type 0
+IsScalar d s =
     (whole d ≡ s.number) × (as_str d ≡ option_map (λ t. t.now) s.text) × (is_some (as_array d) ≡ s.array) × (is_some (as_object d) ≡ s.object)
 
 -- what was found in an entry of these members
-abbrev pub IsFound : Members → Found → Type 0
-IsFound ms f = said (object ms) ≡ said_by f
+abbrev pub IsRawEntry : Members → RawEntry → Type 0
+IsRawEntry ms f = said (object ms) ≡ said_by f
 
 -- what metadata of these members say
 abbrev pub IsMetadata : Members → Metadata → Type 0
@@ -79,14 +79,14 @@ abbrev pub TellsBuilt : Data → Option ℕ → Type 0
 TellsBuilt d built = IsBuilt (whole_at (codes "generated") d) (text_at (codes "buildtime") d) built
 
 -- The data are these entries.
-abbrev pub AreListed : List Data → List Listed → Type 0
+abbrev pub AreListed : List Data → List ExportEntry → Type 0
 AreListed [] [] = ⊤
 AreListed (d ∷ ds) (e ∷ es) = IsEntry d e × AreListed ds es
 AreListed [] (e ∷ es) = ⊥
 AreListed (d ∷ ds) [] = ⊥
 
 -- This is what a value lists as an entry, or what of it cannot be read.
-abbrev pub IsJudged : Data → Result Listed EntryFault → Type 0
+abbrev pub IsJudged : Data → Result ExportEntry EntryFault → Type 0
 IsJudged d (Ok e) = IsEntry d e
 IsJudged d (Err w) = IsNoEntry d w
 
@@ -94,20 +94,20 @@ IsJudged d (Err w) = IsNoEntry d w
 abbrev pub FailsIn : List Data → ℕ → EntryFault → Type 0
 FailsIn [] i w = ⊥
 FailsIn (d ∷ ds) zero w = IsNoEntry d w
-FailsIn (d ∷ ds) (suc i) w = ((e : Listed) × IsEntry d e) × FailsIn ds i w
+FailsIn (d ∷ ds) (suc i) w = ((e : ExportEntry) × IsEntry d e) × FailsIn ds i w
 
 -- This was read of these data as entries ..
 abbrev pub TellsListed : ℕ → List Data → Entries → Type 0
-TellsListed now ds (Whole g) = (es : List Listed) × AreListed ds es × Gathers now es g
+TellsListed now ds (Whole g) = (es : List ExportEntry) × AreListed ds es × Gathers now es g
 TellsListed now ds (Broken i w) = FailsIn ds i w
 
 -- .. and of the items of an array.
 abbrev pub TellsItems : ℕ → Items → Entries → Type 0
-TellsItems now ds (Whole g) = (es : List Listed) × AreEntries ds es × Gathers now es g
+TellsItems now ds (Whole g) = (es : List ExportEntry) × AreEntries ds es × Gathers now es g
 TellsItems now ds (Broken i w) = FailsAt ds i w
 
 -- An entry was read, and whether a name is repeated in it.
-abbrev pub ReadsEntry : List Token → List Token → Result Listed EntryFault × Bool → Type 0
+abbrev pub ReadsEntry : List Token → List Token → Result ExportEntry EntryFault × Bool → Type 0
 ReadsEntry old new r = ReadsSome 125 (λ j d. IsJudged d r.0 × (r.1 ≡ entry_repeats j)) old new
 
 -- The entries of which this is told were read to the end of their array, and whether a name is repeated in one of them.
@@ -133,39 +133,39 @@ HasEntries now d None = roas d ≡ None
 HasEntries now d (Some entries) = (ds : Items) × (roas d ≡ Some ds) × TellsItems now ds entries
 
 -- What was read of an export of these members
-pub record HasParts (now : ℕ) (ms : Members) (p : Parts) : Type 0 where
+pub record HasParts (now : ℕ) (ms : Members) (p : ExportMembers) : Type 0 where
   pub entries : HasEntries now (object ms) p.entries
   pub built : IsBuilt (generated (object ms)) (buildtime (object ms)) p.built
 
 -- The value of a member of this name was read.
-abbrev pub ReadsPart : ℕ → List ℕ → Parts → Parts → List Token → List Token → Type 0
+abbrev pub ReadsPart : ℕ → List ℕ → ExportMembers → ExportMembers → List Token → List Token → Type 0
 ReadsPart now name before after old new =
     ReadsSome 126 (λ j d. ((ms : Members) → HasParts now ms before → HasParts now (put name d ms) after) × (after.repeats ≡ (before.repeats || member_repeats name j))) old new
 
 -- What is told of the entries of a value in either form
 abbrev pub TellsEntries : ℕ → Data → Option Entries → Type 0
-TellsEntries now d None = (roas d ≡ None) × ((es : List Listed) → ¬ (IsList d es))
-TellsEntries now d (Some (Whole g)) = (es : List Listed) × Lists d es × Gathers now es g
+TellsEntries now d None = (roas d ≡ None) × ((es : List ExportEntry) → ¬ (IsList d es))
+TellsEntries now d (Some (Whole g)) = (es : List ExportEntry) × Lists d es × Gathers now es g
 TellsEntries now d (Some (Broken i w)) = (ds : Items) × (roas d ≡ Some ds) × FailsAt ds i w
 
 -- What was read of a value in either form
-pub record TellsParts (now : ℕ) (d : Data) (p : Parts) : Type 0 where
+pub record TellsParts (now : ℕ) (d : Data) (p : ExportMembers) : Type 0 where
   pub entries : TellsEntries now d p.entries
   pub built : IsBuilt (generated d) (buildtime d) p.built
 
 -- What was read of a text in either form
-pub record ReadsParts (now : ℕ) (text : List ℕ) (p : Parts) : Type 0 where
+pub record ReadsParts (now : ℕ) (text : List ℕ) (p : ExportMembers) : Type 0 where
   pub value : Data
   pub reads : read text ≡ Some value
   pub parts : TellsParts now value p
   pub repeats : MatchBool p.repeats (Repeats text) (¬ (Repeats text))
 
 -- A value of either form was read, and whether a name that is read is repeated in its object.
-abbrev pub ReadsForm : ℕ → List Token → List Token → Parts → Type 0
+abbrev pub ReadsForm : ℕ → List Token → List Token → ExportMembers → Type 0
 ReadsForm now old new p = ReadsSome 127 (λ j d. TellsParts now d p × (p.repeats ≡ export_repeats j)) old new
 
 -- The items of an array were read.
-abbrev pub ReadsListParts : ℕ → List Token → List Token → Parts → Type 0
+abbrev pub ReadsListParts : ℕ → List Token → List Token → ExportMembers → Type 0
 ReadsListParts now old new p = ReadsItems 126 (λ js ds. TellsParts now (array (before ds no_items)) p × (p.repeats ≡ false)) old new
 
 -- Why a text gives no parts

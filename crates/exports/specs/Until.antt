@@ -2,11 +2,11 @@
 use Rattle.std.specs.Prelude.{◌≡◌, ℕ, ◌<◌, ◌≤◌, List, [], filter, filter_map, All, Contains, Option, Some, None, ⊤}
 use Rattle.exports.specs.Entry.{counts_at}
 use Rattle.exports.specs.Export.{IsExport}
-use Rattle.exports.specs.declared.entry.Listed.{Listed}
-use Rattle.exports.specs.declared.export.ExportUntil.{ExportUntil}
+use Rattle.exports.specs.declared.entry.ExportEntry.{ExportEntry}
+use Rattle.exports.specs.declared.export.TimedExport.{TimedExport}
 
 -- The seconds `expires` of the entries that count at a moment: from its own on an entry does not count.
-abbrev pub endings : ℕ → List Listed → List ℕ
+abbrev pub endings : ℕ → List ExportEntry → List ℕ
 endings now es = filter_map (λ e. e.expires) (filter (counts_at now) es)
 
 -- The first of some seconds, where there is one
@@ -20,6 +20,6 @@ IsBefore t None = ⊤
 IsBefore t (Some end) = t < end
 
 -- These bytes are an export, and the first of its entries that count ends then.
-pub record IsExportUntil (bytes : List ℕ) (now : ℕ) (x : ExportUntil) : Type 0 where
+pub record IsExportUntil (bytes : List ℕ) (now : ℕ) (x : TimedExport) : Type 0 where
   pub export : IsExport bytes now x.export
   pub until : IsFirst (endings now export.entries) x.until

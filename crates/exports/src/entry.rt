@@ -4,7 +4,7 @@ ghost use Rattle.std.specs.Fmt.{decimal};
 ghost use Rattle.prefixes.specs.Payload.{block_of, width_of};
 ghost use Rattle.prefixes.specs.declared.prefix.IpPrefix.{IpPrefix as Prefix};
 ghost use Rattle.exports.specs.Entry.{AsnText, SaysAsn, SaysEntry, SaysFault, SaysPrefix};
-ghost use Rattle.exports.specs.Found.{said_by};
+ghost use Rattle.exports.specs.Gathering.{said_by};
 
 use crate::fault::EntryFault;
 use prefix_texts::parse_prefix;
@@ -12,7 +12,7 @@ use prefixes::{Asn, IpPrefix, Vrp};
 
 /// What an entry lists: a payload, and the second since 1970 from which on it does not count, where the entry has one.
 #[derive(Clone, Copy, Debug)]
-pub struct Listed {
+pub struct ExportEntry {
     pub(crate) payload: Vrp,
     pub(crate) expires: Option<u64>,
 }
@@ -20,7 +20,7 @@ pub struct Listed {
 /// What was found in an entry: under each key the whole number or the text that stands there, if one does. Under `expires` something may
 /// stand that is no whole number.
 #[derive(Clone, Copy, Debug)]
-pub struct Found<'a> {
+pub struct RawEntry<'a> {
     pub(crate) asn_number: Option<u64>,
     pub(crate) asn_text: Option<&'a str>,
     pub(crate) prefix: Option<&'a str>,
@@ -51,7 +51,7 @@ fn asn_in(text: &str) -> Option<u32>
 }
 
 /// The AS number of an entry.
-fn asn(found: &Found<'_>) -> Option<u32>
+fn asn(found: &RawEntry<'_>) -> Option<u32>
     ensures some { IfSome result (λ n. SaysAsn (said_by found.now) n) }
     ensures none { IfNone result ((n : ℕ) → ¬ (SaysAsn (said_by found.now) n)) }
 {
@@ -65,7 +65,7 @@ fn asn(found: &Found<'_>) -> Option<u32>
 }
 
 /// The prefix of an entry.
-fn prefix(found: &Found<'_>) -> Option<IpPrefix>
+fn prefix(found: &RawEntry<'_>) -> Option<IpPrefix>
     ensures some { IfSome result (λ p. SaysPrefix (said_by found.now) p) }
     ensures none { IfNone result ((p : Prefix) → ¬ (SaysPrefix (said_by found.now) p)) }
 {
@@ -90,7 +90,7 @@ fn payload(prefix: IpPrefix, max_len: Option<u64>, asn: u32) -> Option<Vrp>
 }
 
 /// What an entry lists, or what is wrong first with what was found in it.
-pub(crate) fn judged(found: &Found<'_>) -> Result<Listed, EntryFault>
+pub(crate) fn judged(found: &RawEntry<'_>) -> Result<ExportEntry, EntryFault>
     ensures ok { IfOk result (λ e. SaysEntry (said_by found.now) e) }
     ensures fault { IfErr result (λ w. SaysFault (said_by found.now) w) }
 {
@@ -104,11 +104,11 @@ pub(crate) fn judged(found: &Found<'_>) -> Result<Listed, EntryFault>
         return Err(EntryFault::MaxLength);
     };
     match found.expires {
-        None => Ok(Listed {
+        None => Ok(ExportEntry {
             payload,
             expires: None,
         }),
-        Some(Some(second)) => Ok(Listed {
+        Some(Some(second)) => Ok(ExportEntry {
             payload,
             expires: Some(second),
         }),

@@ -2,14 +2,14 @@
 ghost use Rattle.std.specs.Prelude.{◌≡◌, ◌≤◌, ℕ, IfOk, IfErr};
 ghost use Rattle.vrps.specs.VrpSet.{set_of, size};
 ghost use Rattle.exports.specs.Export.{HasFault, IsExport};
-ghost use Rattle.exports.specs.Found.{SetFails};
+ghost use Rattle.exports.specs.Gathering.{SetFails};
 ghost use Rattle.exports.specs.Lasting.{AreLasts, IsExportLasting};
 ghost use Rattle.exports.specs.Until.{IsBefore, IsExportUntil};
 
 use crate::fault::ExportFault;
-use crate::gathered::Gathered;
+use crate::gathered::EntryRecords;
 use crate::lasting::set_lasting;
-use crate::plain::{Entries, Parts};
+use crate::streaming::{Entries, ExportMembers};
 use crate::text::parts_of_text;
 use std::alloc::Global;
 use std::str;
@@ -28,7 +28,7 @@ pub struct Export {
 
 /// What a validator exported, at a moment, and until when it stays so.
 #[derive(Debug, Drop)]
-pub struct ExportUntil {
+pub struct TimedExport {
     /// The export at the moment. It is the same at each later one before `until`.
     pub export: Export,
     /// The least `expires` of the entries that count, in seconds since 1970: then one of them counts no more. Where none of them has
@@ -41,7 +41,7 @@ pub struct ExportUntil {
 pub struct ExportLasting {
     /// The export at the moment.
     pub export: Export,
-    /// The least `expires` of the entries that count, as in [`ExportUntil`].
+    /// The least `expires` of the entries that count, as in [`TimedExport`].
     pub until: Option<u64>,
     /// For each record of the set, in the set's order, the last second at which it counts: the one before the `expires` of its entry.
     /// If several entries have this record, the last of their ends counts. `u64::MAX`: one of them has no `expires`.
@@ -51,7 +51,7 @@ pub struct ExportLasting {
 /// The export of what was gathered.
 fn export_of(
     alloc: Global,
-    gathered: Gathered,
+    gathered: EntryRecords,
     built: Option<u64>,
 ) -> Result<ExportLasting, ExportFault>
     ensures set { IfOk result (λ x. (x.export.set ≡ set_of gathered.records.items) × (size x.export.set ≤ 16777215)) }
@@ -59,7 +59,7 @@ fn export_of(
     ensures rest { IfOk result (λ x. (x.export.expired ≡ gathered.expired) × (x.export.built ≡ built) × (x.until ≡ gathered.until)) }
     ensures fault { IfErr result (λ fault. SetFails gathered.records.items fault) }
 {
-    let Gathered {
+    let EntryRecords {
         records,
         lasts,
         expired,
@@ -83,7 +83,7 @@ fn read_text(alloc: Global, text: &str, now: u64) -> Result<ExportLasting, Expor
     ensures ok { IfOk result (λ x. IsExportLasting text.now now x) }
     ensures fault { IfErr result (λ fault. HasFault text.now now fault) }
 {
-    let Parts {
+    let ExportMembers {
         entries,
         built,
         repeats,
@@ -111,20 +111,20 @@ pub fn read_export(alloc: Global, bytes: &[u8], now: u64) -> Result<Export, Expo
     ensures fault { IfErr result (λ fault. HasFault bytes.now now fault) }
 {
     match read_export_until(alloc, bytes, now) {
-        Ok(ExportUntil { export, until: _ }) => Ok(export),
+        Ok(TimedExport { export, until: _ }) => Ok(export),
         Err(fault) => Err(fault),
     }
 }
 
 /// The export that these bytes are at a moment, as [`read_export`] reads it, and the second until which they are the same one: from that
 /// second on an entry does not count that counts now. Before it they need not be read again.
-pub fn read_export_until(alloc: Global, bytes: &[u8], now: u64) -> Result<ExportUntil, ExportFault>
+pub fn read_export_until(alloc: Global, bytes: &[u8], now: u64) -> Result<TimedExport, ExportFault>
     ensures ok { IfOk result (λ x. IsExportUntil bytes.now now x) }
     ensures lasts { IfOk result (λ x. (t : ℕ) → now ≤ t → IsBefore t x.until → IsExport bytes.now t x.export) }
     ensures fault { IfErr result (λ fault. HasFault bytes.now now fault) }
 {
     match read_export_lasting(alloc, bytes, now) {
-        Ok(read) => Ok(ExportUntil {
+        Ok(read) => Ok(TimedExport {
             export: read.export,
             until: read.until,
         }),

@@ -1,10 +1,10 @@
 //! Why a text is an export of neither form.
-ghost use Rattle.std.specs.Prelude.{◌<◌, length, IfOk, IfNone};
-
-use crate::walk::{NESTING, find_member};
-use crate::words::{member_text, shown};
+use crate::lists::list_entry;
+use crate::streaming::NESTING;
+use crate::walk::find_member;
+use crate::words::{member_text, shown, shown_token};
 use json::{Error, Reader, Scratch, Token, Value as Tree};
-use json_texts::{cut_text, name_text};
+use json_texts::{NO_ASN, NO_MAX_LENGTH, NO_PREFIX, name_text};
 use prefixes::{Asn, IpPrefix, Vrp};
 use std::alloc::{AllocError, Global};
 
@@ -43,14 +43,13 @@ fn payload_of(entry: &Tree<'_>, prefix: IpPrefix) -> Option<Vrp> {
 /// What is wrong with the values of an entry of a payload list, if something is.
 fn values_text(alloc: Global, entry: &Tree<'_>) -> Result<Option<String>, AllocError> {
     if asn_of(entry).is_none() {
-        return Ok(Some(member_text(alloc, entry, "asn", "is no AS number")?));
+        return Ok(Some(member_text(alloc, entry, "asn", NO_ASN)?));
     }
     let Some(prefix) = prefix_of(entry) else {
-        return Ok(Some(member_text(alloc, entry, "prefix", "is no prefix")?));
+        return Ok(Some(member_text(alloc, entry, "prefix", NO_PREFIX)?));
     };
     if payload_of(entry, prefix).is_none() {
-        let wrong = "is not from the prefix length to 32 (IPv4) or 128 (IPv6)";
-        return Ok(Some(member_text(alloc, entry, "maxLength", wrong)?));
+        return Ok(Some(member_text(alloc, entry, "maxLength", NO_MAX_LENGTH)?));
     }
     Ok(None)
 }
@@ -70,40 +69,35 @@ fn item_text(alloc: Global, item: &Tree<'_>) -> Result<Option<String>, AllocErro
     }
 }
 
-/// What is wrong with the item that comes next, if something is.
-fn next_item_text(alloc: Global, reader: &mut Reader<'_>) -> Result<Option<String>, AllocError>
-    ensures { IfOk result (λ found. IfNone found (length reader.new < length reader.old)) }
-{
-    match Tree::read(alloc, reader, NESTING) {
-        Ok(item) => item_text(alloc, &item),
+/// What is wrong with the item that begins at this byte of a text, and is no entry.
+fn item_at(alloc: Global, text: &str, start: usize) -> Result<String, AllocError> {
+    let Some(rest) = text.get(start..) else {
+        return String::from_str(alloc, "it cannot be read");
+    };
+    let mut scratch = Scratch::new(alloc);
+    let mut reader = Reader::new(rest, &mut scratch)?;
+    match Tree::read(alloc, &mut reader, NESTING) {
+        Ok(item) => match item_text(alloc, &item)? {
+            Some(why) => Ok(why),
+            None => String::from_str(alloc, "a name is repeated"),
+        },
         Err(Error::OutOfMemory) => Err(AllocError),
-        Err(_) => Ok(Some(String::from_str(alloc, "it cannot be read")?)),
+        Err(_) => String::from_str(alloc, "it cannot be read"),
     }
 }
 
-/// Which item of an array is no entry of a payload list, and why. The items come next.
-fn list_text(alloc: Global, reader: &mut Reader<'_>) -> Result<String, AllocError> {
+/// Which item of an array is no entry of a payload list, and why. The items come next in the text.
+fn list_text(alloc: Global, text: &str, reader: &mut Reader<'_>) -> Result<String, AllocError> {
     let mut index = 0usize;
     while !reader.take_end_array() {
-        if let Some(why) = next_item_text(alloc, reader)? {
+        let start = reader.offset();
+        let Some(Some(_record)) = list_entry(reader) else {
+            let why = item_at(alloc, text, start)?;
             return format!(in alloc; "entry {index}: {why}");
-        }
+        };
         index = index.saturating_add(1);
     }
-    String::from_str(alloc, "a name is repeated in an entry")
-}
-
-/// A value of which this is the first token, as a message shows it.
-fn shown_token(alloc: Global, token: &Token<'_>) -> Result<String, AllocError> {
-    match token {
-        Token::String(text) => name_text(alloc, text),
-        Token::Number(text) => cut_text(alloc, text),
-        Token::Bool(true) => String::from_str(alloc, "true"),
-        Token::Bool(false) => String::from_str(alloc, "false"),
-        Token::BeginArray => String::from_str(alloc, "an array"),
-        Token::BeginObject => String::from_str(alloc, "an object"),
-        _ => String::from_str(alloc, "null"),
-    }
+    String::from_str(alloc, "all its items are entries")
 }
 
 /// Why an object has no array `roas`. Its members come next.
@@ -125,7 +119,7 @@ pub(crate) fn form_text(alloc: Global, text: &str) -> Result<String, AllocError>
     let mut scratch = Scratch::new(alloc);
     let mut reader = Reader::new(text, &mut scratch)?;
     match reader.next() {
-        Some(Token::BeginArray) => list_text(alloc, &mut reader),
+        Some(Token::BeginArray) => list_text(alloc, text, &mut reader),
         Some(Token::BeginObject) => object_text(alloc, &mut reader),
         _ => String::from_str(alloc, "it is neither an array nor an object"),
     }

@@ -2,18 +2,18 @@
 ghost use Rattle.std.specs.Prelude.{◌≡◌, ◌+◌, ◌^◌, ◌<◌, ◌++◌, ◌∷◌, [], ℕ, List, IfOk, OnOk};
 ghost use Rattle.std.specs.Bool.{OnFalse, OnTrue};
 ghost use Rattle.exports.specs.Entry.{counts_at, current, expired};
-ghost use Rattle.exports.specs.Found.{Gathers, IsLasting};
+ghost use Rattle.exports.specs.Gathering.{Gathers, IsLasting};
 ghost use Rattle.exports.specs.Lasting.{last_second, last_seconds};
 ghost use Rattle.exports.specs.Until.{IsFirst, endings};
 
-use crate::entry::Listed;
+use crate::entry::ExportEntry;
 use prefixes::Vrp;
 use std::alloc::{AllocError, Global};
 
 /// What was gathered of entries: the payloads of those that count and for each the last second at which it does, how many entries do not
 /// count, and the first second at which one that counts does not, where there is one.
 #[derive(Debug, Drop)]
-pub struct Gathered {
+pub struct EntryRecords {
     pub(crate) records: Vec<Vrp>,
     pub(crate) lasts: Vec<u64>,
     pub(crate) expired: u64,
@@ -21,7 +21,7 @@ pub struct Gathered {
 }
 
 /// Whether an entry counts at a moment.
-fn counts(entry: &Listed, now: u64) -> bool
+fn counts(entry: &ExportEntry, now: u64) -> bool
     ensures { result ≡ counts_at now entry.now }
 {
     match entry.expires {
@@ -51,12 +51,12 @@ fn sooner(one: Option<u64>, other: Option<u64>) -> Option<u64>
     }
 }
 
-impl Gathered {
+impl EntryRecords {
     /// Nothing.
-    pub(crate) fn new(alloc: Global) -> Gathered
+    pub(crate) fn new(alloc: Global) -> EntryRecords
         ensures { (now : ℕ) → Gathers now [] result }
     {
-        Gathered {
+        EntryRecords {
             records: Vec::new(alloc),
             lasts: Vec::new(alloc),
             expired: 0,
@@ -65,11 +65,11 @@ impl Gathered {
     }
 
     /// These payloads, which all count and do so for ever.
-    pub(crate) fn lasting(alloc: Global, records: Vec<Vrp>) -> Result<Gathered, AllocError>
+    pub(crate) fn lasting(alloc: Global, records: Vec<Vrp>) -> Result<EntryRecords, AllocError>
         ensures { IfOk result (λ g. (g.records ≡ records) × IsLasting g) }
     {
         let lasts = vec![in alloc; u64::MAX; records.len()]?;
-        Ok(Gathered {
+        Ok(EntryRecords {
             records,
             lasts,
             expired: 0,
@@ -86,7 +86,7 @@ impl Gathered {
     }
 
     /// Gathers one more entry.
-    pub(crate) fn add(&mut self, entry: &Listed, now: u64) -> Result<(), AllocError>
+    pub(crate) fn add(&mut self, entry: &ExportEntry, now: u64) -> Result<(), AllocError>
         requires { self.old.expired + 1 < 2 ^ 64 }
         ensures records { OnOk result (self.new.records.items ≡ self.old.records.items ++ current now (entry.now ∷ [])) }
         ensures lasts { OnOk result (self.new.lasts.items ≡ self.old.lasts.items ++ last_seconds now (entry.now ∷ [])) }

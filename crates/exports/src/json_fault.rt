@@ -1,6 +1,6 @@
 //! Why a text is not JSON, and where.
-use crate::numbers::seen_number;
-use crate::plain::NESTING;
+use crate::numbers::scalar_number;
+use crate::streaming::NESTING;
 use json::{Reader, Scratch, Token};
 use json_texts::{Position, cut_text};
 use std::alloc::{AllocError, Global};
@@ -78,10 +78,19 @@ impl Open {
     }
 }
 
+/// Whether a number cannot be too large for a float: it has no exponent, and fewer than 309 digits.
+fn is_small(text: &str) -> bool {
+    text.len() < 309
+        && !text
+            .as_bytes()
+            .iter()
+            .any(|byte| *byte == b'e' || *byte == b'E')
+}
+
 /// The text of a token, if it is a number that is too large for a float.
 fn large_number<'a>(token: &Token<'a>) -> Option<&'a str> {
     match token {
-        Token::Number(text) if seen_number(text).is_none() => Some(*text),
+        Token::Number(text) if !is_small(text) && scalar_number(text).is_none() => Some(*text),
         _ => None,
     }
 }

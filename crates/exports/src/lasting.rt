@@ -4,7 +4,7 @@ ghost use Rattle.std.specs.List.{list_all};
 ghost use Rattle.std.specs.List.Sorted.{IsStrictlySortedBy};
 ghost use Rattle.prefixes.specs.Payload.{vrp_cmp};
 ghost use Rattle.vrps.specs.VrpSet.{has, listing, set_of, size};
-ghost use Rattle.exports.specs.Found.{SetFails};
+ghost use Rattle.exports.specs.Gathering.{SetFails};
 ghost use Rattle.exports.specs.Lasting.{AreLasts, last_at};
 
 use crate::fault::ExportFault;

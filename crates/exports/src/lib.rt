@@ -29,14 +29,14 @@ pub mod laws;
 mod lists;
 mod names;
 mod numbers;
-mod plain;
 mod repeated;
+mod streaming;
 mod text;
 mod walk;
 mod words;
 
 pub use export::{
-    Export, ExportLasting, ExportUntil, read_export, read_export_lasting, read_export_until,
+    Export, ExportLasting, TimedExport, read_export, read_export_lasting, read_export_until,
 };
 pub use fault::{EntryFault, ExportFault};
 pub use words::fault_text;

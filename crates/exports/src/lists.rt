@@ -4,9 +4,9 @@ ghost use Rattle.serde_json.specs.Data.{Data, Members, no_items, object, put};
 ghost use Rattle.prefixes.specs.Payload.{Payload};
 ghost use Rattle.payload_lists.specs.PayloadList.{IsEntry};
 ghost use Rattle.exports.specs.ListForm.{HoldsEntry, IsListed, ReadsListed, ReadsRecords, Records};
-ghost use Rattle.exports.specs.PlainForm.{IsSeen, ReadsMembers, ReadsNoItems, ReadsNoMembers, ReadsNone, before};
+ghost use Rattle.exports.specs.PlainForm.{IsScalar, ReadsMembers, ReadsNoItems, ReadsNoMembers, ReadsNone, before};
 
-use crate::plain::{NESTING, Seen, begins_object, next_name, see, see_rest};
+use crate::streaming::{NESTING, Scalar, begins_object, next_name, read_rest, read_value};
 use json::Reader;
 use payload_lists::parts::payload;
 use prefixes::Vrp;
@@ -23,20 +23,20 @@ pub struct ListEntry<'a> {
 }
 
 /// What was found with one member more. It replaces an earlier member of its name.
-fn with_list_member<'a>(found: ListEntry<'a>, name: &str, seen: Seen<'a>) -> ListEntry<'a>
-    ensures { (ms : Members) (d : Data) → HoldsEntry ms found.entry → IsSeen d seen.entry → HoldsEntry (put name.now d ms) result }
+fn with_list_member<'a>(found: ListEntry<'a>, name: &str, scalar: Scalar<'a>) -> ListEntry<'a>
+    ensures { (ms : Members) (d : Data) → HoldsEntry ms found.entry → IsScalar d scalar.entry → HoldsEntry (put name.now d ms) result }
 {
     match name {
         "asn" => ListEntry {
-            asn: seen.number,
+            asn: scalar.number,
             ..found
         },
         "maxLength" => ListEntry {
-            max_len: seen.number,
+            max_len: scalar.number,
             ..found
         },
         "prefix" => ListEntry {
-            prefix: seen.text,
+            prefix: scalar.text,
             ..found
         },
         _ => ListEntry {
@@ -61,7 +61,7 @@ fn list_members<'a>(reader: &mut Reader<'a>) -> Option<ListEntry<'a>>
         let Some(name) = key else {
             return Some(found);
         };
-        let value = see(reader, NESTING - 2)?;
+        let value = read_value(reader, NESTING - 2)?;
         found = with_list_member(found, name, value);
     }
 }
@@ -81,12 +81,12 @@ fn payload_of(found: &ListEntry<'_>) -> Option<Vrp>
 }
 
 /// Reads an item of an array: its payload, if it is an entry of a payload list.
-fn list_entry(reader: &mut Reader<'_>) -> Option<Option<Vrp>>
+pub(crate) fn list_entry(reader: &mut Reader<'_>) -> Option<Option<Vrp>>
     ensures { MatchOption result (ReadsNone 126 reader.old) (λ found. ReadsListed reader.old reader.new found) }
 {
     let token = reader.next()?;
     if !begins_object(&token) {
-        let _passed = see_rest(reader, token, NESTING - 1)?;
+        let _passed = read_rest(reader, token, NESTING - 1)?;
         return Some(None);
     }
     let found = list_members(reader)?;

@@ -13,7 +13,7 @@ fn has_minus(bytes: &[u8]) -> bool
     !bytes.is_empty() && bytes[0] == b'-'
 }
 
-/// What is seen of a number that is read as a float. `None`: it is too large for one.
+/// What is scalar of a number that is read as a float. `None`: it is too large for one.
 fn as_float(negative: bool, numeral: &Numeral<'_>) -> Option<Option<u64>>
     ensures { result ≡ option_map as_u64 (float_of negative numeral.now) }
 {
@@ -24,7 +24,7 @@ fn as_float(negative: bool, numeral: &Numeral<'_>) -> Option<Option<u64>>
     }
 }
 
-/// What is seen of a number without a minus.
+/// What is scalar of a number without a minus.
 fn unsigned(numeral: &Numeral<'_>) -> Option<Option<u64>>
     ensures { result ≡ option_map as_u64 (number_from false numeral.now) }
 {
@@ -34,7 +34,7 @@ fn unsigned(numeral: &Numeral<'_>) -> Option<Option<u64>>
     }
 }
 
-/// What is seen of a number behind a minus.
+/// What is scalar of a number behind a minus.
 fn negative(numeral: &Numeral<'_>) -> Option<Option<u64>>
     ensures { result ≡ option_map as_u64 (number_from true numeral.now) }
 {
@@ -48,7 +48,7 @@ fn negative(numeral: &Numeral<'_>) -> Option<Option<u64>>
 
 /// The whole number below 2^64 that a number's text writes in digits alone, or that it writes another number. `None`: it is too large for
 /// a float, and so no number that is read.
-pub(crate) fn seen_number(text: &str) -> Option<Option<u64>>
+pub(crate) fn scalar_number(text: &str) -> Option<Option<u64>>
     ensures { result ≡ option_map as_u64 (number_of text.now) }
 {
     let bytes = text.as_bytes();

@@ -2,7 +2,8 @@
 ghost use Rattle.std.specs.Prelude.{◌<◌, length, IfOk, IfNone, IfSome};
 
 use crate::names::{EntryNames, Names};
-use crate::plain::{NESTING, begins_array, begins_object, next_name, see, see_rest};
+use crate::streaming::{NESTING, begins_array, begins_object, next_name, read_rest};
+use crate::walk::skip_value;
 use json::{Reader, Scratch};
 use std::alloc::{AllocError, Global};
 
@@ -19,7 +20,7 @@ fn in_members<'a>(reader: &mut Reader<'a>) -> Option<Option<&'a str>>
         if names.repeat() {
             return Some(Some(name));
         }
-        let _passed = see(reader, NESTING)?;
+        skip_value(reader)?;
     }
 }
 
@@ -31,7 +32,7 @@ fn in_item<'a>(reader: &mut Reader<'a>) -> Option<Option<&'a str>>
     if begins_object(&token) {
         return in_members(reader);
     }
-    let _passed = see_rest(reader, token, NESTING)?;
+    let _passed = read_rest(reader, token, NESTING)?;
     Some(None)
 }
 
@@ -43,7 +44,7 @@ fn in_roas(alloc: Global, reader: &mut Reader<'_>) -> Result<Option<Option<Strin
         return Ok(None);
     };
     if !begins_array(&token) {
-        return match see_rest(reader, token, NESTING) {
+        return match read_rest(reader, token, NESTING) {
             Some(_passed) => Ok(Some(None)),
             None => Ok(None),
         };
@@ -68,7 +69,7 @@ fn in_metadata<'a>(reader: &mut Reader<'a>) -> Option<Option<&'a str>>
 {
     let token = reader.next()?;
     if !begins_object(&token) {
-        let _passed = see_rest(reader, token, NESTING)?;
+        let _passed = read_rest(reader, token, NESTING)?;
         return Some(None);
     }
     let mut names = Names::NONE;
@@ -80,7 +81,7 @@ fn in_metadata<'a>(reader: &mut Reader<'a>) -> Option<Option<&'a str>>
         if names.repeat() {
             return Some(Some(name));
         }
-        let _passed = see(reader, NESTING)?;
+        skip_value(reader)?;
     }
 }
 
@@ -102,8 +103,8 @@ fn in_value(
             Some(None) => Ok(Some(None)),
             None => Ok(None),
         },
-        _ => match see(reader, NESTING) {
-            Some(_passed) => Ok(Some(None)),
+        _ => match skip_value(reader) {
+            Some(()) => Ok(Some(None)),
             None => Ok(None),
         },
     }

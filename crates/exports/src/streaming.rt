@@ -5,47 +5,47 @@ ghost use Rattle.json.specs.Reads.{token_of};
 ghost use Rattle.json.specs.Token.{Token as SpecToken};
 ghost use Rattle.serde_json.specs.Data.{Data, Members, put};
 ghost use Rattle.exports.specs.Repeating.{entry_twice, export_twice, two_twice};
-ghost use Rattle.exports.specs.PlainForm.{HasParts, IsFound, IsJudged, IsMetadata, IsSeen, PassesItems, PassesMembers, ReadsBuilt, ReadsEntries, ReadsEntry, ReadsMembers, ReadsNoItems, ReadsNoMembers, ReadsNone, ReadsPart, ReadsRoas, ReadsSome, TellsListed};
+ghost use Rattle.exports.specs.PlainForm.{HasParts, IsRawEntry, IsJudged, IsMetadata, IsScalar, PassesItems, PassesMembers, ReadsBuilt, ReadsEntries, ReadsEntry, ReadsMembers, ReadsNoItems, ReadsNoMembers, ReadsNone, ReadsPart, ReadsRoas, ReadsSome, TellsListed};
 
 use crate::built::built;
-use crate::entry::{Found, Listed, judged};
+use crate::entry::{ExportEntry, RawEntry, judged};
 use crate::fault::EntryFault;
-use crate::gathered::Gathered;
+use crate::gathered::EntryRecords;
 use crate::names::{EntryNames, Names};
-use crate::numbers::seen_number;
+use crate::numbers::scalar_number;
 use json::{Reader, Token};
 use std::alloc::{AllocError, Global};
 
 /// How deep a text may nest.
 pub(crate) const NESTING: usize = 127;
 
-/// What was seen of a value: the whole number or the text that it is, if it is one, and whether it is an array or an object.
+/// What was scalar of a value: the whole number or the text that it is, if it is one, and whether it is an array or an object.
 #[derive(Clone, Copy, Debug, Drop)]
-pub struct Seen<'a> {
+pub struct Scalar<'a> {
     pub(crate) number: Option<u64>,
     pub(crate) text: Option<&'a str>,
     pub(crate) array: bool,
     pub(crate) object: bool,
 }
 
-/// What is seen of a value that is none of these.
-const NEITHER: Seen<'static> = Seen {
+/// What is scalar of a value that is none of these.
+const NEITHER: Scalar<'static> = Scalar {
     number: None,
     text: None,
     array: false,
     object: false,
 };
 
-/// What is seen of an array.
-const ARRAY: Seen<'static> = Seen {
+/// What is scalar of an array.
+const ARRAY: Scalar<'static> = Scalar {
     number: None,
     text: None,
     array: true,
     object: false,
 };
 
-/// What is seen of an object.
-const OBJECT: Seen<'static> = Seen {
+/// What is scalar of an object.
+const OBJECT: Scalar<'static> = Scalar {
     number: None,
     text: None,
     array: false,
@@ -53,6 +53,7 @@ const OBJECT: Seen<'static> = Seen {
 };
 
 /// The name of the next member, or none at the end of the object.
+#[inline(always)]
 pub(crate) fn next_name<'a>(reader: &mut Reader<'a>) -> Option<Option<&'a str>>
     ensures { MatchOption result (read_key reader.old ≡ None) (λ k. read_key reader.old ≡ Some (option_map (λ s. s.now) k, reader.new)) }
 {
@@ -64,30 +65,32 @@ pub(crate) fn next_name<'a>(reader: &mut Reader<'a>) -> Option<Option<&'a str>>
 
 /// Reads a value, in which arrays and objects nest no deeper than this.
 #[cycle(passing)]
-pub(crate) fn see<'a>(reader: &mut Reader<'a>, depth: usize) -> Option<Seen<'a>>
-    ensures { MatchOption result (ReadsNone depth reader.old) (λ s. ReadsSome depth (λ j d. IsSeen d s) reader.old reader.new) }
+#[inline(always)]
+pub(crate) fn read_value<'a>(reader: &mut Reader<'a>, depth: usize) -> Option<Scalar<'a>>
+    ensures { MatchOption result (ReadsNone depth reader.old) (λ s. ReadsSome depth (λ j d. IsScalar d s) reader.old reader.new) }
 {
     let token = reader.next()?;
-    see_rest(reader, token, depth)
+    read_rest(reader, token, depth)
 }
 
 /// Reads the rest of a value of which this is the first token.
 #[cycle(passing)]
-pub(crate) fn see_rest<'a>(
+#[inline(always)]
+pub(crate) fn read_rest<'a>(
     reader: &mut Reader<'a>,
     token: Token<'a>,
     depth: usize,
-) -> Option<Seen<'a>>
-    ensures { MatchOption result (ReadsNone depth (token_of token.entry ∷ reader.old)) (λ s. ReadsSome depth (λ j d. IsSeen d s) (token_of token.entry ∷ reader.old) reader.new) }
+) -> Option<Scalar<'a>>
+    ensures { MatchOption result (ReadsNone depth (token_of token.entry ∷ reader.old)) (λ s. ReadsSome depth (λ j d. IsScalar d s) (token_of token.entry ∷ reader.old) reader.new) }
 {
     match token {
-        Token::Number(text) => Some(Seen {
-            number: seen_number(text)?,
+        Token::Number(text) => Some(Scalar {
+            number: scalar_number(text)?,
             text: None,
             array: false,
             object: false,
         }),
-        Token::String(text) => Some(Seen {
+        Token::String(text) => Some(Scalar {
             number: None,
             text: Some(text),
             array: false,
@@ -95,16 +98,17 @@ pub(crate) fn see_rest<'a>(
         }),
         Token::Bool(_bit) => Some(NEITHER),
         Token::Null => Some(NEITHER),
-        Token::BeginArray => see_array(reader, depth),
-        Token::BeginObject => see_object(reader, depth),
+        Token::BeginArray => read_array(reader, depth),
+        Token::BeginObject => read_object(reader, depth),
         Token::EndArray | Token::EndObject | Token::Key(_) | Token::Bad => None,
     }
 }
 
 /// Reads the rest of an array.
 #[cycle(passing)]
-fn see_array<'a>(reader: &mut Reader<'a>, depth: usize) -> Option<Seen<'a>>
-    ensures { MatchOption result (ReadsNone depth (SpecToken.begin_array ∷ reader.old)) (λ s. ReadsSome depth (λ j d. IsSeen d s) (SpecToken.begin_array ∷ reader.old) reader.new) }
+#[inline(never)]
+fn read_array<'a>(reader: &mut Reader<'a>, depth: usize) -> Option<Scalar<'a>>
+    ensures { MatchOption result (ReadsNone depth (SpecToken.begin_array ∷ reader.old)) (λ s. ReadsSome depth (λ j d. IsScalar d s) (SpecToken.begin_array ∷ reader.old) reader.new) }
 {
     if depth == 0 {
         return None;
@@ -117,8 +121,9 @@ fn see_array<'a>(reader: &mut Reader<'a>, depth: usize) -> Option<Seen<'a>>
 
 /// Reads the rest of an object.
 #[cycle(passing)]
-fn see_object<'a>(reader: &mut Reader<'a>, depth: usize) -> Option<Seen<'a>>
-    ensures { MatchOption result (ReadsNone depth (SpecToken.begin_object ∷ reader.old)) (λ s. ReadsSome depth (λ j d. IsSeen d s) (SpecToken.begin_object ∷ reader.old) reader.new) }
+#[inline(never)]
+fn read_object<'a>(reader: &mut Reader<'a>, depth: usize) -> Option<Scalar<'a>>
+    ensures { MatchOption result (ReadsNone depth (SpecToken.begin_object ∷ reader.old)) (λ s. ReadsSome depth (λ j d. IsScalar d s) (SpecToken.begin_object ∷ reader.old) reader.new) }
 {
     if depth == 0 {
         return None;
@@ -135,7 +140,7 @@ fn pass_items(reader: &mut Reader<'_>, depth: usize) -> bool
     ensures { MatchBool result (PassesItems depth reader.old reader.new) (ReadsNoItems depth reader.old) }
 {
     while !reader.take_end_array() {
-        let Some(_passed) = see(reader, depth) else {
+        let Some(_passed) = read_value(reader, depth) else {
             return false;
         };
     }
@@ -153,32 +158,32 @@ fn pass_members(reader: &mut Reader<'_>, depth: usize) -> bool
             Some(None) => return true,
             None => return false,
         }
-        let Some(_passed) = see(reader, depth) else {
+        let Some(_passed) = read_value(reader, depth) else {
             return false;
         };
     }
 }
 
 /// What was found with one member more, which takes the place of one of its name.
-fn with_member<'a>(found: Found<'a>, name: &str, seen: Seen<'a>) -> Found<'a>
-    ensures { (ms : Members) (d : Data) → IsFound ms found.entry → IsSeen d seen.entry → IsFound (put name.now d ms) result }
+fn with_member<'a>(found: RawEntry<'a>, name: &str, scalar: Scalar<'a>) -> RawEntry<'a>
+    ensures { (ms : Members) (d : Data) → IsRawEntry ms found.entry → IsScalar d scalar.entry → IsRawEntry (put name.now d ms) result }
 {
     match name {
-        "asn" => Found {
-            asn_number: seen.number,
-            asn_text: seen.text,
+        "asn" => RawEntry {
+            asn_number: scalar.number,
+            asn_text: scalar.text,
             ..found
         },
-        "prefix" => Found {
-            prefix: seen.text,
+        "prefix" => RawEntry {
+            prefix: scalar.text,
             ..found
         },
-        "maxLength" => Found {
-            max_len: seen.number,
+        "maxLength" => RawEntry {
+            max_len: scalar.number,
             ..found
         },
-        "expires" => Found {
-            expires: Some(seen.number),
+        "expires" => RawEntry {
+            expires: Some(scalar.number),
             ..found
         },
         _ => found,
@@ -186,10 +191,10 @@ fn with_member<'a>(found: Found<'a>, name: &str, seen: Seen<'a>) -> Found<'a>
 }
 
 /// Reads the members of an entry, to its end: what was found, and whether a name that is read is repeated.
-fn plain_members<'a>(reader: &mut Reader<'a>) -> Option<(Found<'a>, bool)>
-    ensures { MatchOption result (ReadsNoMembers 124 reader.old) (λ r. ReadsMembers 124 (λ js ms. IsFound ms r.0 × (r.1 ≡ entry_twice js)) reader.old reader.new) }
+fn plain_members<'a>(reader: &mut Reader<'a>) -> Option<(RawEntry<'a>, bool)>
+    ensures { MatchOption result (ReadsNoMembers 124 reader.old) (λ r. ReadsMembers 124 (λ js ms. IsRawEntry ms r.0 × (r.1 ≡ entry_twice js)) reader.old reader.new) }
 {
-    let mut found = Found {
+    let mut found = RawEntry {
         asn_number: None,
         asn_text: None,
         prefix: None,
@@ -202,7 +207,7 @@ fn plain_members<'a>(reader: &mut Reader<'a>) -> Option<(Found<'a>, bool)>
         let Some(name) = key else {
             return Some((found, names.repeat()));
         };
-        let value = see(reader, NESTING - 3)?;
+        let value = read_value(reader, NESTING - 3)?;
         found = with_member(found, name, value);
         names = names.with(name);
     }
@@ -216,12 +221,12 @@ pub(crate) fn begins_object(token: &Token<'_>) -> bool
 }
 
 /// Reads an entry: what it lists, or what of it cannot be read, and whether a name that is read is repeated.
-fn plain_entry(reader: &mut Reader<'_>) -> Option<(Result<Listed, EntryFault>, bool)>
+fn plain_entry(reader: &mut Reader<'_>) -> Option<(Result<ExportEntry, EntryFault>, bool)>
     ensures { MatchOption result (ReadsNone 125 reader.old) (λ r. ReadsEntry reader.old reader.new r) }
 {
     let token = reader.next()?;
     if !begins_object(&token) {
-        let _passed = see_rest(reader, token, NESTING - 2)?;
+        let _passed = read_rest(reader, token, NESTING - 2)?;
         return Some((Err(EntryFault::NoObject), false));
     }
     let (found, repeat) = plain_members(reader)?;
@@ -236,16 +241,16 @@ pub struct Metadata<'a> {
 }
 
 /// The same with one member more.
-fn with_detail<'a>(metadata: Metadata<'a>, name: &str, seen: Seen<'a>) -> Metadata<'a>
-    ensures { (ms : Members) (d : Data) → IsMetadata ms metadata.entry → IsSeen d seen.entry → IsMetadata (put name.now d ms) result }
+fn with_detail<'a>(metadata: Metadata<'a>, name: &str, scalar: Scalar<'a>) -> Metadata<'a>
+    ensures { (ms : Members) (d : Data) → IsMetadata ms metadata.entry → IsScalar d scalar.entry → IsMetadata (put name.now d ms) result }
 {
     match name {
         "generated" => Metadata {
-            generated: seen.number,
+            generated: scalar.number,
             ..metadata
         },
         "buildtime" => Metadata {
-            buildtime: seen.text,
+            buildtime: scalar.text,
             ..metadata
         },
         _ => metadata,
@@ -266,7 +271,7 @@ fn plain_metadata<'a>(reader: &mut Reader<'a>) -> Option<(Metadata<'a>, bool)>
         let Some(name) = key else {
             return Some((metadata, names.repeat()));
         };
-        let value = see(reader, NESTING - 2)?;
+        let value = read_value(reader, NESTING - 2)?;
         metadata = with_detail(metadata, name, value);
         names = names.with("generated", "buildtime", name);
     }
@@ -278,7 +283,7 @@ fn plain_built(reader: &mut Reader<'_>) -> Option<(Option<u64>, bool)>
 {
     let token = reader.next()?;
     if !begins_object(&token) {
-        let _passed = see_rest(reader, token, NESTING - 1)?;
+        let _passed = read_rest(reader, token, NESTING - 1)?;
         return Some((None, false));
     }
     let (metadata, repeat) = plain_metadata(reader)?;
@@ -289,14 +294,14 @@ fn plain_built(reader: &mut Reader<'_>) -> Option<(Option<u64>, bool)>
 /// of it cannot.
 #[derive(Debug, Drop)]
 pub enum Entries {
-    Whole(Gathered),
+    Whole(EntryRecords),
     Broken(usize, EntryFault),
 }
 
 /// The same with one entry more, which has this index. `AllocError`: 2^64 entries do not count, which no memory holds.
 fn with_entry(
     entries: Entries,
-    entry: Result<Listed, EntryFault>,
+    entry: Result<ExportEntry, EntryFault>,
     index: usize,
     now: u64,
 ) -> Result<Entries, AllocError>
@@ -325,7 +330,7 @@ fn gather_entries(
 ) -> Result<Option<(Entries, bool)>, AllocError>
     ensures { IfOk result (λ found. MatchOption found (ReadsNoItems 125 reader.old) (λ r. ReadsEntries now reader.old reader.new r)) }
 {
-    let mut entries = Entries::Whole(Gathered::new(alloc));
+    let mut entries = Entries::Whole(EntryRecords::new(alloc));
     let mut repeat = false;
     let mut index = 0usize;
     while !reader.take_end_array() {
@@ -361,7 +366,7 @@ fn plain_roas(
         return Ok(None);
     };
     if !begins_array(&token) {
-        let Some(_passed) = see_rest(reader, token, NESTING - 1) else {
+        let Some(_passed) = read_rest(reader, token, NESTING - 1) else {
             return Ok(None);
         };
         return Ok(Some((None, false)));
@@ -375,7 +380,7 @@ fn plain_roas(
 /// What was read of an export: its entries, if it has the form of one, when it was made, and whether a name that is read is repeated in its
 /// object.
 #[derive(Debug, Drop)]
-pub struct Parts {
+pub struct ExportMembers {
     pub(crate) entries: Option<Entries>,
     pub(crate) built: Option<u64>,
     pub(crate) repeats: bool,
@@ -386,14 +391,14 @@ fn with_part(
     alloc: Global,
     reader: &mut Reader<'_>,
     now: u64,
-    parts: Parts,
+    parts: ExportMembers,
     name: &str,
-) -> Result<Option<Parts>, AllocError>
+) -> Result<Option<ExportMembers>, AllocError>
     ensures { IfOk result (λ found. MatchOption found (ReadsNone 126 reader.old) (λ after. ReadsPart now name.now parts after reader.old reader.new)) }
 {
     match name {
         "roas" => match plain_roas(alloc, reader, now)? {
-            Some((entries, repeat)) => Ok(Some(Parts {
+            Some((entries, repeat)) => Ok(Some(ExportMembers {
                 entries,
                 built: parts.built,
                 repeats: parts.repeats | repeat,
@@ -401,14 +406,14 @@ fn with_part(
             None => Ok(None),
         },
         "metadata" => match plain_built(reader) {
-            Some((built, repeat)) => Ok(Some(Parts {
+            Some((built, repeat)) => Ok(Some(ExportMembers {
                 entries: parts.entries,
                 built,
                 repeats: parts.repeats | repeat,
             })),
             None => Ok(None),
         },
-        _ => match see(reader, NESTING - 1) {
+        _ => match read_value(reader, NESTING - 1) {
             Some(_passed) => Ok(Some(parts)),
             None => Ok(None),
         },
@@ -420,10 +425,10 @@ pub(crate) fn plain_parts(
     alloc: Global,
     reader: &mut Reader<'_>,
     now: u64,
-) -> Result<Option<Parts>, AllocError>
+) -> Result<Option<ExportMembers>, AllocError>
     ensures { IfOk result (λ found. MatchOption found (ReadsNoMembers 126 reader.old) (λ parts. ReadsMembers 126 (λ js ms. HasParts now ms parts × (parts.repeats ≡ export_twice js)) reader.old reader.new)) }
 {
-    let mut parts = Parts {
+    let mut parts = ExportMembers {
         entries: None,
         built: None,
         repeats: false,
@@ -435,7 +440,7 @@ pub(crate) fn plain_parts(
         };
         let Some(name) = key else {
             let repeats = names.repeat() | parts.repeats;
-            return Ok(Some(Parts { repeats, ..parts }));
+            return Ok(Some(ExportMembers { repeats, ..parts }));
         };
         let Some(more) = with_part(alloc, reader, now, parts, name)? else {
             return Ok(None);

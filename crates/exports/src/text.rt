@@ -5,25 +5,25 @@ ghost use Rattle.exports.specs.ListForm.{Records};
 ghost use Rattle.exports.specs.PlainForm.{ReadsForm, ReadsListParts, ReadsNoItems, ReadsNone, ReadsParts, TellsParts, TextFails};
 
 use crate::fault::ExportFault;
-use crate::gathered::Gathered;
+use crate::gathered::EntryRecords;
 use crate::lists::list_records;
-use crate::plain::{Entries, NESTING, Parts, begins_array, begins_object, plain_parts, see_rest};
+use crate::streaming::{
+    Entries, ExportMembers, NESTING, begins_array, begins_object, plain_parts, read_rest,
+};
 use json::{Reader, Scratch};
-use payload_lists::ListFault;
-use payload_lists::parts::plain_list;
 use prefixes::Vrp;
 use std::alloc::{AllocError, Global};
 
 /// What was read of an array whose items have these payloads. `None`: not all of its items are entries of a payload list.
-fn parts_of_list(alloc: Global, records: Option<Vec<Vrp>>) -> Result<Parts, AllocError>
+fn parts_of_list(alloc: Global, records: Option<Vec<Vrp>>) -> Result<ExportMembers, AllocError>
     ensures list { IfOk result (λ p. (now : ℕ) (ds : Items) → Records ds records → TellsParts now (array ds) p) }
     ensures names { IfOk result (λ p. p.repeats ≡ false) }
 {
     let entries = match records {
-        Some(records) => Some(Entries::Whole(Gathered::lasting(alloc, records)?)),
+        Some(records) => Some(Entries::Whole(EntryRecords::lasting(alloc, records)?)),
         None => None,
     };
-    Ok(Parts {
+    Ok(ExportMembers {
         entries,
         built: None,
         repeats: false,
@@ -31,7 +31,7 @@ fn parts_of_list(alloc: Global, records: Option<Vec<Vrp>>) -> Result<Parts, Allo
 }
 
 /// Reads the items of an array, to its end, as a payload list.
-fn list_parts(alloc: Global, reader: &mut Reader<'_>) -> Result<Option<Parts>, AllocError>
+fn list_parts(alloc: Global, reader: &mut Reader<'_>) -> Result<Option<ExportMembers>, AllocError>
     ensures { (now : ℕ) → IfOk result (λ found. MatchOption found (ReadsNoItems 126 reader.old) (λ p. ReadsListParts now reader.old reader.new p)) }
 {
     let Some(records) = list_records(alloc, reader)? else {
@@ -45,7 +45,7 @@ fn value_parts(
     alloc: Global,
     reader: &mut Reader<'_>,
     now: u64,
-) -> Result<Option<Parts>, AllocError>
+) -> Result<Option<ExportMembers>, AllocError>
     ensures { IfOk result (λ found. MatchOption found (ReadsNone 127 reader.old) (λ p. ReadsForm now reader.old reader.new p)) }
 {
     let Some(token) = reader.next() else {
@@ -57,10 +57,10 @@ fn value_parts(
     if begins_array(&token) {
         return list_parts(alloc, reader);
     }
-    let Some(_passed) = see_rest(reader, token, NESTING) else {
+    let Some(_passed) = read_rest(reader, token, NESTING) else {
         return Ok(None);
     };
-    Ok(Some(Parts {
+    Ok(Some(ExportMembers {
         entries: None,
         built: None,
         repeats: false,
@@ -68,7 +68,11 @@ fn value_parts(
 }
 
 /// Reads a text of either form token by token.
-fn any_parts(alloc: Global, text: &str, now: u64) -> Result<Parts, ExportFault>
+pub(crate) fn parts_of_text(
+    alloc: Global,
+    text: &str,
+    now: u64,
+) -> Result<ExportMembers, ExportFault>
     ensures ok { IfOk result (λ parts. ReadsParts now text.now parts) }
     ensures fault { IfErr result (λ fault. TextFails text.now fault) }
 {
@@ -81,17 +85,4 @@ fn any_parts(alloc: Global, text: &str, now: u64) -> Result<Parts, ExportFault>
         return Err(ExportFault::NotJson);
     }
     Ok(parts)
-}
-
-/// Reads a text of either form. A payload list in its plain form needs no look at the names of its members.
-pub(crate) fn parts_of_text(alloc: Global, text: &str, now: u64) -> Result<Parts, ExportFault>
-    ensures ok { IfOk result (λ parts. ReadsParts now text.now parts) }
-    ensures fault { IfErr result (λ fault. TextFails text.now fault) }
-{
-    match plain_list(alloc, text) {
-        Ok(Some(records)) => Ok(parts_of_list(alloc, Some(records))?),
-        Ok(None) => any_parts(alloc, text, now),
-        Err(ListFault::NoList) => any_parts(alloc, text, now),
-        Err(ListFault::Memory) => Err(ExportFault::Memory),
-    }
 }

@@ -1,11 +1,19 @@
 //! Steps through a JSON text, token by token.
-ghost use Rattle.std.specs.Prelude.{◌<◌, ◌≤◌, length};
-ghost use Rattle.std.specs.Bool.{OnTrue};
+ghost use Rattle.std.specs.Prelude.{◌<◌, length, IfSome};
 
+use crate::streaming::NESTING;
 use json::{Reader, Token};
 
-/// How deep a text may nest.
-pub(crate) const NESTING: usize = 127;
+/// Skips the value that comes next. `None`: it cannot be read.
+#[inline(always)]
+pub(crate) fn skip_value(reader: &mut Reader<'_>) -> Option<()>
+    ensures { IfSome result (λ _. length reader.new < length reader.old) }
+{
+    match reader.skip_value(NESTING) {
+        Ok(()) => Some(()),
+        Err(_) => None,
+    }
+}
 
 /// Goes to the value of the first member of this name, in an object whose members come next. Whether there is one.
 pub(crate) fn find_member(reader: &mut Reader<'_>, name: &str) -> bool {

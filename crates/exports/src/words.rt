@@ -6,9 +6,10 @@ use crate::fault::{EntryFault, ExportFault};
 use crate::forms::form_text;
 use crate::json_fault::json_fault_text;
 use crate::repeated::repeated_text;
-use crate::walk::{NESTING, begins_array, begins_object, find_item, find_member};
-use json::{Error, Reader, Scratch, Value as Tree};
-use json_texts::{Position, cut_text, name_text};
+use crate::streaming::NESTING;
+use crate::walk::{begins_array, begins_object, find_item, find_member};
+use json::{Error, Reader, Scratch, Token, Value as Tree};
+use json_texts::{NO_ASN, NO_MAX_LENGTH, NO_PREFIX, Position, cut_text, name_text};
 use std::alloc::{AllocError, Global};
 use std::str;
 
@@ -26,29 +27,39 @@ fn place(alloc: Global, fault: ExportFault) -> Result<String, AllocError>
     }
 }
 
+/// A value of which this is the first token, as a message shows it.
+pub(crate) fn shown_token(alloc: Global, token: &Token<'_>) -> Result<String, AllocError> {
+    match token {
+        Token::String(text) => name_text(alloc, text),
+        Token::Number(text) => cut_text(alloc, text),
+        Token::Bool(true) => String::from_str(alloc, "true"),
+        Token::Bool(false) => String::from_str(alloc, "false"),
+        Token::BeginArray => String::from_str(alloc, "an array"),
+        Token::BeginObject => String::from_str(alloc, "an object"),
+        _ => String::from_str(alloc, "null"),
+    }
+}
+
 /// A value, as a message shows it.
 pub(crate) fn shown(alloc: Global, value: &Tree<'_>) -> Result<String, AllocError> {
-    match value {
-        Tree::String(text) => name_text(alloc, text),
-        Tree::Number(text) => cut_text(alloc, text),
-        Tree::Bool(true) => String::from_str(alloc, "true"),
-        Tree::Bool(false) => String::from_str(alloc, "false"),
-        Tree::Null => String::from_str(alloc, "null"),
-        Tree::Array(_) => String::from_str(alloc, "an array"),
-        Tree::Object(_) => String::from_str(alloc, "an object"),
-    }
+    let token = match value {
+        Tree::String(text) => Token::String(*text),
+        Tree::Number(text) => Token::Number(*text),
+        Tree::Bool(bit) => Token::Bool(*bit),
+        Tree::Null => Token::Null,
+        Tree::Array(_) => Token::BeginArray,
+        Tree::Object(_) => Token::BeginObject,
+    };
+    shown_token(alloc, &token)
 }
 
 /// The member of an entry that a fault is of, and what is wrong with it.
 fn member_of(what: EntryFault) -> Option<(&'static str, &'static str)> {
     match what {
         EntryFault::NoObject => None,
-        EntryFault::Asn => Some(("asn", "is no AS number")),
-        EntryFault::Prefix => Some(("prefix", "is no prefix")),
-        EntryFault::MaxLength => Some((
-            "maxLength",
-            "is not from the prefix length to 32 (IPv4) or 128 (IPv6)",
-        )),
+        EntryFault::Asn => Some(("asn", NO_ASN)),
+        EntryFault::Prefix => Some(("prefix", NO_PREFIX)),
+        EntryFault::MaxLength => Some(("maxLength", NO_MAX_LENGTH)),
         EntryFault::Expires => Some(("expires", "is no whole number of seconds")),
     }
 }

@@ -11,7 +11,7 @@ use payload_commands::Directory;
 use points::{Offered, PointFault};
 use rtr_server::{AdmitFault, Client, Server, Stream, Turn};
 use slurm::SlurmFault;
-use sources::{Served, Sources, TakeFault};
+use sources::{ServedSet, Sources, TakeFault};
 use std::alloc::Global;
 use vrps::{Published, SetFault, VersionStore, VrpSet};
 
@@ -153,7 +153,7 @@ impl<S: VersionStore, T: Stream + Drop> Service<S, T> {
     }
 
     /// The set of the sources at a time in seconds since 1970.
-    fn served(&self, now: u64) -> Result<Served, Refusal>
+    fn served(&self, now: u64) -> Result<ServedSet, Refusal>
         ensures { IfOk result (λ served. IsServedAt now self.now.sources served.set) }
     {
         let Some(moment) = moment_at(now) else {
@@ -174,7 +174,7 @@ impl<S: VersionStore, T: Stream + Drop> Service<S, T> {
         ensures kept { IfErr result (λ _. (p : Past) → ShowsServer S.holds T.remaining T.contents p self.old.server → ShowsServer S.holds T.remaining T.contents p self.new.server) }
         ensures sources { self.new.sources ≡ self.old.sources }
     {
-        let Served { set, left_out } = self.served(now)?;
+        let ServedSet { set, left_out } = self.served(now)?;
         let counts = change_counts(self.set(), &set);
         let records = set.len() as u64;
         match self.server.publish(set) {

@@ -1,5 +1,5 @@
 use Rattle.std.proofs.Common.{◌∙◌, Some, ap}
-use Rattle.exports.specs.declared.plain.Entries.TheVariants.{Whole}
+use Rattle.exports.specs.declared.streaming.Entries.TheVariants.{Whole}
 use Rattle.exports.proofs.Ends.{entries_of, if_fails, if_made}
 use Rattle.exports.proofs.export.read_text.Goals as goal
 

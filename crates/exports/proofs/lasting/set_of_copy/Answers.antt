@@ -1,7 +1,7 @@
 use Rattle.std.proofs.Common.{subst}
 use Rattle.std.specs.Prelude.{IfErr, IfOk, ◌≡◌, ◌≤◌}
 use Rattle.vrps.specs.VrpSet.{set_of, size}
-use Rattle.exports.specs.Found.{SetFails}
+use Rattle.exports.specs.Gathering.{SetFails}
 use Rattle.exports.proofs.lasting.set_of_copy.Goals as goal
 
 pub returns-clause-ok : goal.returns-clause-ok

@@ -2,7 +2,7 @@ use Rattle.std.proofs.Common.{◌∷◌, ◌∙◌, None, sym, ap, subst}
 use Rattle.std.specs.Prelude.{MatchOption}
 use Rattle.json.specs.Reads.{token_of}
 use Rattle.exports.specs.ListForm.{HoldsEntry, IsListed, ReadsListed}
-use Rattle.exports.specs.PlainForm.{IsSeen, ReadsNone, ReadsSome}
+use Rattle.exports.specs.PlainForm.{IsScalar, ReadsNone, ReadsSome}
 use Rattle.exports.proofs.ListParts.{listed_of, not_listed}
 use Rattle.exports.proofs.PlainParts.{no_object_here}
 use Rattle.exports.proofs.PlainSteps.{no_object, none_at_end, object_read, other}
@@ -15,9 +15,9 @@ returns-in_err-token c =
 pub returns-then-not-begins_object : goal.returns-then-not-begins_object
 returns-then-not-begins_object c =
     let t = token_of c.in_ok-token.token in
-    subst (λ ts. ReadsSome 126 (λ j d. IsListed d None) ts c.see_rest.new.reader) (sym c.in_ok-token.ensures.value)
-    (other 126 (λ j d. IsSeen d c.in_ok-_passed._passed) (λ j d. IsListed d None) (t ∷ c.next.new.self) c.see_rest.new.reader
-    (λ j d made at is. not_listed d (no_object_here 126 t c.next.new.self c.see_rest.new.reader j d c.if-not-begins_object.ensures made at).0) c.in_ok-_passed.ensures)
+    subst (λ ts. ReadsSome 126 (λ j d. IsListed d None) ts c.read_rest.new.reader) (sym c.in_ok-token.ensures.value)
+    (other 126 (λ j d. IsScalar d c.in_ok-_passed._passed) (λ j d. IsListed d None) (t ∷ c.next.new.self) c.read_rest.new.reader
+    (λ j d made at is. not_listed d (no_object_here 126 t c.next.new.self c.read_rest.new.reader j d c.if-not-begins_object.ensures made at).0) c.in_ok-_passed.ensures)
 
 pub returns-in_err-found : goal.returns-in_err-found
 returns-in_err-found c =

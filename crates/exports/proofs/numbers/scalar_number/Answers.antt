@@ -2,7 +2,7 @@ use Rattle.std.proofs.Common.{◌≡◌, drop, get_or, true, false, ◌==◌, op
 use Rattle.fast_float.specs.Text.{scan}
 use Rattle.serde_json.specs.Find.{as_u64}
 use Rattle.serde_json.specs.Read.{number_of, number_from}
-use Rattle.exports.proofs.numbers.seen_number.Goals as goal
+use Rattle.exports.proofs.numbers.scalar_number.Goals as goal
 
 pub returns-then-has_minus : goal.returns-then-has_minus
 unfolding number_of

@@ -10,4 +10,4 @@ returns-in_default c =
 pub loop-name-preserved : goal.loop-name-preserved
 loop-name-preserved c =
     let less = read_key-shorter c.loop-name.reader (Some c.in-Some.name.now) c.next_name.new.reader (c.in_ok-name.ensures ∙ ap (λ k. Some (option_map (λ s. s.now) k, c.next_name.new.reader)) c.in-Some.is) in
-    omega (arith, less, c.in_ok-_passed.ensures.0, c.loop-name.invariant)
+    omega (arith, less, c.in_ok-skip_value.ensures, c.loop-name.invariant)

@@ -1,19 +1,19 @@
 use Rattle.std.proofs.Common.{◌+◌, ◌*◌, length}
 use Rattle.std.specs.Prelude.{⊤}
 use Rattle.exports.proofs.PlainSteps.{Begun, BegunItems}
-use Rattle.exports.proofs.plain.+passing.Given as goal
+use Rattle.exports.proofs.streaming.+passing.Given as goal
 
-abbrev pub decreases-see : goal.decreases-see
-decreases-see l = 4 * l.depth + 2
+abbrev pub decreases-read_value : goal.decreases-read_value
+decreases-read_value l = 4 * l.depth + 2
 
-abbrev pub decreases-see_rest : goal.decreases-see_rest
-decreases-see_rest l = 4 * l.depth + 1
+abbrev pub decreases-read_rest : goal.decreases-read_rest
+decreases-read_rest l = 4 * l.depth + 1
 
-abbrev pub decreases-see_array : goal.decreases-see_array
-decreases-see_array l = 4 * l.depth
+abbrev pub decreases-read_array : goal.decreases-read_array
+decreases-read_array l = 4 * l.depth
 
-abbrev pub decreases-see_object : goal.decreases-see_object
-decreases-see_object l = 4 * l.depth
+abbrev pub decreases-read_object : goal.decreases-read_object
+decreases-read_object l = 4 * l.depth
 
 abbrev pub decreases-pass_items : goal.decreases-pass_items
 decreases-pass_items l = 4 * l.depth + 3

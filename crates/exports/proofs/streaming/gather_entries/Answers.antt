@@ -2,11 +2,11 @@ use Rattle.std.proofs.Common.{◌≡◌, ◌+◌, ◌||◌, ◌∷◌, ◌∙◌
 use Rattle.std.proofs.lemmas.List.{length-append}
 use Rattle.exports.specs.PlainForm.{IsJudged, ReadsEntry, ReadsNone, TellsListed}
 use Rattle.exports.specs.Repeating.{entry_repeats, items_repeat}
-use Rattle.exports.specs.declared.plain.Entries.TheVariants.{Whole}
+use Rattle.exports.specs.declared.streaming.Entries.TheVariants.{Whole}
 use Rattle.json.specs.Json as json
 use Rattle.exports.proofs.PlainParts.{EntriesSoFar, or_false, or_more}
 use Rattle.exports.proofs.PlainSteps.{begun_items, ends_items, no_item, one_more_item}
-use Rattle.exports.proofs.plain.gather_entries.Goals as goal
+use Rattle.exports.proofs.streaming.gather_entries.Goals as goal
 
 pub loop-entries-init : goal.loop-entries-init
 loop-entries-init c = begun_items 125 (EntriesSoFar c.args.now 0 (Whole c.new.result) false) c.args.reader.now (refl, ([], tt, c.new.ensures c.args.now), λ rest. refl)

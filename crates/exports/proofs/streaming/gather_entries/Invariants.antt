@@ -1,7 +1,7 @@
 use Rattle.std.proofs.Common.{length}
 use Rattle.exports.proofs.PlainParts.{EntriesSoFar}
 use Rattle.exports.proofs.PlainSteps.{BegunItems}
-use Rattle.exports.proofs.plain.gather_entries.Given as goal
+use Rattle.exports.proofs.streaming.gather_entries.Given as goal
 
 -- what was read of the entries so far, and how many they are
 abbrev pub invariant-loop-entries : goal.invariant-loop-entries

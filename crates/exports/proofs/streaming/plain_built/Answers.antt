@@ -1,11 +1,11 @@
 use Rattle.std.proofs.Common.{◌≡◌, ◌∷◌, ◌∙◌, None, false, codes, sym, ap, subst}
 use Rattle.std.specs.Prelude.{MatchOption}
 use Rattle.json.specs.Reads.{token_of}
-use Rattle.exports.specs.PlainForm.{IsMetadata, IsSeen, ReadsBuilt, ReadsNone, ReadsSome, TellsBuilt}
+use Rattle.exports.specs.PlainForm.{IsMetadata, IsScalar, ReadsBuilt, ReadsNone, ReadsSome, TellsBuilt}
 use Rattle.exports.specs.Repeating.{metadata_repeat, two_twice}
 use Rattle.exports.proofs.PlainParts.{built_by, no_object_here, not_built}
 use Rattle.exports.proofs.PlainSteps.{no_object, none_at_end, object_read, other}
-use Rattle.exports.proofs.plain.plain_built.Goals as goal
+use Rattle.exports.proofs.streaming.plain_built.Goals as goal
 
 pub returns-in_err-token : goal.returns-in_err-token
 returns-in_err-token c =
@@ -14,9 +14,9 @@ returns-in_err-token c =
 pub returns-then-not-begins_object : goal.returns-then-not-begins_object
 returns-then-not-begins_object c =
     let t = token_of c.in_ok-token.token in
-    subst (λ ts. ReadsSome 126 (λ j d. TellsBuilt d None × (false ≡ metadata_repeat j)) ts c.see_rest.new.reader) (sym c.in_ok-token.ensures.value)
-    (other 126 (λ j d. IsSeen d c.in_ok-_passed._passed) (λ j d. TellsBuilt d None × (false ≡ metadata_repeat j)) (t ∷ c.next.new.self) c.see_rest.new.reader
-    (λ j d made at is. let no = no_object_here 126 t c.next.new.self c.see_rest.new.reader j d c.if-not-begins_object.ensures made at in (not_built d no.0, no.2)) c.in_ok-_passed.ensures)
+    subst (λ ts. ReadsSome 126 (λ j d. TellsBuilt d None × (false ≡ metadata_repeat j)) ts c.read_rest.new.reader) (sym c.in_ok-token.ensures.value)
+    (other 126 (λ j d. IsScalar d c.in_ok-_passed._passed) (λ j d. TellsBuilt d None × (false ≡ metadata_repeat j)) (t ∷ c.next.new.self) c.read_rest.new.reader
+    (λ j d made at is. let no = no_object_here 126 t c.next.new.self c.read_rest.new.reader j d c.if-not-begins_object.ensures made at in (not_built d no.0, no.2)) c.in_ok-_passed.ensures)
 
 pub returns-in_err-metadata : goal.returns-in_err-metadata
 returns-in_err-metadata c =

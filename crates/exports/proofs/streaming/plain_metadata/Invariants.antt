@@ -2,7 +2,7 @@ use Rattle.std.proofs.Common.{length, codes}
 use Rattle.exports.specs.PlainForm.{IsMetadata}
 use Rattle.exports.specs.Repeating.{AreMet}
 use Rattle.exports.proofs.PlainSteps.{Begun}
-use Rattle.exports.proofs.plain.plain_metadata.Given as goal
+use Rattle.exports.proofs.streaming.plain_metadata.Given as goal
 
 -- what was found in the members so far, and how often the names that are read stand there
 abbrev pub invariant-loop-key : goal.invariant-loop-key

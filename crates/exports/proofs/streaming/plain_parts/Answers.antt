@@ -8,7 +8,7 @@ use Rattle.exports.specs.declared.names.Met.TheVariants.{Never}
 use Rattle.exports.proofs.PlainParts.{or_false}
 use Rattle.exports.proofs.PlainSteps.{begun, ends, no_name, no_value, one_more}
 use Rattle.exports.proofs.PlainWhole.{PartsSoFar, has_none, parts_more}
-use Rattle.exports.proofs.plain.plain_parts.Goals as goal
+use Rattle.exports.proofs.streaming.plain_parts.Goals as goal
 
 pub loop-key-init : goal.loop-key-init
 loop-key-init c =

@@ -1,7 +1,7 @@
 use Rattle.std.proofs.Common.{length}
 use Rattle.exports.proofs.PlainSteps.{Begun}
 use Rattle.exports.proofs.PlainWhole.{PartsSoFar}
-use Rattle.exports.proofs.plain.plain_parts.Given as goal
+use Rattle.exports.proofs.streaming.plain_parts.Given as goal
 
 -- the members so far were read
 abbrev pub invariant-loop-key : goal.invariant-loop-key

@@ -2,7 +2,7 @@ use Rattle.std.proofs.Common.{◌++◌, ◌∷◌, [], subst}
 use Rattle.exports.specs.PlainForm.{FailsIn, IsJudged, TellsListed}
 use Rattle.exports.proofs.Items.{gather_more}
 use Rattle.exports.proofs.PlainParts.{are_more, fails_last, fails_more}
-use Rattle.exports.proofs.plain.with_entry.Goals as goal
+use Rattle.exports.proofs.streaming.with_entry.Goals as goal
 
 pub returns-in-Broken : goal.returns-in-Broken
 returns-in-Broken c ds d long told is = fails_more ds d c.in-Broken.first c.in-Broken.what (subst (λ x. TellsListed c.args.now ds x) c.in-Broken.is told)

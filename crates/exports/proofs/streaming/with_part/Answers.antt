@@ -2,7 +2,7 @@ use Rattle.std.proofs.Common.{◌||◌, sym, subst}
 use Rattle.std.specs.Prelude.{MatchOption}
 use Rattle.exports.specs.PlainForm.{ReadsNone, ReadsPart, ReadsRoas}
 use Rattle.exports.proofs.PlainWhole.{part_metadata, part_other, part_roas}
-use Rattle.exports.proofs.plain.with_part.Goals as goal
+use Rattle.exports.proofs.streaming.with_part.Goals as goal
 
 pub returns-in-Some : goal.returns-in-Some
 returns-in-Some c =
@@ -16,6 +16,6 @@ returns-in-Some-plain_built c =
     (sym c.in-metadata.is)
     (part_metadata c.args.now c.args.parts (c.in-Some-plain_built.built, c.in-Some-plain_built.repeat) c.args.reader.now c.plain_built.new.reader c.in-Some-plain_built.ensures)
 
-pub returns-in-Some-see : goal.returns-in-Some-see
-returns-in-Some-see c =
-    part_other c.args.now c.args.name.now c.args.parts c.in-Some-see._passed c.args.reader.now c.see.new.reader c.in_default.not-roas c.in_default.not-metadata c.in-Some-see.ensures
+pub returns-in-Some-read_value : goal.returns-in-Some-read_value
+returns-in-Some-read_value c =
+    part_other c.args.now c.args.name.now c.args.parts c.in-Some-read_value._passed c.args.reader.now c.read_value.new.reader c.in_default.not-roas c.in_default.not-metadata c.in-Some-read_value.ensures

@@ -6,7 +6,7 @@ use Rattle.exports.specs.PlainForm.{ReadsForm, ReadsNone, TellsParts}
 use Rattle.exports.specs.Repeating.{export_repeats}
 use Rattle.exports.proofs.PlainParts.{there_is}
 use Rattle.exports.proofs.PlainWhole.{more_than_json, no_json, whole_form}
-use Rattle.exports.proofs.text.any_parts.Goals as goal
+use Rattle.exports.proofs.text.parts_of_text.Goals as goal
 
 pub returns-in_default-clause-fault : goal.returns-in_default-clause-fault
 returns-in_default-clause-fault c =

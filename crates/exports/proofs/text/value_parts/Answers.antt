@@ -17,4 +17,4 @@ returns-then-begins_array c =
 
 pub returns : goal.returns
 returns c =
-    other_form c.args.now c.in-Some-see_rest._passed c.args.reader.now c.next.new.self c.see_rest.new.reader (token_of c.in-Some.token) c.in-Some.ensures.value c.if-begins_object.ensures c.if-begins_array.ensures c.in-Some-see_rest.ensures
+    other_form c.args.now c.in-Some-read_rest._passed c.args.reader.now c.next.new.self c.read_rest.new.reader (token_of c.in-Some.token) c.in-Some.ensures.value c.if-begins_object.ensures c.if-begins_array.ensures c.in-Some-read_rest.ensures

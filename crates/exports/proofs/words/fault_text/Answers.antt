@@ -1,6 +1,6 @@
 use Rattle.std.proofs.Common.{◌∙◌}
 use Rattle.exports.specs.FaultText.{number_text, place}
-use Rattle.exports.proofs.ThreeParts.{with_place}
+use Rattle.json_texts.proofs.ThreeParts.{with_place}
 use Rattle.exports.proofs.words.fault_text.Goals as goal
 
 pub returns : goal.returns

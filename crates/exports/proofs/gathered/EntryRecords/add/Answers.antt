@@ -2,7 +2,7 @@ use Rattle.std.proofs.Common.{◌≡◌, ◌∷◌, [], true}
 use Rattle.exports.specs.Entry.{counts_at}
 use Rattle.exports.specs.Until.{endings}
 use Rattle.exports.proofs.Ends.{ends_of_one}
-use Rattle.exports.proofs.gathered.Gathered.add.Goals as goal
+use Rattle.exports.proofs.gathered.EntryRecords.add.Goals as goal
 
 pub returns-in_ok-push-2-clause-until : goal.returns-in_ok-push-2-clause-until
 returns-in_ok-push-2-clause-until c ts h =
