@@ -5,7 +5,7 @@ use Rattle.serde_json.specs.Data.{Data}
 use Rattle.serde_json.specs.View.{items_of, items_view, view}
 use Rattle.serde_json.specs.declared.value.Value.{Value}
 use Rattle.slurm.specs.Entries.{AreRead, FaultAt, listed}
-use Rattle.slurm.specs.declared.fault.EntryFault.{EntryFault}
+use Rattle.slurm.specs.declared.fault.SlurmEntryFault.{SlurmEntryFault}
 
 listed-items_of : (ds : List Data) → listed (items_of ds) ≡ ds
 listed-items_of [] = refl
@@ -19,7 +19,7 @@ map-append : (xs ys : List Value) → map view (xs ++ ys) ≡ map view xs ++ map
 map-append [] ys = refl
 map-append (x ∷ xs) ys = ap (λ zs. view x ∷ zs) (map-append xs ys)
 
-module _ {A : Type 0} (Reads : Data → Result A EntryFault → Type 0) where
+module _ {A : Type 0} (Reads : Data → Result A SlurmEntryFault → Type 0) where
   -- one entry more
   are_more : (ds : List Data) (xs : List A) (d : Data) (x : A) → AreRead Reads ds xs → Reads d (Ok x) → AreRead Reads (ds ++ d ∷ []) (xs ++ x ∷ [])
   are_more [] [] d x h r = (r, tt)
@@ -34,7 +34,7 @@ module _ {A : Type 0} (Reads : Data → Result A EntryFault → Type 0) where
       let all : map view (take (i + 1) list) ≡ map view (take i list) ++ view v ∷ [] = ap (map view) cut ∙ map-append (take i list) (v ∷ []) in
       subst (λ ds. AreRead Reads ds (xs ++ x ∷ [])) (sym all) (are_more (map view (take i list)) xs (view v) x so_far one)
 
-  pub fault_at : (list : List Value) (i : ℕ) (v : Value) (xs : List A) (e : EntryFault) → i < length list → v ≡ get_or list i v → AreRead Reads (map view (take i list)) xs → Reads (view v) (Err e)
+  pub fault_at : (list : List Value) (i : ℕ) (v : Value) (xs : List A) (e : SlurmEntryFault) → i < length list → v ≡ get_or list i v → AreRead Reads (map view (take i list)) xs → Reads (view v) (Err e)
       → FaultAt Reads (listed (items_view list)) i e
   fault_at list i v xs e h is so_far one =
       record {

@@ -13,8 +13,8 @@ use Rattle.slurm.specs.Chains.{◌>>=◌, given, unless}
 use Rattle.slurm.specs.Entries.{AreRead, ReadsAssertion, ReadsAssertionOf, ReadsFilter, ReadsFilterOf, ReadsKeyAssertion, ReadsKeyFilter, ReadsPrefix, asn_if_any, asn_of, assertion_asn, comment_of, filter_asn, key_assertion, key_filter, max_len_of, members_known, text_if_any, text_of}
 use Rattle.slurm.specs.Members.{one_for, total}
 use Rattle.slurm.specs.Relations.{Each, Has, HasOnly, HasText, HasTextIfAny, IsAssertion, IsFilter, IsKeyAssertion, IsKeyFilter, SaysAsn, SaysMaximum, SaysPrefix}
-use Rattle.slurm.specs.declared.fault.EntryFault.{EntryFault}
-use Rattle.slurm.specs.declared.fault.EntryFault.TheVariants as why
+use Rattle.slurm.specs.declared.fault.SlurmEntryFault.{SlurmEntryFault}
+use Rattle.slurm.specs.declared.fault.SlurmEntryFault.TheVariants as why
 use Rattle.slurm.specs.declared.filter.PrefixFilter.{PrefixFilter}
 use Rattle.slurm.proofs.Ascending.{Ascends, some_is}
 use Rattle.slurm.proofs.Chained.{Through1, Through2, Through3, after_ok, either_true, first_ok, is_number, number_is, ok_after, ok_first, ok_is, ok_through1, ok_through2, ok_through3, ok_unless, through1_ok, through2_ok, through3_ok, true_either, unless_ok}
@@ -22,7 +22,7 @@ use Rattle.slurm.proofs.Counted.{Apart, count_by_only, only_by_count}
 
 -- ---- members
 
-abbrev known_by : Bool → Result ⊤ EntryFault
+abbrev known_by : Bool → Result ⊤ SlurmEntryFault
 known_by b = if b then Ok tt else Err why.OtherKey
 
 known_if : (b : Bool) → IsOk (known_by b) → b ≡ true
@@ -81,7 +81,7 @@ whole_there (Some d) n h = refl
 abbrev as_of : ℕ → Asn
 as_of n = record { 0 = n }
 
-abbrev below : Bool → ℕ → Result Asn EntryFault
+abbrev below : Bool → ℕ → Result Asn SlurmEntryFault
 below b n = if b then Ok (as_of n) else Err why.Asn
 
 is_small : (m : ℕ) → nat_lt m (2 ^ 32) ≡ true → m < 2 ^ 32
@@ -92,10 +92,10 @@ small_is m h = grind (arith, nat_tests)
 
 below_says : (b : Bool) (n : ℕ) (a : Asn) → nat_lt n (2 ^ 32) ≡ b → below b n ≡ Ok a → (n ≡ a.0) × (a.0 < 2 ^ 32)
 below_says true n a is h =
-    let same : n ≡ a.0 = ap (λ (x : Asn). x.0) (ok_is {E = EntryFault} (as_of n) a h) in (same, subst (λ m. m < 2 ^ 32) same (is_small n is))
+    let same : n ≡ a.0 = ap (λ (x : Asn). x.0) (ok_is {E = SlurmEntryFault} (as_of n) a h) in (same, subst (λ m. m < 2 ^ 32) same (is_small n is))
 below_says false n a is h = absurd (cc)
 
-abbrev asn_by : Option ℕ → Result Asn EntryFault
+abbrev asn_by : Option ℕ → Result Asn SlurmEntryFault
 asn_by o = given why.Asn o >>= λ n. below (nat_lt n (2 ^ 32)) n
 
 asn_by_says : (o : Option ℕ) (a : Asn) → asn_by o ≡ Ok a → (o ≡ Some a.0) × (a.0 < 2 ^ 32)
@@ -108,11 +108,11 @@ asn_says d a h = asn_by_says (whole_at (codes "asn") d) a h
 pub says_asn : (d : Data) (a : Asn) → whole_at (codes "asn") d ≡ Some a.0 → a.0 < 2 ^ 32 → asn_of d ≡ Ok a
 says_asn d a h small = ap asn_by h ∙ ap (λ b. below b a.0) (small_is a.0 small)
 
-some_step : (m : Result Asn EntryFault) (x : Option Asn) → (m >>= λ a. Ok (Some a)) ≡ Ok x → (a : Asn) × (m ≡ Ok a) × (x ≡ Some a)
-some_step (Ok a) x h = (a, refl, sym (ok_is {E = EntryFault} (Some a) x h))
+some_step : (m : Result Asn SlurmEntryFault) (x : Option Asn) → (m >>= λ a. Ok (Some a)) ≡ Ok x → (a : Asn) × (m ≡ Ok a) × (x ≡ Some a)
+some_step (Ok a) x h = (a, refl, sym (ok_is {E = SlurmEntryFault} (Some a) x h))
 some_step (Err e) x h = absurd (cc)
 
-abbrev any_by : Bool → Result Asn EntryFault → Result (Option Asn) EntryFault
+abbrev any_by : Bool → Result Asn SlurmEntryFault → Result (Option Asn) SlurmEntryFault
 any_by b m = if b then Ok None else (m >>= λ a. Ok (Some a))
 
 any_says : (o : Option Data) (d : Data) (x : Option Asn) → get (codes "asn") d ≡ o → any_by (is_none o) (asn_of d) ≡ Ok x → SaysAsn d x
@@ -141,7 +141,7 @@ if_either : (o : Option Data) (t : Bool) → (o ≡ None) ⊎ (t ≡ true) → (
 if_either o t (inl h) = ap (λ p. is_none p || t) h
 if_either o t (inr h) = true_either (is_none o) t (inr h)
 
-module _ (e : EntryFault) (name : List ℕ) (d : Data) where
+module _ (e : SlurmEntryFault) (name : List ℕ) (d : Data) where
   text_says : IsOk (text_if_any e name d) → HasTextIfAny name d
   text_says h = is_or_is_not (get name d) (is_some (text_at name d)) (unless_ok e (is_none (get name d) || is_some (text_at name d)) h)
 
@@ -166,7 +166,7 @@ has_either d = is_some (get (codes "prefix") d) || is_some (get (codes "asn") d)
 abbrev filter_apart : Apart (codes "prefix" ∷ codes "asn" ∷ codes "comment" ∷ [])
 filter_apart = ((refl, (refl, tt)), ((refl, tt), (tt, tt)))
 
-abbrev filter_known : Data → Result ⊤ EntryFault
+abbrev filter_known : Data → Result ⊤ SlurmEntryFault
 filter_known d = members_known (one_for (codes "prefix") d + one_for (codes "asn") d + one_for (codes "comment") d) (total d)
 
 pub filter_says : (d : Data) (f : PrefixFilter) → Ascends d → ReadsFilter d (Ok f) → IsFilter d f
@@ -209,7 +209,7 @@ says_maximum d v (inr h) = ap (λ b. max_by b d (block_of v.prefix).len) (whole_
 abbrev assertion_apart : Apart (codes "asn" ∷ codes "prefix" ∷ codes "maxPrefixLength" ∷ codes "comment" ∷ [])
 assertion_apart = ((refl, (refl, (refl, tt))), ((refl, (refl, tt)), ((refl, tt), (tt, tt))))
 
-abbrev assertion_known : Data → Result ⊤ EntryFault
+abbrev assertion_known : Data → Result ⊤ SlurmEntryFault
 assertion_known d = members_known (one_for (codes "asn") d + one_for (codes "prefix") d + one_for (codes "maxPrefixLength") d + one_for (codes "comment") d) (total d)
 
 pub assertion_says : (d : Data) (v : Payload) → Ascends d → ReadsAssertion d (Ok v) → IsAssertion d v
@@ -244,10 +244,10 @@ key_either d = is_some (get (codes "SKI") d) || is_some (get (codes "asn") d)
 abbrev key_apart : Apart (codes "SKI" ∷ codes "asn" ∷ codes "comment" ∷ [])
 key_apart = ((refl, (refl, tt)), ((refl, tt), (tt, tt)))
 
-abbrev key_known : Data → Result ⊤ EntryFault
+abbrev key_known : Data → Result ⊤ SlurmEntryFault
 key_known d = members_known (one_for (codes "SKI") d + one_for (codes "asn") d + one_for (codes "comment") d) (total d)
 
-abbrev key_rest : Data → Result (Option Asn) EntryFault
+abbrev key_rest : Data → Result (Option Asn) SlurmEntryFault
 key_rest d = Through2 (asn_if_any d) (comment_of d) (text_if_any why.Ski (codes "SKI") d)
 
 pub key_filter_says : (d : Data) (a : Option Asn) → Ascends d → ReadsKeyFilter d (Ok a) → IsKeyFilter d a
@@ -276,10 +276,10 @@ says_key_filter d a up h =
 abbrev keys_apart : Apart (codes "asn" ∷ codes "SKI" ∷ codes "routerPublicKey" ∷ codes "comment" ∷ [])
 keys_apart = ((refl, (refl, (refl, tt))), ((refl, (refl, tt)), ((refl, tt), (tt, tt))))
 
-abbrev keys_known : Data → Result ⊤ EntryFault
+abbrev keys_known : Data → Result ⊤ SlurmEntryFault
 keys_known d = members_known (one_for (codes "asn") d + one_for (codes "SKI") d + one_for (codes "routerPublicKey") d + one_for (codes "comment") d) (total d)
 
-abbrev keys_rest : Data → Result Asn EntryFault
+abbrev keys_rest : Data → Result Asn SlurmEntryFault
 keys_rest d = Through3 (asn_of d) (comment_of d) (text_of why.Ski (codes "SKI") d) (text_of why.RouterPublicKey (codes "routerPublicKey") d)
 
 pub key_assertion_says : (d : Data) (a : Asn) → Ascends d → ReadsKeyAssertion d (Ok a) → IsKeyAssertion d a
@@ -304,7 +304,7 @@ says_key_assertion d a up h =
 
 -- ---- all entries of an array
 
-module _ {A : Type 0} (Reads : Data → Result A EntryFault → Type 0) (Says : Data → A → Type 0) where
+module _ {A : Type 0} (Reads : Data → Result A SlurmEntryFault → Type 0) (Says : Data → A → Type 0) where
   pub each_says : ((d : Data) (x : A) → Ascends d → Reads d (Ok x) → Says d x) → (ds : List Data) (xs : List A) → AllByRecursion Ascends ds → AreRead Reads ds xs → Each Says ds xs
   each_says on [] [] up h = tt
   each_says on [] (x ∷ xs) up h = absurd h

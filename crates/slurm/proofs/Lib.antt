@@ -10,6 +10,5 @@ pub mod NamesOnce
 pub mod Counted
 pub mod EntryRelations
 pub mod Exactly
-pub mod Tellings
 pub mod SlurmRows
 pub mod ExampleRows

@@ -14,8 +14,8 @@ use Rattle.payload_lists.proofs.Entries.{one_some}
 use Rattle.slurm.specs.Chains.{After, Then}
 use Rattle.slurm.specs.Entries.{AreRead, IsMaximum, ReadsAssertion, ReadsAssertionOf, ReadsEntries, ReadsFilter, ReadsFilterOf, ReadsKeyAssertion, ReadsKeyFilter, ReadsPrefix, SpellsPrefix, listed, max_len_of}
 use Rattle.slurm.specs.SlurmFile.{Arrays, OneReading, ReadsArrays, ReadsJson, ReadsOnce, arrays_of, limited}
-use Rattle.slurm.specs.declared.fault.EntryFault.{EntryFault}
-use Rattle.slurm.specs.declared.fault.EntryFault.TheVariants as why
+use Rattle.slurm.specs.declared.fault.SlurmEntryFault.{SlurmEntryFault}
+use Rattle.slurm.specs.declared.fault.SlurmEntryFault.TheVariants as why
 use Rattle.slurm.specs.declared.fault.SlurmArray.{SlurmArray}
 use Rattle.slurm.specs.declared.fault.SlurmArray.TheVariants as array
 use Rattle.slurm.specs.declared.fault.SlurmFault.{SlurmFault}
@@ -58,20 +58,20 @@ module _ {A B E : Type 0} (P : Result A E → Type 0) (Q : A → Result B E → 
 
 -- ---- arrays
 
-module _ {A : Type 0} (Reads : Data → Result A EntryFault → Type 0) (one : (d : Data) → IsOne (Reads d)) where
+module _ {A : Type 0} (Reads : Data → Result A SlurmEntryFault → Type 0) (one : (d : Data) → IsOne (Reads d)) where
   are_one : (ds : List Data) (xs ys : List A) → AreRead Reads ds xs → AreRead Reads ds ys → xs ≡ ys
   are_one [] [] [] h k = refl
   are_one [] [] (y ∷ ys) h k = absurd k
   are_one [] (x ∷ xs) ys h k = absurd h
   are_one (d ∷ ds) [] ys h k = absurd h
   are_one (d ∷ ds) (x ∷ xs) [] h k = absurd k
-  are_one (d ∷ ds) (x ∷ xs) (y ∷ ys) h k = λ i. same_ok {E = EntryFault} x y (one d (Ok x) (Ok y) h.0 k.0) i ∷ are_one ds xs ys h.1 k.1 i
+  are_one (d ∷ ds) (x ∷ xs) (y ∷ ys) h k = λ i. same_ok {E = SlurmEntryFault} x y (one d (Ok x) (Ok y) h.0 k.0) i ∷ are_one ds xs ys h.1 k.1 i
 
   -- One that is read has no fault.
-  never_both : (d : Data) (x : A) (e : EntryFault) → Reads d (Ok x) → Reads d (Err e) → ⊥
+  never_both : (d : Data) (x : A) (e : SlurmEntryFault) → Reads d (Ok x) → Reads d (Err e) → ⊥
   never_both d x e h k = no_both x e (one d (Ok x) (Err e) h k)
 
-  no_fault : (before : List Data) (d : Data) (after : List Data) (e : EntryFault) (xs : List A) → Reads d (Err e) → AreRead Reads (before ++ d ∷ after) xs → ⊥
+  no_fault : (before : List Data) (d : Data) (after : List Data) (e : SlurmEntryFault) (xs : List A) → Reads d (Err e) → AreRead Reads (before ++ d ∷ after) xs → ⊥
   no_fault [] d after e [] h k = k
   no_fault [] d after e (x ∷ xs) h k = never_both d x e k.0 h
   no_fault (b ∷ before) d after e [] h k = k
@@ -91,7 +91,7 @@ module _ {A : Type 0} (Reads : Data → Result A EntryFault → Type 0) (one : (
   rest_read d ds [] h = absurd h
   rest_read d ds (x ∷ xs) h = (xs, h.1)
 
-  one_fault : (b c : List Data) (d e : Data) (s t : List Data) (xs ys : List A) (f g : EntryFault) → b ++ d ∷ s ≡ c ++ e ∷ t → AreRead Reads b xs → AreRead Reads c ys → Reads d (Err f) → Reads e (Err g)
+  one_fault : (b c : List Data) (d e : Data) (s t : List Data) (xs ys : List A) (f g : SlurmEntryFault) → b ++ d ∷ s ≡ c ++ e ∷ t → AreRead Reads b xs → AreRead Reads c ys → Reads d (Err f) → Reads e (Err g)
       → (length b ≡ length c) × (f ≡ g)
   one_fault [] [] d e s t xs ys f g same h k u v = (refl, same_err {A = A} f g (one d (Err f) (Err g) u (subst (λ z. Reads z (Err g)) (sym (heads d e s t same)) v)))
   one_fault [] (c ∷ cs) d e s t xs ys f g same h k u v =
@@ -150,7 +150,7 @@ prefix_one d (Err e) (Err f) h k = ap Err (h.0 ∙ sym k.0)
 
 filter_of_one : (d : Data) (a : Option Asn) → IsOne (ReadsFilterOf d a)
 filter_of_one d a (Ok f) (Ok g) h k =
-    let prefix : f.prefix ≡ g.prefix = same_ok {E = EntryFault} f.prefix g.prefix (prefix_one d (Ok f.prefix) (Ok g.prefix) h.1 k.1) in
+    let prefix : f.prefix ≡ g.prefix = same_ok {E = SlurmEntryFault} f.prefix g.prefix (prefix_one d (Ok f.prefix) (Ok g.prefix) h.1 k.1) in
     let asn : f.asn ≡ g.asn = h.0 ∙ sym k.0 in
     λ i. Ok (record { prefix = prefix i; asn = asn i })
 filter_of_one d a (Ok f) (Err e) h k = absurd (no_both f.prefix e (prefix_one d (Ok f.prefix) (Err e) h.1 k))
@@ -161,12 +161,12 @@ module _ (d : Data) (a : Asn) where
   max_one : (p q : IpPrefix) (m n : ℕ) → p ≡ q → IsMaximum d p m → IsMaximum d q n → m ≡ n
   max_one p q m n is h k = one_some m n (max_len_of d (block_of q).len) (ap (λ r. max_len_of d (block_of r).len) (sym is) ∙ h.0) k.0
 
-  said_no_fault : (v : Payload) (e : EntryFault) → ReadsAssertionOf d a (Ok v) → ReadsAssertionOf d a (Err e) → ⊥
+  said_no_fault : (v : Payload) (e : SlurmEntryFault) → ReadsAssertionOf d a (Ok v) → ReadsAssertionOf d a (Err e) → ⊥
   said_no_fault v why.Prefix h k = k v.prefix h.1
   said_no_fault v why.MaxLength h k = k.2 v.max_len (subst (λ p. IsMaximum d p v.max_len) (spells_one d v.prefix k.0 h.1 k.1) h.2)
   said_no_fault v e h k = k
 
-  fault_one : (e f : EntryFault) → ReadsAssertionOf d a (Err e) → ReadsAssertionOf d a (Err f) → e ≡ f
+  fault_one : (e f : SlurmEntryFault) → ReadsAssertionOf d a (Err e) → ReadsAssertionOf d a (Err f) → e ≡ f
   fault_one why.Prefix why.Prefix h k = refl
   fault_one why.Prefix why.MaxLength h k = absurd (h k.0 k.1)
   fault_one why.MaxLength why.Prefix h k = absurd (k h.0 h.1)

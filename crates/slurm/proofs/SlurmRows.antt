@@ -21,7 +21,7 @@ use Rattle.slurm.specs.Entries.{ReadsAssertion, ReadsEntries, ReadsFilter, Reads
 use Rattle.slurm.specs.Exceptions.{is_filtered, matches}
 use Rattle.slurm.specs.Faults.{slurm_fault_number}
 use Rattle.slurm.specs.SlurmFile.{Arrays, NamesOnce, ReadsArrays, ReadsSlurm, arrays_of}
-use Rattle.slurm.specs.declared.fault.EntryFault.TheVariants as why
+use Rattle.slurm.specs.declared.fault.SlurmEntryFault.TheVariants as why
 use Rattle.slurm.specs.declared.fault.SlurmArray.TheVariants as arrays
 use Rattle.slurm.specs.declared.fault.SlurmFault.TheVariants as fault
 use Rattle.slurm.specs.declared.fault.SlurmObject.TheVariants as objects

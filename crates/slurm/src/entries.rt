@@ -8,7 +8,7 @@ ghost use Rattle.slurm.specs.Members.{total};
 ghost use Rattle.slurm.specs.Chains.{UnlessMemory, seen};
 ghost use Rattle.slurm.specs.Entries.{IsMaximum, ReadsEntries, ReadsPrefix, SpellsPrefix, asn_if_any, asn_of, assertion_asn, comment_of, filter_asn, key_assertion, key_filter, max_len_of, members_known, text_if_any, text_of};
 
-use crate::fault::{EntryFault, SlurmArray, SlurmFault};
+use crate::fault::{SlurmArray, SlurmEntryFault, SlurmFault};
 use crate::filter::PrefixFilter;
 use crate::members::{has, one_for, total};
 use payload_lists::parts::{text, whole};
@@ -19,13 +19,13 @@ use std::alloc::Global;
 
 /// What stands in an array.
 pub(crate) trait Entry: Copy {
-    ghost use Rattle.slurm.specs.declared.fault.EntryFault.{EntryFault};
+    ghost use Rattle.slurm.specs.declared.fault.SlurmEntryFault.{SlurmEntryFault};
 
     /// What is read of a JSON value.
-    ghost reads: { Data → Result Self EntryFault → Type 0 };
+    ghost reads: { Data → Result Self SlurmEntryFault → Type 0 };
 
     /// Reads an entry.
-    fn read(value: &Value) -> Result<Self, EntryFault>
+    fn read(value: &Value) -> Result<Self, SlurmEntryFault>
         ensures { reads (view value.now) result };
 }
 
@@ -52,31 +52,31 @@ pub(crate) fn entries<E: Entry>(
 }
 
 /// Judges whether an entry is an object that has so many members.
-fn know_members(value: &Value, known: usize) -> Result<(), EntryFault>
+fn know_members(value: &Value, known: usize) -> Result<(), SlurmEntryFault>
     ensures { result ≡ members_known known (total (view value.now)) }
 {
     match total(value) {
-        None => Err(EntryFault::NoObject),
+        None => Err(SlurmEntryFault::NoObject),
         Some(members) if members == known => Ok(()),
-        Some(_) => Err(EntryFault::OtherKey),
+        Some(_) => Err(SlurmEntryFault::OtherKey),
     }
 }
 
 /// The AS of an entry.
-fn asn(value: &Value) -> Result<Asn, EntryFault>
+fn asn(value: &Value) -> Result<Asn, SlurmEntryFault>
     ensures { result ≡ asn_of (view value.now) }
 {
     let Some(number) = whole(value, "asn") else {
-        return Err(EntryFault::Asn);
+        return Err(SlurmEntryFault::Asn);
     };
     match u32::try_from(number) {
         Ok(number) => Ok(Asn(number)),
-        Err(_) => Err(EntryFault::Asn),
+        Err(_) => Err(SlurmEntryFault::Asn),
     }
 }
 
 /// The AS of an entry, if it has one.
-fn asn_if_any(value: &Value) -> Result<Option<Asn>, EntryFault>
+fn asn_if_any(value: &Value) -> Result<Option<Asn>, SlurmEntryFault>
     ensures { result ≡ asn_if_any (view value.now) }
 {
     if !has(value, "asn") {
@@ -87,7 +87,7 @@ fn asn_if_any(value: &Value) -> Result<Option<Asn>, EntryFault>
 }
 
 /// Judges what stands under a key of an entry, which is a text.
-fn know_text(value: &Value, key: &str, fault: EntryFault) -> Result<(), EntryFault>
+fn know_text(value: &Value, key: &str, fault: SlurmEntryFault) -> Result<(), SlurmEntryFault>
     ensures { result ≡ text_of fault key.now (view value.now) }
 {
     if text(value, key).is_some() {
@@ -97,7 +97,7 @@ fn know_text(value: &Value, key: &str, fault: EntryFault) -> Result<(), EntryFau
 }
 
 /// Judges what stands under a key of an entry, if anything does.
-fn know_text_if_any(value: &Value, key: &str, fault: EntryFault) -> Result<(), EntryFault>
+fn know_text_if_any(value: &Value, key: &str, fault: SlurmEntryFault) -> Result<(), SlurmEntryFault>
     ensures { result ≡ text_if_any fault key.now (view value.now) }
 {
     if !has(value, key) || text(value, key).is_some() {
@@ -107,10 +107,10 @@ fn know_text_if_any(value: &Value, key: &str, fault: EntryFault) -> Result<(), E
 }
 
 /// Judges the comment of an entry.
-fn know_comment(value: &Value) -> Result<(), EntryFault>
+fn know_comment(value: &Value) -> Result<(), SlurmEntryFault>
     ensures { result ≡ comment_of (view value.now) }
 {
-    know_text_if_any(value, "comment", EntryFault::Comment)
+    know_text_if_any(value, "comment", SlurmEntryFault::Comment)
 }
 
 /// The prefix that an entry spells.
@@ -127,7 +127,7 @@ fn prefix(value: &Value) -> Option<IpPrefix>
 }
 
 /// The prefix of an entry, if it has one.
-fn prefix_if_any(value: &Value) -> Result<Option<IpPrefix>, EntryFault>
+fn prefix_if_any(value: &Value) -> Result<Option<IpPrefix>, SlurmEntryFault>
     ensures { ReadsPrefix (view value.now) result }
 {
     if !has(value, "prefix") {
@@ -135,18 +135,18 @@ fn prefix_if_any(value: &Value) -> Result<Option<IpPrefix>, EntryFault>
     }
     match prefix(value) {
         Some(prefix) => Ok(Some(prefix)),
-        None => Err(EntryFault::Prefix),
+        None => Err(SlurmEntryFault::Prefix),
     }
 }
 
 /// What a filter has before its prefix.
-fn filter_asn(value: &Value) -> Result<Option<Asn>, EntryFault>
+fn filter_asn(value: &Value) -> Result<Option<Asn>, SlurmEntryFault>
     ensures { result ≡ filter_asn (view value.now) }
 {
     let known = one_for(value, "prefix") + one_for(value, "asn") + one_for(value, "comment");
     know_members(value, known)?;
     if !has(value, "prefix") && !has(value, "asn") {
-        return Err(EntryFault::NeitherKey);
+        return Err(SlurmEntryFault::NeitherKey);
     }
     let asn = asn_if_any(value)?;
     know_comment(value)?;
@@ -159,7 +159,7 @@ impl Entry for PrefixFilter {
 
     ghost reads = { ReadsFilter };
 
-    fn read(value: &Value) -> Result<PrefixFilter, EntryFault> {
+    fn read(value: &Value) -> Result<PrefixFilter, SlurmEntryFault> {
         let asn = filter_asn(value)?;
         let prefix = prefix_if_any(value)?;
         Ok(PrefixFilter { prefix, asn })
@@ -167,7 +167,7 @@ impl Entry for PrefixFilter {
 }
 
 /// What an assertion has before its prefix.
-fn assertion_asn(value: &Value) -> Result<Asn, EntryFault>
+fn assertion_asn(value: &Value) -> Result<Asn, SlurmEntryFault>
     ensures { result ≡ assertion_asn (view value.now) }
 {
     let known = one_for(value, "asn")
@@ -211,30 +211,30 @@ impl Entry for Vrp {
 
     ghost reads = { ReadsAssertion };
 
-    fn read(value: &Value) -> Result<Vrp, EntryFault> {
+    fn read(value: &Value) -> Result<Vrp, SlurmEntryFault> {
         let asn = assertion_asn(value)?;
         let Some(prefix) = prefix(value) else {
-            return Err(EntryFault::Prefix);
+            return Err(SlurmEntryFault::Prefix);
         };
         match asserted(value, prefix, asn) {
             Some(vrp) => Ok(vrp),
-            None => Err(EntryFault::MaxLength),
+            None => Err(SlurmEntryFault::MaxLength),
         }
     }
 }
 
 /// The AS of a filter on BGPsec, if it has one.
-fn key_filter(value: &Value) -> Result<Option<Asn>, EntryFault>
+fn key_filter(value: &Value) -> Result<Option<Asn>, SlurmEntryFault>
     ensures { result ≡ key_filter (view value.now) }
 {
     let known = one_for(value, "SKI") + one_for(value, "asn") + one_for(value, "comment");
     know_members(value, known)?;
     if !has(value, "SKI") && !has(value, "asn") {
-        return Err(EntryFault::NeitherSki);
+        return Err(SlurmEntryFault::NeitherSki);
     }
     let asn = asn_if_any(value)?;
     know_comment(value)?;
-    know_text_if_any(value, "SKI", EntryFault::Ski)?;
+    know_text_if_any(value, "SKI", SlurmEntryFault::Ski)?;
     Ok(asn)
 }
 
@@ -244,13 +244,13 @@ impl Entry for Option<Asn> {
 
     ghost reads = { ReadsKeyFilter };
 
-    fn read(value: &Value) -> Result<Option<Asn>, EntryFault> {
+    fn read(value: &Value) -> Result<Option<Asn>, SlurmEntryFault> {
         key_filter(value)
     }
 }
 
 /// The AS of an assertion on BGPsec.
-fn key_assertion(value: &Value) -> Result<Asn, EntryFault>
+fn key_assertion(value: &Value) -> Result<Asn, SlurmEntryFault>
     ensures { result ≡ key_assertion (view value.now) }
 {
     let known = one_for(value, "asn")
@@ -260,8 +260,8 @@ fn key_assertion(value: &Value) -> Result<Asn, EntryFault>
     know_members(value, known)?;
     let asn = asn(value)?;
     know_comment(value)?;
-    know_text(value, "SKI", EntryFault::Ski)?;
-    know_text(value, "routerPublicKey", EntryFault::RouterPublicKey)?;
+    know_text(value, "SKI", SlurmEntryFault::Ski)?;
+    know_text(value, "routerPublicKey", SlurmEntryFault::RouterPublicKey)?;
     Ok(asn)
 }
 
@@ -271,7 +271,7 @@ impl Entry for Asn {
 
     ghost reads = { ReadsKeyAssertion };
 
-    fn read(value: &Value) -> Result<Asn, EntryFault> {
+    fn read(value: &Value) -> Result<Asn, SlurmEntryFault> {
         key_assertion(value)
     }
 }

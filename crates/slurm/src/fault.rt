@@ -86,7 +86,7 @@ impl Display for SlurmObject {
 
 /// Why an entry of an array cannot be read. Where there are several reasons, the first of these is reported.
 #[derive(Clone, Copy, Debug, PartialEq, Eq, Error)]
-pub enum EntryFault {
+pub enum SlurmEntryFault {
     /// It is no object.
     #[error("no object")]
     NoObject,
@@ -136,7 +136,7 @@ pub enum SlurmFault {
     NoArray(SlurmArray),
     /// The entry of this index, from 0 on, cannot be read; it is the first one.
     #[error("{0}[{1}]: {2} (fault 5)")]
-    Entry(SlurmArray, usize, EntryFault),
+    Entry(SlurmArray, usize, SlurmEntryFault),
     /// Over 16,777,215 different assertions.
     #[error("more than 16777215 different assertions (fault 6)")]
     TooMany,

@@ -29,7 +29,7 @@ mod repeated;
 mod telling;
 
 pub use applying::apply;
-pub use fault::{EntryFault, SlurmArray, SlurmFault, SlurmObject};
+pub use fault::{SlurmArray, SlurmEntryFault, SlurmFault, SlurmObject};
 pub use filter::{PrefixFilter, Slurm};
 pub use reading::read_slurm;
 pub use telling::fault_text;

@@ -3,9 +3,9 @@ ghost use Rattle.std.specs.Prelude.{◌≡◌, ◌++◌, List, ℕ, IfOk, string
 ghost use Rattle.std.specs.Fmt.{decimal};
 ghost use Rattle.slurm.specs.Telling.{number_text, place};
 
-use crate::fault::{EntryFault, SlurmArray, SlurmFault, SlurmObject};
+use crate::fault::{SlurmArray, SlurmEntryFault, SlurmFault, SlurmObject};
 use crate::repeated::repeated_text;
-use json_texts::{name_text, value_text};
+use json_texts::{NO_ASN, NO_MAX_LENGTH, NO_PREFIX, name_text, value_text};
 use serde_json::Value;
 use std::alloc::{AllocError, Global};
 
@@ -120,17 +120,14 @@ fn members_text(alloc: Global, value: &Value, names: &[&str]) -> Result<String, 
 }
 
 /// The member of an entry that a fault is of, and what is wrong with it.
-fn member_of(why: EntryFault) -> Option<(&'static str, &'static str)> {
+fn member_of(why: SlurmEntryFault) -> Option<(&'static str, &'static str)> {
     match why {
-        EntryFault::Asn => Some(("asn", "is no AS number")),
-        EntryFault::Comment => Some(("comment", "is no text")),
-        EntryFault::Ski => Some(("SKI", "is no text")),
-        EntryFault::RouterPublicKey => Some(("routerPublicKey", "is no text")),
-        EntryFault::Prefix => Some(("prefix", "is no prefix")),
-        EntryFault::MaxLength => Some((
-            "maxPrefixLength",
-            "is not from the prefix length to 32 (IPv4) or 128 (IPv6)",
-        )),
+        SlurmEntryFault::Asn => Some(("asn", NO_ASN)),
+        SlurmEntryFault::Comment => Some(("comment", "is no text")),
+        SlurmEntryFault::Ski => Some(("SKI", "is no text")),
+        SlurmEntryFault::RouterPublicKey => Some(("routerPublicKey", "is no text")),
+        SlurmEntryFault::Prefix => Some(("prefix", NO_PREFIX)),
+        SlurmEntryFault::MaxLength => Some(("maxPrefixLength", NO_MAX_LENGTH)),
         _ => None,
     }
 }
@@ -156,15 +153,15 @@ fn whole_text(
     alloc: Global,
     entry: &Value,
     array: SlurmArray,
-    why: EntryFault,
+    why: SlurmEntryFault,
 ) -> Result<String, AllocError> {
     match why {
-        EntryFault::NoObject => {
+        SlurmEntryFault::NoObject => {
             let shown = value_text(alloc, entry)?;
             format!(in alloc; "{shown} is no object")
         }
-        EntryFault::OtherKey => unknown_text(alloc, entry, entry_members(array)),
-        EntryFault::NeitherSki => String::from_str(alloc, "neither SKI nor asn"),
+        SlurmEntryFault::OtherKey => unknown_text(alloc, entry, entry_members(array)),
+        SlurmEntryFault::NeitherSki => String::from_str(alloc, "neither SKI nor asn"),
         _ => String::from_str(alloc, "neither prefix nor asn"),
     }
 }
@@ -174,7 +171,7 @@ fn entry_text(
     alloc: Global,
     entry: &Value,
     array: SlurmArray,
-    why: EntryFault,
+    why: SlurmEntryFault,
 ) -> Result<String, AllocError> {
     match member_of(why) {
         Some((name, wrong)) => member_text(alloc, entry, name, wrong),
@@ -219,7 +216,7 @@ fn at_entry(
     file: &Value,
     array: SlurmArray,
     index: usize,
-    why: EntryFault,
+    why: SlurmEntryFault,
 ) -> Result<String, AllocError> {
     match entry_in(file, array, index) {
         Some(entry) => entry_text(alloc, entry, array, why),

@@ -13,7 +13,7 @@ use Rattle.vrps.proofs.Listed.{size_of_listing}
 use Rattle.vrps.proofs.SetLaws.{listing_ascends, set_of-listing, size-set_of}
 use Rattle.exports.specs.Lasting.{counting, last_at}
 use Rattle.exports.proofs.Lasts.{counting-more}
-use Rattle.sources.specs.Served.{counting_at, has_come, is_any_before}
+use Rattle.sources.specs.Served.{counting_at, is_any_before}
 use Rattle.sources.specs.declared.listed.Listed.{Listed}
 
 -- ---- all count where no last second is before the moment
@@ -38,28 +38,6 @@ one_more_counts at vs lasts i v b left small here is so_far = (λ k. so_far k ++
 
 pub whole_set : (at : ℕ) (l : Listed) → is_any_before at l.lasts.items ≡ false → l.set ≡ counting_at at l
 whole_set at l none = sym (ap set_of (all_count at (listing l.set) l.lasts.items none) ∙ set_of-listing l.set)
-
--- ---- the first end
-
-pub sooner_than : (at a b : ℕ) → nat_lt (min a b) at ≡ (nat_lt a at || nat_lt b at)
-sooner_than at a b = grind (arith, nat_tests)
-
-pub one_before : (at least last : ℕ) (i : ℕ) (lasts : List ℕ) → i < length lasts → last ≡ get_or lasts i last → nat_lt least at ≡ is_any_before at (take i lasts) → nat_lt (min least last) at ≡ is_any_before at (take (i + 1) lasts)
-one_before at least last i lasts inside is so_far =
-    sooner_than at least last ∙ (λ k. so_far k || nat_lt (is k) at) ∙ sym (list_any_more (λ x. nat_lt x at) lasts i last inside)
-
-pub ends_at : (at least : ℕ) (r : Option ℕ) (lasts : List ℕ) → at < 2 ^ 64 → least < 2 ^ 64 → (least + 1 < 2 ^ 64 → r ≡ Some (least + 1)) → (2 ^ 64 ≤ least + 1 → r ≡ None) → nat_lt least at ≡ is_any_before at lasts → has_come at r ≡ is_any_before at lasts
-ends_at at least r lasts small fits some none is = by_test (nat_lt (least + 1) 18446744073709551616) refl
-  where
-    by_test : (b : Bool) → nat_lt (least + 1) 18446744073709551616 ≡ b → has_come at r ≡ is_any_before at lasts
-    by_test true h =
-        let less : least + 1 < 2 ^ 64 = grind (arith, nat_tests) in
-        let same : not (nat_lt at (least + 1)) ≡ nat_lt least at = grind (arith, nat_tests) in
-        ap (has_come at) (some less) ∙ same ∙ is
-    by_test false h =
-        let over : 2 ^ 64 ≤ least + 1 = grind (arith, nat_tests) in
-        let no : nat_lt least at ≡ false = grind (arith, nat_tests) in
-        ap (has_come at) (none over) ∙ sym no ∙ is
 
 -- ---- how many count
 
@@ -116,22 +94,3 @@ counted_all at l long =
     let each = counts_each at (listing l.set) l.lasts.items (long ∙ sym listed) in
     let counted = size-set_of (counting at (listing l.set) l.lasts.items) (counting_ascends at (listing l.set) l.lasts.items (listing_ascends l.set)) in
     omega (arith, listed, each, counted)
-
-some_gone : (at : ℕ) (lasts : List ℕ) → is_any_before at lasts ≡ true → 0 < gone at lasts
-some_gone at [] h = absurd (let no : false ≡ true = h in cc)
-some_gone at (last ∷ lasts) h = by_test (nat_lt last at) refl h (λ more. some_gone at lasts more)
-  where
-    by_test : (b : Bool) → nat_lt last at ≡ b → (b || is_any_before at lasts) ≡ true → (is_any_before at lasts ≡ true → 0 < gone at lasts) → 0 < gone at (last ∷ lasts)
-    by_test true is h more = let one : step (nat_lt last at) ≡ 1 = ap step is in omega (arith, one, gone-cons at last lasts)
-    by_test false is h more = let rest = more h in omega (arith, rest, gone-cons at last lasts)
-
-any_gone : (at : ℕ) (lasts : List ℕ) → 0 < gone at lasts → is_any_before at lasts ≡ true
-any_gone at [] h = absurd (omega (arith, h))
-any_gone at (last ∷ lasts) h = by_test (nat_lt last at) refl (λ more. any_gone at lasts more)
-  where
-    by_test : (b : Bool) → nat_lt last at ≡ b → (0 < gone at lasts → is_any_before at lasts ≡ true) → (b || is_any_before at lasts) ≡ true
-    by_test true is more = refl
-    by_test false is more = let none : step (nat_lt last at) ≡ 0 = ap step is in more (omega (arith, none, gone-cons at last lasts, h))
-
-pub over_if : (at : ℕ) (lasts : List ℕ) (r : Option ℕ) → has_come at r ≡ is_any_before at lasts → (has_come at r ≡ true ↔ 0 < count_by (λ last. nat_lt last at) lasts)
-over_if at lasts r is = ((λ h. some_gone at lasts (sym is ∙ h)), (λ some. is ∙ any_gone at lasts some))

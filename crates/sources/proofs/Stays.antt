@@ -5,7 +5,7 @@ use Rattle.exports.specs.ExportLaws.{LaterExports}
 use Rattle.exports.specs.Lasting.{counting}
 use Rattle.sources.specs.Served.{counting_at}
 use Rattle.sources.specs.TakenLaws.{CountsExpired, StaysTaken}
-use Rattle.sources.proofs.Counts.{counted_all, over_if}
+use Rattle.sources.proofs.Counts.{counted_all}
 
 pub stays_taken : LaterExports → StaysTaken
 stays_taken later bytes now expired l taken at not_before small =
@@ -14,7 +14,4 @@ stays_taken later bytes now expired l taken at not_before small =
     (law.0, λ y is. law.1 y is ∙ same)
 
 pub counts_expired : CountsExpired
-counts_expired bytes now expired l taken at small = (
-  counted_all at l (ap length taken.lasts_are ∙ taken.is.one_each ∙ ap (λ s. size s) (sym taken.set_is)),
-  over_if at l.lasts.items _ (taken.until_is at small),
-)
+counts_expired bytes now expired l taken at small = counted_all at l (ap length taken.lasts_are ∙ taken.is.one_each ∙ ap (λ s. size s) (sym taken.set_is))

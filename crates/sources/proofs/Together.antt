@@ -20,7 +20,7 @@ use Rattle.slurm.specs.declared.filter.Slurm.{Slurm}
 use Rattle.slurm.proofs.ExceptionLaws.{is_excepted}
 use Rattle.sources.specs.Served.{HasServed, IsServed, LeavesOut, counting_at, excepted_by, has_length_0, is_asserted, is_left_out, is_listed, left_out_of, narrowed, with_lists}
 use Rattle.sources.specs.declared.listed.Listed.{Listed}
-use Rattle.sources.specs.declared.sources.Served.{Served}
+use Rattle.sources.specs.declared.sources.ServedSet.{ServedSet}
 
 and_all : (b : Bool) → (b && not false) ≡ b
 and_all true = refl
@@ -177,7 +177,7 @@ has_served {points} {lists} {e} {leaves} {now} {t} h = record {
       has-left e (with_lists (seconds_of now) (set_of h.used) lists) v ∙ ap (λ b. (b && not (is_left_out e v)) || is_asserted e v) (has-lists (seconds_of now) (set_of h.used) lists v));
 }
 
-pub all_served : (points : Points) (lists : List Listed) (e : Option Slurm) (leaves : Bool) (now : CivilMoment) (r : Result Served SetFault) → IfOk r (λ t. IsServed points lists e leaves now t.set) → IfOk r (λ t. HasServed points lists e leaves now t.set)
+pub all_served : (points : Points) (lists : List Listed) (e : Option Slurm) (leaves : Bool) (now : CivilMoment) (r : Result ServedSet SetFault) → IfOk r (λ t. IsServed points lists e leaves now t.set) → IfOk r (λ t. HasServed points lists e leaves now t.set)
 all_served points lists e leaves now (Ok t) h = has_served h
 all_served points lists e leaves now (Err f) h = tt
 
@@ -190,13 +190,13 @@ pub over_so : (t u : VrpSet) → t ≡ u → 16777215 < size t → 16777215 < si
 over_so t u e over = subst (λ s. 16777215 < size s) e over
 
 -- What is made of what was left of all, and how much is left out of it
-pub is_made : (points : Points) (lists : List Listed) (e : Option Slurm) (leaves : Bool) (now : CivilMoment) (used : List Payload) (left : VrpSet) (r : Result Served SetFault) → Lists used points now
+pub is_made : (points : Points) (lists : List Listed) (e : Option Slurm) (leaves : Bool) (now : CivilMoment) (used : List Payload) (left : VrpSet) (r : Result ServedSet SetFault) → Lists used points now
     → left ≡ excepted_by e (with_lists (seconds_of now) (set_of used) lists) → IfOk r (λ t. (t.set ≡ narrowed leaves left) × (t.left_out ≡ length (left_out_of leaves left)))
     → IfOk r (λ t. IsServed points lists e leaves now t.set)
 is_made points lists e leaves now used left (Ok t) in_use is h = record { used = used; in_use = in_use; is = h.0 ∙ ap (narrowed leaves) is }
 is_made points lists e leaves now used left (Err f) in_use is h = tt
 
-pub is_counted : (points : Points) (lists : List Listed) (e : Option Slurm) (leaves : Bool) (now : CivilMoment) (used : List Payload) (left : VrpSet) (r : Result Served SetFault) → Lists used points now
+pub is_counted : (points : Points) (lists : List Listed) (e : Option Slurm) (leaves : Bool) (now : CivilMoment) (used : List Payload) (left : VrpSet) (r : Result ServedSet SetFault) → Lists used points now
     → left ≡ excepted_by e (with_lists (seconds_of now) (set_of used) lists) → IfOk r (λ t. (t.set ≡ narrowed leaves left) × (t.left_out ≡ length (left_out_of leaves left)))
     → IfOk r (λ t. LeavesOut points lists e leaves now t.left_out)
 is_counted points lists e leaves now used left (Ok t) in_use is h = record { used = used; in_use = in_use; is = h.1 ∙ ap (λ s. length (left_out_of leaves s)) is }

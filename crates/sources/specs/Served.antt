@@ -1,5 +1,5 @@
 -- What is served: what all sources have together, with local exceptions.
-use Rattle.std.specs.Prelude.{◌≡◌, ◌⊎◌, ◌<◌, ◌≤◌, ◌^◌, ℕ, nat_lt, length, count_by, filter, slice_set, Bool, true, false, not, ◌&&◌, ◌||◌, ◌==◌, List, [], ◌∷◌, Option, Some, None, Result, Ok, Err}
+use Rattle.std.specs.Prelude.{◌≡◌, ◌⊎◌, ◌<◌, ◌≤◌, ℕ, nat_lt, length, count_by, filter, slice_set, Bool, true, false, not, ◌&&◌, ◌||◌, ◌==◌, List, [], ◌∷◌, Option, Some, None, Result, Ok, Err}
 use Rattle.std.specs.List.{All, list_any}
 use Rattle.der_lite.specs.Moments.{CivilMoment}
 use Rattle.der_lite.specs.Seconds.{seconds_of}
@@ -90,23 +90,16 @@ pub record HasServed (points : Points) (lists : List Listed) (exceptions : Optio
   pub in_use : Lists used points now
   pub those : (v : Payload) → has t v ≡ (is_wanted (seconds_of now) used lists exceptions v && not (leaves && has_length_0 v))
 
--- a moment has come
-abbrev pub has_come : ℕ → Option ℕ → Bool
-has_come now None = false
-has_come now (Some until) = not (nat_lt now until)
-
 -- some of these last seconds are before a moment
 abbrev pub is_any_before : ℕ → List ℕ → Bool
 is_any_before at lasts = list_any (λ last. nat_lt last at) lasts
 
--- What was taken of a file is the set of its export at the moment, with the last second of each payload, and the first second before which
--- one of these is.
+-- What was taken of a file is the set of its export at the moment, with the last second of each payload.
 pub record IsTaken (bytes : List ℕ) (now : ℕ) (expired : ℕ) (l : Listed) : Type 0 where
   pub read : ExportLasting
   pub is : IsExportLasting bytes now read
   pub set_is : l.set ≡ read.export.set
   pub lasts_are : l.lasts.items ≡ read.lasts.items
-  pub until_is : (at : ℕ) → at < 2 ^ 64 → has_come at l.until ≡ is_any_before at l.lasts.items
   pub built_is : l.built ≡ read.export.built
   pub expired_is : expired ≡ read.export.expired
 
@@ -129,17 +122,11 @@ TakesSlurm bytes (Err fault) old new = (fault ≡ Memory ⊎ ReadsSlurm bytes (E
 pub record IsNothing (l : Listed) : Type 0 where
   pub set : l.set ≡ empty
   pub lasts : l.lasts.items ≡ []
-  pub until : l.until ≡ None
   pub built : l.built ≡ None
 
 -- .. nor of any of so many.
 abbrev pub NoneTaken : ℕ → List Listed → Type 0
 NoneTaken n lists = (length lists ≡ n) × All IsNothing lists
-
--- a payload of a file that counted when it was taken does not count at the moment
-abbrev pub is_over : ℕ → Option Listed → Bool
-is_over now None = false
-is_over now (Some l) = has_come now l.until
 
 -- how many payloads of a file that counted when it was taken do not count at the moment
 abbrev pub expired_of : ℕ → Option Listed → ℕ

@@ -1,5 +1,5 @@
 -- What counts at a moment of what was taken of a file, worked out.
-use Rattle.std.specs.Prelude.{◌≡◌, ℕ, List, [], ◌∷◌, true, false, count_by, nat_lt, ◌||◌, Some, None, refl}
+use Rattle.std.specs.Prelude.{◌≡◌, ℕ, List, [], ◌∷◌, true, false, count_by, nat_lt, ◌||◌, Some, refl}
 use Rattle.std.proofs.Common.{ap, ◌∙◌}
 use Rattle.std.specs.List.Sorted.{IsStrictlySortedBy}
 use Rattle.prefixes.specs.Payload.{Payload, vrp_cmp}
@@ -7,7 +7,7 @@ use Rattle.prefixes.specs.declared.prefix.IpPrefix.TheVariants.{V4}
 use Rattle.vrps.specs.VrpSet.{has, listing, set_of}
 use Rattle.vrps.proofs.SetLaws.{has-set_of, listing-set_of}
 use Rattle.exports.specs.Lasting.{counting}
-use Rattle.sources.specs.Served.{counting_at, expired_of, has_come, is_any_before, is_listed, is_over}
+use Rattle.sources.specs.Served.{counting_at, expired_of, is_any_before, is_listed}
 use Rattle.sources.specs.declared.listed.Listed.{Listed}
 
 -- 10.0.0.0/8 of AS 1 and of AS 2
@@ -17,22 +17,12 @@ v = record { prefix = V4 (record { addr = 167772160; len = 8 }); max_len = 8; as
 abbrev w : Payload
 w = record { prefix = V4 (record { addr = 167772160; len = 8 }); max_len = 8; asn = 2 }
 
--- The first counts to 99, and the second never ends: so the first end is 100.
+-- The first counts to 99, and the second never ends.
 record Two (l : Listed) : Type 0 where
   pub set : l.set ≡ set_of (v ∷ w ∷ [])
   pub lasts : l.lasts.items ≡ 99 ∷ 18446744073709551615 ∷ []
-  pub until : l.until ≡ Some 100
 
 -- ---- both sides of the end
-
-no_end_yet : has_come 99 (Some 100) ≡ false
-no_end_yet = refl
-
-ends_now : has_come 100 (Some 100) ≡ true
-ends_now = refl
-
-never_ends : has_come 18446744073709551615 None ≡ false
-never_ends = refl
 
 none_before : is_any_before 99 (99 ∷ 18446744073709551615 ∷ []) ≡ false
 none_before = refl
@@ -43,11 +33,11 @@ one_before = refl
 abbrev expired_among : ℕ → List ℕ → ℕ
 expired_among at lasts = count_by (λ last. nat_lt last at) lasts
 
-none_expired : (l : Listed) → Two l → (expired_of 99 (Some l) ≡ 0) × (is_over 99 (Some l) ≡ false)
-none_expired l is = (ap (λ lasts. expired_among 99 lasts) is.lasts, ap (has_come 99) is.until)
+none_expired : (l : Listed) → Two l → expired_of 99 (Some l) ≡ 0
+none_expired l is = ap (λ lasts. expired_among 99 lasts) is.lasts
 
-one_expired : (l : Listed) → Two l → (expired_of 100 (Some l) ≡ 1) × (is_over 100 (Some l) ≡ true)
-one_expired l is = (ap (λ lasts. expired_among 100 lasts) is.lasts, ap (has_come 100) is.until)
+one_expired : (l : Listed) → Two l → expired_of 100 (Some l) ≡ 1
+one_expired l is = ap (λ lasts. expired_among 100 lasts) is.lasts
 
 -- ---- what counts then
 

@@ -1,9 +1,9 @@
 -- What was taken of a file is known at later moments too.
-use Rattle.std.specs.Prelude.{◌≡◌, ◌↔◌, ℕ, ◌+◌, ◌^◌, ◌<◌, ◌≤◌, List, Some, true}
+use Rattle.std.specs.Prelude.{◌≡◌, ℕ, ◌+◌, ◌^◌, ◌<◌, ◌≤◌, List, Some}
 use Rattle.vrps.specs.VrpSet.{size}
 use Rattle.exports.specs.Export.{IsExport}
 use Rattle.exports.specs.declared.export.Export.{Export}
-use Rattle.sources.specs.Served.{IsTaken, counting_at, expired_of, is_over}
+use Rattle.sources.specs.Served.{IsTaken, counting_at, expired_of}
 use Rattle.sources.specs.declared.listed.Listed.{Listed}
 
 -- What counts at a later second of what was taken of bytes is exactly the set that they export then.
@@ -12,8 +12,8 @@ StaysTaken =
     (bytes : List ℕ) (now expired : ℕ) (l : Listed) → IsTaken bytes now expired l → (at : ℕ) → now ≤ at → at < 2 ^ 64
     → ((y : Export) × IsExport bytes at y) × ((y : Export) → IsExport bytes at y → y.set ≡ counting_at at l)
 
--- Of what was taken each payload counts at a second or is counted as expired; and it is over exactly if one is.
+-- Of what was taken each payload counts at a second, or is counted as expired.
 abbrev pub CountsExpired : Type 0
 CountsExpired =
     (bytes : List ℕ) (now expired : ℕ) (l : Listed) → IsTaken bytes now expired l → (at : ℕ) → at < 2 ^ 64
-    → (size (counting_at at l) + expired_of at (Some l) ≡ size l.set) × (is_over at (Some l) ≡ true ↔ 0 < expired_of at (Some l))
+    → size (counting_at at l) + expired_of at (Some l) ≡ size l.set

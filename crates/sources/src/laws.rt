@@ -10,7 +10,7 @@ pub fn stays_taken()
     later_exports();
 }
 
-/// At each second a record of a file counts or is among those that `expired` counts. `has_expired` is true exactly if there are such.
+/// At each second a record of a file counts or is among those that `expired` counts.
 pub fn counts_expired()
     ensures { CountsExpired }
 {}

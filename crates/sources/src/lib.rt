@@ -24,4 +24,4 @@ mod sources;
 
 pub use fault::TakeFault;
 pub use listed::Listed;
-pub use sources::{Served, Sources};
+pub use sources::{ServedSet, Sources};

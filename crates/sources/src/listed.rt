@@ -1,8 +1,8 @@
 //! The export of a file, as it was read last.
-ghost use Rattle.std.specs.Prelude.{◌≡◌, ◌<◌, ◌^◌, ◌++◌, ◌∷◌, [], ℕ, cond, nat_le, IfOk, IsErrOf, OnOk, Some};
+ghost use Rattle.std.specs.Prelude.{◌≡◌, ◌<◌, ◌++◌, ◌∷◌, [], cond, nat_le, IfOk, IsErrOf, OnOk, Some};
 ghost use Rattle.vrps.specs.VrpSet.{size};
 ghost use Rattle.exports.specs.Lasting.{counting, last_at};
-ghost use Rattle.sources.specs.Served.{IsNothing, counting_at, expired_of, has_come, is_any_before, is_over};
+ghost use Rattle.sources.specs.Served.{IsNothing, counting_at, expired_of, is_any_before};
 
 use prefixes::Vrp;
 use std::alloc::{AllocError, Global};
@@ -16,8 +16,6 @@ pub struct Listed {
     pub set: VrpSet,
     /// For each record, in the set's order, the last second at which it counts; `u64::MAX` if it does not end.
     pub lasts: Vec<u64>,
-    /// The first second at which one of the records does not count.
-    pub until: Option<u64>,
     /// When the export was made, where it says so.
     pub built: Option<u64>,
 }
@@ -30,18 +28,7 @@ impl Listed {
         Listed {
             set: VrpSet::empty(alloc),
             lasts: Vec::new(alloc),
-            until: None,
             built: None,
-        }
-    }
-
-    /// Whether a record has expired at this moment.
-    pub(crate) fn is_over(&self, now: u64) -> bool
-        ensures { result ≡ is_over now (Some self.now) }
-    {
-        match self.until {
-            Some(until) => until <= now,
-            None => false,
         }
     }
 
@@ -70,17 +57,6 @@ fn is_any_before(lasts: &[u64], now: u64) -> bool
     ensures { result ≡ is_any_before now lasts.now }
 {
     lasts.iter().any(|last| *last < now)
-}
-
-/// The second after the least of these last seconds, if it is in 64 bits.
-pub(crate) fn first_end(lasts: &[u64]) -> Option<u64>
-    ensures { (at : ℕ) → at < 2 ^ 64 → has_come at result ≡ is_any_before at lasts.now }
-{
-    let mut least = u64::MAX;
-    for last in lasts {
-        least = least.min(*last);
-    }
-    least.checked_add(1)
 }
 
 /// Whether the last second at a place is not before a moment.

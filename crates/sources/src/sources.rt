@@ -1,13 +1,13 @@
 //! Sources, and the set that is made of them.
-ghost use Rattle.std.specs.Prelude.{◌≡◌, ◌<◌, ◌^◌, ℕ, IfOk, IfSome, IsErrOf, None, false, length, slice_get, true};
+ghost use Rattle.std.specs.Prelude.{◌≡◌, ◌<◌, IfOk, IfSome, IsErrOf, None, false, length, slice_get, true};
 ghost use Rattle.vrps.specs.VrpSet.{empty, size, union};
 ghost use Rattle.points.specs.Answers.{told_by, NewExactly, BecomesAt};
 ghost use Rattle.points.specs.InUse.{accepted_at, no_points};
 ghost use Rattle.points.specs.Offers.{Acceptable, Judged};
-ghost use Rattle.sources.specs.Served.{HasServed, IsServed, LeavesOut, NoneTaken, PassesLimit, TakesExport, TakesSlurm, built_at, excepted_by, expired_of, has_come, has_length_0, is_any_before, is_over, left_out_of, narrowed, with_lists};
+ghost use Rattle.sources.specs.Served.{HasServed, IsServed, LeavesOut, NoneTaken, PassesLimit, TakesExport, TakesSlurm, built_at, excepted_by, expired_of, has_length_0, left_out_of, narrowed, with_lists};
 
 use crate::fault::TakeFault;
-use crate::listed::{Listed, first_end};
+use crate::listed::Listed;
 use der_lite::Moment;
 use exports::{Export, ExportLasting, read_export_lasting};
 use points::{FileIn, Offered, PointFault, Repository};
@@ -29,7 +29,7 @@ pub struct Sources {
 
 /// What is served, and how many payloads of length 0 were left out.
 #[derive(Debug, Drop)]
-pub struct Served {
+pub struct ServedSet {
     /// The set.
     pub set: VrpSet,
     /// How many payloads of length 0 are not in it, as they are left out.
@@ -67,17 +67,6 @@ impl Sources {
         ensures { result ≡ length self.now.lists.items }
     {
         self.lists.len()
-    }
-
-    /// Whether a record that counted when its file was read has expired at a moment, in seconds since 1970. It takes no longer for many records
-    /// than for few.
-    pub fn has_expired(&self, file: usize, now: u64) -> bool
-        ensures { result ≡ is_over now (slice_get self.now.lists.items file) }
-    {
-        match self.lists.get(file) {
-            Some(list) => list.is_over(now),
-            None => false,
-        }
     }
 
     /// How many records that counted when their file was read have expired at a moment, in seconds since 1970.
@@ -145,7 +134,7 @@ impl Sources {
     /// local exceptions are applied to them, and records of length 0 are left out if that was asked for. A record of a file counts only before
     /// its expiry, even if the file was not read since. `TooMany`: those records together, or what the exceptions make of them, are more than
     /// a set may have. `Memory`: memory for them runs out. Both leave all as it was.
-    pub fn served(&self, now: Moment) -> Result<Served, SetFault>
+    pub fn served(&self, now: Moment) -> Result<ServedSet, SetFault>
         ensures is { IfOk result (λ t. IsServed self.now.repository self.now.lists.items self.now.exceptions self.now.leaves_out now t.set) }
         ensures those { IfOk result (λ t. HasServed self.now.repository self.now.lists.items self.now.exceptions self.now.leaves_out now t.set) }
         ensures left_out { IfOk result (λ t. LeavesOut self.now.repository self.now.lists.items self.now.exceptions self.now.leaves_out now t.left_out) }
@@ -155,7 +144,7 @@ impl Sources {
     }
 
     /// The same by what it is made of.
-    fn served_at(&self, now: Moment) -> Result<Served, SetFault>
+    fn served_at(&self, now: Moment) -> Result<ServedSet, SetFault>
         ensures ok { IfOk result (λ t. IsServed self.now.repository self.now.lists.items self.now.exceptions self.now.leaves_out now t.set) }
         ensures left_out { IfOk result (λ t. LeavesOut self.now.repository self.now.lists.items self.now.exceptions self.now.leaves_out now t.left_out) }
         ensures too_many { IsErrOf result SetFault.TooMany → PassesLimit self.now.repository self.now.lists.items self.now.exceptions now }
@@ -209,27 +198,26 @@ fn left_out_of(alloc: Global, leaves: bool, set: &VrpSet) -> Result<Vec<Vrp>, Al
 }
 
 /// A set without the payloads that are left out.
-fn narrowed(alloc: Global, leaves: bool, set: VrpSet) -> Result<Served, SetFault>
+fn narrowed(alloc: Global, leaves: bool, set: VrpSet) -> Result<ServedSet, SetFault>
     ensures ok { IfOk result (λ t. (t.set ≡ narrowed leaves set) × (t.left_out ≡ length (left_out_of leaves set))) }
     ensures too_many { IsErrOf result SetFault.TooMany → 16777215 < size set }
 {
     let found = left_out_of(alloc, leaves, &set)?;
     let left_out = found.as_slice().len() as u64;
     if left_out == 0 {
-        return Ok(Served { set, left_out });
+        return Ok(ServedSet { set, left_out });
     }
     let change = Change {
         withdraw: VrpSet::from_list(found)?,
         announce: VrpSet::empty(alloc),
     };
     let set = change.apply(alloc, &set)?;
-    Ok(Served { set, left_out })
+    Ok(ServedSet { set, left_out })
 }
 
 /// What is kept of an export, and how many of its entries did not count.
 fn listed_of(read: ExportLasting) -> (Listed, u64)
     ensures list { (result.0.set ≡ read.export.set) × (result.0.lasts ≡ read.lasts) × (result.0.built ≡ read.export.built) }
-    ensures until { (at : ℕ) → at < 2 ^ 64 → has_come at result.0.until ≡ is_any_before at read.lasts.items }
     ensures expired { result.1 ≡ read.export.expired }
 {
     let ExportLasting {
@@ -242,14 +230,7 @@ fn listed_of(read: ExportLasting) -> (Listed, u64)
         expired,
         built,
     } = export;
-    let until = first_end(lasts.as_slice());
-    let list = Listed {
-        set,
-        lasts,
-        until,
-        built,
-    };
-    (list, expired)
+    (Listed { set, lasts, built }, expired)
 }
 
 /// A set, and the members of another.

@@ -1,6 +1,6 @@
 use Rattle.std.proofs.Common.{◌∙◌}
 use Rattle.slurm.specs.Telling.{number_text, place}
-use Rattle.slurm.proofs.Tellings.{with_place}
+use Rattle.json_texts.proofs.ThreeParts.{with_place}
 use Rattle.slurm.proofs.telling.fault_text.Goals as goal
 
 pub returns : goal.returns

@@ -1,5 +1,5 @@
 use Rattle.std.proofs.Common.{◌∙◌, refl, sym, ap, arith}
-use Rattle.sources.specs.Served.{IsTaken, is_any_before}
+use Rattle.sources.specs.Served.{IsTaken}
 use Rattle.sources.proofs.sources.Sources.take_export.Goals as goal
 
 pub returns-clause-lists : goal.returns-clause-lists
@@ -11,7 +11,6 @@ returns-clause-lists c =
       is = c.in_ok-read.ensures.ok;
       set_is = so.0;
       lasts_are = ap (λ v. v.items) so.1;
-      until_is = λ at small. c.listed_of-list.ensures.until at small ∙ ap (λ v. is_any_before at v.items) (sym so.1);
       built_is = so.2;
       expired_is = c.listed_of-list.ensures.expired;
     } in
