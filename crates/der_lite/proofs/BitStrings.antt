@@ -140,7 +140,7 @@ once_bits bits a b ba bb s t =
     let bodies = bits_of_one s.body t.body as_long (body_bytes a s.unused s.body s.counted ba) (body_bytes b t.unused t.body t.counted bb) (s.padded ∙ ap (λ (n : ℕ). bits ++ replicate n false) unused ∙ sym t.padded) in
     s.counted ∙ ap (λ (n : ℕ). n ∷ s.body) unused ∙ ap (λ (l : List ℕ). t.unused ∷ l) bodies ∙ sym t.counted
 
--- ---- bits are told by their number and their count
+-- ---- bits are determined by their number and their count
 
 pow_some : (w : ℕ) → 0 < 2 ^ w
 pow_some w = omega (arith, suc_ones w)

@@ -53,7 +53,7 @@ exact_plain tag rules =
 pub plain_once : (tag : ℕ) (rules : List ℕ → List (ℕ × Bool)) (v a b : List ℕ) → (plain tag rules).Spells v a → (plain tag rules).Spells v b → a ≡ b
 plain_once tag rules v a b s t = s.1.spelled ∙ ap (λ (l : List ℕ). tlv tag l) (sym s.2.0 ∙ t.2.0) ∙ sym t.1.spelled
 
--- what is opened stands there
+-- what is opened is there
 pub opens_found : (tag : ℕ) (p inner next : Place) → IsBytes p.rest → element_at tag p ≡ Ok (inner, next) → Found tag (λ content. []) p inner.rest next × (inner ≡ inside p.at inner.rest)
 unfolding element_at
 opens_found tag p inner next bytes e =
@@ -61,7 +61,7 @@ opens_found tag p inner next bytes e =
     let s = subst (λ (x : Place × Place). Opens tag p x.0 x.1) (ok_is (content_place p, next_place p) (inner, next) j.1) (stands tag p bytes j.0) in
     (record { front = tlv tag inner.rest; parts = s.parts; spelled = (inner.rest, record { short = s.short; spelled = refl }, (refl, refl)); behind = ap (λ (x : Place). x.at) s.r_is }, s.q_is)
 
--- what stands there is opened
+-- what is there is opened
 pub found_opens : (tag : ℕ) (p inner next : Place) → Found tag (λ content. []) p inner.rest next → inner ≡ inside p.at inner.rest → element_at tag p ≡ Ok (inner, next)
 unfolding element_at
 found_opens tag p inner next h inner_is =

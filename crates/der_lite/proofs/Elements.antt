@@ -43,20 +43,20 @@ module _ (bytes : List ℕ) (tag first : ℕ) (more after : List ℕ) (b : Begin
 abbrev pub behind : ℕ → List ℕ → List ℕ → Place
 behind at front rest = place_of (at + length front) rest
 
--- the element of this content stands at p, and q and r are the places of its content and behind it
+-- the element of this content is at p; q is the place of its content, and r the place behind it
 pub record Opens (tag : ℕ) (p q r : Place) : Type 0 where
   pub short : length q.rest < 2 ^ 32
   pub parts : p.rest ≡ tlv tag q.rest ++ r.rest
   pub q_is : q ≡ inside p.at q.rest
   pub r_is : r ≡ behind p.at (tlv tag q.rest) r.rest
 
--- an element of this tag stands whole at the front, with a length rightly spelled
+-- an element of this tag is whole at the front, and its length is in the fewest bytes
 pub record HasHead (tag : ℕ) (bytes : List ℕ) : Type 0 where
   pub whole : is_truncated bytes ≡ false
   pub tag_is : tag_of bytes ≡ tag
   pub fewest : has_der_length bytes ≡ true
 
--- where each of three rules is kept, they are
+-- if each of three rules is kept, all three are
 kept_again : (a b c : Bool) → a ≡ false → b ≡ true → c ≡ true → first_of ((1, a) ∷ (2, not b) ∷ (3, not c) ∷ []) ≡ None
 kept_again a b c ha hb hc = rw (ha, hb, hc) refl
 
@@ -74,7 +74,7 @@ pub head_keeps : (tag : ℕ) (bytes : List ℕ) → HasHead tag bytes → KeepsR
 unfolding head_rules
 head_keeps tag bytes h = kept_again (is_truncated bytes) (eqb (tag_of bytes) tag) (has_der_length bytes) h.whole (eq-eqb (tag_of bytes) tag h.tag_is) h.fewest
 
--- both ends stand
+-- both ends are there
 pub ends_stand : (bytes : List ℕ) → is_truncated bytes ≡ false → has_der_length bytes ≡ true → (length_end bytes ≤ length bytes) × (content_end bytes ≤ length bytes)
 unfolding is_truncated
 ends_stand bytes h k =
@@ -125,7 +125,7 @@ cut tag first n le ce bytes more parts le_is ce_is long spelled short =
       all_len = omega (arith, ap (λ (l : List ℕ). length l) tlv_is, length-append more content);
     }
 
--- the element that stands at the place
+-- the element at the place
 pub stands : (tag : ℕ) (p : Place) → IsBytes p.rest → KeepsRules (head_rules tag p.rest) → Opens tag p (content_place p) (next_place p)
 unfolding content_place next_place
 stands tag p bytes kept =
@@ -148,7 +148,7 @@ stands tag p bytes kept =
       r_is = ap (λ (k : ℕ). place_of k (drop (content_end p.rest) p.rest)) (ap (λ (k : ℕ). p.at + k) c.all_len);
     }
 
--- what stands there again
+-- what is there again
 pub record Again (tag at : ℕ) (content bytes rest : List ℕ) : Type 0 where
   pub kept : KeepsRules (head_rules tag bytes)
   pub content_is : content_place (place_of at bytes) ≡ inside at content
@@ -180,7 +180,7 @@ again tag at first content bytes more rest b spelled told fewest =
       next_is = ap (λ (k : ℕ). place_of k (drop (content_end bytes) bytes)) at_next ∙ ap (place_of (at + length (tlv tag content))) dropped;
     }
 
--- a spelled element stands where it is spelled
+-- a spelled element is where it is spelled
 pub stands_again : (tag at : ℕ) (content rest : List ℕ) → length content < 2 ^ 32 → Again tag at content (tlv tag content ++ rest) rest
 stands_again tag at content rest short =
     let t = length_tells (length content) short in

@@ -10,7 +10,7 @@ use Rattle.der_lite.specs.Decoding.{Read, ReadAll, ReadContent, read_element, re
 use Rattle.der_lite.proofs.Rules.{judged-kept, judged_ok, judged_err, judged_breaks, bind_ok, bind_err, ok_is, err, err_is}
 use Rattle.der_lite.proofs.Elements.{behind, stands, stands_again, content_bytes}
 
--- the place behind what stands at a place
+-- the place behind the element at a place
 pub next_is : {V : Type 0} {Spells : V → List ℕ → Type 0} (p next : Place) (v : V) (s : Stands Spells p v next) → next ≡ behind p.at s.front next.rest
 next_is p next v s = λ i. place_of (s.behind i) next.rest
 
@@ -29,14 +29,14 @@ pub record ExactMembers {V : Type 0} (m : Members V) (read : ReadAll V) : Type 0
   pub faults : (p : Place) (f : Fault) → IsBytes p.rest → read p ≡ Err f → m.FaultAt p f
   pub refuses : (p : Place) (f : Fault) → m.FaultAt p f → read p ≡ Err f
 
--- the same for the content of an element that stands at an offset
+-- the same for the content of an element at an offset
 pub record ExactContent {V : Type 0} (c : Content V) (read : ReadContent V) : Type 0 where
   pub takes : (at : ℕ) (p : Place) (v : V) → IsBytes p.rest → read at p ≡ Ok v → c.Spells v p.rest
   pub again : (at : ℕ) (p : Place) (v : V) → c.Spells v p.rest → read at p ≡ Ok v
   pub faults : (at : ℕ) (p : Place) (f : Fault) → IsBytes p.rest → read at p ≡ Err f → c.FaultAt at p f
   pub refuses : (at : ℕ) (p : Place) (f : Fault) → c.FaultAt at p f → read at p ≡ Err f
 
--- rules that a head keeps exactly where it keeps the usual ones
+-- rules that a head keeps exactly if it keeps the usual ones
 pub record IsHead (tag : ℕ) (head : List ℕ → List (ℕ × Bool)) : Type 0 where
   pub usual : (bytes : List ℕ) → KeepsRules (head bytes) → KeepsRules (head_rules tag bytes)
   pub keeps : (bytes : List ℕ) → KeepsRules (head_rules tag bytes) → KeepsRules (head bytes)
@@ -174,7 +174,7 @@ module _ {A B : Type 0} (e : Element A) (read : Read A) (x : ExactElement e read
             inr (r.0.0, r.0.1, t, found r.0.0 r.0.1 f (IsBytes-behind p.rest t.front r.0.1.rest bytes t.parts) r.2)
       ]
 
-  -- where the first member is spelled, reading goes on behind it
+  -- if the first member is spelled, reading continues behind it
   reads_first : (p : Place) (a : A) (front rest : List ℕ) → p.rest ≡ front ++ rest → e.Spells a front → (read p >>= λ y. later y.0 y.1) ≡ later a (behind p.at front rest)
   reads_first p a front rest parts s =
       let first : read p ≡ Ok (a, behind p.at front rest) = ap (λ (l : List ℕ). read (place_of p.at l)) parts ∙ x.again p.at a front rest s in
@@ -189,7 +189,7 @@ module _ {A B : Type 0} (e : Element A) (read : Read A) (x : ExactElement e read
             reads_first p r.0 r.2.front r.1.rest r.2.parts r.2.spelled ∙ ap (λ (q : Place). later r.0 q) (sym (next_is p r.1 r.0 r.2)) ∙ found r.0 r.1 f r.3
       ]
 
-  -- the first is taken, and what is behind it
+  -- the first is read, and what is behind it
   takes_in : (p : Place) (b : B) → IsBytes p.rest → (read p >>= λ y. later y.0 y.1) ≡ Ok b → (a : A) × (q : Place) × Stands e.Spells p a q × IsBytes q.rest × (later a q ≡ Ok b)
   takes_in p b bytes d =
       let r = bind_ok (read p) (λ y. later y.0 y.1) b d in
@@ -214,7 +214,7 @@ ended_ok p v w e =
     let k = chosen_ok (eqb (length p.rest) 0) v w (record { number = 5; offset = p.at }) e in
     (nil_from_length p.rest (eqb-true (length p.rest) 0 k.0), k.1)
 
--- where nothing remains, it is the value
+-- if nothing remains, it is the value
 ended_again : {V : Type 0} (p : Place) (v : V) → p.rest ≡ [] → ended p v ≡ Ok v
 ended_again p v e = rw e refl
 
@@ -224,7 +224,7 @@ ended_faults p v f e =
     let k = chosen_err (eqb (length p.rest) 0) v (record { number = 5; offset = p.at }) f e in
     record { more = λ n. eqb-false (length p.rest) 0 k.0 (ap (λ (l : List ℕ). length l) n); is = sym k.1 }
 
--- where bytes remain, it is the fault
+-- if bytes remain, it is the fault
 ended_refuses : {V : Type 0} (p : Place) (v : V) (f : Fault) → Trails p f → ended p v ≡ Err f
 ended_refuses p v f t =
     let b : eqb (length p.rest) 0 ≡ false = ne_eqb (length p.rest) 0 (λ n. t.more (nil_from_length p.rest n)) in
@@ -363,11 +363,11 @@ module _ {A : Type 0} (e : List A → Element A) (read : List A → Read A) (x :
       reads_first (e before) (read before) (x before) (λ a. Trails) (λ a q. each_from n read (before ++ a ∷ []) q) p a s.0 s.1 s.2.parts s.3 in
       rw (longer p.rest more) (first ∙ again_from vs n (before ++ a ∷ []) (behind p.at s.0 s.1) less s.4 ∙ ap (λ (l : List A). Ok l) (append_assoc before (a ∷ []) vs))
 
-  -- a fault behind so many members
+  -- a fault behind a number of members
   abbrev FaultFrom : List A → Place → Fault → Type 0
   FaultFrom before p f = (vs : List A) × (next : Place) × Stands (EachSpells e before) p vs next × (next.rest ≢ []) × (e (before ++ vs)).FaultAt next f
 
-  -- a fault that the loop gives stands there
+  -- a fault that the loop gives is the one there
   faults_from : (n : ℕ) (before : List A) (p : Place) (f : Fault) → length p.rest ≤ n → IsBytes p.rest → each_from n read before p ≡ Err f → FaultFrom before p f
   faults_from zero before p f le bytes d = absurd cc
   faults_from (suc n) before p f le bytes d =
@@ -401,7 +401,7 @@ module _ {A : Type 0} (e : List A → Element A) (read : List A → Read A) (x :
         ]
       ]
 
-  -- a fault that stands there is what the loop gives
+  -- a fault there is what the loop gives
   refuses_from : (vs : List A) (n : ℕ) (before : List A) (p : Place) (f : Fault) (front rest : List ℕ) → length p.rest ≤ n → p.rest ≡ front ++ rest → EachSpells e before vs front → rest ≢ [] → (e (before ++ vs)).FaultAt (behind p.at front rest) f → each_from n read before p ≡ Err f
   refuses_from [] zero before p f front rest le parts s more d = absurd (more (nil_from_length rest (omega (arith, ap (λ (l : List ℕ). length l) parts, length-append front rest))))
   refuses_from [] (suc n) before p f front rest le parts s more d =

@@ -132,7 +132,7 @@ module _ {V : Type 0} (before : List ℕ → List (ℕ × Bool)) (m : Members V)
       exact_along (element 48 (head_rules 48) (constructed before m whole)) (read_element (head_rules 48) (read_constructed before read whole)) (sequence_at before read whole) sequence_is
       (exact_element 48 (head_rules 48) (constructed before m whole) (read_constructed before read whole) (usual_head 48) (exact_constructed before m read whole x))
 
--- ---- reading goes on
+-- ---- reading continues
 
 -- behind an element less remains
 pub element_shorter : (tag : ℕ) (p x q : Place) → element_at tag p ≡ Ok (x, q) → length q.rest < length p.rest

@@ -30,22 +30,22 @@ module _ {V : Type 0} (m : Members V) (read : ReadAll V) (x : ExactMembers m rea
       decided (Err f) e = inr (f, x.faults p f bytes e)
 
 module _ {V : Type 0} (e : Element V) (read : Read V) (x : ExactElement e read) where
-  -- what stands at a place is read
+  -- what is at a place is read
   pub stands_read : (p : Place) (v : V) (q : Place) → Stands e.Spells p v q → read p ≡ Ok (v, q)
   stands_read p v q h =
       ap (λ (l : List ℕ). read (place_of p.at l)) h.parts
       ∙ x.again p.at v h.front q.rest h.spelled
       ∙ ap (λ (r : Place). Ok (v, r)) (sym (next_is p q v h))
 
-  -- what is read stands there
+  -- what is read is there
   pub read_stands : (p : Place) (v : V) (q : Place) → IsBytes p.rest → read p ≡ Ok (v, q) → Stands e.Spells p v q
   read_stands p v q bytes h = x.takes p v q bytes h
 
-  -- at most one fault stands at a place
+  -- at most one fault is at a place
   pub element_fault : (p : Place) (f g : Fault) → e.FaultAt p f → e.FaultAt p g → f ≡ g
   element_fault p f g s t = err_is {A = V × Place} f g (sym (x.refuses p f s) ∙ x.refuses p g t)
 
-  -- none where an element stands
+  -- none if an element is there
   pub element_apart : (p : Place) (v : V) (q : Place) (f : Fault) → Stands e.Spells p v q → e.FaultAt p f → ⊥
   element_apart p v q f h d = let same : ok {A = V × Place} (v, q) ≡ err f = sym (stands_read p v q h) ∙ x.refuses p f d in absurd cc
 

@@ -139,7 +139,7 @@ number_next bytes i h =
     let next : i + 1 ≡ suc i = omega arith in
     ap (λ (n : ℕ). number (take n bytes)) next ∙ ap number (take-suc bytes i 0 h) ∙ number_more (take i bytes) (get_or bytes i 0)
 
--- those in front are below so many powers
+-- those in front are below this many powers
 pub number_front : (bytes : List ℕ) (i : ℕ) → IsBytes bytes → i ≤ length bytes → number (take i bytes) < 256 ^ i
 number_front bytes i h short =
     subst (λ (n : ℕ). number (take i bytes) < 256 ^ n) (length-take-le i bytes short)

@@ -1,4 +1,4 @@
--- A length in the fewest bytes is told by its bytes, and these are the only bytes that tell it.
+-- A length in the fewest bytes is determined by its bytes, and no other bytes spell it.
 use Rattle.std.proofs.Common.{◌≡◌, ℕ, zero, suc, ◌+◌, ◌*◌, ◌/◌, ◌%◌, ◌^◌, ◌<◌, ◌≤◌, true, ◌&&◌, Bool, ltb, leb, List, [], ◌∷◌, length, get_or, drop, refl, sym, ap, subst, ◌∙◌, arith, inl, inr}
 use Rattle.std.proofs.lemmas.Bool.{cases_lt, lt-ltb, le-ltb, and_parts, and_from, ltb-true, leb-true, le-leb}
 use Rattle.std.proofs.lemmas.Bool.Decides.{nat_tests}
@@ -37,7 +37,7 @@ abbrev pub is_fewest : ℕ → List ℕ → Bool
 is_fewest first [] = ltb first 128
 is_fewest first (highest ∷ more) = ltb 0 highest && leb 128 (number (highest ∷ more))
 
--- what the bytes of a length tell
+-- what the bytes of a length spell
 pub record Tells (n : ℕ) (first : ℕ) (more : List ℕ) : Type 0 where
   pub spelled : length_bytes n ≡ first ∷ more
   pub counted : announced first ≡ length more
@@ -48,7 +48,7 @@ pub record Tells (n : ℕ) (first : ℕ) (more : List ℕ) : Type 0 where
 fewest_from : (a n : ℕ) → 0 < a → 128 ≤ n → (ltb 0 a && leb 128 n) ≡ true
 fewest_from a n h k = and_from _ _ (lt-ltb 0 a h) (le-leb 128 n k)
 
--- the bytes of a length tell it
+-- the bytes of a length spell it
 pub length_tells : (n : ℕ) → n < 2 ^ 32 → (first : ℕ) × (more : List ℕ) × Tells n first more
 length_tells n h =
     elim (cases_lt n 128) [
@@ -73,7 +73,7 @@ announced_is first k h p = grind (arith, nat_tests)
 fewest_parts : (a n : ℕ) → (ltb 0 a && leb 128 n) ≡ true → (0 < a) × (128 ≤ n)
 fewest_parts a n h = let p = and_parts (ltb 0 a) (leb 128 n) h in (ltb-true 0 a p.0, leb-true 128 n p.1)
 
--- one byte spells the number that it tells
+-- one byte spells its number
 spells_1 : (n a : ℕ) → n ≡ a → 128 ≤ n → a < 256 → length_bytes n ≡ 129 ∷ a ∷ []
 spells_1 n a e l h =
     let x : n % 256 ≡ a = omega arith in
@@ -103,7 +103,7 @@ spells_4 n a b c d e l ha hb hc hd =
     let z : n % 256 ≡ d = omega arith in
     length_bytes-4 n (omega arith) ∙ rw (w, x, y, z) refl
 
--- these bytes are the one spelling of what they tell
+-- these bytes are the one spelling of their number
 abbrev Spelled : ℕ → List ℕ → Type 0
 Spelled first more = (length_bytes (told_length (first ∷ more)) ≡ first ∷ more) × (told_length (first ∷ more) < 2 ^ 32)
 
@@ -138,7 +138,7 @@ fewest_spells first (a ∷ b ∷ c ∷ d ∷ e ∷ more) bytes counted fewest =
 
 -- ---- the one spelling of a length
 
--- the bytes of a length are the spelling of what they tell
+-- the bytes of a length are the spelling of their number
 pub length_spells : (n : ℕ) (first : ℕ) (more : List ℕ) → Tells n first more → is_length (first ∷ more) ≡ true
 length_spells n first more t = (bytes_eq-Decides (first ∷ more) (length_bytes (told_length (first ∷ more)))).1 (sym t.spelled ∙ ap length_bytes (sym t.told))
 
@@ -160,7 +160,7 @@ told_short first more bytes counted =
           rw (le-ltb first 128 a) (omega (arith, number_bound more bytes, most))
     ]
 
--- bytes that are the spelling of what they tell
+-- bytes that are the spelling of their number
 pub told_spells : (first : ℕ) (more : List ℕ) → IsBytes more → announced first ≡ length more → is_length (first ∷ more) ≡ true
     → (length_bytes (told_length (first ∷ more)) ≡ first ∷ more) × (told_length (first ∷ more) < 2 ^ 32)
 told_spells first more bytes counted h = (sym ((bytes_eq-Decides (first ∷ more) (length_bytes (told_length (first ∷ more)))).0 h), told_short first more bytes counted)
@@ -176,17 +176,17 @@ fewest_is first more bytes counted =
     let same : (t.0 ∷ t.1) ≡ (first ∷ more) = sym t.2.spelled ∙ told.0 in
     subst (λ (l : List ℕ). is_fewest (get_or l 0 0) (drop 1 l) ≡ true) same t.2.fewest)
 
--- it hangs on the first byte alone where no other is announced
+-- it depends on the first byte alone if no other is announced
 pub fewest_alone : (first : ℕ) (more : List ℕ) → IsBytes more → announced first ≡ length more → length more < 1 → ltb first 128 ≡ is_length (first ∷ more)
 fewest_alone first [] bytes counted none = fewest_is first [] bytes counted
 fewest_alone first (highest ∷ more) bytes counted none = absurd (omega arith)
 
--- on what the others spell, where their first is not zero
+-- on what the others spell, if their first is not zero
 pub fewest_high : (first : ℕ) (more : List ℕ) → IsBytes more → announced first ≡ length more → 1 ≤ length more → 0 < get_or more 0 0 → leb 128 (number more) ≡ is_length (first ∷ more)
 fewest_high first [] bytes counted some high = absurd (omega arith)
 fewest_high first (highest ∷ more) bytes counted some high = ap (λ (b : Bool). b && leb 128 (number (highest ∷ more))) (sym (lt-ltb 0 highest high)) ∙ fewest_is first (highest ∷ more) bytes counted
 
--- and it fails where that is zero
+-- and it fails if that is zero
 pub fewest_low : (first : ℕ) (more : List ℕ) → IsBytes more → announced first ≡ length more → 1 ≤ length more → get_or more 0 0 ≤ 0 → ltb 0 (get_or more 0 0) ≡ is_length (first ∷ more)
 fewest_low first [] bytes counted some low = absurd (omega arith)
 fewest_low first (highest ∷ more) bytes counted some low =

@@ -1,4 +1,4 @@
--- A text is that of a moment exactly where it is fourteen digits and a Z, and the numbers that they spell are a moment.
+-- A text is that of a moment exactly if it is fourteen digits and a Z, and the numbers that they spell are a moment.
 use Rattle.std.proofs.Common.{◌≡◌, ℕ, zero, suc, ◌+◌, ◌-◌, ◌/◌, ◌%◌, ◌<◌, ◌≤◌, true, false, ◌&&◌, Bool, List, [], ◌∷◌, ◌++◌, length, length-drop, ap₂, if◌then◌else◌, take, drop, slice_range, bytes_eq, ℤ, pos, ◌≤ℤ◌, unsigned_abs, Option, Some, None, IfSome, refl, sym, ap, subst, ◌∙◌, arith, length-append}
 use Rattle.std.specs.Char.{is_ascii_digit}
 use Rattle.std.specs.List.{list_all}
@@ -133,7 +133,7 @@ moment_of_digits digits len = λ i. record {
   second = decimal_number (slice_front digits (90 ∷ []) 12 14 (omega arith) (omega (arith, len)) i);
 }
 
--- where a text is that of its numbers, it is a time if they are a moment
+-- if a text is that of its numbers, it is a time if they are a moment
 time_if_real : (text : List ℕ) → text ≡ moment_text (moment_of text) → is_time text ≡ is_moment (moment_of text)
 unfolding is_time
 time_if_real text e = ap (λ (b : Bool). is_moment (moment_of text) && b) ((bytes_eq-Decides text (moment_text (moment_of text))).1 e) ∙ and-true (is_moment (moment_of text))
@@ -180,7 +180,7 @@ length-moment_digits : (m : CivilMoment) → length (moment_digits m) ≡ 14
 unfolding moment_digits
 length-moment_digits m = refl
 
--- where the bytes before the Z are not fourteen digits, there is no moment
+-- if the bytes before the Z are not fourteen digits, there is no moment
 pub not_digits : (digits : List ℕ) → (length digits ≡ 14 → list_all is_ascii_digit digits ≡ true → ⊥) → None ≡ moment_in (digits ++ 90 ∷ [])
 unfolding moment_text
 not_digits digits h =
@@ -207,7 +207,7 @@ zone_is text digits h e =
     sym (take-append-drop (length text - 1) text)
     ∙ ap₂ ◌++◌ (sym e) ((bytes_eq-Decides (drop (length text - 1) text) (90 ∷ [])).0 h)
 
--- ---- numbers that are told
+-- ---- numbers that are spelled
 
 -- the six numbers of digits
 pub told_digits : (digits : List ℕ) (year month day hour minute second : ℕ)

@@ -14,13 +14,13 @@ pub kept_on : (number : ℕ) (a : Bool) (rules : List (ℕ × Bool)) → a ≡ f
 kept_on number true rules h later = absurd cc
 kept_on number false rules h later = later
 
--- where no rule is broken, what follows is the result
+-- if no rule is broken, what follows is the result
 pub judged-kept : {A : Type 0} (rules : List (ℕ × Bool)) (at : ℕ) (r : Result A Fault) → first_of rules ≡ None → judged rules at r ≡ r
 judged-kept [] at r kept = refl
 judged-kept ((number, true) ∷ rules) at r kept = absurd cc
 judged-kept ((number, false) ∷ rules) at r kept = judged-kept rules at r kept
 
--- where a rule is broken, the first such is the fault
+-- if a rule is broken, the first such is the fault
 pub judged-broken : {A : Type 0} (rules : List (ℕ × Bool)) (at n : ℕ) (r : Result A Fault) → first_of rules ≡ Some n → judged rules at r ≡ Err (record { number = n; offset = at })
 judged-broken [] at n r broken = absurd cc
 judged-broken ((number, true) ∷ rules) at n r broken = let same : number ≡ n = cc in ap (λ (k : ℕ). Err (record { number = k; offset = at })) same
@@ -44,7 +44,7 @@ err f = Err f
 pub err_is : {A : Type 0} (f g : Fault) → err {A = A} f ≡ err g → f ≡ g
 err_is f g e = cc
 
--- a fault that judging gave is that of a rule, or else of what follows
+-- a fault that judging gave is that of a rule, otherwise of what follows
 pub judged_err : {A : Type 0} (rules : List (ℕ × Bool)) (at : ℕ) (r : Result A Fault) (f : Fault) → judged rules at r ≡ Err f → Breaks rules at f ⊎ (KeepsRules rules × (r ≡ Err f))
 judged_err [] at r f e = inr (refl, e)
 judged_err {A} ((number, true) ∷ rules) at r f e =
@@ -62,7 +62,7 @@ pub bind_ok : {A B : Type 0} (r : Result A Fault) (f : A → Result B Fault) (y 
 bind_ok (Ok x) f y e = (x, refl, e)
 bind_ok (Err d) f y e = absurd cc
 
--- a fault in two steps: the first gave it, or else the second
+-- a fault in two steps: the first gave it, otherwise the second
 pub bind_err : {A B : Type 0} (r : Result A Fault) (f : A → Result B Fault) (d : Fault) → (r >>= f) ≡ Err d → (r ≡ Err d) ⊎ ((x : A) × (r ≡ Ok x) × (f x ≡ Err d))
 bind_err (Ok x) f d e = inr (x, refl, e)
 bind_err {A} {B} (Err c) f d e = inl (ap (λ (g : Fault). err {A = A} g) (err_is {A = B} c d e))

@@ -27,7 +27,7 @@ pub record HasWholeSecond (dt : DateTime) : Type 0 where
   pub whole : dt.time.subsec_nanosecond ≡ 0
 
 -- ---- the date-time of six numbers
--- What follows shows that a moment's six numbers give its date-time back, which a `Copy` type owes. No contract says more by it.
+-- What follows shows that a moment's six numbers give its date-time back, as a `Copy` type requires. No contract says more by it.
 
 -- what a real moment is, number by number
 pub record IsReal (m : CivilMoment) : Type 0 where
@@ -77,7 +77,7 @@ is_year year h = omega (arith, signed_arith, h)
 is_below : (n most next : ℕ) → n ≤ most → most < next → n < next
 is_below n most next h g = omega (arith, h, g)
 
--- the numbers of a time of day, where the library has them
+-- the numbers of a time of day, if the library has them
 most_hour : 23 < 24
 most_hour = omega arith
 

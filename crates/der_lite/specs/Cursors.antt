@@ -20,7 +20,7 @@ der_kind_number Trailing = 5
 abbrev pub der_fault_of : DerFault → Fault
 der_fault_of e = record { number = der_kind_number e.kind; offset = e.offset }
 
--- A read gave what reading at the old place gives, and the cursor stands behind it. After a fault it stands where it stood.
+-- A read gave what reading at the old place gives, and the cursor is behind it. After a fault it is at the old place.
 abbrev pub GivesElement : {X V : Type 0} → (X → V) → Result X DerFault → Place → Place → Result (V × Place) Fault → Type 0
 GivesElement view (Ok x) old new read = read ≡ Ok (view x, new)
 GivesElement view (Err e) old new read = (read ≡ Err (der_fault_of e)) × (new ≡ old)
@@ -35,7 +35,7 @@ abbrev pub EndsElement : Result (Unit {0}) DerFault → Result (Unit {0}) Fault 
 EndsElement (Ok _) read = read ≡ Ok tt
 EndsElement (Err e) read = read ≡ Err (der_fault_of e)
 
--- the head of an element that stands here whole
+-- the head of an element that is here whole
 pub record HeadOf (tag : ℕ) (bytes : List ℕ) (head : Head) : Type 0 where
   pub kept : first_of (head_rules tag bytes) ≡ None
   pub length_is : head.length_end ≡ length_end bytes

@@ -7,11 +7,11 @@ use Rattle.der_lite.specs.DerReading.{◌>>=◌, judged, content_place, next_pla
 abbrev pub Read : Type 0 → Type 0
 Read V = Place → Result (V × Place) Fault
 
--- reading all that stands in an enclosing element
+-- reading all of an enclosing element
 abbrev pub ReadAll : Type 0 → Type 0
 ReadAll V = Place → Result V Fault
 
--- reading the content of the element that stands at an offset
+-- reading the content of the element at an offset
 abbrev pub ReadContent : Type 0 → Type 0
 ReadContent V = ℕ → Place → Result V Fault
 
@@ -27,7 +27,7 @@ read_primitive rules value at p = judged (rules p.rest) at (Ok (value p.rest))
 abbrev pub read_constructed : {V : Type 0} → (List ℕ → List (ℕ × Bool)) → ReadAll V → (V → List (ℕ × Bool)) → ReadContent V
 read_constructed before members whole at p = judged (before p.rest) at (members p >>= λ v. judged (whole v) at (Ok v))
 
--- the end of the enclosing element, or else what remains
+-- the end of the enclosing element, otherwise what remains
 abbrev pub ended : {V : Type 0} → Place → V → Result V Fault
 ended p v = if length p.rest == 0 then Ok v else Err (record { number = 5; offset = p.at })
 
@@ -43,7 +43,7 @@ read_member e others p = e p >>= λ x. others x.0 x.1 >>= λ y. Ok (x.0, y)
 abbrev pub read_optional : {A : Type 0} → Read A → ReadAll (Option A)
 read_optional e p = if length p.rest == 0 then Ok None else (e p >>= λ x. ended x.1 (Some x.0))
 
--- at most so many members, behind those before
+-- at most this many members, behind those before
 abbrev pub each_from : {A : Type 0} → ℕ → (List A → Read A) → List A → ReadAll (List A)
 each_from zero e before p = Ok before
 each_from (suc n) e before p = if length p.rest == 0 then Ok before else (e before p >>= λ x. each_from n e (before ++ x.0 ∷ []) x.1)

@@ -109,7 +109,7 @@ length_part [] = []
 length_part (tag ∷ []) = []
 length_part (tag ∷ first ∷ more) = first ∷ take (announced first) more
 
--- the length that they give: the first itself, if it is below 128, or else what the others spell
+-- the length that they give: the first itself, if it is below 128, otherwise what the others spell
 abbrev pub told_length : List ℕ → ℕ
 told_length [] = 0
 told_length (first ∷ more) = if nat_lt first 128 then first else number more

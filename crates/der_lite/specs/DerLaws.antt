@@ -7,25 +7,25 @@ use Rattle.der_lite.specs.Grammar.{Breaks, Stands, plain, inside}
 use Rattle.der_lite.specs.DerReading.{element_at, content_at, time_at}
 use Rattle.der_lite.specs.Times.{timed}
 
--- An element of this tag stands here, with this content.
+-- An element of this tag is here, with this content.
 abbrev pub Found : ℕ → (List ℕ → List (ℕ × Bool)) → Place → List ℕ → Place → Type 0
 Found tag rules = Stands (plain tag rules).Spells
 
--- Reading gives a content exactly where its element stands, and a fault exactly where that fault stands.
+-- Reading gives a content exactly if its element is there, and a fault exactly if that fault is there.
 abbrev pub ReadsExactly : Type 0
 ReadsExactly =
     (tag : ℕ) (rules : List ℕ → List (ℕ × Bool)) (p : Place) → IsBytes p.rest
     → ((content : List ℕ) (q : Place) → (content_at tag rules p ≡ Ok (content, q)) ↔ Found tag rules p content q)
     × ((fault : Fault) → (content_at tag rules p ≡ Err fault) ↔ (plain tag rules).FaultAt p fault)
 
--- Reading opens an element exactly where it stands, at the place of its content. A fault is the first that its head has.
+-- Reading opens an element exactly if it is there, at the place of its content. A fault is the first that its head has.
 abbrev pub OpensExactly : Type 0
 OpensExactly =
     (tag : ℕ) (p : Place) → IsBytes p.rest
     → ((inner next : Place) → (element_at tag p ≡ Ok (inner, next)) ↔ (Found tag (λ content. []) p inner.rest next × (inner ≡ inside p.at inner.rest)))
     × ((fault : Fault) → (element_at tag p ≡ Err fault) ↔ Breaks (head_rules tag p.rest) p.at fault)
 
--- At most one fault stands at a place, none where an element stands, and one everywhere else.
+-- At most one fault is at a place: none if an element is there, and one otherwise.
 abbrev pub OneDerFault : Type 0
 OneDerFault =
     (tag : ℕ) (rules : List ℕ → List (ℕ × Bool)) (p : Place)
@@ -33,14 +33,14 @@ OneDerFault =
     × ((content : List ℕ) (q : Place) (f : Fault) → Found tag rules p content q → (plain tag rules).FaultAt p f → ⊥)
     × (IsBytes p.rest → ((content : List ℕ) × (q : Place) × Found tag rules p content q) ⊎ ((f : Fault) × (plain tag rules).FaultAt p f))
 
--- No content has two spellings; and where one spelling begins with another, it is that one, of the same content.
+-- No content has two spellings. If one spelling begins with another, both are equal, and so are the contents.
 abbrev pub OneDerSpelling : Type 0
 OneDerSpelling =
     (tag : ℕ) (rules : List ℕ → List (ℕ × Bool))
     → ((v a b : List ℕ) → (plain tag rules).Spells v a → (plain tag rules).Spells v b → a ≡ b)
     × ((v w a b more rest : List ℕ) → (plain tag rules).Spells v a → (plain tag rules).Spells w b → a ++ more ≡ b ++ rest → (v ≡ w) × (more ≡ rest))
 
--- A content keeps the rules of a bit string exactly where it spells bits; it spells one list of them, and no list has two contents.
+-- A content keeps the rules of a bit string exactly if it spells bits; it spells one list of them, and no list has two contents.
 abbrev pub SpellsBits : Type 0
 SpellsBits =
     ((content : List ℕ) → (is_bit_string content ≡ true) ↔ ((bits : List Bool) × BitsSpell bits content))
@@ -49,14 +49,14 @@ SpellsBits =
 
 -- ---- moments
 
--- Reading gives a moment exactly where its element stands, and a fault exactly where that fault stands.
+-- Reading gives a moment exactly if its element is there, and a fault exactly if that fault is there.
 abbrev pub ReadsTimesExactly : Type 0
 ReadsTimesExactly =
     (p : Place) → IsBytes p.rest
     → ((m : CivilMoment) (q : Place) → (time_at p ≡ Ok (m, q)) ↔ Stands (timed (λ m. [])).Spells p m q)
     × ((fault : Fault) → (time_at p ≡ Err fault) ↔ (timed (λ m. [])).FaultAt p fault)
 
--- At most one fault stands where a moment is expected, none where one stands, and one everywhere else.
+-- At most one fault is where a moment is expected: none if one is there, and one otherwise.
 abbrev pub OneFaultOfTimes : Type 0
 OneFaultOfTimes =
     (rules : CivilMoment → List (ℕ × Bool)) (p : Place)
@@ -64,14 +64,14 @@ OneFaultOfTimes =
     × ((m : CivilMoment) (q : Place) (f : Fault) → Stands (timed rules).Spells p m q → (timed rules).FaultAt p f → ⊥)
     × (IsBytes p.rest → ((m : CivilMoment) × (q : Place) × Stands (timed rules).Spells p m q) ⊎ ((f : Fault) × (timed rules).FaultAt p f))
 
--- No moment has two elements; and where one element begins with another, it is that one, of the same moment.
+-- No moment has two elements. If one element begins with another, both are equal, and so are the moments.
 abbrev pub OneSpellingOfTimes : Type 0
 OneSpellingOfTimes =
     (rules : CivilMoment → List (ℕ × Bool))
     → ((m : CivilMoment) (a b : List ℕ) → (timed rules).Spells m a → (timed rules).Spells m b → a ≡ b)
     × ((m n : CivilMoment) (a b more rest : List ℕ) → (timed rules).Spells m a → (timed rules).Spells n b → a ++ more ≡ b ++ rest → (m ≡ n) × (more ≡ rest))
 
--- What is found in a text is the moment whose text it is, or else there is none. A moment has one text, and a text one moment.
+-- What is found in a text is the moment whose text it is; otherwise there is none. A moment has one text, and a text one moment.
 abbrev pub OneText : Type 0
 OneText =
     ((text : List ℕ) → IsMomentOf text (moment_in text))

@@ -10,12 +10,12 @@ abbrev pub ◌>>=◌ : {A B : Type 0} → Result A Fault → (A → Result B Fau
 (Ok x) >>= f = f x
 (Err e) >>= f = Err e
 
--- the first rule that is broken, or else the result
+-- the first rule that is broken, otherwise the result
 abbrev pub judged : {A : Type 0} → List (ℕ × Bool) → ℕ → Result A Fault → Result A Fault
 judged [] at result = result
 judged ((number, is_broken) ∷ rules) at result = if is_broken then Err (record { number = number; offset = at }) else judged rules at result
 
--- the place of the content of the element that stands at a place
+-- the place of the content of the element at a place
 unfoldable pub content_place : Place → Place
 content_place p = record { at = p.at + length_end p.rest; rest = slice_range p.rest (length_end p.rest) (content_end p.rest) }
 

@@ -8,17 +8,17 @@ pub record Element (V : Type 0) : Type 1 where
   pub Spells : V → List ℕ → Type 0
   pub FaultAt : Place → Fault → Type 0
 
--- all that stands in an enclosing element, to its end
+-- all of an enclosing element, to its end
 pub record Members (V : Type 0) : Type 1 where
   pub Spells : V → List ℕ → Type 0
   pub FaultAt : Place → Fault → Type 0
 
--- the content of the element that stands at an offset
+-- the content of the element at an offset
 pub record Content (V : Type 0) : Type 1 where
   pub Spells : V → List ℕ → Type 0
   pub FaultAt : ℕ → Place → Fault → Type 0
 
--- the first of the rules that fails is this fault, and it stands here
+-- the first of the rules that fails is this fault, and it is here
 pub record Breaks (rules : List (ℕ × Bool)) (offset : ℕ) (fault : Fault) : Type 0 where
   pub first : first_of rules ≡ Some fault.number
   pub here : fault.offset ≡ offset
@@ -31,18 +31,18 @@ KeepsRules rules = first_of rules ≡ None
 pub record SplitsBytes (bytes front rest : List ℕ) : Type 0 where
   pub parts : bytes ≡ front ++ rest
 
--- Bytes that spell this value stand at the front of place p, and next is the place behind them.
+-- Bytes that spell this value are at the front of place p, and next is the place behind them.
 pub record Stands {V : Type 0} (Spells : V → List ℕ → Type 0) (p : Place) (v : V) (next : Place) : Type 0 where
   pub front : List ℕ
   pub parts : p.rest ≡ front ++ next.rest
   pub spelled : Spells v front
   pub behind : next.at ≡ p.at + length front
 
--- where the content of an element begins that stands at an offset
+-- where the content of the element at an offset begins
 abbrev pub inside : ℕ → List ℕ → Place
 inside at content = record { at = at + 1 + length (length_bytes (length content)); rest = content }
 
--- An element. Its fault: the head breaks a rule; or it keeps them all, the element stands here, and its content is faulty.
+-- An element. Its fault: the head breaks a rule; or it keeps them all, the element is here, and its content is faulty.
 abbrev pub element : {V : Type 0} → ℕ → (List ℕ → List (ℕ × Bool)) → Content V → Element V
 element {V} tag head content = record {
   Spells = λ v bytes. (inner : List ℕ) × Tlv tag inner bytes × content.Spells v inner;
@@ -78,7 +78,7 @@ pub record Trails (p : Place) (fault : Fault) : Type 0 where
   pub more : p.rest ≢ []
   pub is : fault ≡ record { number = 5; offset = p.at }
 
--- The first member is faulty; or it stands here, and what is behind it is faulty.
+-- The first member is faulty; or it is here, and what is behind it is faulty.
 abbrev pub FaultIn : {A : Type 0} → Element A → (A → Place → Fault → Type 0) → Place → Fault → Type 0
 FaultIn {A} first Later p fault =
     first.FaultAt p fault
@@ -115,7 +115,7 @@ abbrev pub EachSpells : {A : Type 0} → (List A → Element A) → List A → L
 EachSpells e before [] bytes = bytes ≡ []
 EachSpells e before (a ∷ others) bytes = (front : List ℕ) × (rest : List ℕ) × SplitsBytes bytes front rest × (e before).Spells a front × EachSpells e (before ++ a ∷ []) others rest
 
--- Members to the end, each of which may depend on those before it. Their fault: some stand here, bytes remain, and the next is faulty.
+-- Members to the end, each of which may depend on those before it. Their fault: some are here, bytes remain, and the next is faulty.
 abbrev pub each : {A : Type 0} → (List A → Element A) → Members (List A)
 each {A} e = record {
   Spells = EachSpells e [];

@@ -20,7 +20,7 @@ tag_alone : wrong (0x30 ∷ []) ≡ Some 1
 unfolding head_rules is_truncated has_der_length length_bytes length_end content_end
 tag_alone = refl
 
--- length bytes that are announced and do not stand here, of another tag too
+-- length bytes that are announced and missing, of another tag too
 announced_alone : wrong (0x30 ∷ 0x81 ∷ []) ≡ Some 1
 unfolding head_rules is_truncated has_der_length length_bytes length_end content_end
 announced_alone = refl
@@ -29,7 +29,7 @@ other_tag_cut : wrong (0x04 ∷ 0x82 ∷ 0x01 ∷ []) ≡ Some 1
 unfolding head_rules is_truncated has_der_length length_bytes length_end content_end
 other_tag_cut = refl
 
--- a content that does not stand here
+-- a content that is missing
 content_cut : wrong (0x31 ∷ 0x81 ∷ 0x80 ∷ []) ≡ Some 1
 unfolding head_rules is_truncated has_der_length length_bytes length_end content_end
 content_cut = refl

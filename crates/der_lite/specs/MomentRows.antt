@@ -101,7 +101,7 @@ blank : moment_in (codes "2025 101000000Z") ≡ None
 unfolding moment_in is_time moment_of moment_text moment_digits is_moment
 blank = refl
 
--- a colon, which follows 9, does not stand for ten
+-- a colon, which follows 9, is not read as ten
 colon : moment_in (codes "202501:1000000Z") ≡ None
 unfolding moment_in is_time moment_of moment_text moment_digits is_moment
 colon = refl

@@ -92,7 +92,7 @@ abbrev pub decimal_number : List ℕ → ℕ
 decimal_number [] = 0
 decimal_number (digit ∷ digits) = (digit - 48) * 10 ^ length digits + decimal_number digits
 
--- the numbers that stand in a text where a moment's do
+-- the numbers in a text where a moment's are
 unfoldable pub moment_of : List ℕ → CivilMoment
 moment_of text = record {
   year = decimal_number (take 4 text);

@@ -1,4 +1,4 @@
--- Where reading stands, and what can be wrong there.
+-- The place of reading, and what can be wrong there.
 use Rattle.std.specs.Prelude.{ℕ, ◌+◌, ◌<◌, ◌^◌, Bool, List, [], ◌∷◌, length, Option, Some, None, if◌then◌else◌}
 
 -- the offset in the whole payload, and the bytes from there to the end of the enclosing element

@@ -5,12 +5,12 @@ use Rattle.der_lite.specs.Moments.{CivilMoment, is_leap, days_of_month}
 abbrev pub days_of_year : ℕ → ℕ
 days_of_year year = if is_leap year then 366 else 365
 
--- the days of so many years, from 1970 on
+-- the days of this many years, from 1970
 unfoldable pub days_of_years : ℕ → ℕ
 days_of_years zero = 0
 days_of_years (suc count) = days_of_years count + days_of_year (1970 + count)
 
--- the days of so many months of a year, from January on
+-- the days of this many months of a year, from January
 unfoldable pub days_of_months : ℕ → ℕ → ℕ
 days_of_months year zero = 0
 days_of_months year (suc count) = days_of_months year count + days_of_month year (suc count)

@@ -28,7 +28,7 @@ unsigned_bytes n =
 abbrev pub bits_value : List ℕ → List Bool
 bits_value content = take (bit_count content) (bits_of (drop 1 content))
 
--- bits as a number of so many bits, where those that are missing are zeros
+-- bits as a number of this many bits, with zeros for those that are missing
 abbrev pub bits_number : List Bool → ℕ → ℕ
 bits_number [] width = 0
 bits_number (bit ∷ bits) width = (if bit then 2 ^ (width - 1) else 0) + bits_number bits (width - 1)

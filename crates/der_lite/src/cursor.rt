@@ -1,4 +1,4 @@
-//! A cursor over the elements that stand in one enclosing element.
+//! A cursor over the elements of one enclosing element.
 
 ghost use Rattle.std.specs.Prelude.{IfOk, ◌≡◌, IsTrue, ◌↔◌, slice_get, []};
 ghost use Rattle.der_lite.specs.Der.{SEQUENCE, is_integer as is_integer_of, is_bit_string as is_bit_string_of, is_ia5};
@@ -12,10 +12,10 @@ use crate::head::read_head;
 use crate::{Bits, DerFault, DerFaultKind, Moment, tag};
 use std::marker::Model;
 
-/// Reads the elements that stand in an enclosing one, in order.
+/// Reads the elements of an enclosing one, in order.
 ///
-/// What it hands out lies in the bytes that it was made over. No call takes memory. A read that
-/// answers a fault leaves the cursor where it stood. The faults of a read are judged in this order:
+/// What it hands out lies in the bytes that it was made over. No call allocates memory. A read that
+/// answers a fault leaves the cursor at its place. The faults of a read are judged in this order:
 /// `Truncated`, `WrongTag`, `BadLength`, `BadContent`.
 #[derive(Debug, Drop)]
 pub struct Cursor<'a> {
@@ -46,7 +46,7 @@ impl<'a> Cursor<'a> {
         }
     }
 
-    /// Cursors over the content of the element of this tag that stands here, and behind it.
+    /// Cursors over the content of the element of this tag here, and behind it.
     fn element(&self, tag: u8) -> Result<(Cursor<'a>, Cursor<'a>), DerFault>
         ensures { FindsElement result (element_at tag self.now) }
     {
@@ -68,7 +68,7 @@ impl<'a> Cursor<'a> {
         }
     }
 
-    /// The fault of an element that stands here with a content that is none of its type.
+    /// The fault of an element here with a content that is none of its type.
     fn bad_content(&self) -> DerFault
         ensures offset { result.offset ≡ self.now.at }
         ensures kind { result.kind ≡ DerFaultKind.BadContent }
@@ -79,7 +79,7 @@ impl<'a> Cursor<'a> {
         }
     }
 
-    /// A cursor over the members of the SEQUENCE (tag 48) that stands here (X.690 section 8.9).
+    /// A cursor over the members of the SEQUENCE (tag 48) here (X.690 section 8.9).
     pub fn sequence(&mut self) -> Result<Cursor<'a>, DerFault>
         ensures { GivesElement (λ c. c) result self.old self.new (element_at SEQUENCE self.old) }
     {
@@ -88,8 +88,8 @@ impl<'a> Cursor<'a> {
         Ok(content)
     }
 
-    /// The content of the INTEGER (tag 2) that stands here, in two's complement, the highest byte
-    /// first (X.690 section 8.3). `BadContent` if it is empty or not in the fewest bytes.
+    /// The content of the INTEGER (tag 2) here, in two's complement, the highest byte first (X.690
+    /// section 8.3). `BadContent` if it is empty or not in the fewest bytes.
     #[tactic(auto, unfolding(crate::specs::DerReading::content_at))]
     pub fn integer(&mut self) -> Result<&'a [u8], DerFault>
         ensures exact { GivesElement (λ content. content.now) result self.old self.new (integer_at self.old) }
@@ -103,9 +103,8 @@ impl<'a> Cursor<'a> {
         Ok(content.rest)
     }
 
-    /// The bits of the BIT STRING (tag 3) that stands here (X.690 sections 8.6 and 11.2). `BadContent` if
-    /// the count of unused bits is missing, above 7, or not 0 where no bytes follow, or if an
-    /// unused bit is set.
+    /// The bits of the BIT STRING (tag 3) here (X.690 sections 8.6 and 11.2). `BadContent` if the count of unused bits is missing, above 7,
+    /// or not 0 if no bytes follow, or if an unused bit is set.
     #[tactic(auto, unfolding(crate::specs::DerReading::content_at))]
     pub fn bits(&mut self) -> Result<Bits<'a>, DerFault>
         ensures exact { GivesElement bits_content result self.old self.new (bits_at self.old) }
@@ -124,7 +123,7 @@ impl<'a> Cursor<'a> {
         Err(self.bad_content())
     }
 
-    /// The content of the OCTET STRING (tag 4) that stands here (X.690 section 8.7).
+    /// The content of the OCTET STRING (tag 4) here (X.690 section 8.7).
     #[tactic(auto, unfolding(crate::specs::DerReading::content_at))]
     pub fn octets(&mut self) -> Result<&'a [u8], DerFault>
         ensures { GivesElement (λ content. content.now) result self.old self.new (octets_at self.old) }
@@ -134,8 +133,8 @@ impl<'a> Cursor<'a> {
         Ok(content.rest)
     }
 
-    /// The content of the OBJECT IDENTIFIER (tag 6) that stands here, which is not judged: it is
-    /// only there to be compared (X.690 section 8.19).
+    /// The content of the OBJECT IDENTIFIER (tag 6) here, which is not judged: it is only there to
+    /// be compared (X.690 section 8.19).
     #[tactic(auto, unfolding(crate::specs::DerReading::content_at))]
     pub fn oid(&mut self) -> Result<&'a [u8], DerFault>
         ensures { GivesElement (λ content. content.now) result self.old self.new (oid_at self.old) }
@@ -145,8 +144,7 @@ impl<'a> Cursor<'a> {
         Ok(content.rest)
     }
 
-    /// The text of the IA5String (tag 22) that stands here (X.690 section 8.23). `BadContent` if a byte is
-    /// 128 or above.
+    /// The text of the IA5String (tag 22) here (X.690 section 8.23). `BadContent` if a byte is 128 or above.
     #[tactic(auto, unfolding(crate::specs::DerReading::content_at))]
     pub fn ia5(&mut self) -> Result<&'a str, DerFault>
         ensures exact { GivesElement (λ text. text.now) result self.old self.new (ia5_at self.old) }
@@ -162,9 +160,8 @@ impl<'a> Cursor<'a> {
         }
     }
 
-    /// The moment of the GeneralizedTime (tag 24) that stands here, `YYYYMMDDHHMMSSZ` (X.690 sections 8.25
-    /// and 11.7; RFC 5280 section 4.1.2.5.2). `BadContent` if the content has another form, or its numbers
-    /// are no real date and time of the years 1970 to 9999.
+    /// The moment of the GeneralizedTime (tag 24) here, `YYYYMMDDHHMMSSZ` (X.690 sections 8.25 and 11.7; RFC 5280 section 4.1.2.5.2).
+    /// `BadContent` if the content has another form, or its numbers are no real date and time of the years 1970 to 9999.
     #[tactic(auto, unfolding(crate::specs::DerReading::time_at, crate::specs::DerReading::content_at, crate::specs::Moments::moment_in))]
     pub fn time(&mut self) -> Result<Moment, DerFault>
         ensures exact { GivesElement (λ moment. moment) result self.old self.new (time_at self.old) }
@@ -178,8 +175,7 @@ impl<'a> Cursor<'a> {
         Ok(moment)
     }
 
-    /// The byte that stands here, which is the tag of the next element; `None` at the end of the
-    /// enclosing one.
+    /// The byte here, which is the tag of the next element; `None` at the end of the enclosing one.
     pub fn peek_tag(&self) -> Option<u8>
         ensures { result ≡ slice_get self.now.rest 0 }
     {
@@ -193,7 +189,7 @@ impl<'a> Cursor<'a> {
         self.rest.is_empty()
     }
 
-    /// Where the cursor stands, in bytes from the start of the whole payload.
+    /// The position of the cursor, in bytes from the start of the whole payload.
     pub fn offset(&self) -> usize
         ensures { result ≡ self.now.at }
     {

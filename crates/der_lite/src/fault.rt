@@ -5,13 +5,13 @@ ghost use Rattle.der_lite.specs.Cursors.{der_kind_number};
 
 use thiserror::Error;
 
-/// What is wrong with an element. Each kind has a fixed number, which stands at the end of its text.
+/// What is wrong with an element. Each kind has a fixed number, which ends its text.
 #[derive(Clone, Copy, Debug, PartialEq, Eq, Error)]
 pub enum DerFaultKind {
-    /// 1: the tag, the length or the content does not stand before the end of the enclosing element.
+    /// 1: the tag, the length or the content does not end before the end of the enclosing element.
     #[error("truncated: the element does not end before the enclosing one (fault 1)")]
     Truncated,
-    /// 2: an element of another tag stands here (X.690 section 8.1.2).
+    /// 2: an element of another tag is here (X.690 section 8.1.2).
     #[error("an element of another tag stands here (fault 2)")]
     WrongTag,
     /// 3: the length is indefinite, has more than four bytes, or is not in the fewest bytes

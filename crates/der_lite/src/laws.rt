@@ -2,19 +2,19 @@
 
 ghost use Rattle.der_lite.specs.DerLaws.{OneDerFault, OneFaultOfTimes, OneIsBefore, OneDerSpelling, OneSpellingOfTimes, OneText, OpensExactly, ReadsExactly, ReadsTimesExactly, SpellsBits};
 
-/// A read gives a content exactly where the element of that content stands, and a fault exactly
-/// where that fault is the first.
+/// A read gives a content exactly if the element of that content is there, and a fault exactly if
+/// that fault is the first.
 pub fn reads_exactly()
     ensures { ReadsExactly }
 {}
 
-/// A SEQUENCE, or any element, is opened exactly where it stands, at the place of its content; a
+/// A SEQUENCE, or any element, is opened exactly if it is there, at the place of its content. A
 /// fault is the first that its tag and its length have.
 pub fn opens_exactly()
     ensures { OpensExactly }
 {}
 
-/// At most one fault stands at a place, and one stands exactly where no element does.
+/// At most one fault is at a place, and one is there exactly if no element is.
 pub fn one_fault()
     ensures { OneDerFault }
 {}
@@ -24,19 +24,19 @@ pub fn one_spelling()
     ensures { OneDerSpelling }
 {}
 
-/// A content keeps the rules of a bit string exactly where it spells bits. It spells one list of bits, and no list has two contents.
+/// A content keeps the rules of a bit string exactly if it spells bits. It spells one list of bits, and no list has two contents.
 pub fn spells_bits()
     ensures { SpellsBits }
 {}
 
-/// A read gives a moment exactly where the element of that moment stands, and a fault exactly where
+/// A read gives a moment exactly if the element of that moment is there, and a fault exactly if
 /// that fault is the first.
 pub fn reads_times_exactly()
     ensures { ReadsTimesExactly }
 {}
 
-/// At most one fault stands where a moment is expected, and one stands exactly where no moment does,
-/// also where the moment has to keep rules.
+/// At most one fault is where a moment is expected, and one is there exactly if no moment is, also
+/// if the moment has to keep rules.
 pub fn one_fault_of_times()
     ensures { OneFaultOfTimes }
 {}

@@ -13,8 +13,8 @@
 //! cursor.finish()?;
 //! ```
 //!
-//! A [`Cursor`] reads the elements that stand in an enclosing one, in order, and copies nothing.
-//! A [`DerWriter`] writes each element in its one spelling. A [`Moment`] is the date and time that a
+//! A [`Cursor`] reads the elements of an enclosing one, in order, and copies nothing. A
+//! [`DerWriter`] writes each element in its one spelling. A [`Moment`] is the date and time that a
 //! GeneralizedTime says.
 #![tactic(auto)]
 

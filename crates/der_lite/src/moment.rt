@@ -122,7 +122,7 @@ impl Moment {
         ]
     }
 
-    /// How many seconds after the beginning of 1970 the moment is, where days have 86,400.
+    /// How many seconds after the beginning of 1970 the moment is, with 86,400 seconds in each day.
     pub fn seconds(&self) -> u64
         ensures { result ≡ seconds_of self.now }
     {

@@ -50,7 +50,7 @@ fn push_element(out: &mut Vec<u8>, tag: u8, first: &[u8], rest: &[u8]) -> Result
 /// Writes elements, each behind the one before, in the one spelling that X.690 gives it.
 ///
 /// Contents are shorter than 2^32 bytes. They are written as they are: one that is none of the
-/// element's type gives bytes that no read of a `Cursor` takes. A call answers an `AllocError` where
+/// element's type gives bytes that no read of a `Cursor` accepts. A call answers an `AllocError` if
 /// memory runs out, and then nothing was written.
 #[derive(Debug, Drop)]
 pub struct DerWriter {

@@ -4,7 +4,7 @@ use Rattle.der_lite.specs.Moments.{told_moment}
 use Rattle.der_lite.proofs.MomentLaws.{AreTold, not_real, civil_real, real_civil}
 use Rattle.der_lite.proofs.moment.Moment.new.Goals as goal
 
--- small numbers stay what they are where they are signed
+-- small numbers keep their value as signed numbers
 casts : (year month day hour minute second : ℕ) → year < 10000 → month < 100 → day < 100 → hour < 100 → minute < 100 → second < 100
     → AreTold (told_moment year month day hour minute second) (to_z w16 year) (to_z w8 month) (to_z w8 day) (to_z w8 hour) (to_z w8 minute) (to_z w8 second)
 casts year month day hour minute second y m d h n s = record {
