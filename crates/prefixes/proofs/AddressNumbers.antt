@@ -47,7 +47,7 @@ eight_groups a b c d e f g h n ha hb hc hd he hf hg hh is =
     let is_h : n / 2 ^ 0 % 2 ^ 16 ≡ h = omega arith in
     (omega arith, λ i. is_a i ∷ is_b i ∷ is_c i ∷ is_d i ∷ is_e i ∷ is_f i ∷ is_g i ∷ is_h i ∷ [])
 
--- A number is told by its bytes,
+-- A number is determined by its bytes,
 pub same_bytes : (m n : ℕ) → m < 2 ^ 32 → n < 2 ^ 32 → bytes m ≡ bytes n → m ≡ n
 same_bytes m n hm hn e =
     let e0 : m / 2 ^ 24 ≡ n / 2 ^ 24 = ap (λ t. get_or t 0 0) e in

@@ -44,7 +44,7 @@ v4_read text a n h is =
     let parts = four_bytes h.a h.b h.c h.d n h.fit.0 h.fit.1 h.fit.2 h.fit.3 sum in
     (parts.0, h.spelled ∙ (λ i. dotted_text (sym parts.1 i) (sym parts.2 i) (sym parts.3 i) (sym parts.4 i)))
 
--- and where it reads nothing the text is no address's.
+-- and if it reads nothing the text is no address's.
 pub v4_missed : (text : List ℕ) → ((a : Ipv4Addr) → ¬ (IsIpv4Text text a)) → (n : ℕ) → n < 2 ^ 32 → text ≢ v4_address n
 v4_missed text none n small is = none (v4_of (bytes n)) (v4_dotted n text small is)
 
@@ -57,7 +57,7 @@ pub v6_colon_hex : (n : ℕ) (text : List ℕ) → IsV6Address n text → IsColo
 v6_colon_hex n text (inl h) = full_is_read (groups n) text refl h
 v6_colon_hex n text (inr h) = compressed_is_read (groups n) text refl h
 
--- Where std reads nothing the text is no IPv6 address's.
+-- If std reads nothing the text is no IPv6 address's.
 pub v6_missed : (text : List ℕ) → ((a : Ipv6Addr) → ¬ (IsIpv6Text text a)) → (n : ℕ) → n < 2 ^ 128 → ¬ (IsV6Address n text)
 v6_missed text none n small h = none (v6_of (groups n)) (v6_colon_hex n text h)
 

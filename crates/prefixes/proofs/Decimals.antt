@@ -8,11 +8,11 @@ use Rattle.std.proofs.lemmas.Fmt.{decimal_digit, first_decimal, decimal_nonempty
 use Rattle.prefixes.specs.TextSteps.{BeginsNumeral}
 use Rattle.prefixes.proofs.Lacks.{Lacks, digits_lack}
 
--- what std's lemmas take digits and their value to be
+-- digits and their value, as std's lemmas define them
 own : IsNumeralModel (AllDigits 10) (digits_value 10)
 own = numerals_by_value (AllDigits 10) tells_digits
 
--- The decimal text of a number begins with no sign, and with 0 only where 0 is all of it.
+-- The decimal text of a number begins with no sign, and with 0 only if 0 is all of it.
 pub begins : (n : ℕ) (bs : List ℕ) → n < 2 ^ 32 → bs ≡ decimal n → BeginsNumeral bs
 begins zero bs small e =
     let is : bs ≡ 48 ∷ [] = e ∙ decimal_digit 0 (omega arith) in
@@ -22,14 +22,14 @@ begins (suc n) bs small e =
     let some : 0 < length (decimal (suc n)) = decimal_nonempty (suc n) (omega arith) in
     subst (λ xs. BeginsNumeral xs) (sym e) (record { some = some; digit = omega arith; lone_zero = λ h. absurd (omega arith) })
 
--- What `parse` gives where a text begins so is the number whose text it is.
+-- What `parse` gives if a text begins so is the number whose text it is.
 pub read : {E : Type 0} (bs : List ℕ) (r : Result ℕ E) → ParsesUnsigned 32 10 bs r → BeginsNumeral bs → (n : ℕ) → r ≡ Ok n → (n < 2 ^ 32) × (bs ≡ decimal n)
 read bs r h b n e =
     let plain = parse_plain own 32 bs r h (omega (arith, b.digit)) in
     let at_n = rw e at plain in
     (rw at_n.1 at_n.0.2, sym (decimal-digits_value own bs at_n.0.0 b.some b.lone_zero (omega (arith, at_n.0.2))) ∙ ap decimal (sym at_n.1))
 
--- Where `parse` gives nothing the text is no number's.
+-- If `parse` gives nothing the text is no number's.
 pub missed : {E : Type 0} (bs : List ℕ) (r : Result ℕ E) → ParsesUnsigned 32 10 bs r → (x : E) → r ≡ Err x → (n : ℕ) → n < 2 ^ 32 → bs ≢ decimal n
 missed bs r h x e n small is = let ok : r ≡ Ok n = parse-decimal 32 n bs r small (omega arith) is h in absurd (cc)
 

@@ -63,7 +63,7 @@ dotted_has_dot text octets h bare =
     let shown = subst (λ t. Lacks 46 t) h.spelled bare in
     (right 46 front (46 ∷ []) (left 46 (front ++ (46 ∷ [])) (decimal h.d) shown)).0 refl
 
--- Where no dot is, what the grammar reads are groups: those after the first,
+-- If no dot is, what the grammar reads are groups: those after the first,
 from_after : (ipv4 : Bool) (gs text : List ℕ) → IsGroupsAfter ipv4 (58 ∷ []) text gs → Lacks 46 text → (ts : List (List ℕ)) × AreHexGroups gs ts × (text ≡ after_colons ts)
 from_after ipv4 [] text h bare = ([], tt, h)
 from_after ipv4 (g ∷ gs) text (inl h) bare =

@@ -5,7 +5,7 @@ use Rattle.std.specs.Net.Text.{hex_groups_text, longest_zero_run}
 use Rattle.std.proofs.NetLemmas.Texts.{IsZeroRun-longest_zero_run, longest_zero_run_first}
 use Rattle.prefixes.specs.Text.{FirstLongestRun}
 
--- `::` stands for the first longest run, and nowhere else.
+-- `::` is written for the first longest run, and nowhere else.
 pub first_longest_run : FirstLongestRun
 unfolding hex_groups_text
 first_longest_run all =

@@ -99,7 +99,7 @@ first_slash text r h front back e =
     let parts = rw e at (split_parts 47 text r h (lit< tt)) in
     record { bare = from_each 47 front.now parts.1; joins = parts.0 }
 
--- and where it finds none the text says nothing.
+-- and if it finds none the text is no prefix.
 pub not_split : (text : List ℕ) (r : Option (Bor (List ℕ) × Bor (List ℕ))) → IsSplitOnceResult 47 text r → r ≡ None → (p : IpPrefix) → ¬ (Says p text)
 not_split text r h e = no_slash text (rw e at (split_parts 47 text r h (lit< tt)))
 

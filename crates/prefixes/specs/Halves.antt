@@ -14,7 +14,7 @@ abbrev pub number_of : List ℕ → List ℕ → ℕ
 number_of high low = from_le_bytes w64 high * 2 ^ 64 + from_le_bytes w64 low
 
 -- ---- the bytes of a number
--- What follows shows that a number gives its bytes back, which a `Copy` type owes. No contract says more by it.
+-- What follows shows that a number gives its bytes back, as a `Copy` type requires. No contract says more by it.
 
 eight_below : (bytes : List ℕ) → AreEight bytes → from_le_bytes w64 bytes < 2 ^ 64
 eight_below bytes h = omega (arith, h.small 0, h.small 1, h.small 2, h.small 3, h.small 4, h.small 5, h.small 6, h.small 7)

@@ -23,7 +23,7 @@ pub struct Vrp {
     asn: Asn,
 }
 
-// Sets and B-trees are made of records, and take so much time as these take room.
+// Sets and B-trees are made of records; their time is linear in the size of these.
 const _: () = prove!(size_of::<Vrp>() == 24);
 
 impl Model for Vrp {
