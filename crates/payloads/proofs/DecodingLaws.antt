@@ -21,7 +21,7 @@ tree_read bytes tree are e = exact_roa.takes (place_of 0 bytes) tree are e
 pub flat_read : (bytes : List ℕ) (tree : RoaTree) → IsBytes bytes → payload_at bytes ≡ Ok tree → RoaSpells (flat tree) bytes
 flat_read bytes tree are e = record { tree = tree; spelled = tree_read bytes tree are e; is_flat = refl }
 
--- a fault that was read stands there
+-- a fault that was read is the one there
 pub fault_read : (bytes : List ℕ) (f : Fault) → IsBytes bytes → payload_at bytes ≡ Err f → RoaFaultAt bytes f.offset f.number
 unfolding payload_at RoaFaultAt
 fault_read bytes f are e = exact_roa.faults (place_of 0 bytes) f are e

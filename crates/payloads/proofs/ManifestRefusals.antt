@@ -88,7 +88,7 @@ pub read_right : (m : ManifestValue) (bytes : List ℕ) → IsBytes bytes → ma
 unfolding manifest_all ManifestSpells
 read_right m bytes are e = exact_payload.takes (place_of 0 bytes) m are e
 
--- a fault that was read stands there
+-- a fault that was read is the one there
 pub fault_read : (bytes : List ℕ) (f : Fault) → IsBytes bytes → manifest_all bytes ≡ Err f → ManifestFaultAt bytes f.offset f.number
 unfolding manifest_all ManifestFaultAt
 fault_read bytes f are e = exact_payload.faults (place_of 0 bytes) f are e
@@ -98,7 +98,7 @@ pub why_not : (fault : PayloadFault) (bytes : List ℕ) → IsBytes bytes → Gi
 why_not (At fault) bytes are e = fault_read bytes (grammar_fault_of fault) are e
 why_not Memory bytes are e = tt
 
--- the first fault is one of the number or the times, or else the first of the files
+-- the first fault is one of the number or the times, otherwise the first of the files
 pub first_of_value : (m : ManifestValue) (number : ℕ) → Some number ≡ first_of (value_rules m) → manifest_refusal m ≡ Some (number, 0)
 unfolding manifest_refusal
 first_of_value m number h = rw (sym h) refl

@@ -14,7 +14,7 @@ spells : (bytes : List ℕ) (m : ManifestValue) → all_bytes bytes ≡ true →
 unfolding manifest_all ManifestSpells
 spells bytes m are e = exact_payload.takes (place_of 0 bytes) m (are_bytes bytes are) e
 
--- and a fault that was read so stands there
+-- and a fault that was read so is the one there
 faults : (bytes : List ℕ) (number offset : ℕ) → all_bytes bytes ≡ true → manifest_all bytes ≡ Err (record { number = number; offset = offset }) → ManifestFaultAt bytes offset number
 unfolding manifest_all ManifestFaultAt
 faults bytes number offset are e = exact_payload.faults (place_of 0 bytes) (record { number = number; offset = offset }) (are_bytes bytes are) e

@@ -358,7 +358,7 @@ manifest_are m number hashes right =
 long_hashes : (files : List ListedFile) → AreHashes files → All HasHash files
 long_hashes files hashes k d less = (hashes k d less).long
 
--- Nothing is wrong with a value exactly where some bytes spell it.
+-- Nothing is wrong with a value exactly if some bytes spell it.
 pub manifest_law : ManifestRefusesExactly
 manifest_law m number this next hashes = (
   (λ right. (manifest_bytes m, manifest_are m number hashes (is_right m right).files, value_spells m this next (long_hashes m.files hashes) right)),

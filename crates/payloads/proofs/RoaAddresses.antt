@@ -53,7 +53,7 @@ block addr len = record { addr = addr; len = len }
 pub block_by : (addr len other_addr other_len : ℕ) → addr ≡ other_addr → len ≡ other_len → block addr len ≡ block other_addr other_len
 block_by addr len other_addr other_len a l = ap (λ (n : ℕ). block n len) a ∙ ap (λ (n : ℕ). block other_addr n) l
 
--- the prefix of a content that has no more bits than an address
+-- the prefix of a content that has at most as many bits as an address
 pub prefix_is : (content : List ℕ) (width addr len : ℕ) (p : Block) → is_bit_string content ≡ true → bit_count content ≤ width → p ≡ block addr len → addr ≡ bits_number (bits_value content) width → len ≡ bit_count content
     → Some p ≡ cond (ltb width (bit_count content)) None (Some (block_of_bits width (bits_value content)))
 prefix_is content width addr len p valid within p_is a l =

@@ -33,7 +33,7 @@ version_head = record {
       kept_on 1 (is_truncated bytes) ((6, eqb (tag_of bytes) 160) ∷ head_rules 2 bytes) k.whole (kept_on 6 (eqb (tag_of bytes) 160) (head_rules 2 bytes) (ne_eqb (tag_of bytes) 160 (λ n. absurd (omega (arith, k.tag_is)))) h);
 }
 
--- where there is no version the read is as it was
+-- if there is no version the read is as it was
 with_no_version : {V : Type 0} (r : Result V Fault) → with_version false r ≡ r
 with_no_version (Ok x) = refl
 with_no_version (Err f) = refl

@@ -77,7 +77,7 @@ unfolding entry_at
 entry_shorter family count before p e q h = sequence_shorter (too_many_rules count) (valued_at entry_of (read_member (address_at family) maximum_at)) (order_rules before) p e q h
 
 module _ (family : AddressFamily) (start : Place) (old : Progress) (before : Option RoaEntry) (now : Progress) (here : Place) (s : Seen family start old before now here) where
-  -- the entry that stands here is read behind those before it
+  -- the entry here is read behind those before it
   read_is : entry_behind_at family old.count s.seen here ≡ entry_at family now.count before here
   read_is = ap (λ (n : ℕ). entry_at family n (last_or None s.seen) here) (sym s.grown.counted) ∙ ap (λ (b : Option RoaEntry). entry_at family now.count b here) (sym s.last)
 

@@ -21,7 +21,7 @@ use Rattle.payloads.proofs.RoaFields.{maximum_kept}
 
 -- ---- a prefix has one list of bits
 
--- a prefix of so many bits
+-- a prefix of this many bits
 bits_from : (family : AddressFamily) (bits others : List Bool) → length bits ≤ family_width family → of_bits family bits ≡ of_bits family others → bits ≡ others
 bits_from Ipv4 bits others h e = bits_one bits others 32 h (ap (λ (p : IpPrefix). (block_of p).len) e) (ap (λ (p : IpPrefix). (block_of p).addr) e)
 bits_from Ipv6 bits others h e = bits_one bits others 128 h (ap (λ (p : IpPrefix). (block_of p).len) e) (ap (λ (p : IpPrefix). (block_of p).addr) e)

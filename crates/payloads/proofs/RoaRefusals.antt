@@ -64,7 +64,7 @@ maximum_needed family prefix (Some m) inner s =
 
 -- ---- an entry
 
--- it stands behind those before it in its family, or is the first behind an entry of IPv4
+-- it follows those before it in its family, or is the first after an entry of IPv4
 abbrev Behind : AddressFamily → List RoaEntry → Option RoaEntry → Type 0
 Behind family seen before = ((before ≡ last_or None seen) × AllIn family seen) ⊎ ((family ≡ Ipv6) × ((b : RoaEntry) × (before ≡ Some b) × (family_of b.prefix ≡ Ipv4)))
 
@@ -114,7 +114,7 @@ order_right family seen before e (inr h) f o = ap (λ (b : Option RoaEntry). is_
 
 -- ---- entries
 
--- a spelled entry that stands behind those before it is right
+-- a spelled entry that follows those before it is right
 entry_right : (family : AddressFamily) (count : ℕ) (seen : List RoaEntry) (before : Option RoaEntry) (e : RoaEntry) (bytes : List ℕ) → (entry_behind family count seen).Spells e bytes → Behind family seen before
     → family_of e.prefix ≡ family → first_of (entry_rules (count + length seen) before e) ≡ None
 unfolding ip_address

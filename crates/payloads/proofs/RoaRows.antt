@@ -26,7 +26,7 @@ roa blocks = (64496, blocks)
 spells : (bytes : List ℕ) (tree : RoaTree) → all_bytes bytes ≡ true → payload_at bytes ≡ Ok tree → RoaSpells (flat tree) bytes
 spells bytes tree are e = flat_read bytes tree (are_bytes bytes are) e
 
--- and a fault that was read so stands there
+-- and a fault that was read so is the one there
 faults : (bytes : List ℕ) (number offset : ℕ) → all_bytes bytes ≡ true → payload_at bytes ≡ Err (record { number = number; offset = offset }) → RoaFaultAt bytes offset number
 faults bytes number offset are e = fault_read bytes (record { number = number; offset = offset }) (are_bytes bytes are) e
 
@@ -150,7 +150,7 @@ version_cut : RoaFaultAt (0x30 ∷ 0x01 ∷ 0xa0 ∷ []) 2 1
 unfolding as_id_at address_family_at address_at max_length_at maximum_at entry_at entries_at addresses_at ip_family_at blocks_at attestation_at payload_at element_at content_at end_at length_end content_end has_der_length length_bytes is_truncated head_rules content_place next_place
 version_cut = faults (0x30 ∷ 0x01 ∷ 0xa0 ∷ []) 1 2 refl refl
 
--- of two entries of one prefix the greater maximum stands behind
+-- of two entries of one prefix the one with the greater maximum comes later
 greater_maximum : RoaSpells (flat (64496, ((Ipv4, entry (V4 (block 0xc0000200 24)) None ∷ entry (V4 (block 0xc0000200 24)) (Some 25) ∷ []), None))) (0x30 ∷ 0x22 ∷ 0x02 ∷ 0x03 ∷ 0x00 ∷ 0xfb ∷ 0xf0 ∷ 0x30 ∷ 0x1b ∷ 0x30 ∷ 0x19 ∷ 0x04 ∷ 0x02 ∷ 0x00 ∷ 0x01 ∷ 0x30 ∷ 0x13 ∷ 0x30 ∷ 0x06 ∷ 0x03 ∷ 0x04 ∷ 0x00 ∷ 0xc0 ∷ 0x00 ∷ 0x02 ∷ 0x30 ∷ 0x09 ∷ 0x03 ∷ 0x04 ∷ 0x00 ∷ 0xc0 ∷ 0x00 ∷ 0x02 ∷ 0x02 ∷ 0x01 ∷ 0x19 ∷ [])
 unfolding as_id_at address_family_at address_at max_length_at maximum_at entry_at entries_at addresses_at ip_family_at blocks_at attestation_at payload_at element_at content_at end_at length_end content_end has_der_length length_bytes is_truncated head_rules content_place next_place
 greater_maximum = spells (0x30 ∷ 0x22 ∷ 0x02 ∷ 0x03 ∷ 0x00 ∷ 0xfb ∷ 0xf0 ∷ 0x30 ∷ 0x1b ∷ 0x30 ∷ 0x19 ∷ 0x04 ∷ 0x02 ∷ 0x00 ∷ 0x01 ∷ 0x30 ∷ 0x13 ∷ 0x30 ∷ 0x06 ∷ 0x03 ∷ 0x04 ∷ 0x00 ∷ 0xc0 ∷ 0x00 ∷ 0x02 ∷ 0x30 ∷ 0x09 ∷ 0x03 ∷ 0x04 ∷ 0x00 ∷ 0xc0 ∷ 0x00 ∷ 0x02 ∷ 0x02 ∷ 0x01 ∷ 0x19 ∷ []) (64496, ((Ipv4, entry (V4 (block 0xc0000200 24)) None ∷ entry (V4 (block 0xc0000200 24)) (Some 25) ∷ []), None)) refl refl

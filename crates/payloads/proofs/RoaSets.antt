@@ -1,4 +1,4 @@
--- The entries of a ROA are told by the set of payloads that it validates.
+-- The entries of a ROA are determined by the set of payloads that it validates.
 use Rattle.std.proofs.Common.{◌≡◌, ◌⊎◌, ℕ, zero, suc, ◌<◌, true, false, not, eqb, get_or, List, [], ◌∷◌, length, map, Option, Some, None, refl, sym, ap, subst, ◌∙◌, inl, inr, arith}
 use Rattle.std.specs.Prelude.{unwrap_or}
 use Rattle.std.specs.List.{Contains, AllByRecursion}
@@ -22,7 +22,7 @@ use Rattle.payloads.proofs.RoaLaws.{roa_spellings}
 entry_total : IsTotalOrder entry_cmp
 entry_total = then_total (on_total (λ e. e.prefix) prefix_total) (on_total greatest_length nat_cmp_total)
 
--- two that stand in one order do not stand in the other
+-- two that are in one order are not in the other
 not_both : (o p : Ordering) → o ≡ ordering_reverse p → o ≡ Less → p ≡ Less → ⊥
 not_both o p e h k = let x : Less ≡ Greater = sym h ∙ e ∙ ap ordering_reverse k in cc
 

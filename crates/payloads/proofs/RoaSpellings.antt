@@ -118,7 +118,7 @@ family_are family (b ∷ list) h = subst IsBytes (sym (some_family family b list
 abbrev pub roa_members : RoaValue → List ℕ
 roa_members roa = tlv 2 (unsigned_bytes roa.asn) ++ tlv 48 (families_bytes roa.entries)
 
--- where they are empty, nothing is added
+-- if they are empty, nothing is added
 pub family_none : (family : AddressFamily) (list old : List ℕ) → length list ≡ 0 → old ≡ old ++ family_bytes family list
 unfolding family_bytes
 family_none family [] old h = sym (append-nil old)
@@ -199,7 +199,7 @@ all_first e es h = (h 0 e (omega arith), λ k d less. h (suc k) d (omega (arith,
 abbrev Follows : List RoaEntry → Option RoaEntry → Type 0
 Follows seen before = (before ≡ last_or None seen) ⊎ (seen ≡ [])
 
--- in its family it stands above the one before it
+-- in its family it is above the one before it
 above_last : (seen : List RoaEntry) (before : Option RoaEntry) (e : RoaEntry) → Follows seen before → is_not_above before e ≡ false → is_not_above (last_or None seen) e ≡ false
 above_last seen before e (inl h) k = ap (λ (b : Option RoaEntry). is_not_above b e) (sym h) ∙ k
 above_last seen before e (inr h) k = ap (λ (l : List RoaEntry). is_not_above (last_or None l) e) h
@@ -317,7 +317,7 @@ all_split (e ∷ es) others h =
 
 -- ---- the elements around the entries
 
--- what is right with the entries of a family, behind so many others
+-- what is right with the entries of a family, behind this many others
 record IsListed (family : AddressFamily) (count : ℕ) (es : List RoaEntry) : Type 0 where
   pub some : es ≢ []
   pub few : length es ≤ 65536
@@ -490,7 +490,7 @@ refusal_law roa h all = ((λ right. (roa_bytes roa, roa_are roa, value_spells ro
 
 -- ---- what is written
 
--- where an element was added, it is that of the same content
+-- if an element was added, it is that of the same content
 pub adds_same : (result : Result (Unit {0}) AllocError) (tag : ℕ) (content old new bytes : List ℕ) → tlv tag content ≡ bytes → Adds result tag content old new → OnOk result (new ≡ old ++ bytes)
 adds_same (Ok _) tag content old new bytes same a = a ∙ ap (λ (l : List ℕ). old ++ l) same
 adds_same (Err _) tag content old new bytes same a = tt

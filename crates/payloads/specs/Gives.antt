@@ -9,7 +9,7 @@ use Rattle.payloads.specs.Faults.{kind_number, grammar_fault_of}
 use Rattle.payloads.specs.Manifest.{ListedFile, ManifestValue, ManifestSpells, ManifestFaultAt}
 use Rattle.payloads.specs.RoaValues.{RoaValue, RoaSpells, RoaFaultAt}
 
--- What was read and where the cursor stands now, or the first fault.
+-- What was read and the cursor's new place, or the first fault.
 abbrev pub GivesNext : {X V : Type 0} → (X → V) → Result X GrammarFault → Place → Result (V × Place) Fault → Type 0
 GivesNext view (Ok x) new read = read ≡ Ok (view x, new)
 GivesNext view (Err e) new read = read ≡ Err (grammar_fault_of e)
@@ -36,7 +36,7 @@ abbrev pub ListsEntries : {X V : Type 0} → (X → V → Type 0) → (V → Lis
 ListsEntries {X} {V} Is entries (Ok x) old new read = (v : V) × (read ≡ Ok v) × Is x v × Grows old new (entries v)
 ListsEntries Is entries (Err e) old new read = read ≡ Err (grammar_fault_of e)
 
--- What was read, and where the cursor stands now; or the first fault; or memory ran out.
+-- What was read, and the cursor's new place; or the first fault; or memory ran out.
 abbrev pub GivesOrMemory : {X V : Type 0} → (X → V) → Result X PayloadFault → Place → Result (V × Place) Fault → Type 0
 GivesOrMemory view (Ok x) new read = read ≡ Ok (view x, new)
 GivesOrMemory view (Err (At e)) new read = read ≡ Err (grammar_fault_of e)
@@ -48,7 +48,7 @@ GivesAllOrMemory view (Ok x) read = read ≡ Ok (view x)
 GivesAllOrMemory view (Err (At e)) read = read ≡ Err (grammar_fault_of e)
 GivesAllOrMemory view (Err Memory) read = Unit {0}
 
--- The file was read behind the others, and the cursor stands behind it; or the first fault; or memory ran out.
+-- The file was read behind the others, and the cursor is behind it; or the first fault; or memory ran out.
 abbrev pub ListsFile : Result (Unit {0}) PayloadFault → List ListedFile → List ListedFile → Place → Result (ListedFile × Place) Fault → Type 0
 ListsFile (Ok _) old new next read = (file : ListedFile) × (read ≡ Ok (file, next)) × (new ≡ old ++ file ∷ [])
 ListsFile (Err (At e)) old new next read = read ≡ Err (grammar_fault_of e)

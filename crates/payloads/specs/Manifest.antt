@@ -156,7 +156,7 @@ manifest_members = valued manifest_parts (member manifest_number (λ n. member t
 unfoldable pub manifest : Element ManifestValue
 manifest = element SEQUENCE (head_rules SEQUENCE) (constructed no_rules manifest_members no_rules)
 
--- the bytes are one manifest and no more
+-- the bytes are one manifest and nothing else
 unfoldable pub manifest_payload : Members ManifestValue
 manifest_payload = last manifest
 

@@ -10,7 +10,7 @@ use Rattle.payloads.specs.Faults.{kind_number}
 use Rattle.payloads.specs.Manifest.{ListedFile, listed_rules, ManifestValue}
 use Rattle.payloads.specs.RoaRefusal.{at_index}
 
--- NumberRange (also where the number is none in the fewest bytes), TimesOrder
+-- NumberRange (also if the number is none in the fewest bytes), TimesOrder
 abbrev pub value_rules : ManifestValue → List (ℕ × Bool)
 value_rules m =
     (13, not (is_integer m.number) || is_negative m.number || nat_lt 20 (length m.number)) ∷ (14, not (moment_before m.this_update m.next_update)) ∷ []
@@ -19,7 +19,7 @@ value_rules m =
 abbrev pub file_rules : List ListedFile → ListedFile → List (ℕ × Bool)
 file_rules before file = (19, nat_le 65536 (length before)) ∷ listed_rules before file.name
 
--- the first fault of files that stand behind others, file by file
+-- the first fault of files behind others, file by file
 abbrev pub files_refusal : List ListedFile → List ListedFile → Option (ℕ × ℕ)
 files_refusal before [] = None
 files_refusal before (file ∷ files) = at_index (length before) (first_of (file_rules before file)) (files_refusal (before ++ file ∷ []) files)

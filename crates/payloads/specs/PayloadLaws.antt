@@ -35,13 +35,13 @@ OneSpelling = OneSpellingOf RoaSpells × OneSpellingOf ManifestSpells
 abbrev pub SameSet : List Payload → List Payload → Type 0
 SameSet vs ws = (v : Payload) → Contains vs v ↔ Contains ws v
 
--- Two accepted payloads of ROAs are the same bytes exactly where they are of one AS and validate one set of payloads.
+-- Two accepted payloads of ROAs are the same bytes exactly if they are of one AS and validate one set of payloads.
 abbrev pub OnePayload : Type 0
 OnePayload =
     (a b : List ℕ) (roa other : RoaValue) → IsBytes a → IsBytes b → RoaSpells roa a → RoaSpells other b
     → (a ≡ b) ↔ ((roa.asn ≡ other.asn) × SameSet (payloads_of roa) (payloads_of other))
 
--- Nothing is wrong with the value of a ROA exactly where some bytes spell it.
+-- Nothing is wrong with the value of a ROA exactly if some bytes spell it.
 abbrev pub RoaRefusesExactly : Type 0
 RoaRefusesExactly =
     (roa : RoaValue) → roa.asn < 2 ^ 32 → All HasPrefix roa.entries
@@ -52,7 +52,7 @@ pub record IsHash (hash : List ℕ) : Type 0 where
   pub bytes : IsBytes hash
   pub long : length hash ≡ 32
 
--- Nothing is wrong with the value of a manifest exactly where some bytes spell it.
+-- Nothing is wrong with the value of a manifest exactly if some bytes spell it.
 abbrev pub ManifestRefusesExactly : Type 0
 ManifestRefusesExactly =
     (m : ManifestValue) → IsBytes m.number → is_moment m.this_update ≡ true → is_moment m.next_update ≡ true → All (λ file. IsHash file.hash) m.files

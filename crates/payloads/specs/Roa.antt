@@ -33,7 +33,7 @@ abbrev pub family_number : AddressFamily → ℕ
 family_number Ipv4 = 1
 family_number Ipv6 = 2
 
--- 0, as none has, where no family came before
+-- 0, which is the number of no family, if no family came before
 abbrev pub number_before : Option AddressFamily → ℕ
 number_before None = 0
 number_before (Some family) = family_number family
@@ -80,7 +80,7 @@ pub record PrefixSpells (family : AddressFamily) (prefix : IpPrefix) (content : 
   pub spelled : BitsSpell bits content
   pub is : prefix ≡ of_bits family bits
 
--- no more bits than an address has
+-- at most as many bits as an address has
 abbrev pub address_rules : AddressFamily → List ℕ → List (ℕ × Bool)
 address_rules family content = (4, not (is_bit_string content)) ∷ (10, nat_lt (family_width family) (bit_count content)) ∷ []
 
@@ -88,8 +88,8 @@ address_rules family content = (4, not (is_bit_string content)) ∷ (10, nat_lt 
 unfoldable pub address : AddressFamily → Element IpPrefix
 address family = element BIT_STRING (head_rules BIT_STRING) (primitive (PrefixSpells family) (address_rules family))
 
--- The maximum length says more than the length of the prefix, which is meant where none is there. That it does is this project's own rule:
--- so one authorization has one payload.
+-- The maximum length says more than the length of the prefix, which is meant if none is there. That it does is this project's own rule: so
+-- one authorization has one payload.
 abbrev pub needed_rules : IpPrefix → List ℕ → List (ℕ × Bool)
 needed_rules prefix content = (20, number content == (block_of prefix).len) ∷ []
 
@@ -117,7 +117,7 @@ order_rules before entry = (12, is_not_above before entry) ∷ []
 abbrev pub entry_members : AddressFamily → Members RoaEntry
 entry_members family = valued entry_parts (member (address family) (λ prefix. optional (max_length prefix)))
 
--- ROAIPAddress, behind so many entries of the payload, and behind the one before it in its family
+-- ROAIPAddress, behind this many entries of the payload, and behind the one before it in its family
 unfoldable pub ip_address : AddressFamily → ℕ → Option RoaEntry → Element RoaEntry
 ip_address family count before = element SEQUENCE (head_rules SEQUENCE) (constructed (too_many_rules count) (entry_members family) (order_rules before))
 
@@ -127,7 +127,7 @@ ip_address family count before = element SEQUENCE (head_rules SEQUENCE) (constru
 abbrev pub not_empty : List ℕ → List (ℕ × Bool)
 not_empty content = (9, length content == 0) ∷ []
 
--- the element of each entry behind those before it in its family, and so many of other families
+-- the element of each entry behind those before it in its family, and this many of other families
 abbrev pub entry_behind : AddressFamily → ℕ → List RoaEntry → Element RoaEntry
 entry_behind family count before = ip_address family (count + length before) (last_or None before)
 
@@ -139,7 +139,7 @@ addresses family count = element SEQUENCE (head_rules SEQUENCE) (constructed not
 abbrev pub Family : Type 0
 Family = AddressFamily × List RoaEntry
 
--- ROAIPAddressFamily, behind the family before it and so many entries of the payload
+-- ROAIPAddressFamily, behind the family before it and this many entries of the payload
 unfoldable pub ip_family : Option AddressFamily → ℕ → Element Family
 ip_family before count = element SEQUENCE (head_rules SEQUENCE) (constructed no_rules (member (address_family before) (λ family. last (addresses family count))) no_rules)
 
@@ -160,6 +160,6 @@ RoaTree = ℕ × Blocks
 unfoldable pub route_origin_attestation : Element RoaTree
 route_origin_attestation = element SEQUENCE (head_rules SEQUENCE) (constructed no_rules (member as_id (λ asn. last ip_addr_blocks)) no_rules)
 
--- the bytes are one ROA and no more
+-- the bytes are one ROA and nothing else
 unfoldable pub roa_payload : Members RoaTree
 roa_payload = last route_origin_attestation

@@ -12,11 +12,11 @@ use Rattle.payloads.specs.declared.roa_entry.RoaEntry.{RoaEntry}
 use Rattle.payloads.specs.Roa.{family_number}
 use Rattle.payloads.specs.RoaValues.{RoaValue}
 
--- how many bytes hold so many bits
+-- how many bytes hold this many bits
 abbrev pub bytes_of_bits : ℕ → ℕ
 bytes_of_bits count = (count + 7) / 8
 
--- RFC 9582 section 4.3.2.1: how many bits of the last byte are not used, and the first bytes of an address that has so many
+-- RFC 9582 section 4.3.2.1: how many bits of the last byte are not used, and the first bytes of an address that has this many
 abbrev pub first_bytes : ℕ → Block → List ℕ
 first_bytes octets block = (8 * bytes_of_bits block.len - block.len) ∷ take (bytes_of_bits block.len) (base_256 octets block.addr)
 
@@ -45,7 +45,7 @@ abbrev pub list_bytes : AddressFamily → List RoaEntry → List ℕ
 list_bytes family [] = []
 list_bytes family (entry ∷ entries) = (if is_of family entry.prefix then entry_bytes entry else []) ++ list_bytes family entries
 
--- RFC 9582 section 4.3.1: addressFamily and the list of its addresses; nothing where the list is empty
+-- RFC 9582 section 4.3.1: addressFamily and the list of its addresses; nothing if the list is empty
 unfoldable pub family_bytes : AddressFamily → List ℕ → List ℕ
 family_bytes family list = if length list == 0 then [] else tlv SEQUENCE (tlv OCTET_STRING (0 ∷ family_number family ∷ []) ++ tlv SEQUENCE list)
 

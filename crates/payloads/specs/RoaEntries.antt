@@ -6,7 +6,7 @@ use Rattle.prefixes.specs.Address.{IsPrefix}
 use Rattle.prefixes.specs.Payload.{Payload, block_of, width_of, prefix_cmp}
 use Rattle.payloads.specs.declared.roa_entry.RoaEntry.{RoaEntry}
 
--- the maximum length, or the length of the prefix where it is absent
+-- the maximum length, or the length of the prefix if it is absent
 abbrev pub greatest_length : RoaEntry → ℕ
 greatest_length entry = unwrap_or entry.max_len (block_of entry.prefix).len
 

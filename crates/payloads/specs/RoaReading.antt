@@ -18,7 +18,7 @@ use Rattle.payloads.specs.Roa.{no_rules, family_rules, family_width, of_bits, ne
 abbrev pub version_fault : Bool → Fault → Fault
 version_fault has_version f = if has_version && f.number == 2 then record { number = 6; offset = f.offset } else f
 
--- a read where a version may stand in place of what is read
+-- a read at a place that may hold a version instead
 abbrev pub with_version : {V : Type 0} → Bool → Result V Fault → Result V Fault
 with_version has_version (Ok x) = Ok x
 with_version has_version (Err f) = Err (version_fault has_version f)
@@ -58,7 +58,7 @@ entry_of parts = record { prefix = parts.0; max_len = parts.1 }
 unfoldable pub entry_at : AddressFamily → ℕ → Option RoaEntry → Read RoaEntry
 entry_at family count before = sequence_at (too_many_rules count) (valued_at entry_of (read_member (address_at family) maximum_at)) (order_rules before)
 
--- an entry behind those before it in its family, and so many of other families
+-- an entry behind those before it in its family, and this many of other families
 abbrev pub entry_behind_at : AddressFamily → ℕ → List RoaEntry → Read RoaEntry
 entry_behind_at family count before = entry_at family (count + length before) (last_or None before)
 

@@ -30,7 +30,7 @@ abbrev pub at_index : ℕ → Option ℕ → Option (ℕ × ℕ) → Option (ℕ
 at_index index (Some number) later = Some (number, index)
 at_index index None later = later
 
--- the first fault of entries that stand behind one, entry by entry
+-- the first fault of entries behind one, entry by entry
 abbrev pub entries_refusal : ℕ → Option RoaEntry → List RoaEntry → Option (ℕ × ℕ)
 entries_refusal index before [] = None
 entries_refusal index before (entry ∷ entries) = at_index index (first_of (entry_rules index before entry)) (entries_refusal (suc index) (Some entry) entries)

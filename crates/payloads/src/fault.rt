@@ -6,8 +6,7 @@ use der_lite::{DerFault, DerFaultKind};
 use std::alloc::AllocError;
 use thiserror::Error;
 
-/// What is wrong with a payload, or with a value that is to be one. Each kind has a fixed number, which
-/// stands at the end of its text.
+/// What is wrong with a payload, or with a value that should be one. Each kind has a fixed number, which ends its text.
 #[derive(Clone, Copy, Debug, PartialEq, Eq, Error)]
 pub enum GrammarFaultKind {
     /// 1 to 5: the element is none of DER.
@@ -32,7 +31,7 @@ pub enum GrammarFaultKind {
     /// section 4.3.2).
     #[error("the maximum length is below the prefix length, or greater than the width of the address family (fault 11)")]
     MaxLength,
-    /// 12: it does not stand above what is before it: by family, address, length, maximum length.
+    /// 12: it is not above what is before it: by family, address, length, maximum length.
     #[error("not in strictly ascending order (fault 12)")]
     Order,
     /// 13: the number is negative, or its content has more than 20 bytes (RFC 9286 section 4.2.1).
@@ -165,7 +164,7 @@ impl From<AllocError> for PayloadFault {
     }
 }
 
-/// Why a value can't be a payload, and the index of the entry or file, or 0 where none is meant.
+/// Why a value can't be a payload, and the index of the entry or file, or 0 if none is meant.
 #[derive(Clone, Copy, Debug, PartialEq, Eq, Error)]
 #[error("entry or file {index}: {kind}")]
 pub struct ValueFault {

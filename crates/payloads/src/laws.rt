@@ -2,7 +2,7 @@
 
 ghost use Rattle.payloads.specs.PayloadLaws.{OneFault, OneSpelling, OnePayload, RoaRefusesExactly, ManifestRefusesExactly};
 
-/// At most one fault fits bytes, and one fits exactly where they spell no value.
+/// At most one fault fits bytes, and one fits exactly if they spell no value.
 pub fn one_fault()
     ensures { OneFault }
 {}
@@ -12,8 +12,7 @@ pub fn one_spelling()
     ensures { OneSpelling }
 {}
 
-/// Two payloads of ROAs that are accepted are the same bytes exactly where their AS numbers are equal
-/// and their sets of VRPs are.
+/// Two payloads of ROAs that are accepted are the same bytes exactly if their AS numbers are equal and their sets of VRPs are.
 pub fn one_payload()
     ensures { OnePayload }
 {}

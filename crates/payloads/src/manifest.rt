@@ -101,8 +101,8 @@ impl Model for Manifest {
 
 impl Manifest {
     /// The manifest of this number (the content of its INTEGER), these times and these files, or
-    /// the first fault: `NumberRange`, also where the content is empty or not in the fewest bytes,
-    /// `TimesOrder`, then file by file `TooMany`, `Name`, `NameTwice`.
+    /// the first fault. The order is `NumberRange`, also if the content is empty or not in the
+    /// fewest bytes, `TimesOrder`, then file by file `TooMany`, `Name`, `NameTwice`.
     pub fn new(
         alloc: Global,
         number: Vec<u8>,

@@ -29,7 +29,7 @@ impl Model for Entries {
 }
 
 impl Entries {
-    /// Room for so many entries.
+    /// Room for this many entries.
     pub(crate) fn with_room(alloc: Global, room: usize) -> Result<Entries, AllocError>
         ensures { IfOk result (λ e. e ≡ record { count = 0; room = room; listed = [] }) }
     {
@@ -41,7 +41,7 @@ impl Entries {
         })
     }
 
-    /// No room: the entries are only counted. It takes no memory.
+    /// No room: the entries are only counted. It allocates no memory.
     pub(crate) fn counted(alloc: Global) -> Entries
         ensures { result ≡ record { count = 0; room = 0; listed = [] } }
     {

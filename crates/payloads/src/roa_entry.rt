@@ -18,21 +18,21 @@ pub(crate) const LIMIT: usize = 65_536;
 pub struct RoaEntry {
     /// The prefix.
     pub prefix: IpPrefix,
-    /// The maximum length in bits, over that of the prefix. Where it is absent, the length of the
+    /// The maximum length in bits, over that of the prefix. If it is absent, the length of the
     /// prefix is meant.
     pub max_len: Option<u8>,
 }
 
 impl RoaEntry {
-    /// The maximum length in bits, or the length of the prefix where it is absent.
+    /// The maximum length in bits, or the length of the prefix if it is absent.
     pub fn greatest_length(&self) -> u8
         ensures { result ≡ greatest_length self.now }
     {
         self.max_len.unwrap_or(self.prefix.len())
     }
 
-    /// Whether it does not stand above the entry before it, if there is one: by family, address,
-    /// length, maximum length.
+    /// Whether it is not above the entry before it, if there is one: by family, address, length,
+    /// maximum length.
     pub(crate) fn is_not_above(&self, before: Option<&RoaEntry>) -> bool
         ensures { result ≡ is_not_above (option_copied before.entry) self.now }
     {

@@ -19,8 +19,8 @@ use prefixes::{Asn, IpPrefix, Prefix, V4, V6};
 /// The tag of an explicitly tagged version.
 const EXPLICIT_0: u8 = 0xa0;
 
-/// The content of the INTEGER at the start of the outer SEQUENCE. A version (tag `a0`) that stands
-/// in its place is `VersionPresent` (4.1).
+/// The content of the INTEGER at the start of the outer SEQUENCE. A version (tag `a0`) in its place
+/// is `VersionPresent` (4.1).
 pub(crate) fn first_integer<'a>(cursor: &mut Cursor<'a>) -> Result<&'a [u8], GrammarFault>
     ensures exact { GivesNext (λ content. content.now) result cursor.new (with_version (tag_of cursor.old.rest == EXPLICIT_0) (integer_at cursor.old)) }
     ensures fewest { IfOk result (λ content. IsTrue (is_integer content.now)) }
@@ -113,8 +113,8 @@ fn maximum(members: Cursor, prefix: &IpPrefix) -> Result<Option<u8>, GrammarFaul
     Ok(Some(number as u8))
 }
 
-/// ROAIPAddress, behind so many entries of the payload, and behind the one before it in its family
-/// (4.3.2).
+/// ROAIPAddress, behind this many entries of the payload, and behind the one before it in its
+/// family (4.3.2).
 #[tactic(auto, unfolding(crate::specs::RoaReading::entry_at))]
 fn entry(
     cursor: &mut Cursor,
