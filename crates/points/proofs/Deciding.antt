@@ -46,7 +46,7 @@ module _ (before : Option Accepted) (m : ManifestValue) (bytes : List ℕ) (file
   by_told fault h = some_manifest (told_by_fault fault) h
 
   module _ (passed : first_that_holds (manifest_tests before m bytes now) ≡ None) where
-    -- a file that is handed in twice
+    -- a file that is supplied twice
     pub by_twice : (fault : PointFault) → Tells fault (λ j. first_that_holds (twice_tests 0 [] files) ≡ Some j) → Tells fault (Judged before bytes files now)
     unfolding tests
     by_twice fault h = tells fault (λ j. first_that_holds (twice_tests 0 [] files) ≡ Some j) (Judged before bytes files now)

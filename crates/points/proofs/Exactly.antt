@@ -1,4 +1,4 @@
--- An offer is answered New exactly where it is acceptable.
+-- An offer is answered New exactly if it is acceptable.
 use Rattle.std.proofs.Common.{◌≢◌, ℕ, List, Option, Err}
 use Rattle.der_lite.specs.Moments.{CivilMoment}
 use Rattle.points.specs.declared.file.FileIn.{FileIn}

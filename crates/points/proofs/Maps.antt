@@ -17,7 +17,7 @@ some_or : (g : FileIn) (b : Bool) (later : Option FileIn) (any : Bool) → is_so
 some_or g true later any e = refl
 some_or g false later any e = e
 
--- a file is found where one has the name
+-- a file is found if one has the name
 pub some_named : (name : List ℕ) (files : List FileIn) → is_some (file_named name files) ≡ is_named name files
 some_named name [] = refl
 some_named name (g ∷ files) = some_or g (bytes_eq g.name.now name) (file_named name files) (is_named name files) (some_named name files)

@@ -1,4 +1,4 @@
--- An offer is judged New exactly where it is acceptable.
+-- An offer is judged New exactly if it is acceptable.
 use Rattle.std.proofs.Common.{◌≡◌, ◌≢◌, ℕ, suc, Bool, true, false, leb, get_or, bytes_eq, List, [], ◌∷◌, ◌++◌, Option, Some, None, refl, sym, ap, subst, ◌∙◌, inl, inr, arith}
 use Rattle.std.specs.List.{All, Contains}
 use Rattle.std.proofs.lemmas.Bool.{not-false, not_from_true, or_parts, or_from, leb-false, leb-true, false_from_ne_true}
@@ -88,7 +88,7 @@ never_twice i earlier (f ∷ files) e s =
         let g = get_or files k d in
         named_more g.name.now earlier f ∙ or_from (is_named g.name.now earlier) (bytes_eq f.name.now g.name.now) (All-tail (IsFresh earlier) f files e k d l) (not_equal f.name.now g.name.now (apart_first f files s k d l))
 
--- where no two share a name, the name of a file finds it
+-- if no two share a name, the name of a file finds it
 finds : (name : List ℕ) (files : List FileIn) (f : FileIn) → Contains files f → f.name.now ≡ name → ShareNoName files → file_named name files ≡ Some f
 finds name [] f c n s = absurd (omega (arith, c.1))
 finds name (g ∷ files) f c n s =

@@ -11,7 +11,7 @@ use Rattle.der_lite.specs.Der.{IsBytes, number}
 use Rattle.der_lite.proofs.Integers.{number_bound}
 use Rattle.points.specs.Numbers.{HasNoZero}
 
--- a lower first digit decides, where there are as many digits behind each
+-- a lower first digit decides, if as many digits are behind each
 lower_first : (x y w m n : ℕ) → x < y → m < w → x * w + m < y * w + n
 lower_first x y w m n h b =
     let most : (x + 1) * w ≤ y * w = mul-le-mul_right w (omega arith) in

@@ -115,7 +115,7 @@ ends_in_roa = refl
 ends_in_crl : is_roa_name (97 ∷ 46 ∷ 99 ∷ 114 ∷ 108 ∷ []) ≡ false
 ends_in_crl = refl
 
--- The bytes of another manifest would be taken for its own, if a point could hold bytes that do not spell what it holds.
+-- The bytes of another manifest would be mistaken for its own, if a point could hold bytes that do not spell what it holds.
 without_the_rule : decides held (listing_a (5 ∷ []) noon third) (1 ∷ 2 ∷ []) [] noon ≡ Some Same
 unfolding tests moment_before
 without_the_rule = refl

@@ -20,7 +20,7 @@ weaker : (o : Option OfferJudgement) (P Q : OfferJudgement → Type 0) → ((j :
 weaker None P Q f h = h
 weaker (Some j) P Q f h = f j h
 
--- what a fault tells, from what it tells
+-- what a fault reports, from what it reports
 pub tells : (fault : PointFault) (P Q : OfferJudgement → Type 0) → ((j : OfferJudgement) → P j → Q j) → Tells fault P → Tells fault Q
 tells fault P Q f h = weaker (told_by_fault fault) P Q f h
 

@@ -23,7 +23,7 @@ point_fault_number (faults.HashDiffers i) = 8
 point_fault_number (faults.Roa i fault) = 9
 point_fault_number faults.Memory = 10
 
--- the index of the file that is meant, where one is
+-- the index of the file that is meant, if any
 abbrev pub fault_index : PointFault → Option ℕ
 fault_index (faults.FileTwice i) = Some i
 fault_index (faults.Missing i) = Some i
@@ -50,7 +50,7 @@ told_by (Ok offered.New) = Some New
 told_by (Ok offered.Same) = Some Same
 told_by (Err fault) = told_by_fault fault
 
--- Unless memory runs out, the answer is New exactly where this holds.
+-- Unless memory runs out, the answer is New exactly if this holds.
 abbrev pub NewExactly : Result Offered PointFault → Type 0 → Type 0
 NewExactly (Ok offered.New) Fact = Fact
 NewExactly (Ok offered.Same) Fact = ¬ Fact

@@ -1,4 +1,4 @@
--- What a point holds as a code, by which proofs tell such values apart.
+-- What a point holds as a code, by which proofs distinguish such values.
 use Rattle.std.specs.Prelude.{ℕ, List, Option, refl}
 use Rattle.std.specs.Coded.{Coded, code_by, coded_ℕ, coded_list, coded_option, coded×}
 use Rattle.der_lite.specs.Moments.{CivilMoment}

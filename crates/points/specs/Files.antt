@@ -1,4 +1,4 @@
--- Files that are handed in to a publication point.
+-- Files that are supplied to a publication point.
 use Rattle.std.specs.Prelude.{ℕ, Bool, ◌==◌, bytes_eq, find, List, [], ◌∷◌, Option}
 use Rattle.std.specs.List.{list_any, ends_with}
 use Rattle.sha2.specs.Sha256.{sha256}

@@ -1,4 +1,4 @@
--- What private functions over the files that are handed in do.
+-- What private functions over the files that are supplied do.
 use Rattle.std.specs.Borrow.{Bor}
 use Rattle.std.specs.Prelude.{◌≡◌, ℕ, List, [], Some, None, Result, Ok, Err, IfSome}
 use Rattle.std.specs.Option.{option_map}

@@ -12,12 +12,12 @@ use Rattle.points.specs.Accepted.{Accepted, IsRoaOf, Holds, listed_roas}
 use Rattle.points.specs.Offers.{OfferJudgement, New, Same, BadManifest, Missing, HashDiffers, BadRoa, Judged, first_that_holds, tests}
 use Rattle.points.specs.Answers.{told_by_fault}
 
--- what the tests decide, or else what is later
+-- what the tests decide, otherwise what is later
 abbrev pub Decided : Option OfferJudgement → OfferJudgement → Type 0 → Type 0
 Decided (Some first) judgement Later = judgement ≡ first
 Decided None judgement Later = Later
 
--- the content of listed file i, which is a ROA or not: its first fault, or else what is later
+-- the content of listed file i, which is a ROA or not: its first fault, otherwise what is later
 abbrev pub AtContent : ℕ → Bool → List ℕ → OfferJudgement → Type 0 → Type 0
 AtContent i false content judgement Later = Later
 AtContent i true content judgement Later =
@@ -41,7 +41,8 @@ FromFile i [] files judgement = judgement ≡ New
 FromFile i (listed ∷ others) files judgement =
     AtFile i listed (file_named listed.name files) judgement (FromFile (suc i) others files judgement)
 
--- The manifest is not spelled; or else the first test that holds decides, and where none does, the listed files. It is `Judged`, said step by step.
+-- The manifest is not spelled. Otherwise the first test that holds decides, and if none does, the listed files. It is `Judged`, said step
+-- by step.
 unfoldable pub JudgedInSteps : Option Accepted → List ℕ → List FileIn → CivilMoment → OfferJudgement → Type 0
 JudgedInSteps before bytes files now judgement =
     ((fault : Fault) × ManifestFaultAt bytes fault.offset fault.number × (judgement ≡ BadManifest fault))

@@ -133,11 +133,11 @@ pub record FirstWrong (i : ℕ) (listed : List ListedFile) (files : List FileIn)
   pub before : All (IsRight files) right
   pub is : IsWrong files (i + length right) wrong judgement
 
--- The first that is wrong decides; where none is, the offer is New.
+-- The first that is wrong decides; if none is, the offer is New.
 abbrev pub FromFiles : ℕ → List ListedFile → List FileIn → OfferJudgement → Type 0
 FromFiles i listed files judgement = FirstWrong i listed files judgement ⊎ (All (IsRight files) listed × (judgement ≡ New))
 
--- The manifest is not spelled; or else the first test that holds decides; or else the listed files.
+-- The manifest is not spelled. Otherwise the first test that holds decides; otherwise the listed files.
 pub data Judged (before : Option Accepted) (bytes : List ℕ) (files : List FileIn) (now : CivilMoment) (judgement : OfferJudgement) : Type 0 where
   unspelled : (fault : Fault) → ManifestFaultAt bytes fault.offset fault.number → judgement ≡ BadManifest fault → Judged before bytes files now judgement
   by_test : (m : ManifestValue) → ManifestSpells m bytes → first_that_holds (tests before m bytes files now) ≡ Some judgement → Judged before bytes files now judgement

@@ -5,7 +5,7 @@ use Rattle.points.specs.declared.file.FileIn.{FileIn}
 use Rattle.points.specs.Accepted.{Accepted, IsPoint}
 use Rattle.points.specs.Offers.{Acceptable, OfferJudgement, Judged, New}
 
--- An offer to a point is judged New exactly where it is acceptable.
+-- An offer to a point is judged New exactly if it is acceptable.
 abbrev pub NewWhereAcceptable : Type 0
 NewWhereAcceptable =
     (before : Option Accepted) (bytes : List ℕ) (files : List FileIn) (now : CivilMoment) → IsPoint before

@@ -32,8 +32,8 @@ impl Model for Accepted {
 }
 
 impl Accepted {
-    /// Adds the payloads that are in use at a moment: all of them, or none where nextUpdate is
-    /// before it.
+    /// Adds the payloads that are in use at a moment: all of them, or none if nextUpdate is before
+    /// it.
     pub(crate) fn add_used(
         &self,
         alloc: Global,

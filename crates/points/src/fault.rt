@@ -15,8 +15,8 @@ pub enum Offered {
     Same,
 }
 
-/// Why an offer is refused. Each has a fixed number. An index counts from 0: that of a file handed
-/// in at `FileTwice`, and that of a listed file at `Missing`, `HashDiffers` and `Roa`.
+/// Why an offer is refused. Each has a fixed number. An index counts from 0: that of a supplied
+/// file at `FileTwice`, and that of a listed file at `Missing`, `HashDiffers` and `Roa`.
 #[derive(Clone, Copy, Debug, PartialEq, Eq, Error)]
 pub enum PointFault {
     /// 1: the manifest's bytes spell none: their first fault (RFC 9286 section 4.2).
@@ -34,10 +34,10 @@ pub enum PointFault {
     /// 5: thisUpdate is not later than that of the manifest accepted last (RFC 9286 section 4.2.1).
     #[error("thisUpdate is not later than that of the manifest accepted last (refusal 5)")]
     OldTime,
-    /// 6: the file handed in has the name of an earlier one.
+    /// 6: the file supplied has the name of an earlier one.
     #[error("file {0} has the name of an earlier file (refusal 6)")]
     FileTwice(usize),
-    /// 7: no file of the listed name was handed in (RFC 9286 section 6.4).
+    /// 7: no file of the listed name was supplied (RFC 9286 section 6.4).
     #[error("listed file {0} is missing (refusal 7)")]
     Missing(usize),
     /// 8: the object of the listed name has another SHA-256 (RFC 9286 section 6.5).
@@ -72,7 +72,7 @@ impl PointFault {
         }
     }
 
-    /// The index of the file that is meant, where one is.
+    /// The index of the file that is meant, if any.
     pub fn index(&self) -> Option<usize>
         ensures { result ≡ fault_index self.now }
     {

@@ -1,4 +1,4 @@
-//! Files that are handed in.
+//! Files that are supplied.
 
 /// A file that was fetched and verified.
 #[derive(Clone, Copy, Debug, PartialEq, Eq)]
@@ -7,7 +7,7 @@ pub struct FileIn<'a> {
     pub name: &'a str,
     /// The published object. Its SHA-256 is compared with the hash that the manifest lists.
     pub object: &'a [u8],
-    /// What the caller's verifier took out of the object. It is read only where the name ends in
-    /// `.roa`.
+    /// The content that the caller's verifier extracted from the object. It is read only if the
+    /// name ends in `.roa`.
     pub content: &'a [u8],
 }

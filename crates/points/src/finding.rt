@@ -10,7 +10,7 @@ use crate::{FileIn, PointFault};
 use std::alloc::{AllocError, Global};
 use std::collections::BTreeMap;
 
-/// Files that were handed in, by their names.
+/// Files that were supplied, by their names.
 #[derive(Drop)]
 pub(crate) struct FilesByName<'a> {
     map: BTreeMap<&'a str, &'a FileIn<'a>>,

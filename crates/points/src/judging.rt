@@ -18,7 +18,7 @@ use der_lite::Moment;
 use payloads::{ListedFile, Manifest, PayloadFault, Roa, decode_manifest, decode_roa};
 use std::alloc::{AllocError, Global};
 
-/// What a point that accepted `before` accepts now, or `None` where that is what it accepted last.
+/// What a point that accepted `before` accepts now, or `None` if that is what it accepted last.
 pub(crate) fn judge(
     alloc: Global,
     before: Option<&Accepted>,
@@ -121,7 +121,7 @@ fn add(roas: &mut Vec<Roa>, roa: Option<Roa>) -> Result<(), AllocError>
     Ok(())
 }
 
-/// The ROA of the listed file of this index, where it is one; or `Missing`, `HashDiffers`, `Roa`, in
+/// The ROA of the listed file of this index, if it is one; or `Missing`, `HashDiffers`, `Roa`, in
 /// their order.
 fn take_file(
     alloc: Global,

@@ -2,7 +2,7 @@
 
 ghost use Rattle.points.specs.PointLaws.{NewWhereAcceptable, OneJudgement};
 
-/// An offer to a point is judged New exactly where it is acceptable.
+/// An offer to a point is judged New exactly if it is acceptable.
 pub fn new_where_acceptable()
     ensures { NewWhereAcceptable }
 {}

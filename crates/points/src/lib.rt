@@ -1,4 +1,4 @@
-//! Publication points of the RPKI: what an operator's validator hands in is taken whole or not at all.
+//! Publication points of the RPKI: an offer of an operator's validator is accepted as a whole or not at all.
 //!
 //! For example, where `rt` is the runtime that `main` is handed:
 //!
@@ -18,8 +18,8 @@
 //! assert!(rt; point.offer(payload.as_slice(), &[], to) == Ok(Offered::Same));
 //! ```
 //!
-//! A [`Point`] accepts a manifest with the files that it lists (RFC 9286 section 6); a [`Repository`] has
-//! a point for each name, and lists the payloads that are in use.
+//! A [`Point`] accepts a manifest with the files that it lists (RFC 9286 section 6). A [`Repository`] has a point for each name, and lists
+//! the payloads that are in use.
 #![tactic(auto)]
 
 mod accepted;

@@ -30,7 +30,7 @@ impl Model for Point {
 }
 
 impl Point {
-    /// A point that has accepted nothing. It takes no memory.
+    /// A point that has accepted nothing. It allocates no memory.
     pub fn new(alloc: Global) -> Point
         ensures { result ≡ None }
     {
@@ -40,14 +40,14 @@ impl Point {
         }
     }
 
-    /// Offers a manifest with the files that were fetched with it, all verified by the caller. `now`
-    /// is the moment of the offer, in UTC. The offer is taken whole, or refused, and then the point
-    /// holds what it held (RFC 9286 section 6).
+    /// Offers a manifest with the files that were fetched with it, all verified by the caller.
+    /// `now` is the moment of the offer, in UTC. The offer is accepted as a whole, or refused, and
+    /// then the point holds what it held (RFC 9286 section 6).
     ///
-    /// The first that holds decides: `Manifest`, `NotYet`, `Stale`, `Same` (the bytes are those that
-    /// were accepted last, and the files are not looked at), `OldNumber`, `OldTime`, `FileTwice` at
-    /// the least file handed in, and at the least file that is listed `Missing`, `HashDiffers`,
-    /// `Roa`. `Memory` may come wherever memory is asked for.
+    /// The first that holds decides: `Manifest`, `NotYet`, `Stale`, `Same`, `OldNumber`, `OldTime`,
+    /// `FileTwice` at the least file supplied, and at the least file listed `Missing`,
+    /// `HashDiffers`, `Roa`. `Same` means the bytes that were accepted last; the files are not
+    /// looked at then. `Memory` may come wherever memory is asked for.
     pub fn offer(
         &mut self,
         manifest: &[u8],

@@ -40,7 +40,7 @@ impl Model for Repository {
 }
 
 impl Repository {
-    /// A repository without points. It takes no memory.
+    /// A repository without points. It allocates no memory.
     pub fn new(alloc: Global) -> Repository
         ensures { result ≡ no_points }
     {
