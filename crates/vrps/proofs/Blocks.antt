@@ -1,4 +1,4 @@
--- Prefixes in order: what covers a prefix, and what stands before it.
+-- Prefixes in order: what covers a prefix, and what is before it.
 use Rattle.std.proofs.Common.{◌≡◌, ◌∙◌, ◌⊎◌, inl, inr, ℕ, ◌+◌, ◌-◌, ◌*◌, ◌/◌, ◌%◌, ◌^◌, ◌<◌, ◌≤◌, true, false, ap, sym, subst, refl, arith}
 use Rattle.std.specs.Prelude.{◌&&◌, nat_le}
 use Rattle.std.specs.Ordering.{is_le, nat_cmp, ordering_then}
@@ -165,7 +165,7 @@ shorter_before (V6 p) q (V4 r) h k less it other = absurd (let e : false ≡ tru
 shorter_before (V4 p) (V6 q) (V4 r) h k less it other = absurd (let e : false ≡ true = other in cc)
 shorter_before (V6 p) (V4 q) (V6 r) h k less it other = absurd (let e : false ≡ true = other in cc)
 
--- What stands between a prefix and one that it covers, it covers too.
+-- A prefix covers all that is between it and one that it covers.
 block_between : (w : ℕ) (p q r : Block) → IsPrefix w p → IsPrefix w q → is_le (block_cmp p q) ≡ true → is_le (block_cmp q r) ≡ true → contains w p r ≡ true → contains w p q ≡ true
 block_between w p q r h k low high it =
     let bits = eq_of _ _ (and_parts (nat_le p.len r.len) _ it).1 in

@@ -1,4 +1,4 @@
--- The first of the records that stand in just one of two ascending lists
+-- The first of the records that are in just one of two ascending lists
 use Rattle.std.proofs.Common.{◌≡◌, ◌∙◌, ◌+◌, ◌-◌, ◌≤◌, ◌<◌, ℕ, Bool, true, false, not, ◌&&◌, ◌||◌, cond, List, [], ◌∷◌, ◌++◌, append-nil, append_assoc, ◌⊎◌, inl, inr, Option, Some, None, length, get_or, take, drop, refl, ap, sym, subst, arith}
 use Rattle.std.specs.List.{AllByRecursion, list_any}
 use Rattle.std.specs.Ordering.{ordering_reverse}
@@ -27,7 +27,7 @@ tail_of : (x : Payload) (vs : List Payload) → Ascends (x ∷ vs) → Ascends v
 unfolding Rattle.std.specs.List.Sorted.IsStrictlySortedBy
 tail_of x vs h = h.1
 
--- a record that stands in both is none of either difference
+-- a record in both is in neither difference
 pub both_left : (x : Payload) (vs ws : List Payload) → Ascends (x ∷ vs) → Ascends (x ∷ ws) → left_out (x ∷ vs) (x ∷ ws) ≡ left_out vs ws
 both_left x vs ws h k = left_out_cut x vs (x ∷ ws) [] true ws h (record { parts = refl; below_it = tt; above_it = head_below x ws k })
 
@@ -104,7 +104,7 @@ takes_t x y f g vs zs low after h above k =
     swapped (first_and (Some x) f vs) (first_and (Some y) g zs) ∙ takes_s y x g f zs vs low above k after h
     ∙ ap (λ l. cond g (y ∷ l) l) (swapped zs (first_and (Some x) f vs))
 
--- where both come first, one stands for both
+-- if both come first, one represents both
 pub takes_both : (x : Payload) (f g : Bool) (vs zs : List Payload) → Above x vs → Ascends vs → Above x zs → Ascends zs
     → led (first_and (Some x) f vs) [] (first_and (Some x) g zs) ≡ cond (not f && g) (x ∷ led (first_and (Some x) f vs) [] zs) (led (first_and (Some x) f vs) [] zs)
 takes_both x f false vs zs after h above k = pick f
@@ -216,7 +216,7 @@ pub not_not : (b : Bool) → b ≡ not (not b)
 not_not true = refl
 not_not false = refl
 
--- where one of both ends, the other is left
+-- if one of both ends, the other is left
 nothing : (first : Option Payload) (here : Bool) (vs : List Payload) → first ≡ None → AreAfter first vs → first_and first here vs ≡ []
 nothing None here vs e after = after
 nothing (Some x) here vs e after = absurd (let h : ◌≡◌ {A = Option Payload} (Some x) None = e in cc)

@@ -59,7 +59,7 @@ module _ (records : List Payload) (starts : List ℕ) (g : AreGroups records sta
   pub begins_within : (i : ℕ) → i < length starts → begin records starts i < length records
   begins_within i low = let some = g.grow i low in let end = g.within (i + 1) in omega (arith, some, end)
 
-  -- the group in which a record stands
+  -- the group of a record
   pub place_of : (k n : ℕ) → n ≤ length starts → k < begin records starts n → (i : ℕ) × (i < n) × (begin records starts i ≤ k) × (k < begin records starts (i + 1))
   place_of k zero le low = absurd (let first = g.first in omega (arith, low, first))
   place_of k (suc n) le low = elim (cases_lt k (begin records starts n)) [
@@ -103,7 +103,7 @@ module _ (records : List Payload) (starts : List ℕ) (g : AreGroups records sta
       let shorter = left.shorter k d high it in
       absurd (omega (arith, longer, shorter, is)))
 
-  -- Where none covers from one place on to a second, and from there to a third
+  -- If none covers from one place on to a second, and from there to a third
   pub none_joined : (prefix : IpPrefix) (low middle high : ℕ) → NoneCovers records prefix low middle → NoneCovers records prefix middle high → NoneCovers records prefix low high
   none_joined prefix low middle high h j k d from to = elim (cases_lt k middle) [
     | inl less ↦ h k d from less
@@ -238,7 +238,7 @@ costs_joined groups lengths new_lengths last old new probes one other =
     let a = one.counted in let b = other.counted in let c = one.fewer in let d = other.fewer in let e = one.few in let f = other.few in
     record { counted = omega (arith, a, b); fewer = omega (arith, c, d); few = omega (arith, e, f) }
 
--- Where there is a group, the first search reads one.
+-- If there is a group, the first search reads one.
 pub some_read : (groups places lengths before now : ℕ) → (before ≡ 0 → (places ≡ groups) × (0 < lengths)) → (0 < places → 0 < lengths → before < now) → before ≤ now → 0 < groups → 0 < now
 some_read groups places lengths zero now first reads counted have =
     let was = first refl in

@@ -86,7 +86,7 @@ module _ (records : List Payload) (starts : List ℕ) (g : AreGroups records sta
   pub now_covered : Judged records r (begin records starts new) Invalid
   now_covered = let low = begins_within records starts g new (let f = next.fewer in omega (arith, f, in_places)) in let some = g.grow new (let f = next.fewer in omega (arith, f, in_places)) in (begin records starts new, low, λ d. next.covers_it (begin records starts new) d (omega arith) some)
 
--- No group is empty, so there are no more groups than records.
+-- No group is empty, so there are at most as many groups as records.
 pub few_groups : (records : List Payload) (starts : List ℕ) → AreGroups records starts → length starts ≤ length records
 few_groups records starts g = let a = rises (length starts) (omega arith) in let b = g.within (length starts) in omega (arith, a, b)
   where

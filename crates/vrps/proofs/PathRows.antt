@@ -18,7 +18,7 @@ set = refl
 empty_sequence : origin_of_segment kinds.Sequence [] 64500 ≡ Err EmptySequence
 empty_sequence = refl
 
--- the final segment decides, whatever stands before it
+-- the final segment decides, whatever is before it
 final_alone : (s t : Segment) (own : ℕ) → origin_of_path (s ∷ t ∷ []) own ≡ origin_of_final (Some t) own
 final_alone s t own = refl
 

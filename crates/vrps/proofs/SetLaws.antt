@@ -64,7 +64,7 @@ marks (Some u) = refl
 pub same_set : (s t : VrpSet) → ((q : Payload) → has s q ≡ has t q) → s ≡ t
 same_set s t h = map.same_map vrp_total vrp_exact s t (λ q. marks _ ∙ ap (λ b. cond b (Some tt) None) (h q) ∙ sym (marks _))
 
--- to be in s and not gone to t, or new in t, is to be in t
+-- a record is in t exactly if it is in s and not gone on the way to t, or new in t
 moved : (a b : Bool) → ((a && not (a && not b)) || (b && not a)) ≡ b
 moved true true = refl
 moved true false = refl
@@ -215,7 +215,7 @@ same_filter : (p r : Payload → Bool) → ((v : Payload) → p v ≡ r v) → (
 same_filter p r h [] = refl
 same_filter p r h (v ∷ vs) = λ i. cond (h v i) (v ∷ same_filter p r h vs i) (same_filter p r h vs i)
 
--- the same of sets that are given by lists, where it computes
+-- the same of sets that are given by lists; it computes
 pub listing-without-set_of : (xs ys : List Payload) → IsStrictlySortedBy vrp_cmp xs → listing (without (set_of xs) (set_of ys)) ≡ filter (λ v. not (list_any (same_vrp v) ys)) xs
 listing-without-set_of xs ys h =
     listing-without (set_of xs) (set_of ys) ∙ ap (filter (λ v. not (has (set_of ys) v))) (listing-set_of xs h)

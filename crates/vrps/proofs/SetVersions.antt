@@ -81,7 +81,7 @@ serial_differs start place steps some few =
 place_of : (newer : List VrpSet) (set : VrpSet) (older : List VrpSet) → length (newer ++ set ∷ older) ≡ length older + (length newer + 1)
 place_of newer set older = omega (arith, length-append newer (set ∷ older))
 
--- a newer version is passed over
+-- a newer version is skipped
 passed : (start : ℕ) (x : VrpSet) (newer : List VrpSet) (set : VrpSet) (older : List VrpSet) → length newer + 1 < 2 ^ 32
     → (serial_at start (length (newer ++ set ∷ older)) == serial_at start (length older)) ≡ false
 passed start x newer set older few =

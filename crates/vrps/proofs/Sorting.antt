@@ -1,4 +1,4 @@
--- Sorting and dropping what stands twice keep the set.
+-- Sorting and dropping duplicates keep the set.
 use Rattle.std.proofs.Common.{◌≡◌, Bool, true, false, List, sym, ap, ◌∙◌, refl}
 use Rattle.std.specs.List.{list_any, dedup}
 use Rattle.std.specs.List.Sorted.{IsPermutation}

@@ -151,7 +151,7 @@ counted_from k (p ∷ ps) =
       | false ↦ ap suc (counted_from p ps)
     ]
 
--- prefixes that are told to be one are
+-- prefixes that compare equal are equal
 pub is_one : (p q : IpPrefix) → same_prefix p q ≡ true → p ≡ q
 is_one p q h = prefix_exact p q (equal (prefix_cmp p q) h)
   where
@@ -174,7 +174,7 @@ not_above v w h =
       | Greater ↦ λ is. absurd (let e = subst (λ o. ordering_then o (ordering_then (nat_cmp v.max_len w.max_len) (nat_cmp v.asn w.asn)) ≡ Less) is h in cc)
     ] refl
 
--- Where a record's prefix differs from that of the one before it, it is above those of all before it.
+-- If a record's prefix differs from that of the one before it, it is above those of all before it.
 pub above_all : (records : List Payload) → IsStrictlySortedBy vrp_cmp records → (end : ℕ) → 0 < end → end < length records → ((d : Payload) → same_prefix (get_or records end d).prefix (get_or records (end - 1) d).prefix ≡ false)
     → (k : ℕ) (d : Payload) → k < end → prefix_cmp (get_or records k d).prefix (get_or records end d).prefix ≡ Less
 above_all records ascends end some within differs k d low =
@@ -190,7 +190,7 @@ above_all records ascends end some within differs k d low =
       | inr last ↦ let is : k ≡ end - 1 = omega (arith, low, last) in subst (λ n. prefix_cmp (get_or records n d).prefix (get_or records end d).prefix ≡ Less) (sym is) before
     ]
 
--- what a record adds, where it is the first one, one of another prefix, or one of the same
+-- what a record adds, if it is the first one, one of another prefix, or one of the same
 pub counts_first : (records : List Payload) (starts : List ℕ) (end : ℕ) → end ≡ 0 → 0 < length records → Counts records starts end → Counts records (starts ++ end ∷ []) (end + 1)
 counts_first records starts end none some h = (
   λ e. absurd (omega (arith, e)),

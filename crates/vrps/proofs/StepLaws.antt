@@ -42,7 +42,7 @@ steps_fit zero set steps fits h = fits
 steps_fit (suc k) set [] fits h = fits
 steps_fit (suc k) set (step ∷ older) fits h = steps_fit k (back step set) older h.0 h.2
 
--- a step leads between the sets that stand before and after it
+-- a step leads from the set before it to the set after it
 pub step_at : (k : ℕ) (set : VrpSet) (steps : List Change) (d : Change) → AreSteps set steps → k < length steps → get_or steps k d ≡ between (back_to (take (k + 1) steps) set) (back_to (take k steps) set)
 step_at k set [] d h low = absurd (omega (arith, low))
 step_at zero set (step ∷ older) d h low = h.1
@@ -170,7 +170,7 @@ size_empty = map.len-empty vrp_cmp (Unit {0})
 size_nothing : (s : VrpSet) → size (without s s) ≡ 0
 size_nothing s = sym (size_of_listing (without s s)) ∙ ap length (nothing_left s)
 
--- The newest set is another one exactly where the step to it changes something.
+-- The newest set differs from the one before it exactly if the step to it changes something.
 pub is_the_current : (now set : VrpSet) (sets : List VrpSet) → Some now ≡ newest_set sets → size (without now set) ≡ 0 → size (without set now) ≡ 0 → is_current sets set ≡ true
 is_the_current now set [] e a b = absurd (let k : ◌≡◌ {A = Option VrpSet} (Some now) None = e in cc)
 is_the_current now set (x ∷ older) e a b = (same_exactly x set).1 (sym (some_is now x e) ∙ none_missing now set a b)

@@ -25,7 +25,7 @@ newest_kept a b c d = refl
 past_the_kept : (a b c d : VrpSet) → KeptIs 2 (d ∷ c ∷ b ∷ a ∷ []) 2 None
 past_the_kept a b c d = refl
 
--- all steps are kept where they are no more
+-- all steps are kept if there is room for all
 all_kept : (a b : VrpSet) → KeptIs 8 (b ∷ a ∷ []) 0 (Some (between a b))
 all_kept a b = refl
 

@@ -1,4 +1,4 @@
--- What a walk over ascending lists gives: each step takes one record of one list, and the part of another list that is not above it.
+-- What a walk over ascending lists gives: each step reads one record of one list, and the part of another list that is not above it.
 use Rattle.std.proofs.Common.{◌≡◌, ◌∙◌, ℕ, Bool, true, false, not, ◌&&◌, ◌||◌, cond, List, [], ◌∷◌, ◌++◌, append_assoc, append-nil, take, drop, refl, ap, sym, subst}
 use Rattle.std.proofs.Math.Bool.{or-false, and-true}
 use Rattle.std.proofs.lemmas.Bool.{and_parts}

@@ -13,7 +13,7 @@ use Rattle.vrps.specs.Store.{Known, Unknown, is_current, published, since, step_
 use Rattle.vrps.specs.VrpSet.{VrpSet}
 use Rattle.prefixes.proofs.Basics.{eq_self}
 
--- how far behind a version stands
+-- how far behind a version is
 abbrev Behind : ℕ → ℕ → ℕ → ℕ → Type 0
 Behind start versions serial behind = serial_at start versions ≡ (serial + behind + 1) % 2 ^ 32
 
@@ -53,7 +53,7 @@ not_found start (suc m) (x ∷ older) serial (suc behind) low few is past =
     ap (λ b. if b then Some (record { serial = serial_at start (length older); set = x }) else with_serial serial (take m (versions_from start older))) (other_serial (serial_at start (length older)) serial behind here low few)
     ∙ not_found start m older serial behind low (omega (arith, few)) (omega (arith, here)) (omega (arith, past))
 
--- What is known of a version that stands so far behind the current one
+-- What is known of a version this far behind the current one
 known_by : (now : NumberedSet) (o : Option NumberedSet) (before : VrpSet) → option_map (λ v. v.set) o ≡ Some before → step_from now o ≡ Known (between before now.set)
 known_by now None before e = absurd (let h : ◌≡◌ {A = Option VrpSet} None (Some before) = e in cc)
 known_by now (Some v) before e = let h : v.set ≡ before = cc in ap (λ s. Known (between s now.set)) h
@@ -85,7 +85,7 @@ pub current_kept : (keep : ℕ) (sets : List VrpSet) (set : VrpSet) → is_curre
 current_kept keep [] set = refl
 current_kept keep (now ∷ older) set = refl
 
--- The oldest set goes where there is no room.
+-- The oldest set is dropped if there is no room.
 less_one : (keep : ℕ) (sets rest : List VrpSet) (oldest : VrpSet) → sets ≡ rest ++ oldest ∷ [] → length sets ≡ suc keep → rest ≡ take keep sets
 less_one keep sets rest oldest e full =
     let size : length rest ≡ keep = omega (arith, full, ap length e, length-append rest (oldest ∷ [])) in

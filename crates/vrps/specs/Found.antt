@@ -3,7 +3,7 @@ use Rattle.std.specs.Prelude.{◌≡◌, ℕ, ◌-◌, ◌<◌, Option, Some, No
 use Rattle.vrps.specs.declared.groups.Group.{Group}
 use Rattle.vrps.specs.declared.groups.Groups.{Groups}
 
--- the last of the groups at so many first places, if any
+-- the last of the groups at this many first places, if any
 abbrev pub IsLastOf : Groups → ℕ → Option Group → Type 0
 IsLastOf groups places None = places ≡ 0
 IsLastOf groups places (Some group) = (0 < places) × (group.place ≡ places - 1) × (group.groups.now ≡ groups)

@@ -15,7 +15,7 @@ v4_prefix head = V4 (head_block head)
 abbrev pub heads_of : Heads → List IpPrefix
 heads_of heads = map v4_prefix heads.v4.items ++ map V6 heads.v6.items
 
--- They are those of the groups at so many first places.
+-- They are those of the groups at this many first places.
 pub record AreHeads (records : List Payload) (starts : List ℕ) (places : ℕ) (heads : List IpPrefix) : Type 0 where
   pub counted : length heads ≡ places
   pub each : (place : ℕ) (d : Payload) (e : IpPrefix) → place < places → get_or heads place e ≡ prefix_at records starts place d

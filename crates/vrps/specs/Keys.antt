@@ -25,7 +25,7 @@ abbrev pub cut : IpPrefix → ℕ → IpPrefix
 cut (V4 p) len = V4 (cut_block 32 p len)
 cut (V6 p) len = V6 (cut_block 128 p len)
 
--- Both are of one family, and so many first bits agree.
+-- Both are of one family, and this many first bits agree.
 abbrev pub agree : IpPrefix → IpPrefix → ℕ → Bool
 agree (V4 p) (V4 q) len = first_bits 32 p.addr len == first_bits 32 q.addr len
 agree (V6 p) (V6 q) len = first_bits 128 p.addr len == first_bits 128 q.addr len

@@ -12,7 +12,7 @@ pub record IsUpTo (records : List Payload) (starts : List ℕ) (places : ℕ) (k
   pub before : (d : Payload) → 0 < found → up_to (prefix_at records starts (found - 1) d) key ≡ true
   pub after : (place : ℕ) (d : Payload) → found ≤ place → place < places → up_to (prefix_at records starts place d) key ≡ false
 
--- So many readings are no more than the binary digits of the number of places.
+-- This number of readings is at most the number of binary digits of the number of places.
 pub record CostsDigits (places old new : ℕ) : Type 0 where
   pub counted : old ≤ new
   pub few : 2 ^ (new - old) ≤ 2 * places + 1
@@ -21,7 +21,7 @@ pub record CostsDigits (places old new : ℕ) : Type 0 where
 abbrev pub digit_count : ℕ → ℕ
 digit_count n = length (digits_of 2 n)
 
--- Of the groups at the first places only those of so many lengths, from 0 on, can cover a prefix.
+-- Of the groups at the first places only those of this many lengths, from 0 on, can cover a prefix.
 pub record IsLeft (records : List Payload) (starts : List ℕ) (prefix : IpPrefix) (places lengths : ℕ) : Type 0 where
   pub in_places : places ≤ length starts
   pub in_family : (block_of prefix).len ≤ width_of prefix
@@ -44,7 +44,7 @@ IsNext records starts prefix places lengths new_places new_lengths None = NoneCo
 IsNext records starts prefix places lengths new_places new_lengths (Some group) =
     IsNextGroup records starts prefix places new_places group × IsLeft records starts prefix new_places new_lengths × (new_lengths < lengths)
 
--- Each length that was tried cost no more readings than the binary digits of the number of groups.
+-- Each length that was tried cost at most as many readings as the number of groups has binary digits.
 pub record CostsLengths (groups lengths new_lengths old new : ℕ) : Type 0 where
   pub counted : old ≤ new
   pub fewer : new_lengths ≤ lengths

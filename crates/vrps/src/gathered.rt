@@ -42,7 +42,7 @@ impl Model for Gathered {
 }
 
 impl Gathered {
-    /// No record. It takes no memory.
+    /// No record. It allocates no memory.
     pub fn new(alloc: Global) -> Gathered
         ensures { result ≡ empty }
     {

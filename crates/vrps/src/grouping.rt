@@ -22,7 +22,7 @@ pub(crate) fn grouped(alloc: Global, records: Vec<Vrp>) -> Result<Groups, AllocE
     Ok(Groups::new(records, starts, heads))
 }
 
-/// No group. It takes no memory.
+/// No group. It allocates no memory.
 pub(crate) fn no_groups(alloc: Global) -> Groups
     ensures { result.records.items ≡ [] }
 {

@@ -29,7 +29,7 @@ impl Heads {
         }
     }
 
-    /// Those of no group, with room for so many of each family.
+    /// Those of no group, with room for this many of each family.
     pub(crate) fn with_capacity(alloc: Global, v4: usize, v6: usize) -> Result<Heads, AllocError>
         ensures { IfOk result (λ heads. heads_of heads ≡ []) }
     {

@@ -13,9 +13,9 @@ use std::alloc::{AllocError, Global};
 use std::marker::Model;
 use std::rc::Rc;
 
-/// The versions of one session: the current set, and the steps to it from the versions that are kept. A publication walks both sets
-/// once, and takes memory for its step before it changes anything. What changed since a version is merged from the steps when it is
-/// asked for, so the memory is that of one set and of the changes.
+/// The versions of one session: the current set, and the steps to it from the versions that are kept. A publication walks both sets once,
+/// and allocates memory for its step before it changes anything. What changed since a version is merged from the steps when it is asked
+/// for, so the memory is that of one set and of the changes.
 #[derive(Debug, Drop)]
 pub struct VersionLog {
     alloc: Global,
@@ -94,7 +94,7 @@ fn is_nothing(step: &Change) -> bool
     step.withdraw.is_empty() && step.announce.is_empty()
 }
 
-/// Adds the newest step. Where there is no room the oldest one goes.
+/// Adds the newest step. If there is no room, the oldest one is dropped.
 fn keep(steps: &mut HeapCircularBuffer<Change>, step: Change)
     ensures items { steps.new.items ≡ take steps.old.capacity (step ∷ steps.old.items) }
     ensures capacity { steps.new.capacity ≡ steps.old.capacity }
@@ -102,7 +102,7 @@ fn keep(steps: &mut HeapCircularBuffer<Change>, step: Change)
     let _oldest = steps.push_front(step);
 }
 
-/// The serial, which goes on to the next one.
+/// The serial, which advances to the next one.
 fn take_serial(next: &mut Serial) -> Serial
     ensures serial { result.0 ≡ next.old.0 }
     ensures next { next.new.0 ≡ (next.old.0 + 1) % 2 ^ 32 }

@@ -118,7 +118,7 @@ fn made_front<'a>(first: Option<&'a Vrp>, of_s: bool, s: &'a [Vrp], t: &'a [Vrp]
     Front { first, of_s, s, t }
 }
 
-/// The front of two ascending lists. The time is linear in the number of records that are in both and are passed over.
+/// The front of two ascending lists. The time is linear in the number of records that are in both and are skipped.
 #[inline(always)]
 fn front_of<'a>(s: &'a [Vrp], t: &'a [Vrp]) -> Front<'a>
     requires s_ascends { IsStrictlySortedBy vrp_cmp s.now }
@@ -160,7 +160,7 @@ fn put(lists: &mut Lists, vrp: &Vrp, withdrawn: bool) -> Result<(), AllocError>
     Ok(())
 }
 
-/// Adds a record to the other list, if it was to be added to one list already and this is not the same list.
+/// Adds a record to the other list, if it was already meant for one list and this is not the same list.
 #[inline(always)]
 fn put_other(lists: &mut Lists, vrp: &Vrp, is_put: bool, withdrawn: bool) -> Result<(), AllocError>
     ensures withdraw { IfOk result (λ _. lists.new.withdraw.items ≡ lists.old.withdraw.items ++ (if not is_put && withdrawn then vrp.now ∷ [] else [])) }

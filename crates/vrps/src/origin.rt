@@ -74,7 +74,7 @@ impl OriginIndex {
         Ok(OriginIndex { groups })
     }
 
-    /// The index over the empty set. It takes no memory.
+    /// The index over the empty set. It allocates no memory.
     pub fn empty(alloc: Global) -> OriginIndex
         ensures { result ≡ empty }
     {
@@ -83,7 +83,7 @@ impl OriginIndex {
         }
     }
 
-    /// The state of a route. It takes no memory.
+    /// The state of a route. It allocates no memory.
     pub fn state(&self, route: &Route) -> OriginState
         ensures { result ≡ state self.now route.now }
     {

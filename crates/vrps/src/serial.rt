@@ -5,7 +5,7 @@ ghost use Rattle.vrps.specs.Serial.{is_before};
 
 use std::fmt::{self, Display};
 
-/// The serial number of a version; it goes on from 2^32 - 1 with 0 (RFC 8210 section 2).
+/// The serial number of a version; it wraps from 2^32 - 1 to 0 (RFC 8210 section 2).
 #[derive(Clone, Copy, Debug, PartialEq, Eq)]
 pub struct Serial(pub u32);
 

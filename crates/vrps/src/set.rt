@@ -71,7 +71,7 @@ impl VrpSet {
     /// The most records that a set may have.
     pub const LIMIT: usize = 16_777_215;
 
-    /// The set without a member. It takes no memory.
+    /// The set without a member. It allocates no memory.
     pub fn empty(alloc: Global) -> VrpSet
         ensures { result ≡ empty }
     {
@@ -94,7 +94,7 @@ impl VrpSet {
         Ok(VrpSet { items })
     }
 
-    /// The set of a listing. It takes no memory.
+    /// The set of a listing. It allocates no memory.
     pub(crate) fn from_listing(items: Vec<Vrp>) -> VrpSet
         requires { IsListing items.items }
         ensures { result ≡ set_of items.items }
@@ -102,7 +102,7 @@ impl VrpSet {
         VrpSet { items }
     }
 
-    /// The members in ascending order, as a list. It takes no memory.
+    /// The members in ascending order, as a list. It allocates no memory.
     pub fn into_list(self) -> Vec<Vrp>
         ensures { result.items ≡ listing self }
     {
@@ -149,7 +149,7 @@ impl VrpSet {
         self.as_slice().iter()
     }
 
-    /// Whether both sets have the same members. It takes no memory.
+    /// Whether both sets have the same members. It allocates no memory.
     pub fn is_same(&self, other: &VrpSet) -> bool
         ensures { result ≡ is_same self.now other.now }
     {

@@ -31,8 +31,8 @@ pub enum Since {
 /// The versions that a cache publishes under one session (RFC 8210 sections 2 and 5.1). Kept are the
 /// current one and some before it.
 pub trait VersionStore {
-    /// This is the instance whose sets were published, so many versions before the current one are
-    /// kept, and this is the store afterwards.
+    /// This is the store after the sets of this instance were published; this many versions before
+    /// the current one are kept.
     ghost holds: { ℕ → Instance → Self → Type 0 };
 
     /// The number of the session.

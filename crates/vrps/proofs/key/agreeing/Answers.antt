@@ -8,7 +8,7 @@ use Rattle.std.specs.Int.RustNames.{bit_xor}
 use Rattle.vrps.proofs.Grouped.{power_rises}
 use Rattle.vrps.proofs.key.agreeing.Goals as goal
 
--- Where the first bits agree, the sum without carry is a number of the other bits.
+-- If the first bits agree, the sum without carry is a number of the other bits.
 no_bits : (a b host : ℕ) → a / 2 ^ host ≡ b / 2 ^ host → bit_xor a b < 2 ^ host
 no_bits a b host same =
     let none : bit_xor a b / 2 ^ host ≡ 0 = xor_shr a b host ∙ ap (λ n. bit_xor n (b / 2 ^ host)) same ∙ xor_self (b / 2 ^ host) in

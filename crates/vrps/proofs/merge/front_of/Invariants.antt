@@ -4,7 +4,7 @@ use Rattle.prefixes.specs.Payload.{vrp_cmp}
 use Rattle.vrps.specs.Walk.{left_out}
 use Rattle.vrps.proofs.merge.front_of.Given as goal
 
--- What was passed over stands in both.
+-- What was skipped is in both.
 abbrev pub invariant-loop-rest_s : goal.invariant-loop-rest_s
 invariant-loop-rest_s l = record {
   only_s : left_out l.rest_s l.rest_t ≡ left_out l.s l.t;

@@ -3,7 +3,7 @@ use Rattle.vrps.specs.Groups.{begin}
 use Rattle.vrps.specs.Search.{CostsLengths, IsLeft, NoneCovers}
 use Rattle.vrps.proofs.search.next_covering.Given as goal
 
--- No group that is no more left covers the prefix.
+-- No group that was already skipped covers the prefix.
 abbrev pub invariant-loop-rest : goal.invariant-loop-rest
 invariant-loop-rest l = record {
   left : IsLeft l.groups.records.items l.groups.starts.items l.prefix l.rest.places l.rest.lengths;
