@@ -37,7 +37,7 @@ module _ (version : Version) where
   changed_index true [] i = refl
   changed_index true (x ∷ xs) i = refl
 
-  -- what is read behind the version is what stands there
+  -- what is read behind the version is what is there
   pub drop-as_read : (any : Bool) (bytes : List ℕ) (i : ℕ) → drop (suc i) (as_read version any bytes) ≡ drop (suc i) bytes
   unfolding as_read
   drop-as_read any bytes i = changed_drop (any && is_notify_header bytes) bytes i
@@ -91,7 +91,7 @@ module _ (version : Version) where
       eight = b.whole.1;
     }
 
-    -- it has as many bytes as stand there
+    -- it has as many bytes as are there
     len : (n : ℕ) → length bytes ≡ n → length (as_read version any bytes) ≡ n
     len n e = length-as_read version any bytes ∙ e
 
@@ -99,15 +99,15 @@ module _ (version : Version) where
     short : IsShortest version any bytes
     short = shortest_whole version any bytes b.whole.0 (omega (arith, b.exact))
 
-    -- a number behind the version is read as it stands
+    -- a number behind the version is read as it is
     at_place : (n i : ℕ) → number_at n (suc i) (as_read version any bytes) ≡ number_at n (suc i) bytes
     at_place n i = ap (λ x. big_number n x) (drop-as_read any bytes i)
 
-    -- a PDU, told by its parts
+    -- a PDU, determined by its parts
     is_read : (u v : Unit) → Reads version u (as_read version any bytes) → u ≡ v → IsRead version any bytes v
     is_read u v r e = record { reads = subst (λ w. Reads version w (as_read version any bytes)) e r; shortest = short }
 
-    -- a Serial Notify, told by its parts
+    -- a Serial Notify, determined by its parts
     pub read_0 : (session serial : ℕ) → type_of bytes ≡ 0 → session ≡ number_at 2 2 bytes → serial ≡ number_at 4 8 bytes → IsRead version any bytes (SerialNotify session serial)
     read_0 session serial k s n =
         is_read _ _ (reads_0 version (as_read version any bytes) (frame 0 k) (len 12 (b.sized.at_notify k))) (λ i. SerialNotify ((at_place 2 1 ∙ sym s) i) ((at_place 4 7 ∙ sym n) i))
@@ -139,7 +139,7 @@ module _ (version : Version) where
     no_notify true p h = grind (arith, nat_tests)
     no_notify false p h = let e : false ≡ true = h in cc
 
-    -- bytes of another type are read as they stand
+    -- bytes of another type are read as they are
     pub as_it_is : 0 < type_of bytes → as_read version any bytes ≡ bytes
     unfolding as_read
     as_it_is p = same_changed (any && is_notify_header bytes) (no_notify any p)

@@ -36,14 +36,14 @@ wanted_long held h = ap (λ b. if b then 8 - length held else length_of held - l
 pub was_counted : {P S N : Type 0} → (¬ S → P) → (S → (false ≡ true) × N) → P
 was_counted counted spent = counted (λ s. let e : false ≡ true = (spent s).0 in cc)
 
--- No more comes than is asked for.
+-- At most as much comes as is asked for.
 pub within : (n size : ℕ) (held now buf piece : List ℕ) → length buf ≡ size → size ≡ wanted now → now ≡ held → (n ≤ length buf) × (n ≡ length (take n buf)) → piece ≡ take n buf → length piece ≤ wanted held
 within n size held now buf piece room asked same bound is =
     let w : wanted now ≡ wanted held = ap (λ x. wanted x) same in
     omega (arith, room, asked, w, bound.0, bound.1, ap length is)
 
 module _ (version : Version) where
-  -- A cache reads what stands there.
+  -- A cache reads what is there.
   pub strict : (bytes : List ℕ) → as_read version false bytes ≡ bytes
   unfolding as_read
   strict bytes = refl
@@ -78,7 +78,7 @@ module _ (version : Version) where
             shortest_whole version false (held ++ piece) none (omega (arith, size, len, more, room, wanted_long held long)))
       ]
 
-  -- So nothing is left where they are one, or show one.
+  -- So nothing is left if they are one, or show one.
   none_left : (held taken rest : List ℕ) → IsPartial version (as_read version false held) → length (taken ++ rest) ≤ wanted held → (IsPartial version (as_read version false (held ++ taken)) → ⊥) → rest ≡ []
   none_left held taken [] part room whole = refl
   none_left held taken (b ∷ rest) part room whole =
@@ -137,12 +137,12 @@ module _ (version : Version) where
         told bytes faults.Record bad = bad
         told bytes faults.ErrorReport bad = bad
 
-  -- what is answered where the input ends behind these bytes
+  -- what is answered if the input ends behind these bytes
   end_answered : (held : List ℕ) (left : Option (List ℕ)) → IsPartial version (as_read version false held) → IsAtEnd left → ReadAnswers version held left (end_answer (end_fault held None))
   end_answered [] left part ends = (refl, ends)
   end_answered (b ∷ held) left part ends = (part, omega arith, ends)
 
-  -- The input ends where the reader stands.
+  -- The input ends at the reader's place.
   pub gives_end : (before mid left : Option (List ℕ)) (calls count now n : ℕ) (r : Reader) (buf : List ℕ) (answer : Result (Option Unit) ReadFault) → r.fault ≡ None → r.any ≡ false → IsReader version r
       → Consumes before mid r.held → Consumes mid left (take n buf) → n ≡ 0 → IsAtEnd left → count ≤ calls + length r.held → now ≡ count + 1 → answer ≡ end_answer (at_end r)
       → ReadsUnit version before left calls now answer
@@ -155,7 +155,7 @@ module _ (version : Version) where
     calls_most = omega (arith, most, one);
   }
 
-  -- All of the piece is held where more is wanted.
+  -- All of the piece is held if more is wanted.
   pub holds_more : (r new : Reader) (piece rest : List ℕ) → ReaderTakes version r piece next.NeedMore rest new → new ≡ record r { held = r.held ++ piece }
   holds_more r new piece rest t =
       let is : t.taken ≡ piece = sym (t.piece_is ∙ ap (λ x. t.taken ++ x) t.gives.2 ∙ append-nil t.taken) in

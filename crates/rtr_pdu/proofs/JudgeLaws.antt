@@ -33,7 +33,7 @@ chain a b c d e =
     else if e then Some faults.TooLong
     else None
 
--- where no test fails
+-- if no test fails
 chain_none : (a b c d e : Bool) → chain a b c d e ≡ None → a ≡ false → (b ≡ true) × (c ≡ true) × (d ≡ true) × (e ≡ false)
 chain_none true b c d e h k = absurd (let e : true ≡ false = k in cc)
 chain_none false false c d e h k = absurd (let e : ◌≡◌ {A = Option UnitFault} (Some faults.Version) None = h in cc)
@@ -213,7 +213,7 @@ report_front version front more l size h =
 pub none_some : (o : Option UnitFault) (fault : UnitFault) → o ≡ None → o ≡ Some fault → ⊥
 none_some o fault a b = let e : ◌≡◌ {A = Option UnitFault} None (Some fault) = sym a ∙ b in cc
 
--- what a header without a fault tells
+-- what a header without a fault announces
 pub record IsHeader (version : Version) (bytes : List ℕ) : Type 0 where
   pub version_is : version_of bytes ≡ version_number version
   pub kind : is_type version (type_of bytes) ≡ true

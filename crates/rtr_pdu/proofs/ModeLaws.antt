@@ -27,7 +27,7 @@ eight_le n h = grind (arith, nat_tests)
 pub not_short : (n : ℕ) → 8 ≤ n → nat_lt n 8 ≡ false
 not_short n h = grind (arith, nat_tests)
 
--- whether 8 bytes or more are the header of a notify is told by the first 8
+-- whether 8 bytes or more are the header of a notify is determined by the first 8
 pub is_notify_header-append : (front more : List ℕ) → 8 ≤ length front → is_notify_header (front ++ more) ≡ is_notify_header front
 is_notify_header-append front more h =
     let whole : 8 ≤ length (front ++ more) = omega (arith, length-append front more, h) in
@@ -45,7 +45,7 @@ module _ (version : Version) where
   changed-append true front more h = ap (λ x. version_number version ∷ x) (drop-append-le 1 front more (omega arith))
   changed-append false front more h = refl
 
-  -- What begins with 8 bytes is read as they are read, and then as it stands.
+  -- What begins with 8 bytes is read as they are read, and then as it is.
   pub as_read-append : (any : Bool) (front more : List ℕ) → 8 ≤ length front → as_read version any (front ++ more) ≡ as_read version any front ++ more
   unfolding as_read
   as_read-append any front more h =
@@ -58,7 +58,7 @@ module _ (version : Version) where
   changed_length true (x ∷ xs) h = refl
   changed_length false bytes h = refl
 
-  -- What is read is as long as what stands there.
+  -- What is read is as long as what is there.
   pub length-as_read : (any : Bool) (bytes : List ℕ) → length (as_read version any bytes) ≡ length bytes
   unfolding as_read
   length-as_read any bytes = changed_length (any && is_notify_header bytes) bytes (test_long any bytes)

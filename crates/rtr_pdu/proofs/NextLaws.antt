@@ -19,7 +19,7 @@ use Rattle.rtr_pdu.proofs.StreamLaws.{written_is_read}
 use Rattle.rtr_pdu.proofs.UnitLaws.{opens}
 
 module _ (version : Version) where
-  -- What is read of bytes of the expected version is what stands there.
+  -- What is read of bytes of the expected version is what is there.
   own_version : (any : Bool) (rest : List ℕ) → as_read version any (version_number version ∷ rest) ≡ version_number version ∷ rest
   unfolding as_read
   own_version any rest = either (any && is_notify_header (version_number version ∷ rest))
@@ -65,7 +65,7 @@ module _ (version : Version) where
       let sized = header_sized version (spelled version u zeros ++ []) (omega (arith, ap length whole, o.eight)) o.fault in
       omega (arith, sized.most, o.len)
 
-  -- what stands before a byte of a PDU is the beginning of one
+  -- what is before a byte of a PDU is the beginning of one
   part_of : (u : Unit) (part rest : List ℕ) (b : ℕ) → IsUnit u → fits version u ≡ true → part ++ b ∷ rest ≡ unit_bytes version u → IsPartial version part
   part_of u part rest b fits own e =
       let o = opens version u zeros [] fits own in
@@ -111,7 +111,7 @@ module _ (version : Version) where
       room n (inl short) eight len same size = absurd (omega (arith, short, eight))
       room n (inr less) eight len same size = omega (arith, less, len, same, size)
 
-  -- and what is whole then has the length that its header tells.
+  -- and what is whole then has the length in its header.
   pub next_size : (any : Bool) (held : List ℕ) (b : ℕ) → IsPartial version (as_read version any held) → IsWhole version (as_read version any (held ++ b ∷ [])) → length (held ++ b ∷ []) ≡ length_of (as_read version any (held ++ b ∷ []))
   next_size any held b part w =
       let size = length-append held (b ∷ []) in

@@ -1,4 +1,4 @@
--- Where no Prefix stands whole at the front of bytes.
+-- If no Prefix is whole at the front of bytes.
 use Rattle.std.specs.Prelude.{◌≡◌, ◌⊎◌, ℕ, ◌<◌, ◌≤◌, Bool, List, ◌++◌, length, take, drop, slice_index, Option, Some, None, refl}
 use Rattle.std.specs.Option.{is_some}
 use Rattle.std.proofs.Common.{sym, ap, ◌∙◌, subst, arith, inl, inr}
@@ -93,7 +93,7 @@ module _ (version : Version) (any : Bool) where
   pub whole_front : (u : Unit) (bytes front rest : List ℕ) → bytes ≡ front ++ rest → Reads version u (as_read version any front) → IsWhole version (as_read version any bytes)
   whole_front u bytes front rest is r = subst (λ x. IsWhole version (as_read version any x)) (sym is) (front_whole u front rest r).0
 
-  -- and is the whole PDU that its header tells.
+  -- and is the whole PDU that its header announces.
   pub same_front : (u : Unit) (bytes front rest : List ℕ) (size : ℕ) → bytes ≡ front ++ rest → Reads version u (as_read version any front) → size ≤ length bytes → IsBody version any (take size bytes) → front ≡ take size bytes
   same_front u bytes front rest size is r fits body =
       let len : length (take size bytes) ≡ size = omega (arith, length-take size bytes, fits) in

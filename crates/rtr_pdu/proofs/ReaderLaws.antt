@@ -26,7 +26,7 @@ in_header faults.ErrorReport = false
 in_header faults.Truncated = false
 in_header _ = true
 
--- a test that fails tells a fault of a header
+-- a test that fails shows a fault of a header
 in_tests : (a b c d e : Bool) (fault : UnitFault) → chain a b c d e ≡ Some fault → in_header fault ≡ true
 in_tests true b c d e fault h = absurd (let k : ◌≡◌ {A = Option UnitFault} None (Some fault) = h in cc)
 in_tests false false c d e fault h = let k : faults.Version ≡ fault = (let m : ◌≡◌ {A = Option UnitFault} (Some faults.Version) (Some fault) = h in cc) in subst (λ x. in_header x ≡ true) k refl
@@ -50,7 +50,7 @@ pub none_found : (o : Option UnitFault) → is_some o ≡ false → o ≡ None
 none_found None h = refl
 none_found (Some x) h = absurd (let e : true ≡ false = h in cc)
 
--- A Prefix at the front of a piece, where nothing is held
+-- A Prefix at the front of a piece, if nothing is held
 pub takes_prefix : (r : Reader) (version : Version) (piece unit rest : List ℕ) (u : Unit) → r.fault ≡ None → length r.held ≡ 0 → version ≡ version_with r piece → piece ≡ unit ++ rest → IsRead version r.any unit u
     → ReaderTakes (version_with r piece) r piece (next.Unit u) rest (record { version = Some version; held = r.held; any = r.later; later = r.later; fault = r.fault })
 takes_prefix r version piece unit rest u sound none is split read =
@@ -146,7 +146,7 @@ module _ (version : Version) where
           let a = length-append held (take (size - length held) piece) in
           (body_none, omega (arith, len, a, eight), omega (arith, len, body_size))
 
-  -- what was taken before
+  -- what was consumed before
   pub advances_after : (any : Bool) (n : ℕ) (held piece : List ℕ) (answer : Next) (rest now : List ℕ)
       → Advances version any (filled n held piece) (unfilled n held piece) answer rest now → Advances version any held piece answer rest now
   advances_after any n held piece answer rest now a = record {
@@ -189,7 +189,7 @@ module _ (version : Version) where
       ];
     }
 
-    -- without a fault, no more is held than the PDU
+    -- without a fault, at most the PDU is held
     pub header_room : header_fault version (as_read version any (filled 8 held piece)) ≡ None → 8 ≤ length_of (as_read version any (filled 8 held piece)) → length (filled 8 held piece) ≤ length_of (as_read version any (filled 8 held piece))
     header_room none least =
         elim header_whole [
@@ -210,7 +210,7 @@ module _ (version : Version) where
   pub partial_short : (any : Bool) (bytes : List ℕ) → length bytes < 8 → IsPartial version (as_read version any bytes)
   partial_short any bytes h = let short : length (as_read version any bytes) < 8 = omega (arith, length-as_read version any bytes, h) in (short_none version (as_read version any bytes) short, inl short)
 
-  -- where a reader stands
+  -- the place of a reader
   abbrev pub Standing : Option UnitFault → Bool → List ℕ → Type 0
   Standing fault any bytes = MatchOption fault (IsPartial version (as_read version any bytes)) (ReaderStands version any bytes)
 
@@ -222,7 +222,7 @@ module _ (version : Version) where
   pub standing_from : (fault : Option UnitFault) (any : Bool) (bytes : List ℕ) → fault ≡ None → IsPartial version (as_read version any bytes) → Standing fault any bytes
   standing_from fault any bytes e h = let P : Option UnitFault → Type 0 = λ x. Standing x any bytes in subst P (sym e) h
 
-  -- the same as a call of `fill` tells it
+  -- the same, as a call of `fill` gives it
   pub moved : (any : Bool) (held piece : List ℕ) (answer : Next) (n m : ℕ) (rest now : List ℕ) → n ≡ m → now ≡ filled n held piece → rest ≡ unfilled n held piece
       → Advances version any held piece answer (unfilled m held piece) (filled m held piece) → Advances version any held piece answer rest now
   moved any held piece answer n m rest now e f g a =
@@ -232,7 +232,7 @@ module _ (version : Version) where
       let Q : List ℕ → Type 0 = λ x. Advances version any held piece answer rest x in
       subst Q now_is (subst P rest_is a)
 
-  -- the same where a first part was taken before
+  -- the same if a first part was consumed before
   pub moved_after : (any : Bool) (held piece : List ℕ) (answer : Next) (n : ℕ) (left mid rest now : List ℕ) → mid ≡ filled n held piece → left ≡ unfilled n held piece
       → Advances version any mid left answer rest now → Advances version any held piece answer rest now
   moved_after any held piece answer n left mid rest now f g a =
@@ -260,7 +260,7 @@ pub reader_with : (start : Option Version) (fault : Option UnitFault) (any : Boo
 reader_with start fault any [] more h = standing_short (version_in start []) (version_in start more) fault any any [] (omega arith) h
 reader_with start fault any (b ∷ held) more h = subst (λ v. Standing v fault any (b ∷ held)) (sym (version_in-append start (b ∷ held) more (omega arith))) h
 
--- and so does one behind which a piece was taken
+-- and so does one behind which a piece was consumed
 pub reader_taken : (start : Option Version) (fault : Option UnitFault) (any : Bool) (now more : List ℕ) → Standing (version_in start (now ++ more)) fault any now → Standing (version_in start now) fault any now
 reader_taken start fault any [] more h = standing_short (version_in start more) (version_in start []) fault any any [] (omega arith) h
 reader_taken start fault any (b ∷ now) more h = subst (λ v. Standing v fault any (b ∷ now)) (version_in-append start (b ∷ now) more (omega arith)) h

@@ -27,18 +27,18 @@ pub any_after-push : (any : Bool) (units : List Unit) (u : Unit) → any_after a
 any_after-push any [] u = refl
 any_after-push any (v ∷ units) u = any_after-push (any && is_notify v) units u
 
--- a fresh reader is told of a PDU
+-- a fresh reader is informed of a PDU
 told_fresh : (version : Option Version) (b : Bool) (later : Bool) → elim b [ true ↦ fresh version later | false ↦ after_agreed (fresh version later) ] ≡ fresh version (later && b)
 told_fresh version true true = refl
 told_fresh version true false = refl
 told_fresh version false true = refl
 told_fresh version false false = refl
 
--- a reader that is told of the PDU that it gave
+-- a reader that is informed of the PDU that it gave
 told_then : (version : Version) (u : Unit) (r : Reader) (piece rest : List ℕ) (new later : Reader) → (t : ReaderTakes version r piece (next.Unit u) rest new) → later ≡ told u new → later ≡ fresh (Some version) (r.later && is_notify u)
 told_then version u r piece rest new later t e = e ∙ ap (λ x. told u x) t.gives.2 ∙ told_fresh (Some version) (is_notify u) r.later
 
--- what takes a byte leaves less
+-- what consumes a byte leaves less
 some_byte : (taken piece rest : List ℕ) → piece ≡ taken ++ rest → (taken ≡ [] → ⊥) → length rest < length piece
 some_byte [] piece rest e h = absurd (h refl)
 some_byte (x ∷ xs) piece rest e h = omega (arith, ap length e, length-append xs rest)
@@ -77,7 +77,7 @@ module _ (version : Version) where
   pub splits : (any : Bool) (stream : List ℕ) (units : List Unit) (r : Reader) → HasRead version any stream units r → Splits version any stream units r.held None
   splits any stream units r h = record { front = h.front; whole = h.whole; read = h.read; after = subst (λ b. IsPartial version (as_read version b r.held)) h.any_is h.partial }
 
-  -- all of the piece is taken
+  -- all of the piece is consumed
   pub reads_more : (any : Bool) (stream : List ℕ) (units : List Unit) (r : Reader) (piece rest : List ℕ) (new : Reader)
       → HasRead version any stream units r → ReaderTakes version r piece next.NeedMore rest new → HasRead version any (stream ++ piece) units new
   reads_more any stream units r piece rest new h t =
@@ -93,7 +93,7 @@ module _ (version : Version) where
         partial = t.gives.1;
       })
 
-  -- a PDU is read, and the reader told of agreement
+  -- a PDU is read, and the reader informed of agreement
   pub reads_unit : (any : Bool) (stream : List ℕ) (units : List Unit) (r : Reader) (piece rest : List ℕ) (u : Unit) (new later : Reader)
       → HasRead version any stream units r → (t : ReaderTakes version r piece (next.Unit u) rest new) → later ≡ told u new → HasRead version any (stream ++ t.taken) (units ++ u ∷ []) later
   reads_unit any stream units r piece rest u new later h t e =
@@ -110,7 +110,7 @@ module _ (version : Version) where
         partial = partial_empty version (r.later && is_notify u);
       })
 
-  -- A PDU takes some byte.
+  -- A PDU consumes some byte.
   no_unit_yet : (any : Bool) (held taken : List ℕ) (u : Unit) → taken ≡ [] → IsPartial version (as_read version any held) → Reads version u (as_read version any (held ++ taken)) → ⊥
   no_unit_yet any held taken u e part r =
       let is : as_read version any held ≡ spelled version u r.ignored ++ [] =
@@ -160,7 +160,7 @@ module _ (version : Version) where
   pub has_only : (any : Bool) (stream : List ℕ) (units : List Unit) (rest : List ℕ) (fault : Option UnitFault) → Splits version any stream units rest fault → HasOnly version any stream units fault
   has_only any stream units rest fault s = record { rest = rest; split = s; only = λ others left other t. one_split version any stream units others rest left fault other s t }
 
--- Of a stream whose version its first header tells, where it is not known from the start
+-- A stream whose version is in its first header, if it is not known from the start
 module _ (start : Option Version) (any : Bool) where
   -- Nothing was read.
   pub begins : HasBegun start any [] [] (fresh start any)
@@ -177,7 +177,7 @@ unit_long version any bytes u r =
     let o = opens version u r.ignored [] r.fits r.of_version in
     omega (arith, o.eight, ap length r.bytes_are, length-as_read version any bytes)
 
--- Of what a reader takes, the version is told by what it holds then, whatever follows.
+-- The version of what a reader consumes is determined by what it then holds, whatever follows.
 abbrev Told : Reader → List ℕ → List ℕ → Type 0
 Told r rest more = version_with r rest ≡ version_with r (rest ++ more)
 
@@ -186,7 +186,7 @@ told_by r taken left more h =
     (λ i. version_in r.version (sym (append_assoc r.held taken left) i)) ∙ version_stays r.version (r.held ++ taken) left (left ++ more) h
     ∙ (λ i. version_in r.version (append_assoc r.held taken (left ++ more) i)) ∙ (λ i. version_in r.version (r.held ++ sym (append_assoc taken left more) i))
 
--- what shows a PDU or a fault is taken in the same version, whatever follows
+-- what shows a PDU or a fault is consumed in the same version, whatever follows
 unit_longer : (r : Reader) (rest left more : List ℕ) (u : Unit) (new : Reader) → ReaderTakes (version_with r rest) r rest (next.Unit u) left new → Told r rest more
 unit_longer r rest left more u new t =
     let long = unit_long (version_with r rest) r.any (r.held ++ t.taken) u t.gives.1.reads in
@@ -201,7 +201,7 @@ fault_longer r rest left more fault new sound t =
           subst (λ x. Told r x more) (sym t.piece_is) (told_by r t.taken left more (omega (arith, long, length-as_read (version_with r rest) r.any (r.held ++ t.taken)))))
     ]
 
--- all of a piece is taken in any version that goes on
+-- all of a piece is consumed in any version that continues
 more_longer : (r : Reader) (rest left more : List ℕ) (new : Reader) → ReaderTakes (version_with r rest) r rest next.NeedMore left new → ReaderTakes (version_with r (rest ++ more)) r rest next.NeedMore left new
 more_longer r rest left more new t =
     elim (cases_lt 0 (length (r.held ++ t.taken))) [
@@ -281,7 +281,7 @@ pub fed_none : (start : Option Version) (any : Bool) (stream : List ℕ) (units 
 fed_none start any stream units r None e h = h
 fed_none start any stream units r (Some fault) e h = absurd (let k : true ≡ false = e in cc)
 
--- a fault: no more is read, whatever follows
+-- a fault: nothing more is read, whatever follows
 pub fed_some : (start : Option Version) (any : Bool) (stream more : List ℕ) (units : List Unit) (r : Reader) (fault : Option UnitFault) → is_some fault ≡ true → HasFed start any stream units r fault
     → HasOnly (version_in start (stream ++ more)) any (stream ++ more) units fault
 fed_some start any stream more units r None e h = absurd (let k : false ≡ true = e in cc)

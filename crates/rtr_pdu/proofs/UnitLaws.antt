@@ -68,7 +68,7 @@ module _ (xs ys zs rest : List ℕ) where
   third_of_row : (n k : ℕ) → length xs + length ys ≡ n → length zs ≡ k → take k (drop n (((xs ++ ys) ++ zs) ++ rest)) ≡ zs
   third_of_row n k e f = ap (take k) (after_second n e) ∙ ap (λ m. take m (zs ++ rest)) (sym f) ∙ take-append_seam zs rest
 
--- The header of a PDU has no fault, and tells its length.
+-- The header of a PDU has no fault, and gives its length.
 pub record Opens (version : Version) (front bytes : List ℕ) : Type 0 where
   pub fault : header_fault version bytes ≡ None
   pub len : length_of bytes ≡ length front

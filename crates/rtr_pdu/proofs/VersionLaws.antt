@@ -17,7 +17,7 @@ pub end_least : (version : Version) → 8 ≤ fixed_len version kinds.EndOfData
 end_least V0 = omega arith
 end_least V1 = omega arith
 
--- Where there are Router Keys the version is not 0.
+-- If there are Router Keys the version is not 0.
 pub has_keys : (version : Version) → is_type version 9 ≡ true → not (is_v0 version) ≡ true
 has_keys V0 h = h
 has_keys V1 h = refl
@@ -27,7 +27,7 @@ first-append [] more h = absurd (omega (arith, h))
 first-append (zero ∷ bytes) more h = refl
 first-append (suc b ∷ bytes) more h = refl
 
--- The version of bytes is told by the first of them.
+-- The version of bytes is determined by the first of them.
 pub version_in-append : (start : Option Version) (bytes more : List ℕ) → 0 < length bytes → version_in start (bytes ++ more) ≡ version_in start bytes
 version_in-append (Some version) bytes more h = refl
 version_in-append None bytes more h = first-append bytes more h

@@ -7,12 +7,12 @@ use Rattle.rtr_pdu.specs.Placing.{PutsFour}
 
 -- ---- parts, one behind the other
 
--- what stands before some parts, and these
+-- what is before some parts, and these
 abbrev pub before : List ℕ → List (List ℕ) → List ℕ
 before front [] = front
 before front (part ∷ parts) = before (front ++ part) parts
 
--- these parts, and what stands behind them
+-- these parts, and what is behind them
 abbrev pub behind : List (List ℕ) → List ℕ → List ℕ
 behind [] rest = rest
 behind (part ∷ parts) rest = part ++ behind parts rest
@@ -29,13 +29,13 @@ length-before : (front : List ℕ) (parts : List (List ℕ)) → length (before 
 length-before front [] = let h : length front ≡ length front + 0 = omega arith in h
 length-before front (part ∷ parts) = let h = length-before (front ++ part) parts in let l = length-append front part in omega (arith, h, l)
 
--- Four bytes that are written behind some parts take the place of the part there.
+-- Four bytes that are written behind some parts replace the part there.
 pub puts_behind : (front : List ℕ) (parts : List (List ℕ)) (part rest : List ℕ) (at a b c d : ℕ) (old new : List ℕ) → PutsFour at a b c d old new → old ≡ front ++ behind parts (part ++ rest)
     → length front + sizes parts ≡ at → length part ≡ 4 → new ≡ front ++ behind parts ((a ∷ b ∷ c ∷ d ∷ []) ++ rest)
 puts_behind front parts part rest at a b c d old new puts is here four =
     puts (before front parts) part rest (is ∙ before_behind front parts (part ++ rest)) (length-before front parts ∙ here) four ∙ sym (before_behind front parts ((a ∷ b ∷ c ∷ d ∷ []) ++ rest))
 
--- the first so many parts of four bytes, and what is left behind them
+-- the first this many parts of four bytes, and what is left behind them
 abbrev pub fours : ℕ → List ℕ → List (List ℕ)
 fours zero rest = []
 fours (suc n) rest = take 4 rest ∷ fours n (drop 4 rest)

@@ -12,7 +12,7 @@ use Rattle.rtr_pdu.specs.Counted.{calls_of, failures_of, HasFailed}
 use Rattle.rtr_pdu.specs.Stream.{as_read, length_of, IsPartial, Splits, end_fault}
 use Rattle.rtr_pdu.specs.Reader.{IsFaulty, IsRead}
 
--- What these bytes are: a PDU and no more, or nothing, or the beginning of a PDU, or what shows a fault and no more. If it is known that
+-- What these bytes are: exactly a PDU, or nothing, or the beginning of a PDU, or exactly the bytes that show a fault. If it is known that
 -- the input ends, they are the last ones.
 abbrev pub ReadAnswers : Version → List ℕ → Option (List ℕ) → Result (Option Unit) ReadFault → Type 0
 ReadAnswers version bytes left (Ok (Some u)) = IsRead version false bytes u

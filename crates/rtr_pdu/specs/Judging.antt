@@ -64,8 +64,7 @@ body_fault version bytes =
     else if is_kind kinds.ErrorReport bytes && not (has_report version bytes) then Some faults.ErrorReport
     else None
 
--- What bytes of a stream are, from the beginning of a PDU on: a beginning of one, in which no fault shows yet; a whole one at the front; or a
--- fault.
+-- What bytes of a stream are, from the beginning of a PDU: a beginning in which no fault shows yet, a whole one at the front, or a fault.
 pub data Judgement : Type 0 where
   Begins : Judgement
   Whole : Unit → Judgement

@@ -49,7 +49,7 @@ fixed_len version kinds.CacheReset = 8
 fixed_len version kinds.RouterKey = 32
 fixed_len version kinds.ErrorReport = 16
 
--- Behind these a Router Key has its key, and an Error Report its copy and its text. All others have no more.
+-- Behind these a Router Key has its key, and an Error Report its copy and its text. All others have nothing more.
 abbrev pub varies : Kind → Bool
 varies kinds.RouterKey = true
 varies kinds.ErrorReport = true

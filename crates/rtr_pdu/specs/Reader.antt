@@ -67,7 +67,7 @@ fresh version any = record { version = version; held = []; any = any; later = an
 abbrev pub known_version : Reader → Option Version
 known_version r = header_version r.version r.held
 
--- The version of the PDU at hand, if these bytes follow
+-- The version of the current PDU, if these bytes follow
 abbrev pub version_with : Reader → List ℕ → Version
 version_with r bytes = version_in r.version (r.held ++ bytes)
 

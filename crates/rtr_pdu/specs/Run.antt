@@ -34,7 +34,7 @@ pub record HasOnly (version : Version) (any : Bool) (stream : List ℕ) (units :
   pub split : Splits version any stream units rest fault
   pub only : (others : List Unit) (left : List ℕ) (other : Option UnitFault) → Splits version any stream others left other → SameSplit units others rest left fault other
 
--- On from where a reader began a piece: whatever it had read then, this is left of the piece.
+-- From the place at which a reader began a piece: whatever it had read then, this is left of the piece.
 abbrev pub ReadsOn : List Unit → Reader → List ℕ → List Unit → Reader → List ℕ → Type 0
 ReadsOn before began piece units r rest =
     (start : Option Version) (any : Bool) (stream : List ℕ) → HasBegun start any stream before began →

@@ -1,5 +1,5 @@
--- What a PDU's bytes are (RFC 6810 section 5, RFC 8210 section 5). Numbers are big-endian. Where the standard says "zero", the field is zero when
--- sent and ignored when received.
+-- What a PDU's bytes are (RFC 6810 section 5, RFC 8210 section 5). Numbers are big-endian. If the standard says "zero", the field is zero
+-- when sent and ignored when received.
 use Rattle.std.specs.Prelude.{◌≡◌, ℕ, ◌+◌, ◌-◌, ◌*◌, ◌<◌, ◌≤◌, ◌^◌, Bool, true, not, List, ◌∷◌, ◌++◌, length, if◌then◌else◌, ⊤}
 use Rattle.std.specs.Str.{IsUtf8}
 use Rattle.byteorder.specs.Endian.{big_bytes}

@@ -17,7 +17,7 @@ abbrev pub first_version : List ℕ → Version
 first_version (zero ∷ bytes) = V0
 first_version bytes = V1
 
--- The version of bytes: the expected one, if any, or else that of their first header
+-- The version of bytes: the expected one, if any, otherwise that of their first header
 abbrev pub version_in : Option Version → List ℕ → Version
 version_in (Some version) bytes = version
 version_in None bytes = first_version bytes

@@ -4,8 +4,8 @@ ghost use Rattle.std.specs.Prelude.{◌≡◌, ◌≤◌, ◌↔◌, IsTrue};
 use std::io;
 use std::io::{ErrorKind, Read, Result, Write};
 
-/// A reader or a writer, with how often it was called and how often a call failed. With 2^64 - 1 calls it is spent: it
-/// is called no more, and each further call answers an error and is not counted.
+/// A reader or a writer, with how often it was called and how often a call failed. With 2^64 - 1 calls it is spent: it is not called again,
+/// and each further call answers an error and is not counted.
 #[derive(Debug, Drop)]
 pub struct Counted<D> {
     device: D,

@@ -3,7 +3,7 @@
 /// What was received makes no sense, and no other code says why.
 pub const CORRUPT_DATA: u16 = 0;
 
-/// The sender cannot go on, as without memory.
+/// The sender cannot continue, for example because it is out of memory.
 pub const INTERNAL_ERROR: u16 = 1;
 
 /// The cache has no data yet, or no longer.

@@ -29,7 +29,7 @@ fn fill(buffer: &mut UnitBuffer, piece: &mut &[u8], size: usize)
     *piece = back;
 }
 
-/// Takes the body of a PDU whose header has no fault.
+/// Consumes the body of a PDU whose header has no fault.
 fn finish(version: Version, any: bool, buffer: &mut UnitBuffer, piece: &mut &[u8]) -> Next
     requires sound { header_fault version (as_read version any buffer.old.items) ≡ None }
     requires header { 8 ≤ array_vec_len buffer.old }
@@ -47,7 +47,7 @@ fn finish(version: Version, any: bool, buffer: &mut UnitBuffer, piece: &mut &[u8
     }
 }
 
-/// Takes what there is of a PDU.
+/// Consumes what there is of a PDU.
 fn advance(version: Version, any: bool, buffer: &mut UnitBuffer, piece: &mut &[u8]) -> Next
     requires { IsPartial version (as_read version any buffer.old.items) }
     ensures { Advances version any buffer.old.items piece.old.now result piece.new.now buffer.new.items }
@@ -62,8 +62,8 @@ fn advance(version: Version, any: bool, buffer: &mut UnitBuffer, piece: &mut &[u
     }
 }
 
-/// Reads PDUs of one version from a stream that comes in pieces, one PDU at a time. It takes no byte of a PDU before
-/// the PDU ahead of it was answered, and it holds at most 4,096 bytes, within the value.
+/// Reads PDUs of one version from a stream that comes in pieces, one PDU at a time. It consumes no byte of a PDU before the PDU ahead of it
+/// was answered, and it holds at most 4,096 bytes, within the value.
 #[derive(Debug, Drop)]
 pub struct UnitReader {
     /// The version of the PDUs, if it was known from the start or a PDU was read.
@@ -148,7 +148,7 @@ impl UnitReader {
         }
     }
 
-    /// The version of the PDU at hand, if this piece follows.
+    /// The version of the current PDU, if this piece follows.
     fn version_with(&self, piece: &[u8]) -> Version
         ensures { result ≡ version_with self.now piece.now }
     {
@@ -169,8 +169,8 @@ impl UnitReader {
         self.later = false;
     }
 
-    /// Takes bytes from the front of the piece: to the end of the first PDU, or as many as show a fault, or else all.
-    /// A fault of a header is answered at its 8 bytes, one of what follows at the whole PDU.
+    /// Consumes bytes from the front of the piece: to the end of the first PDU, or as many as show a fault, otherwise all. A fault of a
+    /// header is answered at its 8 bytes, one of what follows at the whole PDU.
     pub fn next(&mut self, piece: &mut &[u8]) -> Next
         ensures takes { ReaderTakes (version_with self.old piece.old.now) self.old piece.old.now result piece.new.now self.new }
         ensures reader { IsReader (version_with self.old piece.old.now) self.old }

@@ -108,8 +108,8 @@ fn put_report(version: Version, report: &ErrorReport, buffer: &mut UnitBuffer)
     put(buffer, text);
 }
 
-/// Writes a PDU of this version, with zeros where the standard says zero. The buffer then holds the bytes of the PDU and no
-/// others, and they are read as this PDU of the version.
+/// Writes a PDU of this version, with zeros if the standard says zero. The buffer then holds the bytes of the PDU and no others, and they
+/// are read as this PDU of the version.
 pub fn encode_as(version: Version, unit: &Unit, buffer: &mut UnitBuffer)
     requires { fits version unit.now ≡ true }
     ensures bytes { buffer.new.items ≡ unit_bytes version unit.now }

@@ -1,4 +1,4 @@
--- What a call gave stands behind what was held, and is no more than was wanted.
+-- What a call gave is behind what was held, and is at most what was wanted.
 use Rattle.std.proofs.Common.{◌≡◌, length, take, drop, ◌++◌, arith, subst, sym, ap, ◌∙◌}
 use Rattle.std.proofs.lemmas.List.{take-append-le, length-take-le, length-append, length-drop}
 use Rattle.std.specs.Io.KnownBytes.{Consumes}

@@ -1,4 +1,4 @@
--- What this call took goes on after what had gone out before it.
+-- What this call wrote follows what had gone out before it.
 use Rattle.std.proofs.Common.{rules, take, ◌++◌, sym, ap, ◌∙◌, subst}
 use Rattle.std.proofs.lemmas.List.{take_rest}
 use Rattle.std.proofs.Math.Seq.{take-add}

@@ -7,7 +7,7 @@ use Rattle.rtr_pdu.proofs.BodyLaws as bodies
 use Rattle.rtr_pdu.specs.declared.unit.Next.TheVariants as next
 use Rattle.rtr_pdu.proofs.reader.finish.Goals as goal
 
--- the size that the header tells
+-- the size in the header
 size_is : (version : Version) (any : Bool) (held slice : List ℕ) (size : ℕ) → size ≡ number_at 4 4 slice → slice ≡ held → size ≡ length_of (as_read version any held)
 size_is version any held slice size e f = e ∙ ap (λ x. number_at 4 4 x) f ∙ bodies.header_size version any held
 

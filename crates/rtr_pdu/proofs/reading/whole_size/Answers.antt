@@ -10,7 +10,7 @@ use Rattle.rtr_pdu.proofs.BodyLaws as bodies
 use Rattle.rtr_pdu.proofs.PrefixLaws as whole
 use Rattle.rtr_pdu.proofs.reading.whole_size.Goals as goal
 
--- a whole PDU at the front of bytes, whose header tells its size
+-- a whole PDU at the front of bytes, whose header gives its size
 body_at : (version : Version) (any : Bool) (bytes : List ℕ) (size : ℕ) → 8 ≤ length bytes → header_fault version (as_read version any (take 8 bytes)) ≡ None
     → size ≡ length_of (as_read version any (take 8 bytes)) → size ≤ length bytes → IsBody version any (take size bytes)
 body_at version any bytes size long none is fits =

@@ -45,7 +45,7 @@ returns-clause-some c =
     (sym (take-append-drop c.in-Some.size c.args.piece.now.now) ∙ ap (λ x. x ++ drop c.in-Some.size c.args.piece.now.now) (sym c.split_at.ensures.front) ∙ ap (λ x. c.split_at.result.0.now ++ x) (sym c.split_at.ensures.back))
     c.in-Some-read_prefix.ensures.some)
 
--- A Prefix that would be taken stands at the front of the piece.
+-- A Prefix that would be consumed is at the front of the piece.
 front_of : (r : Reader) (version : Version) (any : Bool) (piece : List ℕ) (announce : Bool) (v : Payload) (rest : List ℕ) (now : Reader) → version ≡ version_with r piece → any ≡ r.any → r.held ≡ []
     → ReaderTakes (version_with r piece) r piece (next.Unit (Prefix announce v)) rest now → (front : List ℕ) × (piece ≡ front ++ rest) × Reads version (Prefix announce v) (as_read version any front)
 front_of r version any piece announce v rest now of_version of_any empty t = (
