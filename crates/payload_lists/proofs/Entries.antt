@@ -28,7 +28,7 @@ same_member_count ms ns d n e h count = let same : ms ≡ ns = some_same ms ns (
     some_same : (a b : Members) → Some a ≡ Some b → a ≡ b
     some_same a b e = cc
 
--- an object of three members, with what stands under the keys
+-- an object of three members, with the values of the keys
 pub is_entry : (d : Data) (ms : Members) (asn max_len : ℕ) (text : List ℕ) (v : Payload) → Some ms ≡ as_object d → member_count ms ≡ 3
     → Some asn ≡ whole_at (codes "asn") d → Some max_len ≡ whole_at (codes "maxLength") d → Some text ≡ text_at (codes "prefix") d
     → MakesPayload asn max_len text v → IsEntry d v

@@ -33,7 +33,7 @@ row_whole = refl
 row_numbers : (list_fault_number NoList ≡ 1) × (list_fault_number Memory ≡ 2)
 row_numbers = (refl, refl)
 
--- what stands before a piece that follows these
+-- what is before a piece that follows these
 abbrev separator : ℕ → List (List ℕ) → List ℕ
 separator c [] = []
 separator c (x ∷ xs) = c ∷ []

@@ -18,8 +18,8 @@ mod plain;
 
 pub use listing::{ListFault, read_list, write_list};
 
-/// The parts of reading, for readers of other lists: the value of a member, the payload of an entry's values, the payloads of a payload
-/// list, and numbers of digits alone.
+/// The parts of reading, for readers of other lists. They read the value of a member, the payload of an entry's values, the payloads of a
+/// payload list, and numbers of digits alone.
 pub mod parts {
     pub use crate::listing::{payload, records_of, text, whole};
     pub use crate::plain::{plain_list, plain_number};

@@ -48,21 +48,21 @@ impl From<AllocError> for ListFault {
     }
 }
 
-/// The whole number below 2^64 that stands under a key of an object. `None`: nothing does, or something else.
+/// The whole number below 2^64 under a key of an object. `None`: nothing does, or something else.
 pub fn whole(value: &Value, key: &str) -> Option<u64>
     ensures { result ≡ whole_at key.now (view value.now) }
 {
     value.get(key).and_then(Value::as_u64)
 }
 
-/// The text that stands under a key of an object. `None`: nothing does, or something else.
+/// The text under a key of an object. `None`: nothing does, or something else.
 pub fn text<'a>(value: &'a Value, key: &str) -> Option<&'a str>
     ensures { option_map (λ s. s.now) result ≡ text_at key.now (view value.now) }
 {
     value.get(key).and_then(Value::as_str)
 }
 
-/// The payload of these numbers and this text. `None`: they make none, as the text is no prefix, the AS number is not below 2^32, or the
+/// The payload of these numbers and this text. `None` if they make none: the text is no prefix, the AS number is not below 2^32, or the
 /// maximum length is below that of the prefix or over 32 (IPv4) or 128 (IPv6).
 pub fn payload(asn: u64, max_len: u64, prefix: &str) -> Option<Vrp>
     ensures some { IfSome result (λ v. MakesPayload asn max_len prefix.now v) }
@@ -159,10 +159,9 @@ fn read_any(alloc: Global, bytes: &[u8]) -> Result<VrpSet, ListFault>
     }
 }
 
-/// The set of a payload list: a JSON array of objects with exactly the keys `asn`, `maxLength` and `prefix`. Of a key that
-/// stands twice in an object, `serde_json` reads the last. A list in its plain form is read token by token, up to
-/// the first entry that makes no payload, and any other as a whole.
-/// `NoList`: the bytes are no such list, or it has over 16,777,215 different payloads. `Memory`: out of memory.
+/// The set of a payload list: a JSON array of objects with exactly the keys `asn`, `maxLength` and `prefix`. If a key is twice in an
+/// object, `serde_json` reads the last. A list in its plain form is read token by token, up to the first entry that makes no payload, and
+/// any other as a whole. `NoList`: the bytes are no such list, or it has over 16,777,215 different payloads. `Memory`: out of memory.
 pub fn read_list(alloc: Global, bytes: &[u8]) -> Result<VrpSet, ListFault>
     ensures ok { IfOk result (λ s. IsPayloadList bytes.now s) }
     ensures no_list { IsErrOf result ListFault.NoList → (s : Vrps) → ¬ (IsPayloadList bytes.now s) }
