@@ -4,7 +4,7 @@ use Rattle.rtr_ends.specs.Connection.{agreed_version, fault_code, takes_memory}
 use Rattle.rtr_ends.proofs.WholeAnswerRows.{cache}
 use Rattle.rtr_pdu.specs.declared.unit.UnitFault.TheVariants as faults
 
--- The code of each fault before a version is agreed on, and where version 0 or version 1 is
+-- The code of each fault before a version is agreed on, and if version 0 or version 1 is
 abbrev Codes : UnitFault → ℕ → ℕ → ℕ → Type 0
 Codes fault before in_0 in_1 = (fault_code None fault ≡ before) × (fault_code (Some V0) fault ≡ in_0) × (fault_code (Some V1) fault ≡ in_1)
 
@@ -15,12 +15,12 @@ codes = ((refl, refl, refl), (refl, refl, refl), (refl, refl, refl), (refl, refl
 codes_agreed : (version : Version) → (agreed_version false version ≡ None) × (agreed_version true version ≡ Some version)
 codes_agreed version = (refl, refl)
 
--- Where something is published memory may run out at a Serial Query of its session, and at one of another it does not.
+-- If something is published, memory may run out at a Serial Query of its session, but not at one of another session.
 takes_some : (version : Version) (set : VrpSet) → (takes_memory version (cache 5 (set ∷ [])) (SerialQuery 0x1234 5) ≡ true) × (takes_memory version (cache 5 (set ∷ [])) (SerialQuery 0x2222 5) ≡ false)
 takes_some V0 set = (refl, refl)
 takes_some V1 set = (refl, refl)
 
--- Memory never runs out where nothing is published, nor for a PDU that is no Serial Query.
+-- Memory never runs out if nothing is published, nor for a PDU that is no Serial Query.
 takes_none : (version : Version) (i : Instance) (start serial : ℕ) → (takes_memory version i ResetQuery ≡ false) × (takes_memory version (cache start []) (SerialQuery 0x1234 serial) ≡ false)
 takes_none V0 i start serial = (refl, refl)
 takes_none V1 i start serial = (refl, refl)

@@ -14,11 +14,11 @@ more_bytes [] b each h i = one_byte b h i
 more_bytes (x ∷ held) b each h zero = each 0
 more_bytes (x ∷ held) b each h (suc i) = more_bytes held b (λ j. each (suc j)) h i
 
--- What is taken are bytes of the piece.
+-- The bytes consumed are bytes of the piece.
 pub bytes_front : (piece taken rest : List ℕ) → piece ≡ taken ++ rest → AreBytes piece → AreBytes taken
 bytes_front piece taken rest e each = subst AreBytes (ap (take (length taken)) e ∙ take-append_seam taken rest) (AreBytes-take (length taken) piece each)
 
--- what is left tells what was taken
+-- what is left determines what was consumed
 pub front_of : (piece taken rest : List ℕ) → piece ≡ taken ++ rest → take (length piece - length rest) piece ≡ taken
 front_of piece taken rest e = grind (arith, common_steps)
 

@@ -8,8 +8,8 @@ use Rattle.rtr_ends.proofs.WholeAnswerRows.{v}
 abbrev both : Instance
 both = record { session = 0x1234; session0 = 0x0777; start = 5; sets = set_of (v ∷ []) ∷ [] }
 
--- Before any header a notify of version 0 is no moment, and behind one of version 0 none of version 1 is. What had come of a PDU does
--- not become less.
+-- Before any header a notify of version 0 is no moment, and behind one of version 0 none of version 1 is. The bytes held of a PDU do not
+-- become fewer.
 not_yet_of_0 : (coming : List ℕ) → IsConnMoment (opened both) coming (Notify V0 both []) → ⊥
 not_yet_of_0 coming h = let e : V0 ≡ V1 = h.0 in cc
 

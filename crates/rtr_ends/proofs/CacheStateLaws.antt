@@ -14,7 +14,7 @@ use Rattle.rtr_ends.specs.declared.peer.Peer.{Peer}
 use Rattle.rtr_ends.specs.declared.sender.Share.{Share}
 use Rattle.rtr_ends.proofs.TableLaws.{inside}
 
--- what stands under a number that is set
+-- the connection under a number that is set
 pub with_conn_at : (c : ℕ) (o : Option Conn) (m : CacheState) → (with_conn c o m).at c ≡ o
 with_conn_at c o m = ap (λ b. if b then o else m.at c) (eq_self c)
 
@@ -47,7 +47,7 @@ slots_set : {A : Type 0} (t : Intervals) (i : Instance) (at : ℕ → Option Con
 slots_set t i at peers c o x low shows slot d = slot_by t i at (slice_set peers c x) c d o (unboxed x) (peer_at peers d)
     (λ is. ap (λ s. unboxed (joined s)) (ap (slice_get (slice_set peers c x)) is ∙ set_same peers c x low)) (λ other. ap (λ s. unboxed (joined s)) (set_other peers c d x other)) slot (shows d)
 
--- what stands in a cell of the list
+-- the content of a cell of the list
 pub slot_of : {A : Type 0} (peers : List (Option (Box Peer A))) (c : ℕ) (cell : Option (Box Peer A)) (b : Box Peer A) → c < length peers → cell ≡ get_or peers c cell → cell ≡ Some b → peer_at peers c ≡ Some b.value
 slot_of peers c cell b low at is = ap (λ s. unboxed (joined s)) (slice_get_read peers (length peers) c cell refl low at) ∙ ap unboxed is
 
@@ -67,20 +67,20 @@ some_shown t i (Some o) q e h = refl
 some_shown t i None (Some p) e h = absurd h
 some_shown t i None None e h = e
 
--- which numbers are taken, where a slot is set
+-- which numbers are in use, if a slot is set
 pub taken_set : {A : Type 0} (peers : List (Option (Box Peer A))) (c : ℕ) (x : Option (Box Peer A)) → taken_numbers (slice_set peers c x) ≡ slice_set (taken_numbers peers) c (is_some x)
 taken_set [] c x = refl
 taken_set (y ∷ peers) zero x = refl
 taken_set (y ∷ peers) (suc c) x = ap (λ taken. is_some y ∷ taken) (taken_set peers c x)
 
--- and where one is set that had a connection
+-- and if one is set that had a connection
 set_taken : {A : Type 0} (peers : List (Option (Box Peer A))) (c : ℕ) (p : Peer) → peer_at peers c ≡ Some p → slice_set (taken_numbers peers) c true ≡ taken_numbers peers
 set_taken [] c p at = refl
 set_taken (Some y ∷ peers) zero p at = refl
 set_taken (None ∷ peers) zero p at = absurd (let k : ◌≡◌ {A = Option Peer} None (Some p) = at in cc)
 set_taken (y ∷ peers) (suc c) p at = ap (λ taken. is_some y ∷ taken) (set_taken peers c p at)
 
--- whether a number is taken is whether it has a connection
+-- a number is in use if and only if it has a connection
 pub taken_at : {A : Type 0} (peers : List (Option (Box Peer A))) (c : ℕ) → IsSome (peer_at peers c) → slice_get (taken_numbers peers) c ≡ Some true
 taken_at [] c h = absurd (let k : false ≡ true = h in cc)
 taken_at (Some y ∷ peers) zero h = refl
@@ -99,7 +99,7 @@ none_at (Some y ∷ peers) zero h = absurd (let k : Some true ≡ Some false = h
 none_at (None ∷ peers) zero h = refl
 none_at (y ∷ peers) (suc c) h = none_at peers c h
 
--- what is looked up under a number tells whether it has a connection
+-- a lookup of a number shows whether it has a connection
 pub is_there : {X : Type 0} (f : X → Peer) (r : Option X) (q : Option Peer) (b : Bool) → option_map f r ≡ q → b ≡ is_some r → is_some q ≡ b
 is_there f None q b is told = sym (ap is_some is) ∙ sym told
 is_there f (Some x) q b is told = sym (ap is_some is) ∙ sym told
@@ -124,7 +124,7 @@ shows_same : {S : Type 0} (holds : ℕ → Instance → S → Type 0) (m : Cache
     → AreFree (taken_numbers old.peers.items) new.free → ShowsCache holds m new
 shows_same holds m old new shows same_timing same_session0 same_store items numbers = search rules
 
--- Where a number has no connection, nothing changes.
+-- If a number has no connection, nothing changes.
 module _ {S : Type 0} (holds : ℕ → Instance → S → Type 0) (m : CacheState) (old new : Cache S) (c : ℕ) (shows : ShowsCache holds m old) (same_timing : new.timing ≡ old.timing) (same_session0 : new.session0 ≡ old.session0) (same_store : new.store ≡ old.store) (same_free : new.free ≡ old.free) (none : peer_at old.peers.items c ≡ None) (items : new.peers.items ≡ old.peers.items) where
   nobody : m.at c ≡ None
   nobody = none_shown m.timing m.cache (m.at c) (peer_at old.peers.items c) none (shows.slots c)
@@ -215,7 +215,7 @@ pushes holds m old new c o b shows end same_timing same_session0 same_store item
 pub past_none : {A : Type 0} (peers : List (Option (Box Peer A))) (c : ℕ) → length peers ≤ c → peer_at peers c ≡ None
 past_none peers c h = ap (λ s. unboxed (joined s)) (slice_get_past peers c h)
 
--- The number that the free ones give, where it is below the end of the list: the least without a connection.
+-- The number that the free ones give, if it is below the end of the list: the least without a connection.
 pub opens_slot : {S : Type 0} (holds : ℕ → Instance → S → Type 0) (m : CacheState) (old new : Cache S) (n : ℕ) (o : Conn) (b : Box Peer Global) (free : FreeNumbers) (r : Option ℕ) → ShowsCache holds m old → n ≡ unwrap_or r (length old.peers.items) → n < length old.peers.items
     → TakesNumber (taken_numbers old.peers.items) r free → new.timing ≡ old.timing → new.session0 ≡ old.session0 → new.store ≡ old.store → new.peers.items ≡ slice_set old.peers.items n (Some b) → new.free ≡ free → ShowsPeer m.timing m.cache o b.value
     → IsLeastFree m.at n × ShowsCache holds (with_conn n (Some o) m) new
@@ -226,7 +226,7 @@ opens_slot holds m old new n o b free r shows is low takes same_timing same_sess
       sets holds m old new n shows low same_timing same_session0 same_store (Some o) (Some b) items (subst (λ f. AreFree (slice_set (taken_numbers old.peers.items) n true) f) (sym same_free) t.2) slot,
     )
 
--- And where it is not, all numbers of the list have one, and it is the next.
+-- And if it is not, all numbers of the list have one, and it is the next.
 pub next_free : {S : Type 0} (holds : ℕ → Instance → S → Type 0) (m : CacheState) (old : Cache S) (n : ℕ) (free : FreeNumbers) (r : Option ℕ) → ShowsCache holds m old → n ≡ unwrap_or r (length old.peers.items) → length old.peers.items ≤ n
     → TakesNumber (taken_numbers old.peers.items) r free → (n ≡ length old.peers.items) × IsLeastFree m.at n × AreFree (taken_numbers old.peers.items) free
 next_free holds m old n free r shows is high takes =
@@ -237,7 +237,7 @@ next_free holds m old n free r shows is high takes =
       t.1.1,
     )
 
--- where memory runs out
+-- if memory runs out
 pub opens_none : {S : Type 0} (holds : ℕ → Instance → S → Type 0) (m : CacheState) (old new : Cache S) (r : Result Number AllocError) → IsErr r → ShowsCache holds m old → new.timing ≡ old.timing → new.session0 ≡ old.session0 → new.store ≡ old.store → new.peers.items ≡ old.peers.items
     → AreFree (taken_numbers old.peers.items) new.free → Opens holds m r new
 opens_none holds m old new (Ok conn) is shows same_timing same_session0 same_store items numbers = absurd (let k : false ≡ true = is in cc)

@@ -44,7 +44,7 @@ module _ (P : Router → List Item → Type 0) where
     pub closes : (r : Router) (items : List Item) → P r items → P (close r) (Shut ∷ items)
     pub asks_it : (r : Router) (items : List Item) → is_idle r.link ≡ true → P r items → P (ask r) (Asks (choose (of_version r.spoken r.version) r.mark) ∷ items)
 
-  -- A piece is handed in.
+  -- A piece is received.
   pub by_piece : ((now : ℕ) (r : Router) (items : List Item) → P r items → P (clocked now r) (At now ∷ items)) → BytesKeep → (now : ℕ) (wanting : Option ℕ) (piece : List ℕ) (r : Router) (items : List Item) → P r items
       → Kept (called (Receives now wanting piece) r) items
   unfolding receives

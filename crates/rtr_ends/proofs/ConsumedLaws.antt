@@ -34,7 +34,7 @@ record Told (r n : Router) : Type 0 where
 clocked_told : (now : ℕ) (r : Router) → Told r (clocked now r)
 clocked_told now r = let k = clocked_keeps now r in record { held = k.held; reads = k.reads_on; closed = λ h. sym k.closed_on ∙ h; out = λ h. k.out }
 
--- Where nothing of that is noted, the split stays.
+-- If nothing of that is noted, the split stays.
 still_comes : (r n : Router) (items later : List Item) (bytes : List ℕ) → Told r n → view later ≡ view items → Tells n later → Comes r items bytes → Comes n later bytes
 still_comes r n items later bytes t q tells c = search rules
 

@@ -23,7 +23,7 @@ pub record View : Type 0 where
 abbrev pub view : List Item → View
 view items = record { version = spoken items; units = units_read_in items; agreed = has_agreed items; fault = fault_in items }
 
--- What a router that reads has consumed, where it holds these bytes
+-- What a router that reads has consumed, if it holds these bytes
 pub record Live (held : List ℕ) (v : View) (bytes : List ℕ) : Type 0 where
   pub front : List ℕ
   pub whole : bytes ≡ front ++ held
@@ -63,7 +63,7 @@ pub asked_view : (l : Link) (out : List ℕ) (u : Unit) (items : List Item) → 
 asked_view (Asked q) (b ∷ out) u items = refl
 asked_view _ _ u items = refl
 
--- A PDU agrees where it is no notify.
+-- A PDU agrees if it is no notify.
 agreed_more : (u : Unit) (items : List Item) → (not (has_agreed items) && is_notify u) ≡ not (has_agreed (Reads u ∷ items))
 agreed_more (SerialNotify session serial) items = and-true (not (has_agreed items))
 agreed_more _ items = and-false (not (has_agreed items))

@@ -1,7 +1,7 @@
 -- What a device counts, worked out.
 use Rattle.rtr_ends.proofs.Words.{arith, inl, refl, ℕ, ⊎_elim, ◌≤◌, HasFailed, Counted}
 
--- a device after so many calls and failures
+-- a device after this many calls and failures
 abbrev counted : (calls failures : ℕ) → failures ≤ calls → Counted (Unit {0})
 counted calls failures most = record { device = tt; calls = calls; failures = failures; at_most_calls = most }
 

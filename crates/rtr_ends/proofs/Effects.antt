@@ -106,7 +106,7 @@ unit_keeps link u r = by_unit (Keeps r) link u r (record {
   commits = λ on a version. record { held = refl; agreed = λ h. h; spoken = refl; speaks = refl; connected = λ h. refl };
 })
 
--- A link that goes on where what is held expires: one that waits for no changes
+-- A link that continues if what is held expires: one that waits for no changes
 abbrev pub goes_on : Link → Bool
 goes_on (Asked (AskSerial session serial)) = false
 goes_on (Answering a) = not (is_serial (Some a.question))
@@ -144,7 +144,7 @@ by_close P r stays shuts = either P (is_closed r.link) _ _ stays shuts
 pub by_whole : (P : Noted → Type 0) (memory : Bool) (bytes : List ℕ) (r : Router) (u : Unit) → P (lacks u (record r { held = [] })) → P (reads u (record r { held = [] })) → P (with_bytes memory bytes r (Whole u))
 by_whole P memory bytes r u wanting read = either P (may_lack r.link u r && not memory) (lacks u (record r { held = [] })) (reads u (record r { held = [] })) (λ lacking. wanting) (λ there. read)
 
--- A byte is judged with those that are held; what it adds stands before the transcript.
+-- A byte is judged with those that are held; what it adds is before the transcript.
 pub by_byte : (P : Router → List Item → Type 0) (items : List Item) (m : Receiving) (b : ℕ)
     → (let n : Noted = with_bytes (finds_memory m.wanting) (m.router.held ++ b ∷ []) m.router (judge m.router.spoken (not m.router.agreed) (m.router.held ++ b ∷ [])) in P n.router (n.items ++ (m.items ++ items)))
     → P (router_byte m b).router ((router_byte m b).items ++ items)

@@ -1,4 +1,4 @@
--- What a machine takes of a piece.
+-- What a machine consumes of a piece.
 use Rattle.rtr_ends.proofs.Words.{◌≡◌, ℕ, ◌-◌, ◌<◌, Bool, true, false, List, [], ◌∷◌, ◌++◌, length, suc, take, refl, sym, ap, subst, append_assoc, append-nil, arith, length-append, AreBytes}
 use Rattle.rtr_ends.specs.Feeding.{FedPiece, feed, run, IsTaken, Takes}
 use Rattle.rtr_ends.proofs.ByteLists.{bytes_front, front_of}
@@ -13,11 +13,11 @@ module _ {M : Type 0} (stops : M → Bool) (step : M → ℕ → M) where
   run-append m [] ys = refl
   run-append m (x ∷ xs) ys = run-append (step m x) xs ys
 
-  -- the next byte is handed in or left
+  -- the next byte is received or left
   abbrev by_stop : M → ℕ → List ℕ → Bool → FedPiece M
   by_stop m b bytes s = elim s [ true ↦ record { machine = m; rest = b ∷ bytes } | false ↦ feed stops step (step m b) bytes ]
 
-  -- it is left where the machine stops
+  -- it is left if the machine stops
   pub stopped : (m : M) (b : ℕ) (bytes : List ℕ) → stops m ≡ true → feed stops step m (b ∷ bytes) ≡ record { machine = m; rest = b ∷ bytes }
   stopped m b bytes h = ap (by_stop m b bytes) h
 
@@ -47,12 +47,12 @@ module _ {M : Type 0} (stops : M → Bool) (step : M → ℕ → M) where
   takes_by m b bytes false h t =
       (b ∷ t.0, subst (λ f. IsTaken stops step m (b ∷ bytes) (b ∷ t.0) f) (sym (goes_on m b bytes h)) (takes_more m b bytes t.0 (feed stops step (step m b) bytes) h t.1))
 
-  -- What is fed is taken.
+  -- What is fed is consumed.
   pub feed_takes : (m : M) (piece : List ℕ) → Takes stops step m piece
   feed_takes m [] = ([], takes_none m [] (λ some. absurd (omega (arith, some))))
   feed_takes m (b ∷ bytes) = takes_by m b bytes (stops m) refl (feed_takes (step m b) bytes)
 
-  -- A machine that takes nothing of a piece is as it was, and stops where there is a piece.
+  -- A machine that consumes nothing of a piece is as it was, and stops if there is a piece.
   pub none_fed : (m : M) (piece : List ℕ) → 0 ≡ length piece - length (feed stops step m piece).rest → ((feed stops step m piece).machine ≡ m) × (0 < length piece → stops m ≡ true)
   none_fed m [] none = (refl, λ some. absurd (omega (arith, some)))
   none_fed m (b ∷ piece) none = by_test (stops m) refl
@@ -99,7 +99,7 @@ module _ {M : Type 0} (stops : M → Bool) (step : M → ℕ → M) where
   on_by m n b xs ys true is e on = absurd (let h : b ∷ xs ≡ [] = (machine_is m n (b ∷ xs) e).1 in cc)
   on_by m n b xs ys false is e on = on e
 
-  -- Where all of a piece was taken, what follows is handed to the machine after it.
+  -- If all of a piece was consumed, the machine after it receives what follows.
   pub feed_on : (m n : M) (xs ys : List ℕ) → feed stops step m xs ≡ fed_to n [] → feed stops step m (xs ++ ys) ≡ feed stops step n ys
   feed_on m n [] ys e = ap (λ x. feed stops step x ys) (machine_is m n [] e).0
   feed_on m n (b ∷ xs) ys e = on_by m n b xs ys (stops m) refl e (feed_on (step m b) n xs ys)

@@ -21,11 +21,11 @@ use Rattle.rtr_ends.proofs.ServeStreamLaws.{drop_none, part_after}
 use Rattle.rtr_ends.proofs.ByteLists.{no_rest}
 use Rattle.rtr_ends.proofs.TableLaws.{false_true, inside}
 
--- What is pulled into room stands at its front.
+-- What is pulled into room is at its front.
 pub pulled_front : (out room now : List ℕ) (count : ℕ) → (count ≡ min (length room) (length out)) × (now ≡ take (length room) out ++ drop (length out) room) → take count now ≡ take (length room) out
 pulled_front out room now count h = ap (take count) h.1 ∙ take_at (take (length room) out) (drop (length out) room) count (length-take (length room) out ∙ sym h.0)
 
--- A router that has nothing to be pulled, and takes nothing, puts nothing out; and reads no more where there was a piece.
+-- A router that has nothing to be pulled, and consumes nothing, puts nothing out, and reads nothing more if there was a piece.
 pub none_received : (now : ℕ) (wanting : Option ℕ) (piece : List ℕ) (r : Router) → r.out ≡ [] → 0 ≡ length piece - length (receives now wanting piece r).rest
     → ((receives now wanting piece r).machine.router.out ≡ []) × (0 < length piece → is_reading (receives now wanting piece r).machine.router.link ≡ false)
 unfolding receives
@@ -50,7 +50,7 @@ stays_open now calls (Receives at wanting piece ∷ turns) h = by_piece (λ r it
 stays_open now calls (Pulls most ∷ turns) h = stays_open now calls turns h.1
 stays_open now calls _ h = absurd h.0
 
--- What router.pull tells
+-- What router.pull returns
 abbrev PullsBytes : (room now : List ℕ) (count : ℕ) → code.Router → Type 0
 PullsBytes room now count old = (r : Router) → IsShown r old → (count ≡ min (length room) (length r.out)) × (now ≡ take (length room) r.out ++ drop (length r.out) room)
 
@@ -74,7 +74,7 @@ module _ (now : ℕ) (calls : List RouterCall) (had has : Option (List ℕ)) (ol
     out = Appends-trans had has written p.sent (take count bytes) p.out out;
   }
 
-  -- Nothing is pulled where nothing is to be pulled.
+  -- Nothing is pulled if nothing is pending.
   pub pulls_none : (piece : List ℕ) (p : TakenPart now calls piece had has old) (room bytes : List ℕ) (count : ℕ) (new : code.Router) → LeadsOn (Pulls (length room)) old new → PullsBytes room bytes count old
       → count ≡ 0 → 0 < length room → (q : TakenPart now calls piece had has new) × ((played (q.more ++ calls)).router.out ≡ [])
   unfolding pulls_more router_pulled
@@ -83,7 +83,7 @@ module _ (now : ℕ) (calls : List RouterCall) (had has : Option (List ℕ)) (ol
       let out = nil_from_length (played (p.more ++ calls)).router.out (omega (arith, told.0, none, size)) in
       (pulls_more piece p room bytes count has new on tells (subst (λ n. Appends has has (take n bytes)) (sym none) (Appends-nil has)), ap (drop (length room)) out ∙ drop_none (length room))
 
-  -- Bytes are handed in.
+  -- Bytes are received.
   pub receives_more : (piece : List ℕ) (p : TakenPart now calls piece had has old) (slice : List ℕ) (count : ℕ) (new : code.Router) → AreBytes slice → ReceivesSo now slice count old new → TakenPart now calls (piece ++ take count slice) had has new
   receives_more piece p slice count new bytes so =
       let s = so.1 (played (p.more ++ calls)).router p.leads in
@@ -97,7 +97,7 @@ module _ (now : ℕ) (calls : List RouterCall) (had has : Option (List ℕ)) (ol
         out = p.out;
       }
 
-  -- None of them is taken.
+  -- None of them is consumed.
   pub receives_none : (piece : List ℕ) (p : TakenPart now calls piece had has old) (slice : List ℕ) (count : ℕ) (new : code.Router) → (played (p.more ++ calls)).router.out ≡ [] → AreBytes slice → ReceivesSo now slice count old new → count ≡ 0
       → Taken now calls (piece ++ slice) had has (Ok tt) new
   unfolding receives_more
@@ -139,13 +139,13 @@ module _ (now : ℕ) (calls : List RouterCall) (had has : Option (List ℕ)) (ol
     quiet : (q : TakenPart now calls (take at piece) had has mid) × ((played (q.more ++ calls)).router.out ≡ [])
     quiet = pulls_none now calls had has old (take at piece) p room bytes count mid on tells none size
 
-    -- What is left of a piece is handed in, of which so much is taken.
+    -- What is left of a piece is received, and this much of it is consumed.
     pub takes_on : TakenPart now calls (take (at + taken) piece) had has new
     takes_on =
         subst (λ x. TakenPart now calls x had has new) (sym (take-add at taken piece))
         (receives_more now calls had has mid (take at piece) quiet.0 (drop at piece) taken new are (subst (λ x. ReceivesSo now x taken mid new) is so))
 
-    -- None of it is taken.
+    -- None of it is consumed.
     pub takes_end : taken ≡ 0 → Taken now calls piece had has (Ok tt) new
     takes_end stop =
         subst (λ x. Taken now calls x had has (Ok tt) new) (take-append-drop at piece)
@@ -162,7 +162,7 @@ module _ (now : ℕ) (calls : List RouterCall) (before : Option (List ℕ)) (had
     pub out : Appends had has (pulled_by (calls_since turns now calls))
 
   module _ (left : Option (List ℕ)) (reads : ℕ) (has : Option (List ℕ)) (router : code.Router) where
-    -- A piece was read and taken.
+    -- A piece was read and consumed.
     module _ (w : Pending left reads has router) (piece : List ℕ) (after : Option (List ℕ)) (written : Option (List ℕ)) (new : code.Router) (more : ℕ) (read : Consumes left after piece) (size : reads ≤ more) (fits : length piece + 4096 * reads ≤ 4096 * more) where
       came_all : (x : List RouterCall) (unread : List ℕ) → came x ++ unread ≡ came (calls_since w.turns now calls) ++ piece → Consumes before after (came x ++ unread) × (length (came x ++ unread) ≤ 4096 * more)
       came_all x unread is = grind (arith, common_steps)
@@ -183,7 +183,7 @@ module _ (now : ℕ) (calls : List RouterCall) (before : Option (List ℕ)) (had
             subst (λ x. CallsLead x new) joined t.leads,
           )
 
-      -- It is taken.
+      -- It is consumed.
       pub awaits_on : Taken now (calls_since w.turns now calls) piece has written (Ok tt) new → Awaits now calls before after more had written new
       awaits_on t =
           let joined = sym (append_assoc t.more w.turns (Connects now ∷ calls)) in
@@ -263,7 +263,7 @@ module _ (now : ℕ) (calls : List RouterCall) (before : Option (List ℕ)) (had
           out = w.asked.1;
         }
 
-        -- So many reads were made as were allowed.
+        -- As many reads were made as were allowed.
         pub limit_there : (more : ℕ) → reads ≤ more → FetchedAs now calls before left more had has (Ok outcomes.Limit) router
         limit_there more most = ends_after left more (Ok outcomes.Limit) most w.consumed (w.asked, still)
 

@@ -98,6 +98,6 @@ module _ (start : Sender) (given : List ℕ) (s : Sender) (out : List ℕ) (fill
       ∙ ap (λ x. sent_all s.version u.first ++ x) (sym (λ i. none_stays i ++ sent_all (g.version i) (left new))))
       u.result_is u.low u.now_is (record { version = g.version; sessions = g.sessions; timing = g.timing; newest = u.newest; room = λ before. omega (arith, ap length none_stays) })
 
-  -- and no more PDUs are left than were
+  -- and at most as many PDUs are left as there were
   pub none_more : length (left new) ≤ length (left s)
   none_more = let u = units_filled in omega (arith, ap length u.was, length-append u.first (left new))

@@ -17,7 +17,7 @@ pub sent_in : (version : Version) (units : List Unit) → bytes_sent (in_version
 sent_in version [] = refl
 sent_in version (u ∷ units) = ap (λ x. sent version u ++ x) (sent_in version units)
 
--- a reply that goes on or ends, and what comes after it
+-- a reply that continues or ends, and what comes after it
 with_reply : (version : Version) (now : Reply) (more : List Sent) → sent_all version now.units ++ bytes_sent (if not now.goes_on then [] else more) ≡ bytes_sent (in_version version now.units ++ (if now.goes_on then more else []))
 with_reply version now more =
     elim now.goes_on as (λ b. sent_all version now.units ++ bytes_sent (if not b then [] else more) ≡ bytes_sent (in_version version now.units ++ (if b then more else []))) [
@@ -28,7 +28,7 @@ with_reply version now more =
     behind : (later : List Sent) → sent_all version now.units ++ bytes_sent later ≡ bytes_sent (in_version version now.units ++ later)
     behind later = ap (λ x. x ++ bytes_sent later) (sym (sent_in version now.units)) ∙ sym (flat_map-append (λ (s : Sent). sent s.version s.unit) (in_version version now.units) later)
 
--- nothing is due, and the connection goes on
+-- nothing is due, and the connection continues
 at_rest : (due : List ℕ) (ended : Bool) (units : List Sent) → due ≡ [] → ended ≡ false → bytes_sent units ≡ due ++ bytes_sent (if ended then [] else units)
 at_rest due ended units d e = λ i. sym d i ++ bytes_sent (if sym e i then [] else units)
 
@@ -91,7 +91,7 @@ with_unit version unit front rest bytes units e r (left, fault, s) = (
 empty_partial : (version : Version) → IsPartial version []
 empty_partial version = (refl, inl (omega arith))
 
--- where the connection ends or goes on without a byte more
+-- if the connection ends or continues without a byte more
 at_last : (version : Version) (P : Type 0) (ended : Bool) (bytes : List ℕ) → MatchBool ended (bytes ≡ []) (IsPartial version bytes × P) → HasSplit version bytes []
 at_last version P true bytes h = only_rest version bytes (subst (λ x. IsPartial version x) (sym h) (empty_partial version))
 at_last version P false bytes h = only_rest version bytes h.0

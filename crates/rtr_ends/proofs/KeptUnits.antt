@@ -34,7 +34,7 @@ pub record Leaves (r : Router) (u : Unit) (items : List Item) : Type 0 where
 stays_after : (r : Router) (u : Unit) (items : List Item) (l : Link) → r.link ≡ l → r.out ≡ [] → Leaves r u items → LinkTells l r.agreed r.session r.table (Reads u ∷ items) → After r u items
 stays_after r u items l is none h t = search rules
 
--- a question that is put stands in the transcript
+-- a question that is put is in the transcript
 asking_after : (r : Router) (q : Question) (u : Unit) (items : List Item) → is_connected items ≡ true → Leaves r u items → has_agreed (Reads u ∷ items) ≡ r.agreed → responded (Reads u ∷ items) ≡ r.session → After (asking q r) u items
 asking_after r q u items c h a s = search rules
 
@@ -46,7 +46,7 @@ pub record Before (r : Router) (items : List Item) : Type 0 where
   pub spoken_is : spoken items ≡ r.spoken
   pub none : r.out ≡ []
 
--- A notify ends the link where it is of another session.
+-- A notify ends the link if it is of another session.
 notified : (r own : Router) (items : List Item) (session serial : ℕ) → is_connected items ≡ true → Before r items → has_agreed items ≡ r.agreed → responded items ≡ r.session
     → (Leaves r (SerialNotify session serial) items → After own (SerialNotify session serial) items) → After (if is_strange r session then fails (SerialNotify session serial) r else own) (SerialNotify session serial) items
 notified r own items session serial c h a s stays = search rules
@@ -128,7 +128,7 @@ connected Closed agreed session table items open_so t = false_true (sym open_so)
 connected (Ended end) agreed session table items open_so t = t
 connected _ agreed session table items open_so t = t.0
 
--- what a call adds stands before the transcript
+-- what a call adds is before the transcript
 pub record Adds (n : Noted) (items : List Item) : Type 0 where
   pub tells : Tells n.router (n.items ++ items)
 

@@ -65,7 +65,7 @@ end_of_other_session : (called (Receives 100 None (sent V1 (EndOfData 0x2222 6 3
 unfolding receives router_byte clocked on_unit judge as_read
 end_of_other_session = refl
 
--- Memory is taken by an End of Data of the session that answers, and by a record that is staged. No other PDU takes any.
+-- An End of Data of the session that answers allocates memory, and so does a record that is staged. No other PDU allocates any.
 takes_memory : (may_lack (Answering since_v) (EndOfData 0x1234 6 3600 600 7200) changes ≡ true) × (may_lack (Answering since_v) (EndOfData0 0x1234 6) changes ≡ true)
     × (is_staged (Stays since_v) ≡ true)
 takes_memory = (refl, refl, refl)
@@ -121,7 +121,7 @@ keeps_v =
     (λ i. if (not (has-empty v i) && true) && true then record { version = Some (committed_at 100); table = led_to empty [] (v ∷ []); before = empty } else record { version = None; table = empty; before = empty })
     ∙ ap (λ s. record { version = Some (committed_at 100); table = s; before = empty }) (led_from_empty (v ∷ []))
 
--- What was pulled and what is to be pulled are the bytes of the question.
+-- What was pulled and what is still pending are the bytes of the question.
 pulls_a_part : (pulled_by (Pulls 3 ∷ Connects 100 ∷ []) ≡ take 3 reset_bytes) × ((played (Pulls 3 ∷ Connects 100 ∷ [])).router.out ≡ drop 3 reset_bytes)
     × (questions_in V1 (played (Pulls 3 ∷ Connects 100 ∷ [])).items ≡ reset_bytes)
 unfolding connects_at clocked router_pulled

@@ -406,7 +406,7 @@ stays_on old now clock is over = does_from (λ r. judged_by_clock (record r { no
     subst (λ x. ShowsRouter (judged_by_clock (record r { now = x })) (record old { clock = clock })) is
     (subst (λ x. ShowsRouter (if x then expired r.link r else r) (record old { clock = clock })) (sym over) (shown (record old { clock = clock }) withdrawn announced held st)))
 
--- A connection is of the version that was told last.
+-- A connection is of the version that was set last.
 abbrev pub opens : Router → Router
 opens r = record r { spoken = r.speaks }
 
@@ -431,7 +431,7 @@ module _ (now : ℕ) where
       by_test true = refl
       by_test false = refl
 
--- What does not look into an answer is told by the state.
+-- What does not look into an answer is determined by the state.
 pub seen_so : {X : Type 0} (f : Link → X) → ((a b : Begun) → f (Answering a) ≡ f (Answering b)) → (s : State) (withdrawn announced : List Payload) → f (seen_link s withdrawn announced) ≡ f (seen_link s [] [])
 seen_so f same (states.Answering q session) withdrawn announced = same (begun_with q session withdrawn announced) (begun_with q session [] [])
 seen_so f same _ withdrawn announced = refl

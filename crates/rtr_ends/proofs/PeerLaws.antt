@@ -45,11 +45,11 @@ module _ (keep : ℕ) (t : Intervals) (i : Instance) (o : Conn) where
   abbrev own : Reader
   own = record { version = o.state.version; held = o.held; any = false; later = false; fault = None }
 
-  -- What a reader takes it takes as the one of what is shown.
+  -- A reader consumes the same as the reader that it represents.
   took : (p : Peer) (piece rest : List ℕ) (answer : _) (new : Reader) → p.reader ≡ own → ReaderTakes (version_with p.reader piece) p.reader piece answer rest new → ReaderTakes (version_at o piece) own piece answer rest new
   took p piece rest answer new e h = subst (λ x. ReaderTakes (version_with x piece) x piece answer rest new) e h
 
-  -- The version of what is taken is that of the whole piece.
+  -- The version of what is consumed is that of the whole piece.
   taken_version : (piece taken rest : List ℕ) → piece ≡ taken ++ rest → 0 < length (o.held ++ taken) → version_at o piece ≡ version_at o taken
   taken_version piece taken rest e some =
       ap (version_at o) e ∙ ap (version_in o.state.version) (sym (append_assoc o.held taken rest)) ∙ version_in-append o.state.version (o.held ++ taken) rest some
@@ -122,7 +122,7 @@ module _ (keep : ℕ) (t : Intervals) (i : Instance) (o : Conn) where
   moment_shown false version u bytes mid new h a =
       record { reader = a.reader ∙ h.reader; ended = a.ended; due = a.due ∙ ap (λ v. sent_all v (answer version i keep t u).units) h.speaks; knows = a.knows; room = fresh_room (Some version) new (a.reader ∙ h.reader) (a.room h.room) }
 
-  -- a PDU of which these bytes were taken
+  -- a PDU of which these bytes were consumed
   unit_received : (piece taken rest : List ℕ) (u : Unit) (mid new : Peer) → conn_stops o ≡ false → piece ≡ taken ++ rest → IsPartial (version_at o taken) (as_read (version_at o taken) false o.held)
       → IsRead (version_at o taken) false (o.held ++ taken) u → HasUnit (version_at o taken) mid → ((memory : Bool) × SendsReply t i (read_reply (version_at o taken) keep t i memory u) mid new)
       → Receives keep t i o piece (length piece - length rest) new
@@ -140,7 +140,7 @@ module _ (keep : ℕ) (t : Intervals) (i : Instance) (o : Conn) where
       to : (w : Option ℕ) → conn_stops (after_unit w).conn ≡ true → conn_takes keep t i w piece o ≡ record { machine = after_unit w; rest = rest }
       to w stop = ap (λ x. conn_takes keep t i w x o) cut ∙ takes_shown keep t i o w (after_unit w) taken rest (Whole u) runs part (unit_judged (version_at o taken) false (o.held ++ taken) u is) (λ held. refl) stop
 
-      -- memory was there, or not taken
+      -- memory was there, or not needed
       read : (b : Bool) → (takes_memory version i u && not true) ≡ b → SendsReply t i (if b then no_memory else answer version i keep t u) mid new → Receives keep t i o piece (length piece - length rest) new
       read b e a = record {
         wanting = None;
@@ -185,7 +185,7 @@ module _ (keep : ℕ) (t : Intervals) (i : Instance) (o : Conn) where
       has : HasUnit (version_at o k.taken) mid
       has = record { reader = same ∙ now; speaks = speaks.version_is ∙ ap (λ r. spoken_in (known_version r)) now; room = speaks.stays.room shows.room.ready }
 
-  -- A header that has come tells the version in which is sent.
+  -- A header that has come determines the version in which is sent.
   header_whole : (agreed : Option Version) (bytes : List ℕ) → 8 ≤ length bytes → spoken_in (header_version agreed bytes) ≡ version_in agreed bytes
   header_whole (Some version) bytes h = refl
   header_whole None bytes h = ap (λ b. spoken_in (if b then None else Some (first_version bytes))) (not_below (length bytes) h)

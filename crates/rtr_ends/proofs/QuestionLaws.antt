@@ -12,7 +12,7 @@ use Rattle.rtr_ends.proofs.KeptLaws.{called_tells, clocked_tells, new_tells, ste
 use Rattle.rtr_ends.proofs.CallSteps.{BytesKeep, StepsKeep, by_call, by_piece}
 use Rattle.rtr_ends.proofs.TableLaws.{false_true}
 
--- The mark is the one of the transcript, where something is committed.
+-- The mark is the one of the transcript, if something is committed.
 abbrev MarkTells : Router → List Item → Type 0
 MarkTells r items = (r.version ≡ None) ⊎ (marked items ≡ r.mark)
 
@@ -30,7 +30,7 @@ record UnitAsks (u : Unit) (n : Router) (later : List Item) : Type 0 where
   pub mark : MarkTells n later
   pub puts : Puts u n n.link n.out
 
--- nothing is put where nothing is to be pulled
+-- nothing is put if nothing is pending
 puts_none : (u : Unit) (n : Router) (l : Link) (out : List ℕ) → out ≡ [] → Puts u n l out
 puts_none u n (Asked q) (b ∷ out) e = absurd (let h : b ∷ out ≡ [] = e in cc)
 puts_none u n _ _ e = tt

@@ -1,4 +1,4 @@
--- What a connection takes of a piece, PDU by PDU.
+-- What a connection consumes of a piece, PDU by PDU.
 use Rattle.rtr_ends.proofs.Words.{◌≡◌, ℕ, true, false, List, [], ◌++◌, Option, refl, sym, ap, ◌∙◌, append-nil, Instance, Judgement, as_read, IsPartial}
 use Rattle.rtr_ends.specs.Cache.{Conn, Taking, conn_byte, conn_stops, conn_takes, conn_judged, version_at}
 use Rattle.rtr_ends.specs.Timing.{Intervals}
@@ -31,7 +31,7 @@ module _ (keep : ℕ) (t : Intervals) (i : Instance) where
   takes_more o wanting piece runs part =
       ap (fed conn_machine (start o wanting)) (sym (append-nil piece)) ∙ more_taken conn_machine (start o wanting) runs (version_at o piece) piece [] refl part
 
-  -- or a PDU or bytes that show a fault are taken, and the connection stops behind them,
+  -- or a PDU or bytes that show a fault are consumed, and the connection stops behind them,
   pub takes_shown : (o : Conn) (wanting : Option ℕ) (next : Taking) (taken rest : List ℕ) (j : Judgement) → conn_stops o ≡ false → IsPartial (version_at o taken) (as_read (version_at o taken) false o.held) → IsJudged (version_at o taken) false (o.held ++ taken) j
       → ((held : List ℕ) → conn_judged keep t i (start (record o { held = held }) wanting) (version_at o taken) (o.held ++ taken) j ≡ next) → conn_stops next.conn ≡ true → conn_takes keep t i wanting (taken ++ rest) o ≡ record { machine = next; rest = rest }
   unfolding conn_takes conn_machine

@@ -1,4 +1,4 @@
--- What a router takes byte by byte is what its reader takes PDU by PDU.
+-- What a router consumes byte by byte is what its reader consumes PDU by PDU.
 use Rattle.rtr_ends.proofs.Words.{◌≡◌, ℕ, suc, Bool, true, false, not, List, [], ◌++◌, Option, Some, None, refl, Judgement, Whole, IsPartial, as_read, Unit}
 use Rattle.rtr_ends.specs.Cache.{counted, finds_memory}
 use Rattle.rtr_ends.specs.Feeding.{feed}
@@ -28,7 +28,7 @@ router_machine = record {
 abbrev pub stops : Receiving → Bool
 stops m = router_stops m.router
 
--- A router that has stopped takes nothing.
+-- A router that has stopped consumes nothing.
 pub stopped : (r : Router) (items : List Item) (wanting : Option ℕ) (piece : List ℕ) → router_stops r ≡ true → fed r items wanting piece ≡ record { machine = taking r items wanting; rest = piece }
 unfolding router_machine
 stopped r items wanting piece stop = units.none_taken router_machine (taking r items wanting) piece stop
@@ -45,7 +45,7 @@ module _ (r : Router) (taken rest : List ℕ) (on : router_stops r ≡ false) (i
   unfolding router_machine
   shown_taken part j judged = units.shown_taken router_machine (taking r items wanting) on r.spoken taken rest j refl part judged
 
--- What comes of a PDU: it is read, or memory for it runs out.
+-- The result of a PDU: it is read, or memory for it runs out.
 abbrev pub shifted : Option ℕ → Option ℕ
 shifted None = None
 shifted (Some n) = Some (suc n)

@@ -275,24 +275,24 @@ pub pulls_shown : (old new : code.Router) (r : Router) (most : ℕ) → new ≡ 
 unfolding router_pulled
 pulls_shown old new r most e s = search rules
 
--- The version of the next connection is told.
+-- The version of the next connection is set.
 pub speaks_shown : (old : code.Router) (r : Router) (version : Version) → IsShown r old → IsShown (record r { speaks = version }) (record old { machine = record old.machine { speaks = version } })
 speaks_shown old r version s = search rules
 
--- A moment is told, and an idle link asks where it is due.
+-- The clock advances to a moment, and an idle link asks if that is due.
 pub ticks_shown : (old new : code.Router) (now : ℕ) (r : Router) → IsShown r old → ShowsRouter (ticks_at now r).router new.machine → new.reader ≡ old.reader → IsShown (ticks_at now r).router new
 unfolding ticks_at
 ticks_shown old new now r s machine same =
     let n : Router = clocked now r in
     asks_shown old new r (clocked now r) (is_due n.link n.due n.now) (clocked_keeps now r) (λ h. idle_reads n.link (due_idle n.link n.due n.now h)) s machine same
 
--- The PDU at which memory ran out took memory.
+-- The PDU at which memory ran out allocates memory.
 wanted_so : (now : ℕ) (piece : List ℕ) (r : Router) (wanting : Option ℕ) → IsLacking wanting (fed (clocked now r) (At now ∷ []) wanting piece) → IfSome wanting (λ unit. is_wanted_by_router now piece r unit ≡ true)
 unfolding receives
 wanted_so now piece r None h = tt
 wanted_so now piece r (Some unit) h = h
 
--- A piece is handed in.
+-- A piece is received.
 pub receives_so : (old mid new : code.Router) (now : ℕ) (piece rest : List ℕ) (count : ℕ) → Does (clocked now) old.machine mid.machine → mid.reader ≡ old.reader → TakesOn false mid piece new rest → count ≡ length piece - length rest
     → ReceivesSo now piece count old new
 unfolding receives
@@ -304,7 +304,7 @@ receives_so old mid new now piece rest count does same takes e = (
       record { shown = subst (λ x. IsShown x new) (sym ends.router_is) t.1; count_is = e ∙ ap (λ x. length piece - length x) (sym ends.rest_is); wanted = wanted_so now piece r takes.0 ends.wanted },
 )
 
--- What leads to a router is told by its transcript.
+-- A router is determined by its transcript.
 pub led : (calls : List RouterCall) (v : code.Router) → CallsLead calls v → Led calls v
 led calls v leads = record { leads = leads; kept = router_keeps calls; asking = router_asks calls; split = router_splits calls }
 

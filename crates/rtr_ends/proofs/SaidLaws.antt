@@ -81,7 +81,7 @@ no_report Closed version report live e = false_true live
 no_report (Ended end) version report live e = false_true live
 no_report _ version report live e = e
 
--- where bytes are read all that was said was given
+-- if bytes are read, all replies were given
 given_all : (given : List ℕ) (r : Router) (items : List Item) → is_reading r.link ≡ true → r.out ≡ [] → HasSaid r items given → given ≡ questions_in r.spoken items
 given_all given r items live none h =
     let dropped = h.whole (reading_quiet r.link r.spoken live).1 in
@@ -181,7 +181,7 @@ cuts given r n items next none same more not_idle cut h last = record {
   idle = λ k. false_true (sym not_idle ∙ k);
 }
 
--- The clock adds nothing to what is said; where a Serial Query expires the link is cut.
+-- The clock adds nothing to the replies; if a Serial Query expires the link is cut.
 clocked_says : (given : List ℕ) (now : ℕ) (r : Router) (items : List Item) → Says given r items → Says given (clocked now r) (At now ∷ items)
 clocked_says given now r items s = by_clock (λ n. Says given n (At now ∷ items)) now r
     (λ holds. record { said = record { report = s.said.report; reported = s.said.reported; dropped = s.said.dropped; said = s.said.said; whole = s.said.whole }; idle = s.idle })

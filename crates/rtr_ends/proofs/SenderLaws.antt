@@ -56,7 +56,7 @@ pub due_answer : (s : Sender) → length s.buffer.items ≤ s.pulled → is_some
 unfolding due_of left
 due_answer s h = due_left s.version (own_session s) s.timing s.answer ∙ ap (λ x. not (is_none (x ++ sent_all s.version (left_in s.version (own_session s) s.timing s.answer)))) (sym (drop_all s.pulled s.buffer.items h))
 
--- nothing is due where no answer is under way
+-- nothing is due if no answer is under way
 pub none_due : (s : Sender) → due_of s ≡ [] → left_in s.version (own_session s) s.timing s.answer ≡ []
 unfolding due_of left
 none_due s e = none_sent s.version (left s) (both_none (drop s.pulled s.buffer.items) (sent_all s.version (left s)) e).1
@@ -135,7 +135,7 @@ stays_on : (a b c : Sender) → Stays a b → Stays b c → Stays a c
 stays_on a b c x y =
     record { version = y.version ∙ x.version; sessions = y.sessions ∙ x.sessions; timing = y.timing ∙ x.timing; newest = y.newest ∙ x.newest; room = λ before. y.room (x.room before) }
 
--- Of an answer that is pulled, so many bytes are filled.
+-- This many bytes are filled of an answer that is pulled.
 pub record IsFilled (start : Sender) (given : List ℕ) (s : Sender) (out : List ℕ) (filled : ℕ) : Type 0 where
   pub low : filled ≤ length out
   pub within : filled ≤ length (due_of start)
@@ -193,7 +193,7 @@ module _ (start : Sender) (given : List ℕ) (s : Sender) (out : List ℕ) (fill
         room = λ before. omega (arith, ap length g.left, length-drop g.count back, before);
       })
 
-  -- where not all is filled, the buffer is empty
+  -- if not all is filled, the buffer is empty
   pub all_given : result < length out → drop new.pulled new.buffer.items ≡ []
   all_given less = g.left ∙ drop_all g.count back (omega (arith, less, g.result_is, g.count_is))
 
@@ -238,7 +238,7 @@ hands_more start given s out filled w new e none h f =
 pub hands_less : (s : Sender) (w : AnswerCursor) (new : Sender) → s.answer ≡ Some w → Hands (record s { answer = Some w }) new → length (left new) < length (left s)
 hands_less s w new e h = search rules
 
--- where nothing is due no answer is under way
+-- if nothing is due no answer is under way
 no_answer : (s : Sender) → due_of s ≡ [] → s.answer ≡ None
 no_answer s e = by_case s.answer (none_due s e)
   where
@@ -271,7 +271,7 @@ pub offers : (s : Sender) (ready : Option Share) (share : Share) → ready ≡ S
 unfolding newest_of
 offers s ready share e = ap (λ r. newest_in r s.answer) e
 
--- an answer to a Reset Query, where nothing is published
+-- an answer to a Reset Query, if nothing is published
 pub resets_none : (s new : Sender) (ready : Option Share) → due_of s ≡ [] → s.ready ≡ None → ready ≡ None → Sends (record s { ready = ready }) (report 2 (sent s.version ResetQuery) ∷ []) new
     → Sends s (whole_answer s.version (own_session s) s.timing (as_list (newest_of s))) new
 unfolding newest_of ready_in

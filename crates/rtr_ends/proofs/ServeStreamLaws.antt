@@ -21,18 +21,18 @@ use Rattle.rtr_ends.proofs.TableLaws.{false_true}
 pub not_less : {D A : Type 0} (old new : Counted D) → (¬ (IsSpent old) → calls_of new ≡ calls_of old + 1) → (IsSpent old → A × (new ≡ old)) → calls_of old ≤ calls_of new
 not_less old new counted spent = search rules
 
--- Where the input ends, something was read.
+-- If the input ends, something was read.
 pub ends_in : (limit before now : ℕ) (served : Served) → (served ≡ Truncated) ⊎ (served ≡ PeerClosed) → before < now → now ≤ before + limit → ReadsWithin limit before now (Ok served)
 ends_in limit before now served ends least most = search rules
 
--- What is pulled into a buffer stands at its front.
+-- What is pulled into a buffer is at its front.
 pub pulled_is : (due out : List ℕ) (count : ℕ) (now rest : List ℕ) → PullsBytes due out count now rest → take count now ≡ take (length out) due
 pulled_is due out count now rest g = grind (arith, common_steps)
 
 pub drop_none : (n : ℕ) → drop {A = ℕ} n [] ≡ []
 drop_none n = drop-nil n
 
--- A connection of which nothing is due, and that takes nothing, is as it was; and has ended where there was a piece.
+-- A connection with nothing due that consumes nothing is as it was, and has ended if there was a piece.
 pub none_taken : (keep : ℕ) (t : Intervals) (i : Instance) (wanting : Option ℕ) (piece : List ℕ) (o : Conn) → o.state.due ≡ [] → 0 ≡ length piece - length (conn_takes keep t i wanting piece o).rest
     → ((conn_takes keep t i wanting piece o).machine.conn ≡ o) × (0 < length piece → o.state.ended ≡ true)
 unfolding conn_takes
@@ -97,7 +97,7 @@ module _ {S : Type 0} (holds : ℕ → Instance → S → Type 0) (m : CacheStat
       out = Appends-trans had has written p.sent (take count now) p.out out;
     }
 
-    -- Nothing is pulled where nothing is due.
+    -- Nothing is pulled if nothing is due.
     pub pulls_none : (piece : List ℕ) (p : Partly holds m c calls piece had has cache) (room now : List ℕ) (new : Cache S) → 0 < length room → GivesBytes holds (standing p.later) c room 0 now new
         → (q : Partly holds m c calls piece had has new) × ((stood m q.later).conn.state.due ≡ [])
     unfolding conn_pulled pulls_more
@@ -106,7 +106,7 @@ module _ {S : Type 0} (holds : ℕ → Instance → S → Type 0) (m : CacheStat
         let is : (stood m p.later).conn.state.due ≡ [] = sym (ap due_at (stood_at p.later)) ∙ due in
         (pulls_more piece p room now 0 has new g (Appends-nil has), (λ i. drop (min (length room) (length (stood m p.later).conn.state.due)) (is i)) ∙ drop_none (min (length room) (length (stood m p.later).conn.state.due)))
 
-    -- Bytes are handed in.
+    -- Bytes are received.
     pub takes_more : (piece : List ℕ) (p : Partly holds m c calls piece had has cache) (more : List ℕ) (count : ℕ) (new : Cache S) → AreBytes more → (t : TakesPiece holds (standing p.later) c more count new)
         → Partly holds m c calls (piece ++ take count more) had has new
     takes_more piece p more count new bytes t =
@@ -125,7 +125,7 @@ module _ {S : Type 0} (holds : ℕ → Instance → S → Type 0) (m : CacheStat
           out = p.out;
         }
 
-    -- None of them is taken: the piece is at its end, or the connection has ended.
+    -- None of them is consumed: the piece is at its end, or the connection has ended.
     pub takes_none : (piece : List ℕ) (p : Partly holds m c calls piece had has cache) (more : List ℕ) (new : Cache S) → (stood m p.later).conn.state.due ≡ [] → AreBytes more → TakesPiece holds (standing p.later) c more 0 new
         → Answered holds m c calls (piece ++ more) had has (Ok tt) new
     unfolding takes_more conn_takes
@@ -163,7 +163,7 @@ module _ {S : Type 0} (holds : ℕ → Instance → S → Type 0) (m : CacheStat
         answers = part_after had has written p.sent (take count now) p.out part;
       }
 
-  -- Nothing was due: what is left of a piece is handed in, of which so much is taken.
+  -- Nothing was due: what is left of a piece is received, and this much of it is consumed.
   pub answers_on : (calls : List ConnCall) (had has : Option (List ℕ)) (cache mid new : Cache S) (piece slice room now : List ℕ) (at count taken : ℕ) (p : Partly holds m c calls (take at piece) had has cache) → GivesBytes holds (standing p.later) c room count now mid
       → count ≡ 0 → 0 < length room → AreBytes (drop at piece) → slice ≡ drop at piece → ((x : CacheState) → ShowsCache holds x mid → TakesPiece holds x c slice taken new) → Partly holds m c calls (take (at + taken) piece) had has new
   answers_on calls had has cache mid new piece slice room now at count taken p g none size bytes is takes =
@@ -171,7 +171,7 @@ module _ {S : Type 0} (holds : ℕ → Instance → S → Type 0) (m : CacheStat
       subst (λ x. Partly holds m c calls x had has new) (sym (take-add at taken piece))
       (takes_more calls had has mid (take at piece) q.0 (drop at piece) taken new bytes (subst (λ x. TakesPiece holds (standing q.0.later) c x taken new) is (takes (standing q.0.later) q.0.stands)))
 
-  -- None of it is taken.
+  -- None of it is consumed.
   pub answers_end : (calls : List ConnCall) (had has : Option (List ℕ)) (cache mid new : Cache S) (piece slice room now : List ℕ) (at count taken : ℕ) (p : Partly holds m c calls (take at piece) had has cache) → GivesBytes holds (standing p.later) c room count now mid
       → count ≡ 0 → 0 < length room → AreBytes (drop at piece) → slice ≡ drop at piece → ((x : CacheState) → ShowsCache holds x mid → TakesPiece holds x c slice taken new) → taken ≡ 0 → Answered holds m c calls piece had has (Ok tt) new
   answers_end calls had has cache mid new piece slice room now at count taken p g none size bytes is takes stop =
@@ -241,7 +241,7 @@ module _ {S : Type 0} (holds : ℕ → Instance → S → Type 0) (m : CacheStat
             a.stands,
           )
 
-      -- It goes on.
+      -- It continues.
       pub waits_on : Answered holds m c w.calls piece has written (Ok tt) new → ((x : CacheState) → ShowsCache holds x new → true ≡ is_open_at (x.at c)) → Waits holds m c before after more had written new
       waits_on a opened =
           let on : (stood m a.later).conn.state.ended ≡ false = false_of_not (stood m a.later).conn.state.ended (sym (opened (standing a.later) a.stands ∙ ap is_open_at (stood_at a.later))) in
@@ -276,7 +276,7 @@ module _ {S : Type 0} (holds : ℕ → Instance → S → Type 0) (m : CacheStat
     pub read_fails_there : (after : Option (List ℕ)) (more : ℕ) → Keeps left after → reads ≤ more → EndedAs holds m c before after more had has (Err ReadFailed) cache
     read_fails_there after more kept most = ends_there more after (Err ReadFailed) (Consumes-kept before left after (stood m w.calls).came w.consumed kept) (w.all_out, (refl, w.goes_on)) most
 
-    -- So many reads were made as were allowed.
+    -- As many reads were made as were allowed.
     pub limit_there : (more : ℕ) → reads ≤ more → EndedAs holds m c before left more had has (Ok Limit) cache
     limit_there more most = ends_there more left (Ok Limit) w.consumed (w.all_out, (refl, w.goes_on)) most
 

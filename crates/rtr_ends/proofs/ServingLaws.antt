@@ -14,12 +14,12 @@ nothing_due : (due : List ℕ) → not (is_none due) ≡ false → due ≡ []
 nothing_due [] h = refl
 nothing_due (x ∷ due) h = false_true (sym h)
 
--- From one connection to another by moments, where these bytes came: those of the moments, and then the last ones
+-- From one connection to another by moments, in which these bytes came: those of the moments, and then the last ones
 abbrev Runs : ℕ → Intervals → Connection → List ConnMoment → List ℕ → Connection → List ℕ → Type 0
 Runs keep t c [] came new held = (came ≡ held) × (new ≡ c)
 Runs keep t c (m ∷ later) came new held = MayCome c came m × ((rest : List ℕ) × (came ≡ bytes_of m ++ rest) × Runs keep t (conn_after keep t c m) later rest new held)
 
--- What may come may come where more bytes follow.
+-- What may come may come if more bytes follow.
 come_longer : (c : Connection) (coming more : List ℕ) (m : ConnMoment) → MayCome c coming m → MayCome c (coming ++ more) m
 come_longer c coming more (Notify version cache held) h = (h.0, h.1, h.2, h.3, (h.4.0, longer h.4.1, h.4.2))
   where
@@ -64,7 +64,7 @@ module _ (keep : ℕ) (t : Intervals) where
       ∙ sym (append_assoc (pulled_by c k) (pulled keep t (conn_after keep t c k) later) (pulled_by new m))
       ∙ ap (λ x. x ++ pulled_by new m) (sym (pulled_first c k later))
 
-  -- A connection that was opened at an instance, after these moments, where these bytes came and were given
+  -- A connection that was opened at an instance, after these moments, in which these bytes came and were given
   pub record Goes (i : Instance) (o : Conn) (moments : List ConnMoment) (came given : List ℕ) : Type 0 where
     pub runs : Runs keep t (opened i) moments came o.state o.held
     pub more : List ℕ
@@ -88,7 +88,7 @@ module _ (keep : ℕ) (t : Intervals) where
   holds_none : (c : Connection) → MayHold c []
   holds_none c = search rules
 
-  -- what is held on a connection that goes on is the beginning of a PDU
+  -- what is held on a connection that continues is the beginning of a PDU
   holds_part : (c : Connection) (held : List ℕ) → c.ended ≡ false → MayHold c held → IsPartial (version_in c.version held) held
   holds_part c held is h = (subst (λ b. MatchBool b (held ≡ []) (IsPartial (version_in c.version held) held × ((held ≡ []) ⊎ ((c.due ≡ []) ⊎ (c.notified ≡ true))))) is h).0
 
@@ -199,7 +199,7 @@ module _ (keep : ℕ) (t : Intervals) where
               (reads (unit_in version (as_read version false bytes)) (subst (λ x. Reads version (unit_in version (as_read version false bytes)) x) (read_plainly version bytes)
               ((whole_exactly version false bytes (unit_in version (as_read version false bytes)) each (next_size version false m.conn.held b part w)).0 e)))
 
-    -- a piece is handed in
+    -- a piece is received
     takes_goes : (i : Instance) (is : IsInstance i) (wanting : Option ℕ) (piece : List ℕ) (s : Serving) → AreBytes piece → IsLater s.conn.state.cache i → s.cache ≡ i → Goes opened_at s.conn s.moments s.came s.given
         → Stands i s.moments (conn_takes keep t i wanting piece s.conn).machine (s.came ++ take (length piece - length (conn_takes keep t i wanting piece s.conn).rest) piece) s.given
     unfolding conn_takes

@@ -1,4 +1,4 @@
--- A router speaks what it was told, from the next connection on.
+-- A router speaks the version that was set, from the next connection.
 use Rattle.rtr_ends.proofs.Words.{◌≡◌, List, [], ◌∷◌, ◌++◌, refl, ◌∙◌, ap, Version, Unit, Begins, Whole, Faulty}
 use Rattle.rtr_ends.specs.LinkRules.{Router, on_unit}
 use Rattle.rtr_ends.specs.Router.{RouterCall, Connects, Receives, Pulls, Speaks, clocked, close, connects_at, played, reads, router_pulled}
@@ -60,6 +60,6 @@ played_tells : (calls : List RouterCall) → Tells calls
 played_tells [] = record { speaks = refl; spoken = refl }
 played_tells (call ∷ calls) = called_tells call calls (played_tells calls)
 
--- A router speaks what it was told.
+-- A router speaks the version that was set.
 pub router_speaks : RouterSpeaks
 router_speaks calls = let t = played_tells calls in (t.speaks, t.spoken)

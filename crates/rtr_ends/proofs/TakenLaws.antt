@@ -1,4 +1,4 @@
--- What the two ends take of a piece.
+-- What the two ends consume of a piece.
 use Rattle.std.proofs.Common.{[], ◌∷◌, ◌++◌, ap}
 use Rattle.rtr_ends.specs.Cache.{Taking, conn_stops, conn_byte, conn_takes, ConnTakes, ConnStops}
 use Rattle.rtr_ends.specs.Cache as cache

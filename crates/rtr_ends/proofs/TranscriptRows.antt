@@ -20,7 +20,7 @@ module _ (items : List Item) where
       × (spoken (Opened version ∷ items) ≡ version)
   opened version question = (refl, refl, refl, refl)
 
-  -- After a restart there is no mark, no agreement, no session, no connection of any version, and the clock stands at its beginning.
+  -- After a restart there is no mark, no agreement, no session, no connection of any version, and the clock is at its beginning.
   restarted : (marked (Restarts ∷ items) ≡ false) × (has_agreed (Restarts ∷ items) ≡ false) × (responded (Restarts ∷ items) ≡ None) × (is_connected (Restarts ∷ items) ≡ false) × (spoken (Restarts ∷ items) ≡ V1)
       × (moment (Restarts ∷ items) ≡ 0)
   restarted = (refl, refl, refl, refl, refl, refl)

@@ -1,11 +1,11 @@
--- A machine that judges behind each byte what it holds takes a piece PDU by PDU, as a reader of PDUs does. The cache and the
--- router are such machines.
+-- A machine that judges behind each byte what it holds consumes a piece PDU by PDU, as a reader of PDUs does. The cache and the router are
+-- such machines.
 use Rattle.rtr_ends.proofs.Words.{◌≡◌, ℕ, ◌<◌, Bool, true, false, List, [], ◌∷◌, ◌++◌, length, Option, refl, sym, ap, ◌∙◌, subst, arith, append_assoc, rules, append-nil, length-append, Version, version_in, version_in-append, Judgement, Begins, Whole, Faulty, judge, IsFaulty, IsRead, IsPartial, IsShortest, as_read, Unit, UnitFault, begins_exactly, reads_judged, shows_judged, next_shortest}
 use Rattle.rtr_ends.specs.Feeding.{FedPiece, feed}
 use Rattle.rtr_ends.proofs.FeedingLaws.{stopped}
 
--- The machine: what it holds of a PDU, whether that may show any version, and the version that is expected; the machine that holds
--- these bytes; and what comes of bytes of a version that are so judged. The beginning of a PDU is held, and nothing else changes by it.
+-- The machine: what it holds of a PDU, whether that may show any version, and the version that is expected. Then the machine that holds
+-- these bytes, and the result of bytes of a version that are so judged. The beginning of a PDU is held, and nothing else changes by it.
 pub record ByteMachine (M : Type 0) : Type 0 where
   pub stops : M → Bool
   pub step : M → ℕ → M
@@ -51,7 +51,7 @@ module _ {M : Type 0} (w : ByteMachine M) where
   abbrev pub fed : M → List ℕ → FedPiece M
   fed m piece = feed w.stops w.step m piece
 
-  -- A machine that stops takes nothing.
+  -- A machine that stops consumes nothing.
   pub none_taken : (m : M) (piece : List ℕ) → w.stops m ≡ true → fed m piece ≡ record { machine = m; rest = piece }
   none_taken m [] stop = refl
   none_taken m (b ∷ piece) stop = stopped w.stops w.step m b piece stop
@@ -97,7 +97,7 @@ module _ {M : Type 0} (w : ByteMachine M) where
         ap (λ n. fed n (taken ++ rest)) (sym (w.own m))
         ∙ begin_held (w.held m) taken rest (are_of m version (w.held m ++ taken) of) (fronts_begin (w.held m) taken 0 (next_shortest version (w.any m) (w.held m ++ taken) 0 part))
 
-    -- and where bytes are judged otherwise, and none before them are, they are taken to the last.
+    -- and if bytes are judged otherwise, and none before them are, they are consumed to the last.
     pub shown_taken : (taken rest : List ℕ) (j : Judgement) → version ≡ version_in (w.start m) (w.held m ++ taken) → IsPartial version (as_read version (w.any m) (w.held m)) → IsJudged version (w.any m) (w.held m ++ taken) j
         → fed m (taken ++ rest) ≡ fed (w.judged (w.holding m (w.held m ++ but_last taken)) version (w.held m ++ taken) j) rest
     shown_taken [] rest j of part s =

@@ -17,7 +17,7 @@ abbrev pub session_in : Version → Instance → ℕ
 session_in V0 i = i.session0
 session_in V1 i = i.session
 
--- What a cache sends, and whether the connection goes on after it
+-- What a cache sends, and whether the connection continues after it
 pub record Reply : Type 0 where
   pub units : List Unit
   pub goes_on : Bool
@@ -55,7 +55,7 @@ end_of_data V1 session serial t = EndOfData session serial t.refresh t.retry t.e
 abbrev pub response : Version → ℕ → Intervals → NumberedSet → List Unit → List Unit
 response version session t now records = CacheResponse session ∷ records ++ end_of_data version session now.serial t ∷ []
 
--- To a Reset Query: all of the current version (RFC 8210 section 8.1). Where nothing is published: No Data Available (RFC 8210 section 8.4).
+-- To a Reset Query: all of the current version (RFC 8210 section 8.1). If nothing is published: No Data Available (RFC 8210 section 8.4).
 abbrev pub whole_answer : Version → ℕ → Intervals → List NumberedSet → List Unit
 whole_answer version session t [] = report NO_DATA_AVAILABLE (sent version ResetQuery) ∷ []
 whole_answer version session t (now ∷ older) = response version session t now (announcements now.set)

@@ -12,7 +12,7 @@ use Rattle.rtr_ends.specs.Connection.{Connection, ConnMoment, Read, Wanting, Fau
 use Rattle.rtr_ends.specs.Feeding.{FedPiece, feed, IsTaken}
 use Rattle.rtr_ends.specs.Timing.{Intervals}
 
--- The connection between two moments, and what has come of a PDU
+-- The connection between two moments, and what has arrived of a PDU
 pub record Conn : Type 0 where
   pub state : Connection
   pub held : List ℕ
@@ -24,11 +24,11 @@ abbrev pub is_none : List ℕ → Bool
 is_none [] = true
 is_none (b ∷ bytes) = false
 
--- Nothing is consumed where bytes are due, or the connection has ended.
+-- Nothing is consumed if bytes are due or the connection has ended.
 abbrev pub conn_stops : Conn → Bool
 conn_stops o = o.state.ended || not (is_none o.state.due)
 
--- The moment that the last of these bytes of a version brings. That memory runs out acts only where the answer takes memory.
+-- The moment that the last of these bytes of a version brings. Running out of memory has an effect only if the answer allocates memory.
 abbrev pub conn_moment_of : Instance → Bool → Version → List ℕ → Judgement → Option ConnMoment
 conn_moment_of i memory version bytes Begins = None
 conn_moment_of i memory version bytes (Whole u) =
@@ -49,7 +49,7 @@ counted (Whole u) (Some (suc units)) = Some units
 counted (Whole u) wanting = None
 counted judgement wanting = wanting
 
--- A connection that takes a piece, with the moments that came by it so far
+-- A connection that consumes a piece, with the moments of it so far
 pub record Taking : Type 0 where
   pub conn : Conn
   pub moments : List ConnMoment
@@ -64,7 +64,7 @@ conn_judged keep t i m version bytes judgement =
     let came = conn_moment_of i (finds_memory m.wanting) version bytes judgement in
     record { conn = with_moment keep t bytes m.conn came; moments = and_moment m.moments came; wanting = counted judgement m.wanting }
 
--- the version of these bytes at the front of what comes, where they follow
+-- the version of these bytes at the front of what comes, if they follow
 abbrev pub version_at : Conn → List ℕ → Version
 version_at o bytes = version_in o.state.version (o.held ++ bytes)
 
@@ -73,30 +73,30 @@ unfoldable pub conn_byte : ℕ → Intervals → Instance → Taking → ℕ →
 conn_byte keep t i m b =
     conn_judged keep t i m (version_at m.conn (b ∷ [])) (m.conn.held ++ b ∷ []) (judge (version_at m.conn (b ∷ [])) false (m.conn.held ++ b ∷ []))
 
--- A piece is handed in; memory runs out at this PDU of it, if at any.
+-- A piece is received; memory runs out at this PDU of it, if at any.
 unfoldable pub conn_takes : ℕ → Intervals → Instance → Option ℕ → List ℕ → Conn → FedPiece Taking
 conn_takes keep t i wanting piece o =
     feed (λ m. conn_stops m.conn) (conn_byte keep t i) (record { conn = o; moments = []; wanting = wanting }) piece
 
--- The router can be notified where the connection goes on, nothing is due, and something is published.
+-- The router can be notified if the connection continues, nothing is due, and something is published.
 abbrev pub can_notify : Instance → Conn → Bool
 can_notify i o = is_published i && not (conn_stops o)
 
--- The version in which is sent on it where nothing is asked
+-- The version in which is sent on it if nothing is asked
 abbrev pub speaks_in : Conn → Version
 speaks_in o = spoken_in (header_version o.state.version o.held)
 
 unfoldable pub conn_notified : ℕ → Intervals → Instance → Conn → Conn
 conn_notified keep t i o = if can_notify i o then record o { state = conn_after keep t o.state (Notify (speaks_in o) i o.held) } else o
 
--- At most so many of the bytes due are pulled.
+-- At most this many of the bytes due are pulled.
 abbrev pub pulled_count : ℕ → Conn → ℕ
 pulled_count most o = min most (length o.state.due)
 
 unfoldable pub conn_pulled : ℕ → Intervals → ℕ → Conn → Conn
 conn_pulled keep t most o = record o { state = conn_after keep t o.state (Pull (pulled_count most o)) }
 
--- What is called on a connection: a set is published; a piece is handed in; bytes are pulled; the router is notified.
+-- What is called on a connection: a set is published; a piece is received; bytes are pulled; the router is notified.
 pub data ConnCall : Type 0 where
   Publishes : (set : VrpSet) → ConnCall
   Takes : (wanting : Option ℕ) → (piece : List ℕ) → ConnCall
@@ -136,21 +136,21 @@ abbrev pub serving : ℕ → Intervals → Instance → List ConnCall → Servin
 serving keep t i [] = record { cache = i; conn = new_conn i; moments = []; came = []; given = [] }
 serving keep t i (call ∷ calls) = serve keep t call (serving keep t i calls)
 
--- what is published can be, and what is handed in are bytes
+-- what is published can be, and what is received are bytes
 abbrev pub IsConnCall : ConnCall → Type 0
 IsConnCall (Publishes set) = IsVrpSet set
 IsConnCall (Takes wanting piece) = AreBytes piece
 IsConnCall (Gives most) = ⊤
 IsConnCall Notifies = ⊤
 
--- What a connection takes of a piece, whatever it is
+-- What a connection consumes of a piece, whatever it is
 abbrev pub ConnTakes : Type 0
 ConnTakes =
     (keep : ℕ) (t : Intervals) (i : Instance) (wanting : Option ℕ) (piece : List ℕ) (o : Conn) →
     (taken : List ℕ)
     × IsTaken (λ m. conn_stops m.conn) (conn_byte keep t i) (record { conn = o; moments = []; wanting = wanting }) piece taken (conn_takes keep t i wanting piece o)
 
--- It stops only where a PDU ends, or a fault shows.
+-- It stops only at the end of a PDU, or if a fault shows.
 abbrev pub ConnStops : Type 0
 ConnStops =
     (keep : ℕ) (t : Intervals) (i : Instance) (m : Taking) (b : ℕ) → judge (version_at m.conn (b ∷ [])) false (m.conn.held ++ b ∷ []) ≡ Begins →

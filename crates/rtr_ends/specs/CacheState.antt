@@ -36,16 +36,16 @@ without_conns keep t i = record { keep = keep; timing = t; cache = i; at = λ c.
 abbrev pub with_conn : ℕ → Option Conn → CacheState → CacheState
 with_conn c o m = record m { at = λ d. if d == c then o else m.at d }
 
--- A piece is handed in on a connection; memory runs out at this PDU of it, if at any.
+-- A piece is received on a connection; memory runs out at this PDU of it, if at any.
 abbrev pub taken : Option ℕ → List ℕ → ℕ → CacheState → CacheState
 taken wanting piece c m = with_conn c (option_map (λ o. (conn_takes m.keep m.timing m.cache wanting piece o).machine.conn) (m.at c)) m
 
--- so many bytes of it are consumed
+-- this many bytes of it are consumed
 abbrev pub conn_consumed : Option ℕ → List ℕ → CacheState → Option Conn → ℕ
 conn_consumed wanting piece m None = 0
 conn_consumed wanting piece m (Some o) = length piece - length (conn_takes m.keep m.timing m.cache wanting piece o).rest
 
--- At most so many of the bytes due on a connection are pulled.
+-- At most this many of the bytes due on a connection are pulled.
 abbrev pub given : ℕ → ℕ → CacheState → CacheState
 given most c m = with_conn c (option_map (conn_pulled m.keep m.timing most) (m.at c)) m
 
@@ -79,7 +79,7 @@ pub record IsLeastFree (at : ℕ → Option Conn) (n : ℕ) : Type 0 where
   pub free : at n ≡ None
   pub least : (k : ℕ) → k < n → IsSome (at k)
 
--- what stands under a number of a list
+-- the connection under a number of a list
 abbrev pub joined : {X : Type 0} → Option (Option X) → Option X
 joined None = None
 joined (Some x) = x
@@ -110,7 +110,7 @@ pub record ShowsCache {S : Type 0} (holds : ℕ → Instance → S → Type 0) (
   pub slots : (c : ℕ) → ShowsSlot m.timing m.cache (m.at c) (peer_at cache.peers.items c)
   pub numbers : AreFree (taken_numbers cache.peers.items) cache.free
 
--- Memory runs out at this PDU of a piece: it is read, and its answer takes memory.
+-- Memory runs out at this PDU of a piece: it is read, and its answer allocates memory.
 abbrev pub is_wanted_at : List ℕ → CacheState → Option Conn → ℕ → Bool
 is_wanted_at piece m None unit = false
 is_wanted_at piece m (Some o) unit = is_wanted_by_peer m.keep m.timing m.cache o piece unit
@@ -126,7 +126,7 @@ pub record TakesPiece {S : Type 0} (holds : ℕ → Instance → S → Type 0) (
   pub shows : ShowsCache holds (taken wanting piece c m) new
   pub result_is : result ≡ conn_consumed wanting piece m (m.at c)
 
--- and where bytes are pulled
+-- and if bytes are pulled
 pub record GivesBytes {S : Type 0} (holds : ℕ → Instance → S → Type 0) (m : CacheState) (c : ℕ) (out : List ℕ) (result : ℕ) (now : List ℕ) (new : Cache S) : Type 0 where
   pub gives : sends.PullsBytes (due_at (m.at c)) out result now (due_at ((given (length out) c m).at c))
   pub shows : ShowsCache holds (given (length out) c m) new
@@ -142,21 +142,21 @@ Brings v old new =
     (t : Intervals) (i j : Instance) (a : Option Conn) → i.session ≡ j.session → i.session0 ≡ j.session0 → Some v ≡ newest (versions j) → ShowsSlot t i a old →
     ShowsSlot t j a new
 
--- One connection has a share of a newer version; no number is taken or freed.
+-- One connection has a share of a newer version; no number is allocated or freed.
 pub record OffersAt {A : Type 0} (old : List (Option (Box Peer A))) (c : ℕ) (share : Share) (new : List (Option (Box Peer A))) : Type 0 where
   pub len : length new ≡ length old
   pub taken : taken_numbers new ≡ taken_numbers old
   pub here : Brings (numbered_of share) (peer_at old c) (peer_at new c)
   pub others : (d : ℕ) → ¬ (d ≡ c) → peer_at new d ≡ peer_at old d
 
--- Each connection has a share of a newer version of this serial, where all these sets are its set; no number is taken or freed.
+-- Each connection has a share of a newer version of this serial, if all these sets are its set; no number is allocated or freed.
 abbrev pub HandsOut : {A : Type 0} → List (Option (Box Peer A)) → ℕ → List VrpSet → List (Option (Box Peer A)) → Type 0
 HandsOut old serial sets new =
     (taken_numbers new ≡ taken_numbers old)
     × ((set : VrpSet) → AllByRecursion (λ s. s ≡ set) sets → (c : ℕ) → Brings (record { serial = serial; set = set }) (peer_at old c) (peer_at new c))
 
--- What is called on a cache. A set is published, a connection is opened under a number or closed, a piece is handed in, bytes are pulled,
--- or a router is notified.
+-- What is called on a cache. A set is published, a connection is opened under a number or closed, a piece is received, bytes are pulled, or
+-- a router is notified.
 pub data CacheCall : Type 0 where
   Publish : (set : VrpSet) → CacheCall
   Open : (c : ℕ) → CacheCall
@@ -217,12 +217,12 @@ EachIsServed =
     (keep : ℕ) (t : Intervals) (i : Instance) (calls : List CacheCall) → IsInstance i → AllByRecursion IsCacheCall calls → (c : ℕ) →
     let m : CacheState = ran calls (without_conns keep t i) in IsLife m.keep m.timing m.cache (m.at c) (life calls (without_conns keep t i) c)
 
--- These calls, the last first, lead to the value, from a new cache that keeps so many versions, with these intervals and this instance.
+-- These calls, the last first, lead to the value, from a new cache that keeps this many versions, with these intervals and this instance.
 -- What the contract of a call says of a state, it says of the one after these calls, and the next is the state after one call more.
 abbrev pub CacheCallsLead : {S : Type 0} → (ℕ → Instance → S → Type 0) → ℕ → Intervals → Instance → List CacheCall → Cache S → Type 0
 CacheCallsLead holds keep t i calls cache = ShowsCache holds (ran calls (without_conns keep t i)) cache
 
--- What stands in the value under a number is a connection as its own calls leave it, and they made its history; or none is open there.
+-- Under a number the value holds a connection as its own calls leave it, and they made its history; or none is open there.
 pub record SlotIsServed {S : Type 0} (m : CacheState) (c : ℕ) (l : Option Life) (cache : Cache S) : Type 0 where
   pub shown : ShowsSlot m.timing m.cache (m.at c) (peer_at cache.peers.items c)
   pub served : IsLife m.keep m.timing m.cache (m.at c) l

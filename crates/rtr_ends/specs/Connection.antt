@@ -18,7 +18,7 @@ use Rattle.rtr_ends.specs.Answer.{Reply, and_on, and_end, answer, report, sent, 
 use Rattle.rtr_ends.specs.Timing.{Intervals}
 
 -- What happens, with the cache at that moment. Bytes were read as a PDU of a version, or they were and memory for its answer ran out. Bytes
--- show a fault while PDUs of a version are expected. The router is notified in a version, when these bytes of a PDU had come. So many of
+-- show a fault while PDUs of a version are expected. The router is notified in a version, when these bytes of a PDU had come. This many of
 -- the bytes due were pulled.
 pub data ConnMoment : Type 0 where
   Read : (version : Version) → (cache : Instance) → (unit : Unit) → (bytes : List ℕ) → ConnMoment
@@ -48,7 +48,7 @@ sent_by (Fault version fault bytes) = version
 sent_by (Notify version cache held) = version
 sent_by (Pull count) = V1
 
--- The version on which a connection of this version agreed, where it did
+-- The version on which a connection of this version agreed, if any
 abbrev pub agreed_version : Bool → Version → Option Version
 agreed_version true version = Some version
 agreed_version false version = None
@@ -65,18 +65,17 @@ fault_code agreed faults.Version = version_code agreed
 fault_code agreed faults.«Type» = UNSUPPORTED_TYPE
 fault_code agreed fault = CORRUPT_DATA
 
--- The report on a fault copies the bytes as they came. There is none on a PDU of type 10, nor where the input ends in a PDU.
+-- The report on a fault copies the bytes as they came. There is none on a PDU of type 10, nor if the input ends in a PDU.
 abbrev pub fault_report : Option Version → UnitFault → List ℕ → List Unit
 fault_report agreed faults.Truncated bytes = []
 fault_report agreed fault bytes = if is_kind kinds.ErrorReport bytes then [] else report (fault_code agreed fault) bytes ∷ []
 
--- A Serial Notify of the current version, where there is one (RFC 8210 section 5.2)
+-- A Serial Notify of the current version, if there is one (RFC 8210 section 5.2)
 abbrev pub notice : ℕ → List NumberedSet → List Unit
 notice session [] = []
 notice session (now ∷ older) = SerialNotify session now.serial ∷ []
 
--- What the cache sends at a moment, where this version was agreed on, if any. Out of memory is an Internal Error, and ends the
--- connection.
+-- What the cache sends at a moment. The version is the one agreed on, if any. Out of memory is an Internal Error, and ends the connection.
 abbrev pub reply : ℕ → Intervals → Option Version → ConnMoment → Reply
 reply keep t agreed (Read version cache unit bytes) = answer version cache keep t unit
 reply keep t agreed (Wanting version cache unit bytes) = and_end (report INTERNAL_ERROR [] ∷ [])
@@ -116,13 +115,13 @@ replies keep t moments = bytes_sent (replies_from keep t None moments)
 abbrev pub is_published : Instance → Bool
 is_published i = not (length i.sets == 0)
 
--- The PDUs whose answers may take memory: Serial Queries that are answered from what is published, where two sets are
--- compared. All else is ready.
+-- The PDUs whose answers may allocate memory: Serial Queries that are answered from what is published, by comparing two sets. All else is
+-- ready.
 abbrev pub takes_memory : Version → Instance → Unit → Bool
 takes_memory version i (SerialQuery session serial) = session == session_in version i && is_published i
 takes_memory version i u = false
 
--- The version of a notify, or of another PDU that is sent without a query: that of a header that has come whole, else version 1
+-- The version of a notify, or of another PDU that is sent without a query: that of a header that has come whole, otherwise version 1
 abbrev pub spoken_in : Option Version → Version
 spoken_in None = V1
 spoken_in (Some version) = version
@@ -137,8 +136,8 @@ pub record Connection : Type 0 where
   pub notified : Bool
   pub seen : List ℕ
 
--- What had come of a PDU when the router was notified is the beginning of one and the front of what comes. It is no less than had come when
--- the router was notified before.
+-- When the router was notified, what had arrived of a PDU is the beginning of one and the front of what comes. It is no less than had come
+-- when the router was notified before.
 pub record HadCome (c : Connection) (coming held : List ℕ) : Type 0 where
   pub begins : IsPartial (version_in c.version held) held
   pub more : List ℕ
@@ -146,8 +145,8 @@ pub record HadCome (c : Connection) (coming held : List ℕ) : Type 0 where
   pub rest : List ℕ
   pub front : coming ≡ held ++ rest
 
--- A moment is what it says of its bytes and of the cache, on this connection, where these bytes are coming. A notify is of the version
--- of the connection, or of that of a header that had come; before any header it is of version 1.
+-- A moment is what it says of its bytes and of the cache, on this connection, if these bytes are coming. A notify is of the version of the
+-- connection, or of that of a header that had come; before any header it is of version 1.
 abbrev pub IsConnMoment : Connection → List ℕ → ConnMoment → Type 0
 IsConnMoment c coming (Read version cache unit bytes) = (version ≡ version_in c.version bytes) × Reads version unit bytes
 IsConnMoment c coming (Wanting version cache unit bytes) =
@@ -165,7 +164,7 @@ abbrev pub is_notice : ConnMoment → Bool
 is_notice (Notify version cache held) = true
 is_notice m = false
 
--- what had come of a PDU at it, where it is a notify
+-- what had arrived of a PDU at it, if it is a notify
 abbrev pub seen_at : ConnMoment → List ℕ
 seen_at (Notify version cache held) = held
 seen_at m = []
@@ -184,7 +183,7 @@ pub record IsLater (earlier later : Instance) : Type 0 where
   pub more : List VrpSet
   pub sets : later.sets ≡ more ++ earlier.sets
 
--- Bytes due can be pulled at any time. All else happens only where the connection goes on and nothing is due.
+-- Bytes due can be pulled at any time. Anything else happens only if the connection continues and nothing is due.
 abbrev pub MayCome : Connection → List ℕ → ConnMoment → Type 0
 MayCome c coming (Pull count) = count ≤ length c.due
 MayCome c coming m =

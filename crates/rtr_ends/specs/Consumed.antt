@@ -27,24 +27,24 @@ fault_in (Restarts ∷ items) = None
 fault_in (Breaks fault ∷ items) = Some fault
 fault_in (item ∷ items) = fault_in items
 
--- What a call consumes of the piece that it hands in
+-- What a call consumes of the piece that it passes in
 abbrev pub consumed : RouterCall → Router → List ℕ
 consumed (Receives now wanting piece) r = take (length piece - length (receives now wanting piece r).rest) piece
 consumed call r = []
 
--- The bytes consumed on the latest connection by these calls, which stand with the last first
+-- The bytes consumed on the latest connection by these calls, the last first
 abbrev pub came : List RouterCall → List ℕ
 came [] = []
 came (Connects now ∷ calls) = []
 came (call ∷ calls) = came calls ++ consumed call (played calls).router
 
--- what is handed in are bytes
+-- what is received are bytes
 abbrev pub IsRouterCall : RouterCall → Type 0
 IsRouterCall (Receives now wanting piece) = AreBytes piece
 IsRouterCall call = ⊤
 
--- The transcript has the split of these bytes: all PDUs, in their order, and the fault that shows. As long as the router reads
--- none shows, and what follows the PDUs is held. A closed link holds nothing, and nothing is to be pulled from it.
+-- The transcript has the split of these bytes: all PDUs, in their order, and the fault that shows. As long as the router reads none shows,
+-- and what follows the PDUs is held. A closed link holds nothing, and nothing is pending on it.
 pub record IsSplit (r : Router) (items : List Item) (bytes : List ℕ) : Type 0 where
   pub rest : List ℕ
   pub split : Splits (spoken items) true bytes (units_read_in items) rest (fault_in items)

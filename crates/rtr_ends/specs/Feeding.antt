@@ -1,4 +1,4 @@
--- A machine that takes bytes one by one, and what it takes of a piece.
+-- A machine that consumes bytes one by one, and what it consumes of a piece.
 use Rattle.std.specs.Prelude.{◌≡◌, ℕ, ◌<◌, Bool, true, false, List, [], ◌∷◌, ◌++◌, length}
 
 -- a machine after a piece, and what it left of it
@@ -6,9 +6,9 @@ pub record FedPiece (M : Type 0) : Type 0 where
   pub machine : M
   pub rest : List ℕ
 
--- It stops where it has bytes due or its link has ended.
+-- It stops if it has bytes due or its link has ended.
 module _ {M : Type 0} (stops : M → Bool) (step : M → ℕ → M) where
-  -- a piece is handed in, byte by byte
+  -- a piece is received, byte by byte
   abbrev pub feed : M → List ℕ → FedPiece M
   feed m [] = record { machine = m; rest = [] }
   feed m (b ∷ bytes) = elim (stops m) [ true ↦ record { machine = m; rest = b ∷ bytes } | false ↦ feed (step m b) bytes ]
@@ -18,8 +18,8 @@ module _ {M : Type 0} (stops : M → Bool) (step : M → ℕ → M) where
   run m [] = m
   run m (b ∷ bytes) = run (step m b) bytes
 
-  -- What a machine takes of a piece: the shortest beginning of it after which the machine stops, else all of it. A machine that
-  -- stops already takes nothing.
+  -- What a machine consumes of a piece: the shortest beginning of it after which the machine stops, otherwise all of it. A machine that has
+  -- stopped already consumes nothing.
   pub record IsTaken (m : M) (piece taken : List ℕ) (after : FedPiece M) : Type 0 where
     pub piece_is : piece ≡ taken ++ after.rest
     pub machine_is : after.machine ≡ run m taken

@@ -17,7 +17,7 @@ use Rattle.rtr_ends.specs.declared.router.Router as code
 use Rattle.rtr_ends.specs.declared.streams.StreamFault.{StreamFault}
 use Rattle.rtr_ends.specs.declared.streams.StreamFault.TheVariants.{ReadFailed, WriteFailed, Memory}
 
--- What a stream calls on its router while it is connected: it hands in bytes at this moment, and pulls.
+-- What a stream calls on its router while it is connected: it passes in bytes at this moment, and pulls.
 abbrev pub IsFetchCall : ℕ → RouterCall → Type 0
 IsFetchCall now (Receives at wanting piece) = (at ≡ now) × AreBytes piece
 IsFetchCall now (Pulls most) = ⊤
@@ -40,7 +40,7 @@ is_asking (Asked question) = true
 is_asking (Answering answer) = true
 is_asking link = false
 
--- What a link has come to, where it asks no more: an End of Data, or code 2, No Data Available, brought it to idle last; or it has ended.
+-- The state of a link that has no question outstanding: it became idle by an End of Data, or by code 2, No Data Available; or it has ended.
 abbrev pub reached_by : Link → Bool → Option Fetched
 reached_by Idle no_data = Some (if no_data then outcomes.NoData else outcomes.Committed)
 reached_by (Ended end) no_data = Some (outcomes.Ended end)
@@ -53,7 +53,7 @@ IsReached (outcomes.Ended end) = ⊤
 IsReached outcomes.PeerClosed = ⊥
 IsReached outcomes.Limit = ⊥
 
--- All that was pulled has gone out, and nothing is to be pulled.
+-- All that was pulled has gone out, and nothing is pending.
 abbrev pub AllAsked : List RouterCall → Option (List ℕ) → Option (List ℕ) → Type 0
 AllAsked calls had has = ((played calls).router.out ≡ []) × Appends had has (pulled_by calls)
 
@@ -61,8 +61,8 @@ AllAsked calls had has = ((played calls).router.out ≡ []) × Appends had has (
 abbrev pub StillAsks : List RouterCall → List ℕ → Type 0
 StillAsks calls unread = (unread ≡ []) × (is_asking (played calls).router.link ≡ true)
 
--- How a stream ended whose router is where these calls led, where these bytes were read and not consumed and this is left of the input.
--- What ended the link consumes nothing after it. Where the writer failed, a beginning of what was pulled has gone out.
+-- How a stream ended: these calls led to its router, these bytes were read and not consumed, and this is left of the input. What ended the
+-- link consumes nothing after it. If the writer failed, a beginning of what was pulled has gone out.
 abbrev pub FetchEnds : List RouterCall → List ℕ → Option (List ℕ) → Option (List ℕ) → Option (List ℕ) → Result Fetched StreamFault → Type 0
 FetchEnds calls unread left had has (Ok outcomes.Committed) =
     AllAsked calls had has × (unread ≡ []) × ((played calls).router.link ≡ Idle) × ((played calls).router.no_data ≡ false)
@@ -75,11 +75,11 @@ FetchEnds calls unread left had has (Err ReadFailed) = AllAsked calls had has ×
 FetchEnds calls unread left had has (Err WriteFailed) = GoesOutInPart had has (pulled_by calls)
 FetchEnds calls unread left had has (Err Memory) = ⊥
 
--- The calls on a router that was where these calls led, and was connected then
+-- The calls on a router to which these calls led, and which was connected then
 abbrev pub calls_since : List RouterCall → ℕ → List RouterCall → List RouterCall
 calls_since turns now calls = turns ++ Connects now ∷ calls
 
--- What was read on a connection, in so many calls of at most 4,096 bytes each, was consumed but for what is reported; and so it ended.
+-- What was read on a connection, in this many calls of at most 4,096 bytes each, was consumed but for what is reported; and so it ended.
 pub record FetchesSo (now : ℕ) (calls : List RouterCall) (before left : Option (List ℕ)) (reads : ℕ) (had has : Option (List ℕ)) (result : Result Fetched StreamFault) : Type 0 where
   pub turns : List RouterCall
   pub each : AllByRecursion (IsFetchCall now) turns
@@ -98,14 +98,14 @@ abbrev pub Fetches : ℕ → List RouterCall → Option (List ℕ) → Option (L
 Fetches now calls before left reads had has result new =
     (f : FetchesSo now calls before left reads had has result) × Led (Closes now ∷ calls_since f.turns now calls) new
 
--- How often was read, where at most so many reads were allowed
+-- The number of reads, if at most this many were allowed
 abbrev pub FetchReads : ℕ → ℕ → ℕ → Result Fetched StreamFault → Type 0
 FetchReads limit before now (Ok outcomes.Limit) = now ≡ before + limit
 FetchReads limit before now (Ok outcomes.PeerClosed) = (before < now) × (now ≤ before + limit)
 FetchReads limit before now result = (before ≤ now) × (now ≤ before + limit)
 
--- How a piece was consumed by a router that was where these calls led. All of it is consumed, or the link has ended; and all bytes to be
--- pulled have gone out, or the writer failed.
+-- How a piece was consumed by a router to which these calls led. All of it is consumed, or the link has ended; and all bytes to be pulled
+-- have gone out, or the writer failed.
 abbrev pub TakesSo : Router → List ℕ → List ℕ → Option (List ℕ) → Option (List ℕ) → Result ⊤ Failed → Type 0
 TakesSo r unread sent had has (Ok done) = (r.out ≡ []) × (0 < length unread → is_reading r.link ≡ false) × Appends had has sent
 TakesSo r unread sent had has (Err failed) = GoesOutInPart had has sent
@@ -121,7 +121,7 @@ pub record Taken (now : ℕ) (calls : List RouterCall) (piece : List ℕ) (had h
   pub pulled_is : pulled_by (more ++ calls) ≡ pulled_by calls ++ sent
   pub takes : TakesSo (played (more ++ calls)).router unread sent had has result
 
--- So much of a piece is taken, and all that was pulled has gone out.
+-- This much of a piece is consumed, and all that was pulled has gone out.
 pub record TakenPart (now : ℕ) (calls : List RouterCall) (piece : List ℕ) (had has : Option (List ℕ)) (new : code.Router) : Type 0 where
   pub more : List RouterCall
   pub each : AllByRecursion (IsFetchCall now) more

@@ -17,8 +17,8 @@ use Rattle.rtr_ends.specs.RouterLink.{Link, Closed, Idle, Asked, Answering, Ende
 -- What a router holds. Of what it committed: the table and the version, the table before the latest commit, and the mark that the next
 -- query must be a Reset Query. Of time: when an idle link asks, and the greatest moment so far. `no_data`: whether code 2, No Data
 -- Available, and no commit brought a link to idle last. The version of its next connection, and that of its connection, or of the latest
--- one. Of its connection: the link, whether a version is agreed on, and the session of the latest Cache Response. And what has come of a
--- PDU, and the bytes to be pulled.
+-- one. Of its connection: the link, whether a version is agreed on, and the session of the latest Cache Response. And what has arrived of a
+-- PDU, and the pending bytes.
 pub record Router : Type 0 where
   pub table : VrpSet
   pub before : VrpSet
@@ -139,7 +139,7 @@ on_unit (Answering a) (EndOfData0 session serial) r =
 on_unit (Answering a) (ErrorReport e) r = told_off a.question e.code r
 on_unit (Answering a) u r = reports 0 u r
 
--- The PDUs at which memory is taken: those that stage a record, or commit
+-- The PDUs at which memory is allocated: those that stage a record, or commit
 abbrev pub is_staged : Staged → Bool
 is_staged (Stays a) = true
 is_staged other = false

@@ -70,7 +70,7 @@ since_reply version keep t i memory serial =
 abbrev pub read_reply : Version → ℕ → Intervals → Instance → Bool → Unit → Reply
 read_reply version keep t i memory u = if takes_memory version i u && not memory then no_memory else answer version i keep t u
 
--- A fault is reported, where it is.
+-- A fault is reported, if it is.
 pub record ReportsFault (old : Peer) (fault : UnitFault) (new : Peer) : Type 0 where
   pub reader : new.reader ≡ fresh (Some (spoken_in (known_version old.reader))) false
   pub ended : new.ended ≡ true
@@ -81,11 +81,11 @@ abbrev pub maybe : Option Unit → List Unit
 maybe None = []
 maybe (Some u) = u ∷ []
 
--- Memory runs out at this PDU of a piece: the PDU is read, and its answer takes memory.
+-- Memory runs out at this PDU of a piece: the PDU is read, and its answer allocates memory.
 abbrev pub is_wanted_by_peer : ℕ → Intervals → Instance → Conn → List ℕ → ℕ → Bool
 is_wanted_by_peer keep t i o piece unit = list_any is_wanting (conn_takes keep t i (Some unit) piece o).machine.moments
 
--- A piece is handed in. At one PDU of it, if at any, memory runs out.
+-- A piece is received. At one PDU of it, if at any, memory runs out.
 pub record Receives (keep : ℕ) (t : Intervals) (i : Instance) (o : Conn) (piece : List ℕ) (consumed : ℕ) (new : Peer) : Type 0 where
   pub wanting : Option ℕ
   pub wanted : IfSome wanting (λ unit. is_wanted_by_peer keep t i o piece unit ≡ true)

@@ -51,11 +51,11 @@ with_bytes memory bytes r (Whole u) =
     if may_lack r.link u r && not memory then lacks u (record r { held = [] }) else reads u (record r { held = [] })
 with_bytes memory bytes r (Faulty fault) = breaks fault bytes r
 
--- Nothing is consumed where bytes are to be pulled, or the link is closed or has ended.
+-- Nothing is consumed if bytes are pending, or the link is closed or has ended.
 abbrev pub router_stops : Router → Bool
 router_stops r = not (is_reading r.link && is_none r.out)
 
--- a router that takes a piece, with what that adds to its transcript, and the PDU at which memory runs out
+-- a router that consumes a piece, with what that adds to its transcript, and the PDU at which memory runs out
 pub record Receiving : Type 0 where
   pub router : Router
   pub items : List Item
@@ -102,7 +102,7 @@ asks_if false r = silent r
 abbrev pub and_then : List Item → Noted → Noted
 and_then items n = record { router = n.router; items = n.items ++ items }
 
--- The calls. `connect` closes an older connection, and makes one of the version that was set last; `ask` asks where the link is idle.
+-- The calls. `connect` closes an older connection, and makes one of the version that was set last; `ask` asks if the link is idle.
 unfoldable pub connects_at : ℕ → Router → Noted
 connects_at now r =
     let closed : Router = close (clocked now r) in

@@ -1,4 +1,4 @@
--- What a router takes of a piece, holds, asks and speaks, whatever it is given and reads.
+-- What a router consumes of a piece, holds, asks and speaks, whatever it is given and reads.
 use Rattle.std.specs.Prelude.{◌≡◌, ◌⊎◌, ℕ, Bool, true, false, not, List, [], ◌∷◌, ◌++◌, take, Option, Some, None}
 use Rattle.vrps.specs.VrpSet.{VrpSet}
 use Rattle.rtr_pdu.specs.declared.version.Version.{Version}
@@ -12,22 +12,22 @@ use Rattle.rtr_ends.specs.LinkRules.{Router}
 use Rattle.rtr_ends.specs.Router.{router_stops, Receiving, router_byte, clocked, receives, RouterCall, Connects, Pulls, Speaks, played}
 use Rattle.rtr_ends.specs.RouterLink.{Link, Closed, Idle, Asked, Answering, Ended}
 
--- What a router takes of a piece, whatever it is
+-- What a router consumes of a piece, whatever it is
 abbrev pub RouterTakes : Type 0
 RouterTakes =
     (now : ℕ) (wanting : Option ℕ) (piece : List ℕ) (r : Router) →
     (taken : List ℕ)
     × IsTaken (λ m. router_stops m.router) router_byte (record { router = clocked now r; items = At now ∷ []; wanting = wanting }) piece taken (receives now wanting piece r)
 
--- It stops only where a PDU ends, or a fault shows.
+-- It stops only at the end of a PDU, or if a fault shows.
 abbrev pub RouterStops : Type 0
 RouterStops =
     (m : Receiving) (b : ℕ) → judge m.router.spoken (not m.router.agreed) (m.router.held ++ b ∷ []) ≡ Begins →
     router_stops (router_byte m b).router ≡ router_stops m.router
 
 -- What the transcript says of a link with this agreement and session of its connection, over this table. A closed link has no connection. A
--- link that has ended has one, and no more is said of it. An idle link has no question outstanding. A link that has asked has that question
--- waiting. An answer has come as far as is staged, each record of it acting once.
+-- link that has ended has one, and nothing else is said of it. An idle link has no question outstanding. A link that has asked has that
+-- question waiting. An answer has come as far as is staged, each record of it acting once.
 abbrev pub LinkTells : Link → Bool → Option ℕ → VrpSet → List Item → Type 0
 LinkTells Closed agreed session table items = (is_connected items ≡ false) × (agreed ≡ false) × (session ≡ None)
 LinkTells (Ended end) agreed session table items = is_connected items ≡ true
@@ -61,13 +61,13 @@ pub record IsAsking (r : Router) (items : List Item) : Type 0 where
 abbrev pub RouterAsks : Type 0
 RouterAsks = (calls : List RouterCall) → IsAsking (played calls).router (played calls).items
 
--- the version that was set last for a router, 1 where none was set. The calls stand with the last first.
+-- the version that was set last for a router, 1 if none was set. The calls are in order, the last first.
 abbrev pub told_version : List RouterCall → Version
 told_version [] = V1
 told_version (Speaks version ∷ calls) = version
 told_version (call ∷ calls) = told_version calls
 
--- the version that was set when the latest connection was made, 1 where there was none
+-- the version that was set when the latest connection was made, 1 if there was none
 abbrev pub connected_version : List RouterCall → Version
 connected_version [] = V1
 connected_version (Connects now ∷ calls) = told_version calls
@@ -78,14 +78,14 @@ abbrev pub RouterSpeaks : Type 0
 RouterSpeaks =
     (calls : List RouterCall) → ((played calls).router.speaks ≡ told_version calls) × (spoken (played calls).items ≡ connected_version calls)
 
--- the bytes of the questions of the latest connection, which is of this version, in their order. The items stand with the last first.
+-- the bytes of the questions of the latest connection, which is of this version, in their order. The items are in order, the last first.
 abbrev pub questions_in : Version → List Item → List ℕ
 questions_in version [] = []
 questions_in version (Opened opened ∷ items) = []
 questions_in version (Asks question ∷ items) = questions_in version items ++ sent version (query question)
 questions_in version (item ∷ items) = questions_in version items
 
--- the bytes that were pulled since the latest connection was made. The calls stand with the last first.
+-- the bytes that were pulled since the latest connection was made. The calls are in order, the last first.
 abbrev pub pulled_by : List RouterCall → List ℕ
 pulled_by [] = []
 pulled_by (Connects now ∷ calls) = []
@@ -103,7 +103,7 @@ SaysLast (Ended (ends.Reported code)) version bytes = IsReport version code byte
 SaysLast Closed version bytes = (bytes ≡ []) ⊎ ((code : ℕ) × IsReport version code bytes)
 SaysLast link version bytes = bytes ≡ []
 
--- What was not pulled is dropped where the link is closed, and where a Serial Query expires.
+-- What was not pulled is dropped if the link is closed, and if a Serial Query expires.
 abbrev pub is_cut : Link → Bool
 is_cut Closed = true
 is_cut (Ended ends.Expired) = true

@@ -18,7 +18,7 @@ pub data Link : Type 0 where
   Answering : (answer : Begun) → Link
   Ended : (end : End) → Link
 
--- Bytes are read but where it is closed or has ended.
+-- Bytes are read unless it is closed or has ended.
 abbrev pub is_reading : Link → Bool
 is_reading Closed = false
 is_reading (Ended end) = false

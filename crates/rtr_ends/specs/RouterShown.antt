@@ -37,11 +37,11 @@ abbrev pub is_lacking : Item → Bool
 is_lacking (Lacks u) = true
 is_lacking item = false
 
--- Memory runs out at this PDU of a piece: it takes memory.
+-- Memory runs out at this PDU of a piece: it allocates memory.
 abbrev pub is_wanted_by_router : ℕ → List ℕ → Router → ℕ → Bool
 is_wanted_by_router now piece r unit = list_any is_lacking (receives now (Some unit) piece r).machine.items
 
--- A piece is handed in, and so many bytes of it are consumed.
+-- A piece is received, and this many bytes of it are consumed.
 pub record Received (now : ℕ) (wanting : Option ℕ) (piece : List ℕ) (count : ℕ) (r : Router) (new : code.Router) : Type 0 where
   pub shown : IsShown (called (Receives now wanting piece) r).router new
   pub count_is : count ≡ length piece - length (receives now wanting piece r).rest
@@ -51,7 +51,7 @@ pub record Received (now : ℕ) (wanting : Option ℕ) (piece : List ℕ) (count
 abbrev pub ReceivesSo : ℕ → List ℕ → ℕ → code.Router → code.Router → Type 0
 ReceivesSo now piece count old new = (wanting : Option ℕ) × ((r : Router) → IsShown r old → Received now wanting piece count r new)
 
--- a router that takes a piece
+-- a router that consumes a piece
 abbrev pub taking : Router → List Item → Option ℕ → Receiving
 taking r items wanting = record { router = r; items = items; wanting = wanting }
 
@@ -67,7 +67,7 @@ pub record Arrives (f : FedPiece Receiving) (wanting : Option ℕ) (r : Router) 
   pub rest_is : f.rest ≡ rest
   pub wanted : IsLacking wanting f
 
--- It goes on as another with another piece. Where memory runs out later, it counts from here.
+-- It continues as another with another piece. If memory runs out later, it counts from here.
 pub record Follows (f : FedPiece Receiving) (wanting : Option ℕ) (g : FedPiece Receiving) (later : Option ℕ) : Type 0 where
   pub router_is : f.machine.router ≡ g.machine.router
   pub rest_is : f.rest ≡ g.rest
@@ -76,7 +76,7 @@ pub record Follows (f : FedPiece Receiving) (wanting : Option ℕ) (g : FedPiece
 abbrev pub GoesOn : (Option ℕ → Option ℕ) → Router → List ℕ → Router → List ℕ → Type 0
 GoesOn from before piece now rest = (items : List Item) (wanting : Option ℕ) → (later : List Item) × Follows (fed before items (from wanting) piece) (from wanting) (fed now later wanting rest) wanting
 
--- What was taken leads to this router, with this left; or it is all that is taken.
+-- What was consumed leads to this router, with this left; or it is all that is consumed.
 abbrev pub TakesOn : Bool → code.Router → List ℕ → code.Router → List ℕ → Type 0
 TakesOn true old piece new rest = (from : Option ℕ → Option ℕ) × ((r : Router) → IsShown r old → (n : Router) × IsShown n new × GoesOn from r piece n rest)
 TakesOn false old piece new rest = (wanting : Option ℕ) × ((r : Router) → IsShown r old → (n : Router) × IsShown n new × ((items : List Item) → Arrives (fed r items wanting piece) wanting n rest))

@@ -36,7 +36,7 @@ abbrev pub begun_with : Question → ℕ → List Payload → List Payload → B
 begun_with question session withdrawn announced =
     record { question = seen_question question; session = session; withdrawn = withdrawn; announced = announced }
 
--- the link, where these records were staged
+-- the link, if these records were staged
 abbrev pub seen_link : State → List Payload → List Payload → Link
 seen_link states.Closed withdrawn announced = Closed
 seen_link states.Idle withdrawn announced = Idle
@@ -44,7 +44,7 @@ seen_link (states.Asked question) withdrawn announced = Asked (seen_question que
 seen_link (states.Answering question session) withdrawn announced = Answering (begun_with question session withdrawn announced)
 seen_link (states.Ended end) withdrawn announced = Ended end
 
--- the router, where these were staged and these bytes have come of a PDU
+-- the router, if these were staged and these bytes have arrived of a PDU
 abbrev pub seen : Machine → List Payload → List Payload → List ℕ → Router
 seen m withdrawn announced held = record {
   table = m.table;
@@ -76,7 +76,7 @@ abbrev pub Stages : State → VrpSet → List Payload → List Payload → Stagi
 Stages (states.Answering question session) table withdrawn announced s = IsStaged (base_of (seen_question question) table) withdrawn announced s
 Stages state table withdrawn announced s = ⊤
 
--- The machine is this router, where these bytes have come of a PDU.
+-- The machine is this router, if these bytes have arrived of a PDU.
 pub record ShowsRouter (r : Router) (m : Machine) : Type 0 where
   pub withdrawn : List Payload
   pub announced : List Payload
@@ -91,7 +91,7 @@ Does step old new = (r : Router) → ShowsRouter r old → ShowsRouter (step r) 
 abbrev pub EndsLink : Machine → Machine → Type 0
 EndsLink old new = (r : Router) (end : End) → ShowsRouter r old → ShowsRouter (record r { link = Ended end }) (record new { state = states.Ended end })
 
--- A PDU is read; or memory runs out where it may be; or the table would have too many records.
+-- A PDU is read; or memory runs out if it may be; or the table would have too many records.
 abbrev pub UnitIsRead : Result ⊤ SetFault → Unit → Machine → Machine → Type 0
 UnitIsRead (Ok done) u old new = Does (λ r. on_unit r.link u r) old new
 UnitIsRead (Err Memory) u old new = EndsLink old new × ((r : Router) → ShowsRouter r old → may_lack r.link u r ≡ true)

@@ -63,7 +63,7 @@ newest_in None (Some a) = shared_in a.records
 unfoldable pub newest_of : Sender → Option NumberedSet
 newest_of s = newest_in s.ready s.answer
 
--- Where no more was ready than a PDU has, no more is.
+-- If at most the bytes of one PDU were ready, at most these are.
 abbrev pub KeepsRoom : Sender → Sender → Type 0
 KeepsRoom old new = ready_in old ≤ MAX_UNIT_LEN → ready_in new ≤ MAX_UNIT_LEN
 
@@ -113,12 +113,12 @@ pub record KeepsRecords (old : Sender) (records : Records) (new : Sender) : Type
   pub answer : new.answer ≡ None
   pub ready : newest_in new.ready None ≡ newest_in old.ready (Some (record { records = records; place = 0 }))
 
--- A PDU is written into a buffer, which has these bytes then, where there is a PDU.
+-- A PDU is written into a buffer, which then has these bytes, if there is a PDU.
 abbrev pub Writes : {B : Type 0} → Version → Option Unit → Bool → B → List ℕ → B → Type 0
 Writes version None written old bytes new = (written ≡ false) × (new ≡ old)
 Writes version (Some u) written old bytes new = (written ≡ true) × (bytes ≡ sent version u) × IsUnitOf version u
 
--- The first PDU that was left stands in the buffer, and the others are left.
+-- The first PDU that was left is in the buffer, and the others are left.
 pub record Hands (old new : Sender) : Type 0 where
   pub first : Unit
   pub was : left old ≡ first ∷ left new
@@ -149,14 +149,14 @@ pub record GivesFrom (old : Sender) (out : List ℕ) (filled result : ℕ) (now 
   pub ready : new.ready ≡ old.ready
   pub answer : new.answer ≡ old.answer
 
--- The first of these PDUs, so many, are written behind the bytes that are filled.
+-- This many of these PDUs, from the first, are written behind the bytes that are filled.
 pub record FillsWith (version : Version) (units : List Unit) (out : List ℕ) (filled count result : ℕ) (now : List ℕ) : Type 0 where
   pub within : count ≤ length units
   pub result_is : result ≡ filled + length (sent_all version (take count units))
   pub low : result ≤ length out
   pub now_is : now ≡ take filled out ++ sent_all version (take count units) ++ drop result out
 
--- Records of an answer from its place on are written so, and it goes on behind them.
+-- Records of an answer from its place are written so, and it continues behind them.
 pub record FillsFrom (version : Version) (old : AnswerCursor) (out : List ℕ) (filled result : ℕ) (now : List ℕ) (new : AnswerCursor) : Type 0 where
   pub count : ℕ
   pub fills : FillsWith version (drop old.place (units_in old.records)) out filled count result now

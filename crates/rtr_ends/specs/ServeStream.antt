@@ -15,7 +15,7 @@ use Rattle.rtr_ends.specs.declared.serving.Served.TheVariants.{PeerClosed, Trunc
 use Rattle.rtr_ends.specs.declared.streams.StreamFault.{StreamFault}
 use Rattle.rtr_ends.specs.declared.streams.StreamFault.TheVariants.{ReadFailed, WriteFailed, Memory}
 
--- What a stream calls on its connection: it hands in bytes, and pulls what is due. It publishes nothing, and notifies no router.
+-- What a stream calls on its connection: it passes in bytes, and pulls what is due. It publishes nothing, and notifies no router.
 abbrev pub IsTurn : ConnCall → Type 0
 IsTurn (Publishes set) = ⊥
 IsTurn (Takes wanting piece) = AreBytes piece
@@ -26,7 +26,7 @@ IsTurn Notifies = ⊥
 abbrev pub stood : CacheState → List ConnCall → Serving
 stood m calls = serving m.keep m.timing m.cache calls
 
--- It stands so under this number of the cache, and all else is as it was.
+-- It is so under this number of the cache, and all else is as it was.
 abbrev pub StandsAt : {S : Type 0} → (ℕ → Instance → S → Type 0) → CacheState → ℕ → List ConnCall → Cache S → Type 0
 StandsAt holds m c calls cache = ShowsCache holds (with_conn c (Some (stood m calls).conn) m) cache
 
@@ -43,7 +43,7 @@ ended_within false = PeerClosed
 abbrev pub AllOut : Serving → Option (List ℕ) → Option (List ℕ) → Type 0
 AllOut s had has = (s.conn.state.due ≡ []) × Appends had has s.given
 
--- All that was read is consumed, and the connection goes on.
+-- All that was read is consumed, and the connection continues.
 abbrev pub ConnectionGoesOn : Serving → List ℕ → Type 0
 ConnectionGoesOn s unread = (unread ≡ []) × (s.conn.state.ended ≡ false)
 
@@ -60,7 +60,7 @@ EndsSo s unread left had has (Err ReadFailed) = AllOut s had has × ConnectionGo
 EndsSo s unread left had has (Err WriteFailed) = GoesOutInPart had has s.given
 EndsSo s unread left had has (Err Memory) = (unread ≡ []) × (s.came ≡ []) × (s.given ≡ [])
 
--- One connection that was opened at this cache. What was read, in so many calls of at most 4,096 bytes each, was consumed but for what is
+-- One connection that was opened at this cache. What was read, in this many calls of at most 4,096 bytes each, was consumed but for what is
 -- reported. That made the connection's history (`IsServed`), by which what it pulled is its replies. And so it ended.
 pub record ServesConnection (m : CacheState) (before left : Option (List ℕ)) (reads : ℕ) (had has : Option (List ℕ)) (result : Result Served StreamFault) : Type 0 where
   pub calls : List ConnCall
@@ -71,12 +71,12 @@ pub record ServesConnection (m : CacheState) (before left : Option (List ℕ)) (
   pub few : length ((stood m calls).came ++ unread) ≤ MAX_UNIT_LEN * reads
   pub ends : EndsSo (stood m calls) unread left had has result
 
--- and its connection still stands under this number
+-- and its connection is still under this number
 abbrev pub EndedAs : {S : Type 0} → (ℕ → Instance → S → Type 0) → CacheState → ℕ → Option (List ℕ) → Option (List ℕ) → ℕ → Option (List ℕ) → Option (List ℕ) → Result Served StreamFault → Cache S → Type 0
 EndedAs holds m c before left reads had has result new =
     (s : ServesConnection m before left reads had has result) × StandsAt holds m c s.calls new
 
--- How often was read, where at most so many reads were allowed
+-- The number of reads, if at most this many were allowed
 abbrev pub ReadsWithin : ℕ → ℕ → ℕ → Result Served StreamFault → Type 0
 ReadsWithin limit before now (Ok Limit) = now ≡ before + limit
 ReadsWithin limit before now (Ok served) = (before < now) × (now ≤ before + limit)
@@ -99,7 +99,7 @@ pub record Answered {S : Type 0} (holds : ℕ → Instance → S → Type 0) (m 
   pub given : (stood m later).given ≡ (stood m calls).given ++ sent
   pub answers : AnswersSo (stood m later) unread sent had has result
 
--- A connection that stands after these calls, where so much of a piece was consumed, and all that was pulled has gone out
+-- A connection after these calls, with this much of a piece consumed, and all that was pulled gone out
 pub record Partly {S : Type 0} (holds : ℕ → Instance → S → Type 0) (m : CacheState) (c : ℕ) (calls : List ConnCall) (piece : List ℕ) (had has : Option (List ℕ)) (cache : Cache S) : Type 0 where
   pub later : List ConnCall
   pub turns : AllByRecursion IsTurn later

@@ -11,7 +11,7 @@ use Rattle.rtr_ends.specs.declared.staging.Staging.{Staging}
 use Rattle.rtr_ends.specs.declared.staging.Staged.{Staged}
 use Rattle.rtr_ends.specs.declared.staging.Staged.TheVariants.{Stays, Wrong}
 
--- Memory runs out only where the record would be staged.
+-- Memory runs out only if the record would be staged.
 abbrev pub StagesRecord : VrpSet → Begun → rules.Staged → Result Staged SetFault → Staging → Type 0
 StagesRecord base b (rules.Stays a) (Ok Stays) new = IsStaged base a.withdrawn a.announced new × (a.question ≡ b.question) × (a.session ≡ b.session)
 StagesRecord base b (rules.Stays a) (Err Memory) new = ⊤

@@ -18,7 +18,7 @@ stream_fault_of (Err fault) = Some fault
 abbrev pub FailsNever : {D : Type 0} → Counted D → Counted D → Type 0
 FailsNever old new = failures_of new ≡ failures_of old
 
--- One call failed where the fault says so, and no other. Without a connection no device was called.
+-- One call failed if the fault says so, and no other. Without a connection no device was called.
 abbrev pub FailsSo : {R W : Type 0} → Counted R → Counted R → Counted W → Counted W → Option StreamFault → Type 0
 FailsSo input read output written None = FailsNever input read × FailsNever output written
 FailsSo input read output written (Some ReadFailed) = HasFailed input read × FailsNever output written

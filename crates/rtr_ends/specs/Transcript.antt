@@ -1,5 +1,4 @@
--- What a router was given, asked and read, and what it must hold after that (RFC 8210 sections 5, 6 and 8). All lists stand with
--- the last first.
+-- What a router was given, asked and read, and what it must hold after that (RFC 8210 sections 5, 6 and 8). All lists have the last first.
 use Rattle.std.specs.Prelude.{◌≡◌, ◌↔◌, ℕ, ◌+◌, ◌-◌, Bool, true, false, not, ◌&&◌, ◌||◌, ◌==◌, nat_lt, List, [], ◌∷◌, Option, Some, None, is_some, option_map, if◌then◌else◌, ⊤}
 use Rattle.std.specs.List.{list_any}
 use Rattle.std.specs.Ordering.{eq_by_cmp}
@@ -56,7 +55,7 @@ is_connected (Shut ∷ items) = false
 is_connected (Restarts ∷ items) = false
 is_connected (item ∷ items) = is_connected items
 
--- the version of the latest connection, 1 where there was none
+-- the version of the latest connection, 1 if there was none
 abbrev pub spoken : List Item → Version
 spoken [] = V1
 spoken (Restarts ∷ items) = V1
@@ -143,7 +142,7 @@ acts_once base withdrawn announced = may_withdraw base withdrawn && may_announce
 unfoldable pub led_to : VrpSet → List Payload → List Payload → VrpSet
 led_to base withdrawn announced = union (without base (set_of withdrawn)) (set_of announced)
 
--- The test is exact: an answer leads somewhere where it passes, and then there.
+-- The test is exact: an answer leads to a set if and only if it passes, and then to that set.
 abbrev pub ActsExactly : Type 0
 ActsExactly =
     (base : VrpSet) (withdrawn announced : List Payload) →
@@ -163,7 +162,7 @@ is_same V0 V0 = true
 is_same V1 V1 = true
 is_same one other = false
 
--- what was committed, where it is of this version of the protocol
+-- what was committed, if it is of this version of the protocol
 abbrev pub of_version : Version → Option Committed → Option Committed
 of_version spoken None = None
 of_version spoken (Some version) = if is_same spoken version.version then Some version else None
@@ -193,7 +192,8 @@ abbrev pub base_of : Question → VrpSet → VrpSet
 base_of AskReset table = empty
 base_of (AskSerial session serial) table = table
 
--- The session of a connection: that of its latest Cache Response, else the one committed in its version, else none. None differs from none.
+-- The session of a connection: that of its latest Cache Response, otherwise the one committed in its version, otherwise none. None differs
+-- from none.
 abbrev pub session_of : Option ℕ → Option Committed → Option ℕ
 session_of (Some session) version = Some session
 session_of None (Some version) = Some version.session
@@ -222,7 +222,7 @@ abbrev pub emptied_if : Bool → Kept → Kept
 emptied_if true k = nothing
 emptied_if false k = k
 
--- At an End of Data: a commit, or nothing where the answer leads nowhere; another session than the response's empties.
+-- At an End of Data: a commit, or nothing if the answer leads nowhere; a session other than the response's empties the table.
 abbrev pub at_end_of_data : Option Begun → Committed → Kept → Kept
 at_end_of_data None version k = k
 at_end_of_data (Some a) version k =
@@ -267,7 +267,7 @@ is_commit items = false
 abbrev pub sum_of : ℕ → ℕ → ℕ
 sum_of a b = if nat_lt 18446744073709551615 (a + b) then 18446744073709551615 else a + b
 
--- the retry interval, where nothing is committed the one that the standard recommends (RFC 8210 section 6)
+-- the retry interval; if nothing is committed, the one that the standard recommends (RFC 8210 section 6)
 abbrev pub retry_of : Option Committed → ℕ
 retry_of None = 600
 retry_of (Some version) = version.intervals.retry
@@ -310,7 +310,7 @@ marked (Reads (EndOfData session serial refresh retry expire) ∷ items) = not (
 marked (Reads (EndOfData0 session serial) ∷ items) = not (does_commit (under_way items) session (kept items).table) && marked items
 marked (item ∷ items) = marked items
 
--- A Serial Query where something is committed, in the version of the connection, and the mark is not set, else a Reset Query
+-- A Serial Query if something is committed, in the version of the connection, and the mark is not set; otherwise a Reset Query
 abbrev pub choose : Option Committed → Bool → Question
 choose (Some version) false = AskSerial version.session version.serial
 choose version mark = AskReset

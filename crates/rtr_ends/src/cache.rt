@@ -47,8 +47,8 @@ pub struct Cache<S> {
 }
 
 impl<S: VersionStore> Cache<S> {
-    /// A cache over this store, which sends its routers these intervals, without a connection. The session number of the store stands
-    /// for both versions of the protocol. It takes no memory.
+    /// A cache over this store, which sends its routers these intervals, without a connection. The session number of the store is that of
+    /// both versions of the protocol. It allocates no memory.
     pub fn new(alloc: Global, store: S, timing: Timing) -> Cache<S>
         ensures { (keep : ℕ) (i : Instance) → S.holds keep i store → i.session0 ≡ i.session → ShowsCache S.holds (without_conns keep timing i) result }
     {
@@ -70,7 +70,7 @@ impl<S: VersionStore> Cache<S> {
         }
     }
 
-    /// Hands in bytes of a router, and returns how many were consumed. None are consumed if bytes are due to the router, or the connection
+    /// Receives bytes of a router, and returns how many were consumed. None are consumed if bytes are due to the router, or the connection
     /// has ended. Otherwise the bytes up to the end of the first PDU are consumed, or up to the place at which a fault shows, or all.
     /// Memory is allocated at a Serial Query alone, for the change. If it runs out, Error Report 1 is due, and the connection ends (RFC
     /// 8210 section 12).
@@ -88,7 +88,7 @@ impl<S: VersionStore> Cache<S> {
     }
 
     /// Fills `out` with bytes that are due to a router, as far as there are any, and answers how many. They are of the version that was
-    /// current when its query was read. It takes no memory.
+    /// current when its query was read. It allocates no memory.
     pub fn pull(&mut self, conn: Conn, out: &mut [u8]) -> usize
         ensures gives { (m : CacheState) → ShowsCache S.holds m self.old → GivesBytes S.holds m conn.0 out.old result out.new self.new }
         ensures within { result ≤ length out.old }
@@ -126,7 +126,7 @@ impl<S: VersionStore> Cache<S> {
         }
     }
 
-    /// Whether the connection goes on. What is due can be pulled after its end too.
+    /// Whether the connection continues. What is due can be pulled after its end too.
     pub fn is_open(&self, conn: Conn) -> bool
         ensures { (m : CacheState) → ShowsCache S.holds m self.now → result ≡ is_open_at (m.at conn.0) }
     {
@@ -171,7 +171,7 @@ impl<S: VersionStore> Cache<S> {
         Some((serial, set.as_ref()))
     }
 
-    /// Closes a connection, and drops what was due. Its number is free then. It takes no memory.
+    /// Closes a connection, and drops what was due. Its number is free then. It allocates no memory.
     pub fn close(&mut self, conn: Conn)
         ensures { (m : CacheState) → ShowsCache S.holds m self.old → ShowsCache S.holds (with_conn conn.0 Option.None m) self.new }
     {
@@ -243,8 +243,8 @@ impl<S: VersionStore> Cache<S> {
         }
     }
 
-    /// Publishes a set: a new version, or nothing where it is the current one. It takes a share for each connection, and what the
-    /// store takes. An answer that is under way is not changed by it. Without memory nothing is published.
+    /// Publishes a set: a new version, or nothing if it is the current one. It allocates a share for each connection, and what the store
+    /// allocates. An answer that is under way is not changed by it. Without memory nothing is published.
     pub fn publish(&mut self, set: VrpSet) -> Result<Published, AllocError>
         ensures { (m : CacheState) → ShowsCache S.holds m self.old → Publishes (λ i cache. ShowsCache S.holds (record m { cache = i }) cache) result set m.cache self.new }
     {

@@ -30,8 +30,8 @@ pub enum Fetched {
 
 /// Connects a router, writes its questions and reports, and reads in pieces of at most 4,096 bytes. It ends if no question is outstanding,
 /// the link or the input ends, a device fails, or `limit` reads were made. Each question goes out in one write if the writer accepts it. In
-/// every case the router is told that the connection is closed, and keeps what it has committed by its own rules alone. The moment `now` is
-/// in seconds of the router's clock.
+/// every case `Router::closed` is called, and the router keeps what it has committed until its own rules drop it. The moment `now` is in
+/// seconds of the router's clock.
 pub fn fetch_stream<R: Read, W: Write>(
     router: &mut Router,
     input: &mut Counted<R>,
@@ -89,7 +89,7 @@ fn fetch<R: Read, W: Write>(
     }
 }
 
-/// What the router has come to, where no question is outstanding.
+/// The outcome of the router, if no question is outstanding.
 fn reached(router: &Router) -> Option<Fetched>
     ensures is { (r : rules.Router) → IsShown r router.now → result ≡ reached_by r.link r.no_data }
     ensures kind { IfSome result (λ fetched. IsReached fetched) }
@@ -109,7 +109,7 @@ fn reached(router: &Router) -> Option<Fetched>
     }
 }
 
-/// Hands in a piece that was read, and writes what is to be pulled before it and between its PDUs, as long as the link goes on.
+/// Passes in a piece that was read, and writes what is pending before it and between its PDUs, as long as the link is open.
 fn take<W: Write>(
     router: &mut Router,
     piece: &[u8],

@@ -107,7 +107,7 @@ pub fn each_has_room<S: VersionStore>(cache: &Cache<S>)
     ensures { (m : CacheState) → ShowsCache S.holds m cache.now → AllHaveRoom cache.now }
 {}
 
-/// After every call a router holds at most 4,096 bytes that came and are not yet a whole PDU, and at most 4,096 that are to be pulled.
+/// After every call a router holds at most 4,096 bytes of a PDU that is not yet whole, and at most 4,096 pending bytes.
 pub fn router_has_room(router: &Router)
     ensures { HasBufferRoom (held_by_router router.now) }
 {

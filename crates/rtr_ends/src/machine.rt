@@ -33,7 +33,7 @@ pub enum State {
     Ended(End),
 }
 
-/// A router, but for the bytes that have come of a PDU.
+/// A router, without the bytes of a PDU that is not yet whole.
 #[derive(Debug, Drop)]
 pub struct Machine {
     pub alloc: Global,
@@ -102,7 +102,7 @@ impl Machine {
         self.state = State::Asked(question);
     }
 
-    /// Takes over the version of the reader for the connection, if the reader knows one.
+    /// Adopts the reader's version for the connection, if the reader knows one.
     pub fn follow(&mut self, version: Option<Version>)
         ensures { (spoken : Protocol) → version ≡ Some spoken → self.new ≡ record self.old { spoken = spoken } }
     {

@@ -6,14 +6,14 @@ use std::alloc::{AllocError, Global};
 use std::cmp::Reverse;
 use std::collections::BinaryHeap;
 
-/// The numbers below a count that are not taken, as a heap with the least on top. There is room for the taken ones too.
+/// The numbers below a count that are not in use, as a heap with the least on top. There is room for those in use too.
 #[derive(Debug, Drop)]
 pub(crate) struct FreeNumbers {
     numbers: BinaryHeap<Reverse<usize>>,
 }
 
 impl FreeNumbers {
-    /// No number is free, and none is taken. It takes no memory.
+    /// No number is free, and none is in use. It allocates no memory.
     pub fn new(alloc: Global) -> FreeNumbers
         ensures { AreFree [] result }
     {
@@ -22,7 +22,7 @@ impl FreeNumbers {
         }
     }
 
-    /// Takes the least free number. It takes no memory.
+    /// Allocates the least free number. It allocates no memory.
     pub fn take(&mut self) -> Option<usize>
         ensures { (taken : List Bool) → AreFree taken self.old → TakesNumber taken result self.new }
     {
@@ -32,14 +32,14 @@ impl FreeNumbers {
         }
     }
 
-    /// Frees a number that is taken. It takes no memory.
+    /// Frees a number in use. It allocates no memory.
     pub fn put(&mut self, number: usize)
         ensures { (taken : List Bool) → AreFree taken self.old → slice_get taken number ≡ Option.Some true → AreFree (slice_set taken number false) self.new }
     {
         let _ = self.numbers.push(Reverse(number));
     }
 
-    /// Makes room for so many numbers beside the free ones.
+    /// Makes room for this many numbers beside the free ones.
     pub fn reserve(&mut self, count: usize) -> Result<(), AllocError>
         ensures same { (taken : List Bool) → AreFree taken self.old → AreFree taken self.new }
         ensures room { OnOk result ((taken : List Bool) → AreFree taken self.old → length taken < count → AreFree (taken ++ true ∷ []) self.new) }

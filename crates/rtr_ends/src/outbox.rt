@@ -7,7 +7,7 @@ ghost use Rattle.rtr_ends.specs.Cache.{is_none};
 use rtr_pdu::{MAX_UNIT_LEN, Unit, UnitBuffer, Version, encode_as};
 use std::marker::Model;
 
-/// The bytes of one PDU that are still to be pulled. It takes no memory.
+/// The bytes of one PDU that are still to be pulled. It allocates no memory.
 #[derive(Debug, Drop)]
 pub struct Outbox {
     unit: UnitBuffer,
@@ -36,14 +36,14 @@ impl Outbox {
         }
     }
 
-    /// Whether nothing is to be pulled.
+    /// Whether nothing is pending.
     pub fn is_empty(&self) -> bool
         ensures { result ≡ is_none self.now }
     {
         self.pulled == self.unit.len()
     }
 
-    /// How many bytes are to be pulled.
+    /// How many bytes are pending.
     pub fn len(&self) -> usize
         ensures count { result ≡ length self.now }
         ensures fits { result ≤ MAX_UNIT_LEN }
@@ -51,7 +51,7 @@ impl Outbox {
         self.unit.len() - self.pulled
     }
 
-    /// Drops what is to be pulled.
+    /// Drops what is pending.
     pub fn clear(&mut self)
         ensures { self.new ≡ [] }
     {
@@ -59,7 +59,7 @@ impl Outbox {
         self.pulled = 0;
     }
 
-    /// A PDU of this version is to be pulled, and nothing else.
+    /// A PDU of this version is pending, and nothing else.
     pub fn put(&mut self, version: Version, unit: &Unit)
         requires { fits version unit.now ≡ true }
         ensures { self.new ≡ sent version unit.now }

@@ -37,7 +37,7 @@ impl Peer {
         }
     }
 
-    /// Whether it takes no bytes: bytes are due, or it has ended.
+    /// Whether it consumes no bytes: bytes are due, or it has ended.
     fn stops(&self) -> bool
         ensures { result ≡ (self.now.ended || not (is_none (due_of self.now.sender))) }
     {
@@ -58,7 +58,7 @@ impl Peer {
         self.reader.version()
     }
 
-    /// From now on is sent in the version of what came, in version 1 where no header has come.
+    /// From now on PDUs are sent in the version of what came, or in version 1 if no header has come.
     fn speak(&mut self)
         requires { due_of self.old.sender ≡ [] }
         ensures reader { self.new.reader ≡ self.old.reader }
@@ -81,7 +81,7 @@ impl Peer {
         self.ended = true;
     }
 
-    /// Answers a Serial Query of this session, where this is the serial of the current version.
+    /// Answers a Serial Query of this session, if this is the serial of the current version.
     fn answer_since<S: VersionStore>(&mut self, store: &S, asked: Serial, current: Serial)
         requires due { due_of self.old.sender ≡ [] }
         requires goes_on { self.old.ended ≡ false }
@@ -185,7 +185,7 @@ impl Peer {
         self.sender.pull(out)
     }
 
-    /// Sends a Serial Notify of the current version, where it can.
+    /// Sends a Serial Notify of the current version, if it can.
     pub fn notify(&mut self) -> bool
         ensures { (keep : ℕ) (t : Intervals) (i : Instance) (o : Conn) → ShowsPeer t i o self.old →
             (result ≡ can_notify i o) × ShowsPeer t i (conn_notified keep t i o) self.new }
@@ -220,7 +220,7 @@ impl Peer {
         self.sender.is_due()
     }
 
-    /// Whether the connection goes on.
+    /// Whether the connection continues.
     pub fn is_open(&self) -> bool
         ensures { (t : Intervals) (i : Instance) (o : Conn) → ShowsPeer t i o self.now → result ≡ not o.state.ended }
     {

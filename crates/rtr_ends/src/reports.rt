@@ -10,21 +10,21 @@ ghost use Rattle.rtr_ends.specs.Peer.{maybe};
 use arrayvec::ArrayVec;
 use rtr_pdu::{ErrorReport, Kind, REPORT_ROOM, Unit, UnitFault, Version, encode_as, error_code};
 
-/// The type byte of bytes, or 0 where they have none.
+/// The type byte of bytes, or 0 if they have none.
 pub fn type_byte(bytes: &[u8]) -> u8
     ensures { result ≡ type_of bytes.now }
 {
     if bytes.len() > 1 { bytes[1] } else { 0 }
 }
 
-/// The version on which a connection of this version agreed, where it did.
+/// The version on which a connection of this version agreed, if any.
 pub fn agreed_version(agreed: bool, version: Version) -> Option<Version>
     ensures { result ≡ agreed_version agreed version }
 {
     if agreed { Some(version) } else { None }
 }
 
-/// The code of a fault, where this version was agreed on, if any.
+/// The code of a fault; the version is the one agreed on, if any.
 pub fn code_of(agreed: Option<Version>, fault: UnitFault) -> u16
     ensures { result ≡ fault_code agreed fault }
 {
@@ -56,7 +56,7 @@ pub fn report_on(version: Version, code: u16, unit: &Unit) -> Unit
     report(code, buffer.as_slice())
 }
 
-/// The report on a fault that bytes show: none on a PDU of type 10, nor where the input ends in a PDU.
+/// The report on a fault that bytes show: none on a PDU of type 10, nor if the input ends in a PDU.
 pub fn fault_unit(agreed: Option<Version>, fault: UnitFault, bytes: &[u8]) -> Option<Unit>
     ensures value { maybe result ≡ fault_report agreed fault bytes.now }
     ensures fits { IfSome result (λ unit. (version : Protocol) → fits version unit ≡ true) }

@@ -20,8 +20,8 @@ use rtr_pdu::{Next, UnitReader, Version};
 use std::alloc::{AllocError, Global};
 use vrps::{Change, OriginState, Serial, VrpSet};
 
-/// A router: what it has committed, and at most one connection (RFC 6810, RFC 8210 sections 5 to 8). Moments are in seconds of a clock
-/// that the caller hands in; one below the greatest so far counts as that one.
+/// A router: what it has committed, and at most one connection (RFC 6810, RFC 8210 sections 5 to 8). Moments are in seconds of a clock that
+/// the caller supplies; one below the greatest so far counts as that one.
 #[derive(Debug, Drop)]
 pub struct Router {
     machine: Machine,
@@ -93,7 +93,7 @@ impl Router {
         }
     }
 
-    /// Hands out the bytes to be pulled, as many as there are, or as fit, and answers how many. It takes no memory.
+    /// Hands out the bytes to be pulled, as many as there are, or as fit, and answers how many. It allocates no memory.
     pub fn pull(&mut self, room: &mut [u8]) -> usize
         ensures calls { Calls (λ r. (called (model.Pulls (length room.old)) r).router) self.old self.new }
         ensures leads { LeadsOn (model.Pulls (length room.old)) self.old self.new }
@@ -160,7 +160,7 @@ impl Router {
         self.machine.table.covering(self.machine.alloc, route)
     }
 
-    /// The state of a route over the committed table. It takes no memory.
+    /// The state of a route over the committed table. It allocates no memory.
     pub fn route_state(&self, route: &Route) -> OriginState
         ensures { (r : rules.Router) → IsShown r self.now → result ≡ state r.table route.now }
     {
@@ -203,8 +203,8 @@ impl Router {
         let _ready = self.machine.out.len();
     }
 
-    /// Hands in bytes of the cache at the moment `now`, in seconds, and returns how many were consumed. None are consumed if bytes are to
-    /// be pulled or no link is open. Otherwise the bytes up to the end of the first PDU that gives bytes to be pulled or ends the link are
+    /// Receives bytes of the cache at the moment `now`, in seconds, and returns how many were consumed. None are consumed if bytes are
+    /// pending or no link is open. Otherwise the bytes up to the end of the first PDU that gives bytes to be pulled or ends the link are
     /// consumed. The clock is judged first. Memory is allocated if a record is staged or an answer ends. If it runs out, the link ends with
     /// `Memory` and the table stays.
     pub fn receive(&mut self, piece: &[u8], now: u64) -> usize
@@ -218,7 +218,7 @@ impl Router {
         piece.len() - rest.len()
     }
 
-    /// Takes bytes from the front of the piece.
+    /// Consumes bytes from the front of the piece.
     fn take(&mut self, piece: &mut &[u8])
         ensures takes { TakesOn false self.old piece.old.now self.new piece.new.now }
         ensures less { length piece.new.now ≤ length piece.old.now }
@@ -230,7 +230,7 @@ impl Router {
         }
     }
 
-    /// Takes the bytes up to the end of a PDU, or all of them, or up to a fault; whether it was a PDU.
+    /// Consumes the bytes up to the end of a PDU, or all of them, or up to a fault; whether it was a PDU.
     fn step(&mut self, piece: &mut &[u8]) -> bool
         requires { (linked.is_reading (seen_link self.old.machine.state [] []) && is_none self.old.machine.out) ≡ true }
         ensures takes { TakesOn result self.old piece.old.now self.new piece.new.now }
@@ -269,7 +269,7 @@ impl Router {
         }
     }
 
-    /// Tells the reader of the agreement on a version, if there is one.
+    /// Informs the reader of the agreement on a version, if there is one.
     fn agree(&mut self)
         ensures { self.new ≡ record self.old { reader = if self.old.machine.agreed then after_agreed self.old.reader else self.old.reader } }
     {

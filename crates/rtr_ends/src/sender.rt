@@ -134,7 +134,7 @@ impl AnswerCursor {
         }
     }
 
-    /// The same, and the answer goes on behind these records. Answers how many bytes are filled then.
+    /// The same, and the answer continues behind these records. Answers how many bytes are filled then.
     fn fill(&mut self, version: Version, out: &mut [u8], filled: usize) -> usize
         requires { filled ≤ length out.old }
         ensures { FillsFrom version self.old out.old filled result out.new self.new }
@@ -155,8 +155,8 @@ impl AnswerCursor {
     }
 }
 
-/// What a connection has to send. Its bytes lie in one buffer, a PDU at a time; the records of the answer under way lie where
-/// they are kept.
+/// What a connection has to send. Its bytes lie in one buffer, a PDU at a time; the records of the answer under way stay where they are
+/// kept.
 #[derive(Debug, Drop)]
 pub struct Sender {
     /// The version in which is sent.
@@ -166,7 +166,7 @@ pub struct Sender {
     /// The share of the current version that is kept ready for a Reset Query.
     pub ready: Option<Share>,
     pub answer: Option<AnswerCursor>,
-    /// The PDU that goes out, of which so many bytes were pulled.
+    /// The PDU that goes out, with the number of its bytes that were pulled.
     pub buffer: UnitBuffer,
     pub pulled: usize,
 }
@@ -224,7 +224,7 @@ impl Sender {
         self.pulled = 0;
     }
 
-    /// Keeps the share that the answer used, where no newer one is there.
+    /// Keeps the share that the answer used, if no newer one is there.
     fn keep(&mut self, records: Records)
         requires { self.old.answer ≡ None }
         ensures { KeepsRecords self.old records self.new }
@@ -236,7 +236,7 @@ impl Sender {
         }
     }
 
-    /// The record at the place was written into the buffer. The answer goes on behind it.
+    /// The record at the place was written into the buffer. The answer continues behind it.
     fn next_record(&mut self, cursor: AnswerCursor)
         requires none { self.old.answer ≡ None }
         requires low { cursor.place < 33554430 }

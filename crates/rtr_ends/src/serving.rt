@@ -84,7 +84,7 @@ fn serve<S: VersionStore, R: Read, W: Write>(
     Ok(Served::Limit)
 }
 
-/// How a connection ends where its input does.
+/// How a connection ends when its input does.
 fn end_of_input<S: VersionStore>(cache: &Cache<S>, conn: Conn) -> Served
     ensures either { (result ≡ Served.Truncated) ⊎ (result ≡ Served.PeerClosed) }
     ensures within { (m : CacheState) → ShowsCache S.holds m cache.now → result ≡ ended_within (is_within (m.at conn.0)) }
@@ -96,7 +96,7 @@ fn end_of_input<S: VersionStore>(cache: &Cache<S>, conn: Conn) -> Served
     }
 }
 
-/// Answers a piece that was read: hands it in, and writes what becomes due, as long as the connection goes on.
+/// Answers a piece that was read: passes it in, and writes what becomes due, as long as the connection is open.
 fn answer<S: VersionStore, W: Write>(
     cache: &mut Cache<S>,
     conn: Conn,

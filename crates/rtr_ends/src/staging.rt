@@ -32,7 +32,7 @@ impl Staging {
     ghost use Rattle.rtr_ends.specs.Staging.{GoesTo, LeadsToSet};
     ghost use Rattle.rtr_ends.specs.Seen.{IsStaged, seen_question};
 
-    /// Nothing is staged over a base of so many records. It takes no memory.
+    /// Nothing is staged over a base of this many records. It allocates no memory.
     pub fn over(alloc: Global, count: usize) -> Staging
         ensures { result ≡ record { withdrawn = empty; announced = empty; count = count } }
     {
@@ -43,7 +43,7 @@ impl Staging {
         }
     }
 
-    /// A record is withdrawn: code 6 where it is not in the base, or was withdrawn already. Without memory nothing is staged.
+    /// A record is withdrawn: code 6 if it is not in the base, or was withdrawn already. Without memory nothing is staged.
     pub fn withdraw(&mut self, in_base: bool, vrp: &Vrp) -> Result<Staged, SetFault>
         ensures { (base : Vrps) (b : Begun) → IsStaged base b.withdrawn b.announced self.old → in_base ≡ has base vrp.now
             → GoesTo base b false vrp.now result self.new }
@@ -61,8 +61,8 @@ impl Staging {
         }
     }
 
-    /// A record is announced: code 7 where it is in the base, or was announced already; `TooMany` where the table would have more
-    /// records than a set may have. Without memory nothing is staged.
+    /// A record is announced: code 7 if it is in the base, or was announced already; `TooMany` if the table would have more records than a
+    /// set may have. Without memory nothing is staged.
     pub fn announce(&mut self, in_base: bool, vrp: &Vrp) -> Result<Staged, SetFault>
         ensures { (base : Vrps) (b : Begun) → IsStaged base b.withdrawn b.announced self.old → in_base ≡ has base vrp.now
             → GoesTo base b true vrp.now result self.new }

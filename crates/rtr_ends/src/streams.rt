@@ -14,7 +14,7 @@ pub enum StreamFault {
     /// The reader failed.
     #[error("the reader failed (fault 1)")]
     ReadFailed = 1,
-    /// The writer failed. A beginning of what was to be written has gone out.
+    /// The writer failed. A beginning of the bytes given has gone out.
     #[error("the writer failed (fault 2)")]
     WriteFailed = 2,
     /// Out of memory for a connection. Nothing was read or written.
@@ -33,7 +33,7 @@ impl StreamFault {
     }
 }
 
-/// Writes all the bytes, in one call where the writer takes them.
+/// Writes all the bytes, in one call if the writer accepts them all.
 pub(crate) fn write_bytes<W: Write>(
     bytes: &[u8],
     output: &mut Counted<W>,

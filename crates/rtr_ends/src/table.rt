@@ -32,7 +32,7 @@ impl Model for Table {
 }
 
 impl Table {
-    /// No record. It takes no memory.
+    /// No record. It allocates no memory.
     pub fn empty(alloc: Global) -> Table
         ensures { result ≡ empty }
     {
@@ -87,7 +87,7 @@ impl Table {
         self.index.covering(alloc, route)
     }
 
-    /// The state of a route. It takes no memory.
+    /// The state of a route. It allocates no memory.
     pub fn state(&self, route: &Route) -> OriginState
         ensures { result ≡ state self.now route.now }
     {

@@ -1,4 +1,4 @@
--- The piece is taken so far, all that was pulled has gone out, and no call failed.
+-- The piece is consumed so far, all that was pulled has gone out, and no call failed.
 use Rattle.rtr_ends.proofs.Words.{◌≡◌, ◌-◌, ◌+◌, ◌≤◌, List, length, take, calls_of, device_of, failures_of}
 use Rattle.rtr_ends.specs.FetchStream.{TakenPart}
 use Rattle.rtr_ends.specs.Router.{RouterCall}

@@ -1,4 +1,4 @@
--- What this call took goes on after what had gone out before it.
+-- What this call wrote follows what had gone out before it.
 use Rattle.rtr_ends.proofs.Words.{rules, take, ◌++◌, sym, ap, ◌∙◌, subst, take_rest, take-add, Appends, Appends-trans}
 use Rattle.rtr_ends.proofs.streams.write_bytes.Goals as goal
 
