@@ -18,7 +18,7 @@ use Rattle.rtr_server.specs.Reports.{Said, report_text, said_in}
 use Rattle.rtr_server.specs.Counting.{Counted, IsBetween, and_byte, and_many, and_pdu, and_pdus, and_tail, and_whole, capped, counted_on, grown, report_after, serial_after, tail_at, text_in, told_len}
 use Rattle.rtr_server.specs.Runs.{IsOnlyCounted, ShowsHeader, length_in, type_in}
 
--- a room of so many bytes, with the next one in it or behind it
+-- a room of this many bytes, with the next one in it or behind it
 room_put : (room next : ℕ) (xs : List ℕ) (at b : ℕ) → length xs ≡ room → (at < room → next ≡ at + 1) → (room ≤ at → room ≤ next) → take next (if nat_lt at room then slice_set xs at b else xs) ≡ take room (take at xs ++ b ∷ [])
 room_put room next xs at b len low_next high_next = by_test (nat_lt at room) refl
   where
@@ -46,7 +46,7 @@ not_lt a b h = grind (arith, nat_tests)
 take_zero : (n : ℕ) (xs : List ℕ) → n ≡ 0 → take n xs ≡ []
 take_zero n xs none = ap (λ k. take k xs) none
 
--- those behind an encapsulated PDU, likewise, where it ends at this place
+-- those behind an encapsulated PDU, likewise, if it ends at this place
 tail_put : (at came b : ℕ) (tail : List ℕ) → length tail ≡ 204 → at < 2 ^ 33
     → take (capped (came + 1) - at) (if nat_lt came at then tail else if nat_lt (came - at) 204 then slice_set tail (came - at) b else tail)
     ≡ (if nat_lt at (capped (came + 1)) then take 204 (take (came - at) tail ++ b ∷ []) else take (came - at) tail)
@@ -99,7 +99,7 @@ grows pdus serial report front new tail behind at came next b now view len room 
         let one : at ≡ tail_at front = at_is ∙ ap tail_at kept in
         (λ i. more_tail (one i) (take (came - one i) tail)) ∙ ap (λ xs. more_tail (tail_at xs) (take (came - tail_at front) tail)) (sym all)
 
--- where nothing came
+-- if nothing came
 pub none_came : (pdus : PdusByKind) (serial : Option Serial) (report : Option Said) (front tail : List ℕ) (came : ℕ) (now : Counted)
     → record { pdus = pdus; serial = serial; report = report; front = take came front; tail = take (came - tail_at front) tail; came = came } ≡ now → came ≡ 0 → IsBetween now
 none_came pdus serial report front tail came now view none = record {
@@ -131,13 +131,13 @@ more_front room front b = elim (cases_lt room (length front)) [
   | inr few ↦ ap (λ xs. take room (xs ++ b ∷ [])) (take_all room front few)
 ]
 
--- What stands at a place is the same, whatever follows.
+-- The byte at a place is the same, whatever follows.
 number_same : (n i : ℕ) (front more : List ℕ) → i + n ≤ length front → number_at n i (front ++ more) ≡ number_at n i front
 number_same n i front more h =
     let enough : n ≤ length (drop i front) = omega (arith, length-drop i front, h) in
     ap (big_number n) (drop-append-le i front more (omega (arith, h))) ∙ big_from-append n (drop i front) more enough
 
--- The first twelve bytes tell what all of them do.
+-- The first twelve bytes determine the same as all of them.
 twelve : (A : Type 0) (f : List ℕ → A) (k : ℕ) → k ≤ 12 → ((front more : List ℕ) → k ≤ length front → f (front ++ more) ≡ f front) → (front rest : List ℕ) → k ≤ length front → f (take 12 front) ≡ f (front ++ rest)
 twelve A f k low same front rest h =
     let l = length-take 12 front in
@@ -165,7 +165,7 @@ more_tail front b = by_test (nat_lt at (length all)) refl
     len : length all ≡ length front + 1
     len = length-append front (b ∷ [])
 
-    -- where twelve came
+    -- if twelve came
     same : 12 ≤ length front → at ≡ tail_at front
     same long = ap tail_at (take-append-le 12 front (b ∷ []) long) ∙ twelve ℕ tail_at 12 (omega arith) at_same front [] long ∙ at_same front [] long
 
@@ -325,7 +325,7 @@ whole_now front rest c is =
     ∙ ap ends (ap (λ n. nat_le n (length front)) (told ∙ is) ∙ le_true (length front) (length front) (omega arith))
     ∙ whole_same front rest (tail_of front) c long
 
--- The bytes of a PDU, behind those that came of it
+-- The bytes of a PDU, behind those that arrived of it
 whole_on : (front bytes rest : List ℕ) (c : Counted) → told_len (front ++ (bytes ++ rest)) ≡ length front + length bytes → length front + length bytes < 2 ^ 64 → 0 < length bytes
     → counted_on (coming front c) (bytes ++ rest) ≡ counted_on (and_whole (front ++ (bytes ++ rest)) (tail_of (front ++ bytes)) (length front + length bytes) c) rest
 whole_on front [] rest c told low some = absurd (omega (arith, some))
@@ -343,7 +343,7 @@ whole_on front (b ∷ d ∷ bytes) rest c told low some =
     ∙ whole_on (front ++ b ∷ []) (d ∷ bytes) rest c (ap told_len whole ∙ told ∙ sym len) (omega (arith, len, low)) (omega arith)
     ∙ ap (λ k. counted_on k rest) (λ i. and_whole (whole i) (tail_of (pdu i)) (len i) c)
 
--- A PDU that stands whole in front
+-- A PDU that is whole in front
 pub whole_counts : (c : Counted) (piece : List ℕ) (len : ℕ) → IsBetween c → len ≡ told_len piece → len ≤ length piece → len < 2 ^ 64 → counted_on c piece ≡ counted_on (and_whole piece (tail_of (take len piece)) len c) (drop len piece)
 whole_counts c piece len between told fits low =
     let l = length-take-le len piece fits in
@@ -357,7 +357,7 @@ whole_counts c piece len between told fits low =
     ∙ whole_on [] (take len piece) (drop len piece) c is (omega (arith, l, low)) (omega (arith, l, long))
     ∙ ap count (sym sum ∙ l) ∙ ap (λ xs. counted_on (and_whole xs (tail_of (take len piece)) len c) (drop len piece)) whole
 
--- what stands behind so many bytes
+-- what is behind this many bytes
 pub behind : (n : ℕ) (xs : List ℕ) → take (length xs - n) (drop n xs) ≡ drop n xs
 behind n xs = let l = length-drop n xs in take_all (length xs - n) (drop n xs) (omega (arith, l))
 
@@ -391,7 +391,7 @@ no_report bytes tail len c other =
     let of : Option Said → Counted = λ report. record { pdus = and_pdu (type_of bytes) c.pdus; serial = serial_after bytes len c.serial; report = report; front = []; tail = []; came = 0 } in
     ap of (other_report bytes tail len c.report other ∙ sym (other_report bytes [] len c.report other))
 
--- one more, where so many were counted
+-- one more, if this many were counted
 set_more : (xs : List ℕ) (k n : ℕ) → slice_set (slice_set xs k (capped (slice_index xs k + n))) k (capped (slice_index (slice_set xs k (capped (slice_index xs k + n))) k + 1)) ≡ slice_set xs k (capped (slice_index xs k + (n + 1)))
 set_more [] k n = refl
 set_more (x ∷ xs) zero n = let e : capped (capped (x + n) + 1) ≡ capped (x + (n + 1)) = omega arith in ap (λ y. y ∷ xs) e

@@ -14,7 +14,7 @@ use Rattle.rtr_server.proofs.CountingLaws.{passes_one}
 abbrev these : List ℕ → PdusByKind
 these counts = record { counts = counts }
 
--- An End of Data of version 1 has 24 bytes, and its serial stands behind the header.
+-- An End of Data of version 1 has 24 bytes, and its serial follows the header.
 end_of_data : counted (unit_bytes V1 (EndOfData 0x1234 5 3600 600 7200)) ≡ record { pdus = these (0 ∷ 0 ∷ 0 ∷ 0 ∷ 0 ∷ 0 ∷ 0 ∷ 1 ∷ 0 ∷ 0 ∷ 0 ∷ []); serial = Some (record { 0 = 5 }); report = None; front = []; tail = []; came = 0 }
 end_of_data = refl
 
@@ -26,12 +26,12 @@ end_of_data_0 = refl
 cut_off : counted (take 23 (unit_bytes V1 (EndOfData 0x1234 5 3600 600 7200))) ≡ record { pdus = these (0 ∷ 0 ∷ 0 ∷ 0 ∷ 0 ∷ 0 ∷ 0 ∷ 0 ∷ 0 ∷ 0 ∷ 0 ∷ []); serial = None; report = None; front = 1 ∷ 7 ∷ 0x12 ∷ 0x34 ∷ 0 ∷ 0 ∷ 0 ∷ 24 ∷ 0 ∷ 0 ∷ 0 ∷ 5 ∷ []; tail = 0 ∷ 2 ∷ 88 ∷ 0 ∷ 0 ∷ 28 ∷ []; came = 23 }
 cut_off = refl
 
--- The last End of Data tells the serial; a Serial Notify tells none.
+-- The last End of Data gives the serial; a Serial Notify gives none.
 three : counted (unit_bytes V0 (EndOfData0 7 5) ++ unit_bytes V0 (SerialNotify 7 6) ++ unit_bytes V0 (EndOfData0 7 9)) ≡ record { pdus = these (1 ∷ 0 ∷ 0 ∷ 0 ∷ 0 ∷ 0 ∷ 0 ∷ 2 ∷ 0 ∷ 0 ∷ 0 ∷ []); serial = Some (record { 0 = 9 }); report = None; front = []; tail = []; came = 0 }
 three = refl
 
--- A number above ten is no type and is not counted, and as many bytes as its header tells are passed over; a header that tells less than a
--- header stands alone.
+-- A number above ten is no type and is not counted; as many bytes as its header announces are skipped. A header that announces less than a
+-- header is skipped alone.
 no_types : (counted (1 ∷ 11 ∷ 0 ∷ 0 ∷ 0 ∷ 0 ∷ 0 ∷ 9 ∷ 2 ∷ [])).pdus ≡ these (0 ∷ 0 ∷ 0 ∷ 0 ∷ 0 ∷ 0 ∷ 0 ∷ 0 ∷ 0 ∷ 0 ∷ 0 ∷ [])
 no_types = refl
 
@@ -56,7 +56,8 @@ stops = (refl, refl, refl)
 places : count_of (these (10 ∷ 11 ∷ 12 ∷ 13 ∷ 14 ∷ 15 ∷ 16 ∷ 17 ∷ 18 ∷ 19 ∷ 20 ∷ [])) kinds.Ipv6Prefix ≡ 16
 places = refl
 
--- The header of an IPv4 Prefix tells type 4 and 20 bytes (RFC 8210 section 5.6), that of an End of Data type 7 and 24 bytes (section 5.8).
+-- The header of an IPv4 Prefix has type 4 and a length of 20 bytes (RFC 8210 section 5.6). That of an End of Data has type 7 and a length
+-- of 24 bytes (section 5.8).
 headers : (type_in 0x0104000000000014 ≡ 4) × (length_in 0x0104000000000014 ≡ 20) × (type_in 0x0107123400000018 ≡ 7) × (length_in 0x0107123400000018 ≡ 24)
 headers = (refl, refl, refl, refl)
 

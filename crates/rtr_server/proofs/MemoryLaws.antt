@@ -1,4 +1,4 @@
--- Where memory runs out, a client's connection ends.
+-- If memory runs out, a client's connection ends.
 use Rattle.std.specs.Prelude.{◌≡◌, ◌⊎◌, ℕ, Bool, true, false, not, ◌||◌, List, [], ◌∷◌, ◌++◌, Option, Some, None, refl}
 use Rattle.std.proofs.Common.{sym, ap, ◌∙◌, inl, inr}
 use Rattle.std.specs.List.{list_any}
@@ -24,7 +24,7 @@ any_last p (y ∷ xs) x e = by_test (p y) refl e (any_last p xs x)
     by_test true is e more = inl (ap (λ b. b || list_any p xs) is)
     by_test false is e more = elim (more e) [ inl k ↦ inl (ap (λ b. b || list_any p xs) is ∙ k) | inr k ↦ inr k ]
 
--- where memory ran out, it has ended so
+-- if memory ran out, it has ended so
 abbrev EndsWhereWanted : Taking → Type 0
 EndsWhereWanted m = list_any is_wanting m.moments ≡ true → EndsByReport m.conn.state
 

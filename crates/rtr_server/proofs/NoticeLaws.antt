@@ -46,7 +46,7 @@ module _ {S T A : Type 0} (holds : ℕ → Instance → S → Type 0) (start : L
 none_some : {X : Type 0} (x : X) → None ≡ Some x → ⊥
 none_some x e = cc
 
--- where a client is there is a place
+-- a client has a place
 below_end : {X B : Type 0} (xs : List (Option (Box (Slot X) B))) (c : ℕ) (x : Slot X) → slot_at xs c ≡ Some x → c < length xs
 below_end [] zero x e = absurd (none_some x e)
 below_end [] (suc c) x e = absurd (none_some x e)
@@ -157,7 +157,7 @@ module _ {T A : Type 0} (remaining contents : T → Option (List ℕ)) (p : Past
       by_life None waits h = absurd h
       by_life (Some l) waits h = h.0
 
-  -- A client has asked exactly where its router has.
+  -- A client has asked exactly if its router has.
   asked_same : (n : ℕ) (x : Slot T) → slot_at slots n ≡ Some x → has_asked (Some x) ≡ router_asked (life p.calls (made p) n)
   asked_same n x e = by_life (life p.calls (made p) n) (awaits p.calls (made p) n) (subst (λ y. ShowsClient remaining contents (p.begun n) n (life p.calls (made p) n) (awaits p.calls (made p) n) y) e (each n))
     where
@@ -297,7 +297,7 @@ module _ {T A : Type 0} (remaining contents : T → Option (List ℕ)) (p : Past
             k,
           )
 
-  -- So many notices as there are places
+  -- As many notices as there are places
   pub record Told (n : ℕ) (new : List (Option (Box (Slot T) A))) : Type 0 where
     pub notices : List CacheCall
     pub are : AllByRecursion IsNotice notices

@@ -156,7 +156,7 @@ module _ (c : ℕ) (start : CacheState) (rest : List CacheCall) (l : Life) (s : 
       let after = client_after m.keep m.timing (Writes count) a in
       same c m l (life rest start) (awaits rest start) (ran (calls_after steps) start) (life (calls_after steps) start) (awaits (calls_after steps) start) a a.unread after.unwritten after.traffic (follows steps)
 
-  -- The router is notified only where it awaits that, and so has asked.
+  -- The router is notified only if it awaits that, and so has asked.
   pub are_asked : (steps : List ClientStep) → MaySteps m.keep m.timing steps s → NoneBeforeQuery rest start → NoneBeforeQuery (calls_after steps) start
   are_asked [] may h = h
   are_asked (HandsIn wanting ∷ steps) may h = are_asked steps may.1 h
@@ -181,7 +181,7 @@ module _ {S T : Type 0} (holds : ℕ → Instance → S → Type 0) (remaining c
   abbrev state : CacheState
   state = present p
 
-  -- what is shown of each client, where it is of this one
+  -- what is shown of each client, if it is of this one
   each_so : (lives : ℕ → Option Life) (waits : ℕ → Bool) → ((d : ℕ) → (d == c) ≡ false → lives d ≡ life p.calls (made p) d) → ((d : ℕ) → (d == c) ≡ false → waits d ≡ awaits p.calls (made p) d)
       → ShowsClient remaining contents (p.begun c) c (lives c) (waits c) (slot_at new.slots.items c) → (d : ℕ) → ShowsClient remaining contents (p.begun d) d (lives d) (waits d) (slot_at new.slots.items d)
   each_so lives waits same same_waits here d = by_test (d == c) refl
@@ -382,7 +382,7 @@ module _ {S T : Type 0} (holds : ℕ → Instance → S → Type 0) (remaining c
   published_past set (Ok Unchanged) fits most count h = (h.0, same_past (λ d. ap (λ s. slot_at s d) h.2) most count h.1, h.2)
   published_past set (Err error) fits most count h = (same_past (λ d. ap (λ s. slot_at s d) h.1) most count h.0, h.1)
 
-  -- where no connection is, no client is
+  -- if no connection is, no client is
   none_there : (c : ℕ) → (present p).at c ≡ None → slot_at old.slots.items c ≡ None
   none_there c free = by_slot (slot_at old.slots.items c) refl (life p.calls (made p) c) refl (shows.each c)
     where

@@ -1,4 +1,4 @@
--- The places of clients, and how many of them are taken.
+-- The places of clients, and how many of them are in use.
 use Rattle.std.specs.Prelude.{◌≡◌, ℕ, zero, suc, ◌+◌, ◌<◌, true, cond, List, [], ◌∷◌, ◌++◌, Box, Option, Some, None, is_some, length, slice_set, refl}
 use Rattle.std.proofs.Common.{sym, ap, ◌∙◌, subst, arith, get_or}
 use Rattle.std.proofs.lemmas.List.Sums.{sum_by-set, sum_by_push}
@@ -15,7 +15,7 @@ use Rattle.rtr_server.specs.declared.turn.Slot.{Slot}
 use Rattle.rtr_server.specs.declared.turn.Turn.{Turn}
 use Rattle.rtr_server.specs.declared.turn.Turn.TheVariants.{Busy, Gone, WaitsToRead, WaitsToWrite}
 
--- what stands in a place
+-- the client in a place
 slot_is : {T A : Type 0} (slots : List (Option (Box (Slot T) A))) (n : ℕ) (cell : Option (Box (Slot T) A)) (b : Box (Slot T) A) → n < length slots → cell ≡ get_or slots n cell → cell ≡ Some b → slot_at slots n ≡ Some b.value
 slot_is slots n cell b low at is = ap (λ s. slot_value (joined s)) (slice_get-get_or slots n cell low ∙ ap (λ x. Some x) (sym at ∙ is))
 
@@ -45,12 +45,12 @@ none_read (None ∷ slots) zero e = refl
 none_read (Some b ∷ slots) zero e = absurd (let k : Some b.value ≡ None = e in cc)
 none_read (x ∷ slots) (suc n) e = none_read slots n e
 
--- a client more, where none was
+-- a client more, if none was
 pub count_one : {T A : Type 0} (slots : List (Option (Box (Slot T) A))) (n : ℕ) (b : Box (Slot T) A) → n < length slots → slot_at slots n ≡ None → clients_in (slice_set slots n (Some b)) ≡ clients_in slots + 1
 count_one slots n b low none = let e = sum_by-set one slots n (Some b) None low in let k = ap one (none_read slots n none) in omega (arith, e, k)
 
 module _ {S T A : Type 0} (holds : ℕ → Instance → S → Type 0) (remaining contents : T → Option (List ℕ)) (answers : T → Option (List Call)) (budget : ℕ) where
-  -- a client in its place took a turn
+  -- a client in its place had a turn
   pub turns_at : (slots : List (Option (Box (Slot T) A))) (n : ℕ) (cell : Option (Box (Slot T) A)) (b new : Box (Slot T) A) (old : Slot T) (cache after : Cache S) (turn : Turn) → n < length slots → cell ≡ get_or slots n cell → cell ≡ Some b → old ≡ b.value
       → Turned holds remaining contents answers budget old cache turn new.value after
       → TakesTurn holds remaining contents answers budget (slot_at slots n) cache (Some turn) (slot_at (slice_set slots n (Some new)) n) after

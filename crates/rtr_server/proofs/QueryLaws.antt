@@ -36,7 +36,7 @@ one_stays a b c d f g h = by_test (nat_lt 0 a) refl h
     by_test true is h = ap (λ t. t || nat_lt 0 d) (positive c (f (is_positive a is)))
     by_test false is h = ap (λ t. nat_lt 0 c || t) (positive d (g (is_positive b h))) ∙ or_right (nat_lt 0 c)
 
--- a count that is positive stays so where another, or it, is set to a positive one
+-- a count that is positive stays so if another, or it, is set to a positive one
 set_stays : (xs : List ℕ) (j k v : ℕ) → 0 < v → 0 < slice_index xs k → 0 < slice_index (slice_set xs j v) k
 set_stays [] j k v more h = h
 set_stays (x ∷ xs) zero zero v more h = more
@@ -44,7 +44,7 @@ set_stays (x ∷ xs) zero (suc k) v more h = h
 set_stays (x ∷ xs) (suc j) zero v more h = h
 set_stays (x ∷ xs) (suc j) (suc k) v more h = set_stays xs j k v more h
 
--- A query stays counted, where a PDU more is,
+-- A query stays counted if a PDU more is,
 query_and_pdu : (type : ℕ) (pdus : PdusByKind) → has_query pdus ≡ true → has_query (and_pdu type pdus) ≡ true
 query_and_pdu type pdus h =
     let more : 0 < capped (slice_index pdus.counts type + 1) = omega arith in
@@ -61,7 +61,7 @@ query_and_byte c b h = by_test (is_whole now)
     by_test true = query_and_pdu (type_of now.front) c.pdus h
     by_test false = h
 
--- and where bytes more are.
+-- and if bytes more are.
 query_stays : (bytes : List ℕ) (c : Counted) → has_query c.pdus ≡ true → has_query (counted_on c bytes).pdus ≡ true
 query_stays [] c h = h
 query_stays (b ∷ bytes) c h = query_stays bytes (and_byte c b) (query_and_byte c b h)

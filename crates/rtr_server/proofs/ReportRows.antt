@@ -33,8 +33,8 @@ full_says = (refl, refl, refl)
 plain_says : ((counted (unit_bytes V0 plain)).report ≡ Some (says 2 [])) × (report_text (unit_bytes V0 plain) ≡ [])
 plain_says = (refl, refl)
 
--- A report that is cut anywhere says the same once it is whole, and nothing before: here inside the copy, in the length of the text, and before
--- its last byte.
+-- A report that is split anywhere says the same once it is whole, and nothing before. Here it is split inside the copy, in the length of
+-- the text, and before its last byte.
 in_pieces : ((counted_on (counted (take 15 (unit_bytes V1 full))) (drop 15 (unit_bytes V1 full))).report ≡ Some (says 3 no_text)) × ((counted_on (counted (take 22 (unit_bytes V1 full))) (drop 22 (unit_bytes V1 full))).report ≡ Some (says 3 no_text))
     × ((counted (take 25 (unit_bytes V1 full))).report ≡ None)
 in_pieces = (refl, refl, refl)
@@ -43,7 +43,7 @@ in_pieces = (refl, refl, refl)
 kept : ((counted (take 25 (unit_bytes V1 full))).tail ≡ 0 ∷ 0 ∷ 0 ∷ 2 ∷ 110 ∷ []) × ((counted (take 20 (unit_bytes V1 full))).tail ≡ []) × (tail_at (take 12 (unit_bytes V1 full)) ≡ 20) × (is_whole (counted (take 25 (unit_bytes V1 full))) ≡ false)
 kept = (refl, refl, refl, refl)
 
--- The last report counts, and it stays where other PDUs follow.
+-- The last report counts, and it stays if other PDUs follow.
 last : ((counted (unit_bytes V1 full ++ unit_bytes V1 plain)).report ≡ Some (says 2 [])) × ((counted (unit_bytes V1 full ++ unit_bytes V1 ResetQuery)).report ≡ Some (says 3 no_text))
 last = (refl, refl)
 
@@ -57,8 +57,8 @@ long_says = refl
 long_is_cut : (counted (unit_bytes V1 (ErrorReport (record { code = 1; copy = []; text = replicate 300 97 })))).report ≡ Some (says 1 (replicate 200 97))
 long_is_cut = refl
 
--- A report of 18 bytes that tells a text of 3 where 2 are left, one that tells 1, and one that tells a copy of 9 where 6 are left: each has
--- its code and no text. One of 8 bytes too.
+-- A report of 18 bytes that announces a text of 3 with 2 left, one that announces 1, and one that announces a copy of 9 with 6 left. Each
+-- has its code and no text. One of 8 bytes too.
 false_lengths : ((counted (1 ∷ 10 ∷ 0 ∷ 4 ∷ 0 ∷ 0 ∷ 0 ∷ 18 ∷ 0 ∷ 0 ∷ 0 ∷ 0 ∷ 0 ∷ 0 ∷ 0 ∷ 3 ∷ no_text)).report ≡ Some (says 4 [])) × ((counted (1 ∷ 10 ∷ 0 ∷ 4 ∷ 0 ∷ 0 ∷ 0 ∷ 18 ∷ 0 ∷ 0 ∷ 0 ∷ 0 ∷ 0 ∷ 0 ∷ 0 ∷ 1 ∷ no_text)).report ≡ Some (says 4 []))
     × ((counted (1 ∷ 10 ∷ 0 ∷ 4 ∷ 0 ∷ 0 ∷ 0 ∷ 18 ∷ 0 ∷ 0 ∷ 0 ∷ 9 ∷ 0 ∷ 0 ∷ 0 ∷ 2 ∷ no_text)).report ≡ Some (says 4 [])) × ((counted (1 ∷ 10 ∷ 0 ∷ 4 ∷ 0 ∷ 0 ∷ 0 ∷ 8 ∷ [])).report ≡ Some (says 4 []))
 false_lengths = (refl, refl, refl, refl)

@@ -68,7 +68,7 @@ room_kept keep t (Writes count ∷ steps) s may h =
     let l = length-drop count (steps_after keep t steps s).unwritten in
     record { unread = k.unread; unwritten = omega (arith, l, k.unwritten) }
 
--- What is due is pulled whole where nothing of it comes.
+-- What is due is pulled whole if nothing of it comes.
 none_of : (most : ℕ) (due : List ℕ) → 0 < most → take most due ≡ [] → due ≡ []
 none_of most [] some none = refl
 none_of zero (b ∷ due) some none = absurd (omega (arith, some))
@@ -101,7 +101,7 @@ pub to_write : (bytes : List ℕ) → ¬ (bytes ≡ []) → 0 < length bytes
 to_write [] h = absurd (h refl)
 to_write (b ∷ bytes) h = omega arith
 
--- what stays of a slot where one field is another
+-- what stays of a slot if one field is another
 pub same_owed : {T : Type 0} (old new : Slot T) (bytes : List ℕ) → new ≡ record old { unwritten = bytes } → new.is_owed ≡ old.is_owed
 same_owed old new bytes e = ap (λ x. x.is_owed) e
 
@@ -125,11 +125,11 @@ module _ {S : Type 0} (holds : ℕ → Instance → S → Type 0) where
       by_test d true is = subst (λ a. ShowsSlot m.timing m.cache a (peer_at cache.peers.items d)) (ap m.at (eq_of d c is) ∙ e) (shows.slots d)
       by_test d false is = shows.slots d
 
-  -- another connection, where what it was is known
+  -- another connection, if what it was is known
   set_known : (F : Conn → Conn) (m : CacheState) (c : ℕ) (o p : Conn) (cache : Cache S) → m.at c ≡ Some o → F o ≡ p → ShowsCache holds (with_conn c (option_map F (m.at c)) m) cache → ShowsCache holds (with_conn c (Some p) m) cache
   set_known F m c o p cache at is shows = subst (λ x. ShowsCache holds (with_conn c x m) cache) (ap (option_map F) at ∙ ap Some is) shows
 
--- a count goes on
+-- a count increases
 more_counted : (count more all now : ℕ) → count ≡ capped all → now ≡ all + more → capped (count + more) ≡ capped now
 more_counted count more all now e is = omega (arith, e, is)
 
@@ -219,7 +219,7 @@ writes_on before left still had has wrote s unread old new owed traffic moved fl
     by_moved Interrupted h = none h.0 h.1
     by_moved Failed h = none h.0 h.1
 
--- what a write takes from the front of what is to be written
+-- what a write removes from the front of what remains to be written
 written_is : (had has : Option (List ℕ)) (moved : Progress) (old new : List ℕ) → EmptiesSo had has moved old new → drop (moved_count moved) old ≡ new
 written_is had has (Bytes n) old new h = sym h.1
 written_is had has Waits old new h = sym h.1
@@ -255,7 +255,7 @@ module _ {S T : Type 0} (holds : ℕ → Instance → S → Type 0) (remaining c
       let h = g m s before had stands is flow in
       record { steps = h.steps; may = h.may; now = h.now; leads = h.leads; shows = h.shows; flow = h.flow; so = f h.now h.so }
 
-  -- whether the connection goes on is told of what it is then
+  -- whether the connection continues is stated of what it is then
   pub open_is : (P Q : ClientState → Type 0) (a b : Slot T) (ca cb : Cache S) (told : Bool) → b.conn ≡ a.conn → ((m : CacheState) → ShowsCache holds m cb → told ≡ is_open_at (m.at b.conn.0))
       → GoesFrom holds remaining contents P a ca b cb Q → GoesFrom holds remaining contents P a ca b cb (λ s. Q s × (told ≡ not s.serving.conn.state.ended))
   open_is P Q a b ca cb told same looks g m s before had stands is flow =
@@ -275,7 +275,7 @@ module _ {S T : Type 0} (holds : ℕ → Instance → S → Type 0) (remaining c
   pub stays : (P : ClientState → Type 0) (old : Slot T) (cache : Cache S) → GoesFrom holds remaining contents P old cache old cache P
   stays P old cache m s before had stands is flow = record { steps = []; may = tt; now = s; leads = refl; shows = set_same holds m old.conn.0 (Some s.conn) cache stands.at stands.shows; flow = flow; so = is }
 
-  -- bytes are handed in
+  -- bytes are received
   pub takes : (old : Slot T) (rest : List ℕ) (traffic : Traffic) (cache after : Cache S) (count : ℕ) → 0 < length old.unread → rest ≡ drop count old.unread → traffic ≡ and_received (take count old.unread) old.traffic → AreBytes old.unread
       → ((m : CacheState) → ShowsCache holds m cache → TakesPiece holds m old.conn.0 old.unread count after)
       → GoesFrom holds remaining contents IsSettled old cache (record old { unread = rest; traffic = traffic }) after (λ s. count ≡ 0 → IsOver s)
@@ -365,7 +365,7 @@ module _ {S T : Type 0} (holds : ℕ → Instance → S → Type 0) (remaining c
           let same = not_notified keep t s.cache s.conn (sym is) in
           record { all_written = nothing; none_due = ap (λ (o : Conn). o.state.due) same ∙ none; told = λ owed. ap (can_notify s.cache) same ∙ sym is }
 
-  -- none is owed
+  -- none is pending
   pub owes_nothing : (old : Slot T) (cache : Cache S) → old.unwritten ≡ [] → old.is_owed ≡ false → GoesFrom holds remaining contents NoneDue old cache old cache (settles false)
   owes_nothing old cache nothing owed =
       so_then NoneDue NoneDue (settles false) old old cache cache (λ s due. record { all_written = nothing; none_due = due nothing; told = λ is. false_true (sym owed ∙ is) }) (stays NoneDue old cache)
@@ -422,7 +422,7 @@ module _ {S T : Type 0} (holds : ℕ → Instance → S → Type 0) (remaining c
       ends Interrupted h = tt
       ends Failed h = stays_idle h.1
 
-  -- what was written goes on
+  -- what was written grows
   pub wrote_on : (To : ClientState → Type 0) (old new : Slot T) (cache : Cache S) → WritesFrom remaining contents IsToWrite old new To → GoesFrom holds remaining contents IsToWrite old cache new cache To
   wrote_on To old new cache f m s before had stands is flow =
       let h = f s before had is flow in

@@ -26,11 +26,12 @@ reads : (after_read (Bytes 0) true ≡ Some (Gone Truncated)) × (after_read (By
     × (after_read Waits true ≡ Some WaitsToRead) × (after_read Interrupted true ≡ None) × (after_read Failed true ≡ Some (Gone ReadFailed))
 reads = (refl, refl, refl, refl, refl, refl)
 
--- A write that takes nothing fails.
+-- A write that accepts nothing fails.
 writes : (after_write (Bytes 0) ≡ Some (Gone WriteFailed)) × (after_write (Bytes 1) ≡ None) × (after_write Waits ≡ Some WaitsToWrite) × (after_write Interrupted ≡ None) × (after_write Failed ≡ Some (Gone WriteFailed))
 writes = (refl, refl, refl, refl, refl)
 
--- No call of the stream is Busy where none is allowed; a wait is told by the last call alone, and a read that would wait is no wait to write.
+-- With no calls allowed, the turn is Busy. Only the last call decides for what the turn waits, and a read that would block gives no wait to
+-- write.
 told : FitsBudget 0 Busy 0 × FitsBudget 2 Busy 2 × FitsBudget 2 WaitsToRead 1 × ToldSo WaitsToRead (calls.Read Waits ∷ calls.Read (Bytes 8) ∷ []) × ToldSo WaitsToWrite (calls.Write Waits ∷ calls.Read (Bytes 8) ∷ [])
     × (ToldSo WaitsToWrite (calls.Read Waits ∷ []) → ⊥) × (ToldSo (Gone PeerClosed) (calls.Write (Bytes 0) ∷ []) → ⊥)
 told = (refl, refl, omega arith, refl, refl, λ e. cc, λ e. cc)

@@ -1,4 +1,4 @@
--- What stands between two places of an array.
+-- What is between two places of an array.
 use Rattle.std.specs.Prelude.{◌≡◌, ℕ, ◌+◌, ◌-◌, List, [], ◌∷◌, take, drop, refl}
 use Rattle.std.proofs.Common.{zero, suc, sym, ap, ◌∙◌, arith}
 
@@ -21,7 +21,7 @@ drop_both zero b bs = let e : 0 + b ≡ b = omega arith in ap (λ n. drop n bs) 
 drop_both (suc a) b [] = drop_none (suc a + b) ∙ sym (drop_none b)
 drop_both (suc a) b (x ∷ bs) = let e : suc a + b ≡ suc (a + b) = omega arith in ap (λ n. drop n (x ∷ bs)) e ∙ drop_both a b bs
 
--- the front is taken away
+-- the front is removed
 pub moved_on : (n from to : ℕ) (bs : List ℕ) → take (to - (from + n)) (drop (from + n) bs) ≡ drop n (take (to - from) (drop from bs))
 moved_on n from to bs =
     let e : to - (from + n) ≡ (to - from) - n = omega arith in

@@ -30,7 +30,7 @@ abbrev pub admit_fault_number : AdmitFault → ℕ
 admit_fault_number TooManyClients = 1
 admit_fault_number Memory = 2
 
--- what stands under a number of the list of clients
+-- the client under a number of the list of clients
 abbrev pub slot_value : {T A : Type 0} → Option (Box (Slot T) A) → Option (Slot T)
 slot_value None = None
 slot_value (Some b) = Some b.value
@@ -54,13 +54,13 @@ KeepsOthers c old new = (d : ℕ) → ¬ (d ≡ c) → slot_at new d ≡ slot_at
 abbrev pub KeepsAll : {T A : Type 0} → List (Option (Box (Slot T) A)) → List (Option (Box (Slot T) A)) → Type 0
 KeepsAll old new = (d : ℕ) → slot_at new d ≡ slot_at old d
 
--- A client took a turn of at most so many calls of its stream, which ended so.
+-- A client had a turn of at most this many calls of its stream, which ended so.
 pub record Turned {S T : Type 0} (holds : ℕ → Instance → S → Type 0) (remaining contents : T → Option (List ℕ)) (answers : T → Option (List Call)) (budget : ℕ) (old : Slot T) (cache : Cache S) (turn : Turn) (new : Slot T) (after : Cache S) : Type 0 where
   pub conn : new.conn ≡ old.conn
   pub goes : GoesFrom holds remaining contents Anyhow old cache new after (EndsSo turn (remaining new.stream))
   pub told : AnswersTurn budget turn (answers old.stream) (answers new.stream)
 
--- A turn of the client under a number, if there is one: else there is no turn, and nothing changes.
+-- A turn of the client under a number, if there is one. Otherwise there is no turn, and nothing changes.
 abbrev pub TakesTurn : {S T : Type 0} → (ℕ → Instance → S → Type 0) → (T → Option (List ℕ)) → (T → Option (List ℕ)) → (T → Option (List Call)) → ℕ → Option (Slot T) → Cache S → Option Turn → Option (Slot T) → Cache S → Type 0
 TakesTurn holds remaining contents answers budget (Some old) cache (Some turn) (Some new) after = Turned holds remaining contents answers budget old cache turn new after
 TakesTurn holds remaining contents answers budget None cache None new after = (new ≡ None) × (after ≡ cache)
@@ -70,11 +70,11 @@ TakesTurn holds remaining contents answers budget client cache turn new after = 
 abbrev pub parted_of : {T : Type 0} → Option Version → Slot T → Parted
 parted_of version slot = record { carried = slot.traffic.carried; received = slot.traffic.received.pdus; sent = slot.traffic.sent.pdus; received_report = slot.traffic.received.report; sent_report = option_map (λ said. said.code) slot.traffic.sent.report; version = version }
 
--- What was counted of the client that left last: of this one, if one was there, else as before
+-- What was counted of the client that left last: of this one, if one was there, otherwise as before
 abbrev pub parted_last : {T : Type 0} → Option Version → Option (Slot T) → Option Parted → Option Parted
 parted_last version client before = option_or (option_map (parted_of version) client) before
 
--- A client took a turn that ended so, and then it went, and its connection was closed: all other connections are as they were. What was
+-- A client had a turn that ended so, then it was removed, and its connection was closed: all other connections are as they were. What was
 -- counted of it to its end is kept.
 pub record Leaves {S T : Type 0} (holds : ℕ → Instance → S → Type 0) (remaining contents : T → Option (List ℕ)) (answers : T → Option (List Call)) (budget c : ℕ) (old : Slot T) (cache : Cache S) (turn : Turn) (new : Option (Slot T)) (after : Cache S) (parted : Option Parted) : Type 0 where
   pub last : Slot T
@@ -90,7 +90,7 @@ Becomes holds remaining contents answers budget c old cache (Gone how) new after
 Becomes holds remaining contents answers budget c old cache turn None after parted = ⊥
 Becomes holds remaining contents answers budget c old cache turn (Some new) after parted = Turned holds remaining contents answers budget old cache turn new after
 
--- What became of the client under a number: where there is none, nothing.
+-- What became of the client under a number: nothing, if there is none.
 abbrev pub Serves : {S T : Type 0} → (ℕ → Instance → S → Type 0) → (T → Option (List ℕ)) → (T → Option (List ℕ)) → (T → Option (List Call)) → ℕ → ℕ → Option (Slot T) → Cache S → Option Turn → Option (Slot T) → Cache S → Option Parted → Type 0
 Serves holds remaining contents answers budget c (Some old) cache (Some turn) new after parted = Becomes holds remaining contents answers budget c old cache turn new after parted
 Serves holds remaining contents answers budget c None cache None new after parted = (new ≡ None) × (after ≡ cache)
@@ -115,8 +115,8 @@ abbrev pub notified_below : {T A : Type 0} → List (Option (Box (Slot T) A)) �
 notified_below slots zero m = m
 notified_below slots (suc n) m = notified_one (asking (slot_at slots n)) (notified_below slots n m)
 
--- A client that has asked is owed a notify exactly where it is not notified; one that has not asked is owed none, as its first answer is current.
--- It is else as it was.
+-- For a client that has asked, a notify is pending exactly if it is not notified. For one that has not asked none is pending, as its first
+-- answer is current. It is otherwise as it was.
 abbrev pub OwesSo : {T : Type 0} → Option (Slot T) → Bool → Option (Slot T) → Type 0
 OwesSo (Some old) told (Some new) = new ≡ record old { is_owed = has_asked (Some old) && not told }
 OwesSo None told None = ⊤
@@ -130,13 +130,13 @@ can_be_sent (Some slot) m = can_notify_at m.cache (m.at slot.conn.0)
 abbrev pub NotifiesAt : {S T : Type 0} → (ℕ → Instance → S → Type 0) → Option (Slot T) → CacheState → Option (Slot T) → Cache S → Type 0
 NotifiesAt holds old m new after = OwesSo old (can_be_sent old m) new × ShowsCache holds (notified_one (asking old) m) after
 
--- Each client below a number that has asked was notified, or is owed a notify; the others are as they were.
+-- Each client below a number that has asked was notified, or a notify to it is pending; the others are as they were.
 pub record NotifiesBelow {S T A : Type 0} (holds : ℕ → Instance → S → Type 0) (start : List (Option (Box (Slot T) A))) (first : Cache S) (n : ℕ) (slots : List (Option (Box (Slot T) A))) (cache : Cache S) : Type 0 where
   pub shows : (m : CacheState) → ShowsCache holds m first → ShowsCache holds (notified_below start n m) cache
   pub owed : (m : CacheState) → ShowsCache holds m first → (c : ℕ) → c < n → OwesSo (slot_at start c) (can_be_sent (slot_at start c) (notified_below start c m)) (slot_at slots c)
   pub left : (c : ℕ) → ¬ (c < n) → slot_at slots c ≡ slot_at start c
 
--- Each client that has asked is notified of what is published, or is owed that; without a new version no client is touched.
+-- Each client that has asked is notified of what is published, or that notify is pending; without a new version no client is touched.
 abbrev pub PublishesSo : {S T A : Type 0} → (ℕ → Instance → S → Type 0) → CacheState → VrpSet → List (Option (Box (Slot T) A)) → Result Published AllocError → List (Option (Box (Slot T) A)) → Cache S → Type 0
 PublishesSo holds m set old (Ok (New serial)) new after =
     let now : CacheState = record m { cache = published set m.cache } in
@@ -187,8 +187,8 @@ made p = without_conns p.keep p.timing p.first
 abbrev pub present : Past → CacheState
 present p = ran p.calls (made p)
 
--- A client is kept under the number of its connection. What went over its stream since it came is what went over that. It is owed a notify
--- if and only if its router awaits one, and its two buffers have room.
+-- A client is kept under the number of its connection. What went over its stream since it came is what went over that. A notify to it is
+-- pending if and only if its router awaits one, and its two buffers have room.
 abbrev pub ShowsClient : {T : Type 0} → (T → Option (List ℕ)) → (T → Option (List ℕ)) → Begun → ℕ → Option Life → Bool → Option (Slot T) → Type 0
 ShowsClient remaining contents b c (Some l) waits (Some slot) =
     (slot.conn.0 ≡ c) × Flow b.before (remaining slot.stream) b.had (contents slot.stream) (client_of l.serving slot) × (slot.is_owed ≡ waits) × HasRoom (client_of l.serving slot)
@@ -205,8 +205,8 @@ pub record ShowsServer {S T : Type 0} (holds : ℕ → Instance → S → Type 0
   pub most : server.most ≡ p.most
   pub count : server.count ≡ clients_in server.slots.items
 
--- A client's bytes are its own: what was read of its stream made its connection's history, by which what was written is a beginning of
--- the replies to that. It is owed a notify exactly where its router awaits one. It holds no more than its two buffers.
+-- A client's bytes are its own: what was read of its stream made its connection's history, by which what was written is a beginning of the
+-- replies to that. A notify to it is pending exactly if its router awaits one. It holds no more than its two buffers.
 pub record ClientIsServed {T : Type 0} (remaining contents : T → Option (List ℕ)) (p : Past) (c : ℕ) (slot : Slot T) : Type 0 where
   pub own : Life
   pub own_is : life p.calls (made p) c ≡ Some own
@@ -230,7 +230,7 @@ IsOn c call = ⊥
 abbrev pub and_calls : List CacheCall → Past → Past
 and_calls more p = record p { calls = more ++ p.calls }
 
--- What happens to a server by a turn of a client: calls on its connection alone, and its closing where it is gone
+-- What happens to a server by a turn of a client: calls on its connection alone, and its closing if it is gone
 abbrev pub GoesOnAfter : {S T : Type 0} → (ℕ → Instance → S → Type 0) → (T → Option (List ℕ)) → (T → Option (List ℕ)) → Past → ℕ → Option Turn → Server S T → Type 0
 GoesOnAfter holds remaining contents p c None new = ShowsServer holds remaining contents p new
 GoesOnAfter holds remaining contents p c (Some (Gone how)) new =
@@ -266,7 +266,8 @@ IsNotice call = ⊥
 abbrev pub can_be_told_of : VrpSet → Past → ℕ → Bool
 can_be_told_of set p c = can_notify_at (published set (present p).cache) ((present p).at c)
 
--- A new version was published, and routers were notified; each client that has asked and could not be is owed a notify. It is else as it was.
+-- A new version was published, and routers were notified; for each client that has asked and could not be notified, a notify is pending. It
+-- is otherwise as it was.
 pub record PublishesNew {S T : Type 0} (holds : ℕ → Instance → S → Type 0) (remaining contents : T → Option (List ℕ)) (p : Past) (set : VrpSet) (serial : ℕ) (old new : Server S T) : Type 0 where
   pub differs : is_current (present p).cache.sets set ≡ false
   pub serial_is : serial ≡ serial_at (present p).cache.start (length (present p).cache.sets)

@@ -27,7 +27,7 @@ count_of pdus kind = slice_index pdus.counts (type_number kind)
 abbrev pub has_query : PdusByKind → Bool
 has_query pdus = nat_lt 0 (count_of pdus kinds.SerialQuery) || nat_lt 0 (count_of pdus kinds.ResetQuery)
 
--- So many more of the type with this number. Numbers above ten stand for no type, and are not counted.
+-- This many more of the type with this number. Numbers above ten are no type, and are not counted.
 abbrev pub and_pdus : ℕ → ℕ → PdusByKind → PdusByKind
 and_pdus count type pdus = record { counts = slice_set pdus.counts type (capped (slice_index pdus.counts type + count)) }
 
@@ -35,8 +35,8 @@ and_pdus count type pdus = record { counts = slice_set pdus.counts type (capped 
 abbrev pub and_pdu : ℕ → PdusByKind → PdusByKind
 and_pdu type pdus = and_pdus 1 type pdus
 
--- What was counted of bytes: their PDUs by type, the serial that the last End of Data carries, and what the last Error Report says. Of the PDU
--- that stands last and has not come whole: how many bytes came, and the first twelve. If it is an Error Report, the tail has those behind the
+-- What was counted of bytes: their PDUs by type, the serial that the last End of Data carries, and what the last Error Report says. Of the
+-- last PDU, which has not come whole: how many bytes came, and the first twelve. If it is an Error Report, the tail has those behind the
 -- PDU that it encapsulates, at most 204: the length of the text, and the beginning of the text.
 pub record Counted : Type 0 where
   pub pdus : PdusByKind
@@ -46,7 +46,7 @@ pub record Counted : Type 0 where
   pub tail : List ℕ
   pub came : ℕ
 
--- Nothing has come of a PDU that is not whole.
+-- There is no beginning of a PDU that is not whole.
 pub record IsBetween (c : Counted) : Type 0 where
   pub no_front : c.front ≡ []
   pub no_tail : c.tail ≡ []
@@ -68,28 +68,28 @@ serial_after front len last = if is_kind kinds.EndOfData front && nat_le 12 len 
 abbrev pub tail_at : List ℕ → ℕ
 tail_at front = 12 + number_at 4 8 front
 
--- The beginning of the text of a whole Error Report of so many bytes, with these first bytes and this tail. It is empty if the lengths do not
--- add up.
+-- The beginning of the text of a whole Error Report of this many bytes, with these first bytes and this tail. It is empty if the lengths do
+-- not add up.
 abbrev pub text_in : List ℕ → List ℕ → ℕ → List ℕ
 text_in front tail len = if tail_at front + 4 + number_at 4 0 tail == len then drop 4 tail else []
 
--- What the last Error Report says, after a PDU of so many bytes, with these first bytes and this tail
+-- What the last Error Report says, after a PDU of this many bytes, with these first bytes and this tail
 abbrev pub report_after : List ℕ → List ℕ → ℕ → Option Said → Option Said
 report_after front tail len last = if is_kind kinds.ErrorReport front then Some (record { code = number_at 2 2 front; text = text_in front tail len }) else last
 
--- A PDU of these first bytes and this tail has come whole, and has so many bytes.
+-- A PDU of these first bytes and this tail has come whole, and has this many bytes.
 abbrev pub and_whole : List ℕ → List ℕ → ℕ → Counted → Counted
 and_whole front tail len c = record { pdus = and_pdu (type_of front) c.pdus; serial = serial_after front len c.serial; report = report_after front tail len c.report; front = []; tail = []; came = 0 }
 
--- So many PDUs of another type than End of Data and Error Report have come whole.
+-- This many PDUs of another type than End of Data and Error Report have come whole.
 abbrev pub and_many : ℕ → ℕ → Counted → Counted
 and_many count type c = record { pdus = and_pdus count type c.pdus; serial = c.serial; report = c.report; front = []; tail = []; came = 0 }
 
--- The tail of a PDU of these first bytes after the next byte, with which so many came
+-- The tail of a PDU of these first bytes after the next byte, with which this many came
 abbrev pub and_tail : List ℕ → ℕ → List ℕ → ℕ → List ℕ
 and_tail front came tail b = if nat_lt (tail_at front) came then take 204 (tail ++ b ∷ []) else tail
 
--- the next byte came of the PDU that stands last
+-- the next byte of the last PDU came
 abbrev pub grown : Counted → ℕ → Counted
 grown c b =
     let front = take 12 (c.front ++ b ∷ []) in

@@ -19,6 +19,6 @@ ShowsHeader head bytes = (type_of bytes ≡ type_in head) × (length_of bytes �
 abbrev pub IsOnlyCounted : ℕ → Type 0
 IsOnlyCounted type = (¬ (type ≡ 7)) × (¬ (type ≡ 10))
 
--- What is counted of the bytes is what is counted of the rest, where so many more PDUs of the type were counted before.
+-- What is counted of the bytes is what is counted of the rest, if this many more PDUs of the type were counted before.
 abbrev pub PassesMany : ℕ → ℕ → List ℕ → List ℕ → Type 0
 PassesMany type count bytes rest = (n : ℕ) (c : Counted) → counted_on (and_many n type c) bytes ≡ counted_on (and_many (n + count) type c) rest

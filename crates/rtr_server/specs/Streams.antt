@@ -1,4 +1,4 @@
--- What the calls of a stream that does not wait do to its bytes, where those are known.
+-- What the calls of a non-blocking stream do to its bytes, if those are known.
 use Rattle.std.specs.Prelude.{◌≡◌, ℕ, ◌<◌, ◌≤◌, ◌==◌, List, [], ◌∷◌, ◌++◌, length, take, drop, Option, Some, None, if◌then◌else◌, ⊤}
 use Rattle.std.specs.Io.KnownBytes.{Appends, Consumes, IsAtEnd, Keeps}
 use Rattle.std.specs.declared.io.ErrorKind.{ErrorKind}
@@ -25,14 +25,14 @@ IsWithin most Waits = ⊤
 IsWithin most Interrupted = ⊤
 IsWithin most Failed = ⊤
 
--- A read took these bytes of what was left, none only at the end; or nothing.
+-- A read removed these bytes from what was left, none only at the end; or nothing.
 abbrev pub ReadsSo : Option (List ℕ) → Option (List ℕ) → Progress → List ℕ → Type 0
 ReadsSo before left (Bytes n) buf = Consumes before left (take n buf) × (n ≡ 0 → 0 < length buf → IsAtEnd left)
 ReadsSo before left Waits buf = Keeps before left
 ReadsSo before left Interrupted buf = Keeps before left
 ReadsSo before left Failed buf = Keeps before left
 
--- A write appended the beginning that it took, or nothing.
+-- A write appended the beginning that it accepted, or nothing.
 abbrev pub WritesSo : Option (List ℕ) → Option (List ℕ) → Progress → List ℕ → Type 0
 WritesSo had has (Bytes n) buf = Appends had has (take n buf)
 WritesSo had has Waits buf = Keeps had has
@@ -47,13 +47,13 @@ a_read moved = Read moved ∷ []
 abbrev pub a_write : Progress → List Call
 a_write moved = Write moved ∷ []
 
--- These were the calls made since and their answers, the last first, where all are known.
+-- These were the calls made since and their answers, the last first, if all are known.
 abbrev pub Logged : List Call → Option (List Call) → Option (List Call) → Type 0
 Logged since before None = ⊤
 Logged since None (Some now) = ⊥
 Logged since (Some before) (Some now) = now ≡ since ++ before
 
--- A read into an empty buffer leaves there what it took, and at the end nothing.
+-- A read into an empty buffer leaves there what it read, and at the end nothing.
 abbrev pub FillsSo : Option (List ℕ) → Option (List ℕ) → Progress → List ℕ → Type 0
 FillsSo before left (Bytes n) unread = Consumes before left unread × (length unread ≡ n) × (n ≡ 0 → IsAtEnd left)
 FillsSo before left Waits unread = Keeps before left × (unread ≡ [])
@@ -67,18 +67,18 @@ moved_count Waits = 0
 moved_count Interrupted = 0
 moved_count Failed = 0
 
--- A write takes what it took from the front of what is to be written.
+-- A write removes what it accepted from the front of what remains to be written.
 abbrev pub EmptiesSo : Option (List ℕ) → Option (List ℕ) → Progress → List ℕ → List ℕ → Type 0
 EmptiesSo had has (Bytes n) old new = Appends had has (take n old) × (new ≡ drop n old) × (n ≤ length old)
 EmptiesSo had has Waits old new = Keeps had has × (new ≡ old)
 EmptiesSo had has Interrupted old new = Keeps had has × (new ≡ old)
 EmptiesSo had has Failed old new = Keeps had has × (new ≡ old)
 
--- the large room, where there is one, else the small one
+-- the large room, if there is one, otherwise the small one
 abbrev pub room_of : List ℕ → List ℕ → List ℕ
 room_of small large = if length large == 0 then small else large
 
--- Room for so many bytes: there is some, and no more than 32,768.
+-- Room for this many bytes: there is some, and at most 32,768.
 pub record IsRoom (most : ℕ) : Type 0 where
   pub some : 0 < most
   pub fits : most ≤ 32768

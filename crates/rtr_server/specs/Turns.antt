@@ -27,8 +27,8 @@ use Rattle.rtr_server.specs.declared.turn.Traffic.{Traffic}
 use Rattle.rtr_server.specs.declared.turn.Turn.{Turn}
 use Rattle.rtr_server.specs.declared.turn.Turn.TheVariants.{Busy, Gone, WaitsToRead, WaitsToWrite}
 
--- A client: its connection, what was read of its stream and is not consumed, and what was pulled and is not written. And whether it is owed
--- a notify, and what is counted of it.
+-- A client: its connection, what was read of its stream and is not consumed, and what was pulled and is not written. And whether a notify
+-- to it is pending, and what is counted of it.
 pub record ClientState : Type 0 where
   pub serving : Serving
   pub unread : List ℕ
@@ -36,8 +36,8 @@ pub record ClientState : Type 0 where
   pub owed : Bool
   pub traffic : Traffic
 
--- What is done for a client. What was read is handed in; memory runs out at this PDU of it, if at any. Of what is due so many bytes are
--- pulled at most. Its router is notified. These bytes are read of its stream. So many are written to it.
+-- What is done for a client. The cache receives what was read; memory runs out at this PDU of it, if at any. At most this many bytes of
+-- what is due are pulled. Its router is notified. These bytes are read of its stream. This many are written to it.
 pub data ClientStep : Type 0 where
   HandsIn : (wanting : Option ℕ) → ClientStep
   Pulls : (most : ℕ) → ClientStep
@@ -80,13 +80,13 @@ client_after keep t Notifies s = record s { serving = serve keep t Notified s.se
 client_after keep t (Reads bytes) s = record s { unread = bytes; traffic = and_read (length bytes) s.traffic }
 client_after keep t (Writes count) s = client_wrote count s
 
--- All that was pulled is written, nothing is due, and no notify is owed that can be sent.
+-- All that was pulled is written, nothing is due, and no notify is pending that can be sent.
 pub record IsSettled (s : ClientState) : Type 0 where
   pub all_written : s.unwritten ≡ []
   pub none_due : s.serving.conn.state.due ≡ []
   pub told : s.owed ≡ true → can_be_told s.serving ≡ false
 
--- It is settled, all that was read is consumed, and its connection goes on.
+-- It is settled, all that was read is consumed, and its connection continues.
 pub record IsIdle (s : ClientState) : Type 0 where
   pub settled : IsSettled s
   pub all_consumed : s.unread ≡ []
@@ -98,15 +98,15 @@ pub record IsOver (s : ClientState) : Type 0 where
   pub none_due : s.serving.conn.state.due ≡ []
   pub ended : s.serving.conn.state.ended ≡ true
 
--- Where nothing is left to be written, nothing is due.
+-- If nothing is left to be written, nothing is due.
 abbrev pub NoneDue : ClientState → Type 0
 NoneDue s = s.unwritten ≡ [] → s.serving.conn.state.due ≡ []
 
--- Where nothing is left to be written, it is settled.
+-- If nothing is left to be written, it is settled.
 abbrev pub MaySettle : ClientState → Type 0
 MaySettle s = s.unwritten ≡ [] → IsSettled s
 
--- A notify was sent, and none is owed; or it is settled.
+-- A notify was sent, and none is pending; or it is settled.
 abbrev pub settles : Bool → ClientState → Type 0
 settles true s = s.owed ≡ false
 settles false s = IsSettled s
@@ -115,13 +115,13 @@ settles false s = IsSettled s
 abbrev pub IsToWrite : ClientState → Type 0
 IsToWrite s = 0 < length s.unwritten
 
--- memory runs out at this PDU of what is handed in: it is read, and its answer takes memory
+-- memory runs out at this PDU of what is received: it is read, and its answer allocates memory
 abbrev pub IsWanted : ℕ → Intervals → ClientState → ℕ → Type 0
 IsWanted keep t s unit = is_wanted_by_peer keep t s.serving.cache s.serving.conn s.unread unit ≡ true
 
--- When a step may be made. Nothing is handed in or read while anything is due, yet to be written, or owed and could be sent. Nothing is
--- read before all that was read is consumed. Nothing is pulled before all that was pulled is written, and then as far as there is room. No
--- router is notified that is owed no notify.
+-- When a step may be made. Nothing is received or read while anything is due or yet to be written, or a notify is pending and could be
+-- sent. Nothing is read before all that was read is consumed. Nothing is pulled before all that was pulled is written, and then as far as
+-- there is room. No router is notified unless a notify to it is pending.
 abbrev pub MayStep : ℕ → Intervals → ClientStep → ClientState → Type 0
 MayStep keep t (HandsIn wanting) s = AreBytes s.unread × IsSettled s × IfSome wanting (IsWanted keep t s)
 MayStep keep t (Pulls most) s = (s.unwritten ≡ []) × IsRoom most
@@ -140,7 +140,7 @@ pub record EndsByReport (c : Connection) : Type 0 where
   pub version : Version
   pub due : c.due ≡ sent_all version (report INTERNAL_ERROR [] ∷ [])
 
--- Where memory runs out at a PDU that is handed in, the client's connection ends so (RFC 8210 section 12).
+-- If memory runs out at a PDU that is received, the client's connection ends so (RFC 8210 section 12).
 abbrev pub MemoryEnds : Type 0
 MemoryEnds =
     (keep : ℕ) (t : Intervals) (unit : ℕ) (s : ClientState) → MayStep keep t (HandsIn (Some unit)) s → EndsByReport (client_after keep t (HandsIn (Some unit)) s).serving.conn.state
@@ -155,7 +155,7 @@ MaySteps keep t [] s = ⊤
 MaySteps keep t (step ∷ steps) s = MayStep keep t step (steps_after keep t steps s) × MaySteps keep t steps s
 
 -- What was read of the stream since it came is what its connection consumed, and then the bytes that are not consumed. What was pulled is
--- what was written to it, and then the bytes that are not written. So many are counted. The PDUs that are counted are those of what its
+-- what was written to it, and then the bytes that are not written. This many are counted. The PDUs that are counted are those of what its
 -- connection consumed, and of what was written.
 pub record Flow (before left had has : Option (List ℕ)) (s : ClientState) : Type 0 where
   pub read : Consumes before left (s.serving.came ++ s.unread)
@@ -171,7 +171,7 @@ pub record Flow (before left had has : Option (List ℕ)) (s : ClientState) : Ty
 abbrev pub client_of : {T : Type 0} → Serving → Slot T → ClientState
 client_of s slot = record { serving = s; unread = slot.unread; unwritten = slot.unwritten; owed = slot.is_owed; traffic = slot.traffic }
 
--- The cache shows this state, where this is the connection under the number.
+-- The cache shows this state, if this is the connection under the number.
 pub record StandsSo {S : Type 0} (holds : ℕ → Instance → S → Type 0) (m : CacheState) (c : ℕ) (s : Serving) (cache : Cache S) : Type 0 where
   pub shows : ShowsCache holds m cache
   pub at : m.at c ≡ Some s.conn
@@ -197,7 +197,7 @@ GoesFrom holds remaining contents From old cache new after To =
 abbrev pub Anyhow : ClientState → Type 0
 Anyhow s = ⊤
 
--- So many bytes of what was pulled were written, and that led to what the slot is, and its stream; so it is.
+-- This many bytes of what was pulled were written, and that led to what the slot is, and its stream; so it is.
 pub record Wrote {T : Type 0} (remaining contents : T → Option (List ℕ)) (before had : Option (List ℕ)) (s : Serving) (old new : Slot T) (So : ClientState → Type 0) : Type 0 where
   pub count : ℕ
   pub leads : client_wrote count (client_of s old) ≡ client_of s new
@@ -210,7 +210,7 @@ WritesFrom remaining contents From old new To =
     (s : Serving) (before had : Option (List ℕ)) → From (client_of s old) → Flow before (remaining old.stream) had (contents old.stream) (client_of s old)
     → Wrote remaining contents before had s old new To
 
--- What is to be done next is so.
+-- This is what comes next.
 abbrev pub StandsFor : Next → ClientState → Type 0
 StandsFor Write s = IsToWrite s
 StandsFor Read s = IsIdle s
@@ -229,7 +229,7 @@ EndsSo (Gone CacheEnded) left s = IsOver s
 EndsSo (Gone ReadFailed) left s = IsIdle s
 EndsSo (Gone WriteFailed) left s = IsToWrite s
 
--- or the turn goes on
+-- or the turn continues
 abbrev pub GoesOrEnds : Option Turn → Option (List ℕ) → ClientState → Type 0
 GoesOrEnds None left s = ⊤
 GoesOrEnds (Some turn) left s = EndsSo turn left s
@@ -255,7 +255,7 @@ abbrev pub FitsBudget : ℕ → Turn → ℕ → Type 0
 FitsBudget budget Busy count = count ≡ budget
 FitsBudget budget turn count = count ≤ budget
 
--- So the answers go on by one call of the stream, or none, where the turn goes on or comes to this.
+-- The answers continue so by one call of the stream, or none, if the turn continues or comes to this.
 abbrev pub StepTold : Option Turn → List Call → Type 0
 StepTold None answers = length answers ≡ 1
 StepTold (Some Busy) answers = ⊥
@@ -266,15 +266,15 @@ pub record AnswersStep (turn : Option Turn) (before after : Option (List Call)) 
   pub logged : Logged since before after
   pub told : StepTold turn since
 
--- So they go on in a turn. At most as many calls were made as are allowed, exactly as many if it is Busy, and the last says what the turn
--- came to.
+-- They continue so in a turn. At most as many calls were made as are allowed, exactly as many if it is Busy, and the last says what the
+-- turn came to.
 pub record AnswersTurn (budget : ℕ) (turn : Turn) (before after : Option (List Call)) : Type 0 where
   pub since : List Call
   pub logged : Logged since before after
   pub fits : FitsBudget budget turn (length since)
   pub told : ToldSo turn since
 
--- What a read or a write comes to: none where the turn goes on
+-- The result of a read or a write: none if the turn continues
 abbrev pub after_read : Progress → Bool → Option Turn
 after_read (Bytes n) is_within = if n == 0 then Some (Gone (if is_within then Truncated else PeerClosed)) else None
 after_read Waits is_within = Some WaitsToRead

@@ -8,7 +8,7 @@ use crate::stream::Stream;
 use vrps::VersionStore;
 
 /// What went over the stream of each client of a server is what its connection's history says. So what was written to it is a beginning of
-/// the replies to what was read from it. A notify is owed to it if and only if its router awaits one. It holds at most 4,096 bytes that
+/// the replies to what was read from it. A notify to it is pending if and only if its router awaits one. It holds at most 4,096 bytes that
 /// were read and not consumed, and at most 32,768 that were pulled and not written. Each past that led to the server made it so.
 pub fn each_client_is_served<S: VersionStore, T: Stream>(server: &Server<S, T>)
     ensures { EachClientIsServed S.holds T.remaining T.contents server.now }

@@ -89,7 +89,7 @@ impl Unread {
     }
 }
 
-/// Hands in bytes.
+/// Passes in bytes.
 fn hand_piece<S: VersionStore>(cache: &mut Cache<S>, conn: Conn, piece: &[u8]) -> usize
     ensures takes { (m : CacheState) → ShowsCache S.holds m cache.old → TakesPiece S.holds m conn.0 piece.now result cache.new }
     ensures within { result ≤ length piece.now }
@@ -183,7 +183,7 @@ impl Unwritten {
         self.give_back();
     }
 
-    /// Writes of it what the stream takes in one call, and counts that.
+    /// Writes of it what the stream accepts in one call, and counts that.
     pub(crate) fn write<T: Stream>(&mut self, stream: &mut T, sent: &mut Tally) -> Progress
         ensures empties { EmptiesSo (T.contents stream.old) (T.contents stream.new) result self.old self.new }
         ensures keeps { Keeps (T.remaining stream.old) (T.remaining stream.new) }

@@ -66,7 +66,7 @@ pub struct Server<S, T> {
 }
 
 impl<S: VersionStore, T: Stream + Drop> Server<S, T> {
-    /// A server of this cache, which has no connection, for so many clients at most. It takes no memory.
+    /// A server of this cache, which has no connection, for at most this many clients. It allocates no memory.
     pub fn new(alloc: Global, cache: Cache<S>, most: usize) -> Server<S, T>
         ensures past { (keep : ℕ) (timing : Intervals) (i : Instance) (begun : ℕ → Begun) → IsInstance i → ShowsCache S.holds (without_conns keep timing i) cache →
             ShowsServer S.holds T.remaining T.contents (record { keep = keep; timing = timing; first = i; most = most; calls = []; begun = begun }) result }
@@ -123,8 +123,8 @@ impl<S: VersionStore, T: Stream + Drop> Server<S, T> {
     }
 
     /// One turn of a client, of at most `budget` calls of its stream. What was pulled is written, then more is pulled. If nothing is due,
-    /// what was read is handed in. If nothing is left of that, a piece is read. The result is none if no client has the number. A number is
-    /// free again once its client is closed, and may go to another; `parted` has what was counted of it.
+    /// the cache receives what was read. If nothing is left of that, a piece is read. The result is none if no client has the number. A
+    /// number is free again once its client is closed, and may go to another; `parted` has what was counted of it.
     pub fn serve(&mut self, client: Client, budget: u32) -> Option<Turn>
         ensures others { KeepsOthers client.0.0 self.old.slots.items self.new.slots.items }
         ensures serves { Serves S.holds T.remaining T.contents T.answers budget client.0.0 (slot_at self.old.slots.items client.0.0) self.old.cache result (slot_at self.new.slots.items client.0.0) self.new.cache self.new.parted }
@@ -150,8 +150,8 @@ impl<S: VersionStore, T: Stream + Drop> Server<S, T> {
 
     /// Publishes a set. Each client that has asked, whose connection is open and has nothing due, is notified of a new version. The notify
     /// comes behind what was pulled and is not written. A client that has asked and still has bytes due is notified as soon as nothing is
-    /// due, before anything more is handed in. A client that has not asked is not notified (RFC 8210 section 7): its first answer is of the
-    /// current version. If memory runs out, nothing is published.
+    /// due, before its connection receives anything more. A client that has not asked is not notified (RFC 8210 section 7): its first
+    /// answer is of the current version. If memory runs out, nothing is published.
     pub fn publish(&mut self, set: VrpSet) -> Result<Published, AllocError>
         ensures publishes { (p : Past) → ShowsServer S.holds T.remaining T.contents p self.old → PublishesTo S.holds T.remaining T.contents p set result self.old self.new }
         ensures parted { self.new.parted ≡ self.old.parted }
@@ -160,7 +160,8 @@ impl<S: VersionStore, T: Stream + Drop> Server<S, T> {
         self.publish_to_all(set)
     }
 
-    /// Drops the client that has the number now, if there is one, with all that was to be written to it. `parted` has what was counted of it.
+    /// Drops the client that has the number now, if there is one, with all that remained to be written to it. `parted` has what was counted
+    /// of it.
     pub fn drop_client(&mut self, client: Client)
         ensures others { KeepsOthers client.0.0 self.old.slots.items self.new.slots.items }
         ensures gone { slot_at self.new.slots.items client.0.0 ≡ Option.None }
@@ -287,7 +288,7 @@ fn owes<S: VersionStore>(cache: &mut Cache<S>, conn: Conn, asked: bool) -> bool
     asked && !cache.notify(conn)
 }
 
-/// Notifies the client under a number, or owes it a notify, if it has asked.
+/// Notifies the client under a number, or marks a notify to it as pending, if it has asked.
 fn notify_at<S: VersionStore, T: Stream>(
     cache: &mut Cache<S>,
     slots: &mut Vec<Option<Box<Slot<T>>>>,
@@ -308,7 +309,7 @@ fn notify_at<S: VersionStore, T: Stream>(
     }
 }
 
-/// Notifies all clients that have asked, or owes them a notify.
+/// Notifies each client that has asked, or marks a notify to it as pending.
 fn notify_all<S: VersionStore, T: Stream>(
     cache: &mut Cache<S>,
     slots: &mut Vec<Option<Box<Slot<T>>>>,

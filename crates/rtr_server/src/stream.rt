@@ -10,7 +10,7 @@ use std::io::{ErrorKind, Read, Write};
 /// The outcome of one non-blocking call of a stream.
 #[derive(Clone, Copy, Debug, PartialEq, Eq)]
 pub enum Progress {
-    /// So many bytes were read or written. At a read, zero bytes are the end of the input, if there is room.
+    /// This many bytes were read or written. At a read, zero bytes are the end of the input, if there is room.
     Bytes(usize),
     /// The stream would block.
     Waits,

@@ -39,7 +39,7 @@ impl PdusByKind {
         self.of(Kind::SerialQuery) > 0 || self.of(Kind::ResetQuery) > 0
     }
 
-    /// Counts so many more of the type with this number. Numbers above ten are no type, and are not counted.
+    /// Counts this many more of the type with this number. Numbers above ten are no type, and are not counted.
     fn add(&mut self, kind: u8, count: u64)
         ensures { self.new ≡ and_pdus count kind self.old }
     {
@@ -123,7 +123,7 @@ impl Tally {
         }
     }
 
-    /// One more byte came of the last PDU.
+    /// One more byte of the last PDU came.
     fn grow(&mut self, byte: u8)
         ensures { self.new ≡ grown self.old byte }
     {
@@ -161,7 +161,7 @@ impl Tally {
         }
     }
 
-    /// Counts a PDU that is whole in front of these bytes, if nothing came of another. It is no Error Report.
+    /// Counts a PDU that is whole in front of these bytes, if no byte of another has come. It is no Error Report.
     fn add(&mut self, piece: &[u8], len: usize)
         requires none { self.old.came ≡ 0 }
         requires kind { ¬ (type_of piece.now ≡ 10) }
@@ -173,7 +173,7 @@ impl Tally {
         self.came = 0;
     }
 
-    /// Counts so many PDUs of a type, if nothing came of another. It is neither End of Data nor Error Report, of which more is kept.
+    /// Counts this many PDUs of a type, if no byte of another has come. It is neither End of Data nor Error Report, of which more is kept.
     fn add_run(&mut self, kind: u8, count: u64)
         ensures { self.new ≡ and_many count kind self.old }
     {
@@ -228,7 +228,7 @@ pub(crate) fn count(tally: &mut Tally, piece: &[u8])
     }
 }
 
-/// Counts a PDU of these first bytes, which has so many.
+/// Counts a PDU of these first bytes, which has this many.
 fn note(pdus: &mut PdusByKind, serial: &mut Option<Serial>, front: &[u8], len: u64)
     requires header { 8 ≤ length front.now }
     requires room { 12 ≤ len → 12 ≤ length front.now }
@@ -242,7 +242,7 @@ fn note(pdus: &mut PdusByKind, serial: &mut Option<Serial>, front: &[u8], len: u
     }
 }
 
-/// Keeps what a PDU of so many bytes says, with these first bytes and this tail, if it is an Error Report.
+/// Keeps what a PDU of this many bytes says, with these first bytes and this tail, if it is an Error Report.
 fn note_report(report: &mut Option<Report>, front: &[u8], tail: &[u8], len: u64)
     requires header { 8 ≤ length front.now }
     requires room { 12 ≤ len → 12 ≤ length front.now }
@@ -255,7 +255,7 @@ fn note_report(report: &mut Option<Report>, front: &[u8], tail: &[u8], len: u64)
     }
 }
 
-/// The beginning of the text of an Error Report of so many bytes, with these first bytes and this tail.
+/// The beginning of the text of an Error Report of this many bytes, with these first bytes and this tail.
 fn text_of<'a>(front: &[u8], tail: &'a [u8], len: u64) -> &'a [u8]
     requires room { 12 ≤ len → 12 ≤ length front.now }
     requires behind { length tail.now ≡ min 204 (len - tail_at front.now) }
@@ -274,7 +274,7 @@ fn text_of<'a>(front: &[u8], tail: &'a [u8], len: u64) -> &'a [u8]
     }
 }
 
-/// Puts the next byte of a PDU of which so many came to its first ones, if it is one of these.
+/// Appends the next byte of a PDU, of which this many came, to its first ones, if it is one of these.
 fn put(front: &mut [u8; FRONT], came: u64, byte: u8)
     ensures { front.new ≡ (if nat_lt came 12 then slice_set front.old came byte else front.old) }
 {
@@ -283,7 +283,7 @@ fn put(front: &mut [u8; FRONT], came: u64, byte: u8)
     }
 }
 
-/// Puts the next byte of a PDU, of which so many came, into its tail, if the byte is in it. The tail begins at this place.
+/// Puts the next byte of a PDU, of which this many came, into its tail, if the byte is in it. The tail begins at this place.
 fn put_behind(tail: &mut [u8; TAIL], at: u64, came: u64, byte: u8)
     ensures { tail.new ≡ (if nat_lt came at then tail.old else if nat_lt (came - at) 204 then slice_set tail.old (came - at) byte else tail.old) }
 {
@@ -292,7 +292,7 @@ fn put_behind(tail: &mut [u8; TAIL], at: u64, came: u64, byte: u8)
     }
 }
 
-/// The first bytes of a PDU of which so many came.
+/// The first bytes of a PDU of which this many came.
 fn first(front: &[u8; FRONT], came: u64) -> &[u8]
     ensures value { result.now ≡ take came front.now }
     ensures len { length result.now ≡ min 12 came }
@@ -300,7 +300,7 @@ fn first(front: &[u8; FRONT], came: u64) -> &[u8]
     &front[..FRONT.min(came as usize)]
 }
 
-/// The tail of a PDU of which so many came: the bytes from this place on.
+/// The tail of a PDU of which this many came: the bytes from this place on.
 fn behind(tail: &[u8; TAIL], at: u64, came: u64) -> &[u8]
     ensures value { result.now ≡ take (came - at) tail.now }
     ensures len { length result.now ≡ min 204 (came - at) }

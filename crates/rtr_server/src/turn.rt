@@ -22,7 +22,7 @@ pub enum CloseReason {
     CacheEnded,
     /// The stream failed at a read.
     ReadFailed,
-    /// The stream failed at a write, or took nothing.
+    /// The stream failed at a write, or accepted nothing.
     WriteFailed,
 }
 
@@ -31,8 +31,8 @@ pub enum CloseReason {
 pub enum Turn {
     /// The stream would wait for bytes to be read, as the last call of the turn said.
     WaitsToRead,
-    /// The stream would wait for room to write, as the last call of the turn said, which was a write. If no more bytes are counted as written
-    /// than before the turn, no write of it took a byte.
+    /// The stream would wait for room to write, as the last call of the turn said, which was a write. If the count of bytes written is the
+    /// same as before the turn, no write of it accepted a byte.
     WaitsToWrite,
     /// As many calls of the stream were made as are allowed.
     Busy,
@@ -91,7 +91,7 @@ impl Traffic {
     }
 }
 
-/// A client: its stream, its connection, what is between them, whether it is owed a notify, and what is counted of it.
+/// A client: its stream, its connection, what is between them, whether a notify to it is pending, and what is counted of it.
 #[derive(Debug, Drop)]
 pub(crate) struct Slot<T> {
     pub(crate) stream: T,
@@ -128,7 +128,7 @@ impl<T: Stream> Slot<T> {
         }
     }
 
-    /// Sends the notify that is owed, if it can be sent. It returns whether it did.
+    /// Sends the pending notify, if it can be sent. It returns whether it did.
     fn settle<S: VersionStore>(&mut self, cache: &mut Cache<S>) -> bool
         requires { self.old.unwritten ≡ [] }
         ensures goes { GoesFrom S.holds T.remaining T.contents NoneDue self.old cache.old self.new cache.new (settles result) }
@@ -153,7 +153,7 @@ impl<T: Stream> Slot<T> {
         self.unwritten.pull(cache, self.conn);
     }
 
-    /// Pulls the notify that is owed, if nothing is left to write and nothing is due.
+    /// Pulls the pending notify, if nothing is left to write and nothing is due.
     fn pull_owed<S: VersionStore>(&mut self, cache: &mut Cache<S>)
         ensures goes { GoesFrom S.holds T.remaining T.contents NoneDue self.old cache.old self.new cache.new MaySettle }
         ensures conn { self.new.conn ≡ self.old.conn }
@@ -168,7 +168,7 @@ impl<T: Stream> Slot<T> {
         }
     }
 
-    /// Pulls what is due, or the notify that is owed, if nothing is left to write.
+    /// Pulls what is due, or the pending notify, if nothing is left to write.
     fn fill<S: VersionStore>(&mut self, cache: &mut Cache<S>)
         ensures goes { GoesFrom S.holds T.remaining T.contents Anyhow self.old cache.old self.new cache.new MaySettle }
         ensures conn { self.new.conn ≡ self.old.conn }
@@ -181,7 +181,7 @@ impl<T: Stream> Slot<T> {
         }
     }
 
-    /// Hands in what was read, and returns how many bytes were consumed: none if the connection has ended.
+    /// Passes in what was read, and returns how many bytes were consumed: none if the connection has ended.
     fn take<S: VersionStore>(&mut self, cache: &mut Cache<S>) -> usize
         requires { 0 < length self.old.unread }
         ensures goes { GoesFrom S.holds T.remaining T.contents IsSettled self.old cache.old self.new cache.new (λ s. result ≡ 0 → IsOver s) }
@@ -193,7 +193,7 @@ impl<T: Stream> Slot<T> {
             .hand_in(cache, self.conn, &mut self.traffic.received)
     }
 
-    /// Hands in what was read, as far as nothing becomes due, and returns what comes next.
+    /// Passes in what was read, as far as nothing becomes due, and returns what comes next.
     fn prepare<S: VersionStore>(&mut self, cache: &mut Cache<S>) -> Next
         ensures goes { GoesFrom S.holds T.remaining T.contents Anyhow self.old cache.old self.new cache.new (StandsFor result) }
         ensures conn { self.new.conn ≡ self.old.conn }
@@ -272,7 +272,7 @@ impl<T: Stream> Slot<T> {
     }
 }
 
-/// What a read comes to: none if the turn goes on.
+/// The result of a read: none if the turn continues.
 fn after_read(moved: Progress, is_within: bool) -> Option<Turn>
     ensures { result ≡ after_read moved is_within }
 {
@@ -288,7 +288,7 @@ fn after_read(moved: Progress, is_within: bool) -> Option<Turn>
     }
 }
 
-/// What a write comes to: none if the turn goes on.
+/// The result of a write: none if the turn continues.
 fn after_write(moved: Progress) -> Option<Turn>
     ensures { result ≡ after_write moved }
 {

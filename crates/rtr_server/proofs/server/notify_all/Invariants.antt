@@ -1,4 +1,4 @@
--- Each client below the number was notified, or is owed a notify.
+-- Each client below the number was notified, or a notify to it is pending.
 use Rattle.std.proofs.Common.{◌≡◌, length}
 use Rattle.rtr_server.specs.Clients.{NotifiesBelow, clients_in}
 use Rattle.rtr_server.proofs.server.notify_all.Given as goal

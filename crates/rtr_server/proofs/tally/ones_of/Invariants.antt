@@ -1,4 +1,4 @@
--- So many PDUs stand in front of what is left.
+-- This many PDUs are in front of what is left.
 use Rattle.std.proofs.Common.{◌+◌, ◌≤◌, length}
 use Rattle.rtr_server.specs.Runs.{PassesMany, type_in}
 use Rattle.rtr_server.proofs.tally.ones_of.Given as goal

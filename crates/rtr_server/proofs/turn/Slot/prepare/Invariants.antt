@@ -1,4 +1,4 @@
--- So far it went on by steps that may be taken.
+-- So far it continued by allowed steps.
 use Rattle.std.proofs.Common.{◌≡◌, length}
 use Rattle.rtr_server.specs.Turns.{Anyhow, GoesFrom}
 use Rattle.rtr_server.proofs.turn.Slot.prepare.Given as goal

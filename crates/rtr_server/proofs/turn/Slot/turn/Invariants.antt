@@ -1,4 +1,4 @@
--- So far it went on by steps that may be taken, with a call of the stream for each round.
+-- So far it continued by allowed steps, with a call of the stream for each round.
 use Rattle.std.proofs.Common.{◌≡◌}
 use Rattle.rtr_server.specs.Turns.{Anyhow, GoesFrom}
 use Rattle.rtr_server.proofs.AnswerLogs.{SoFar}
