@@ -39,7 +39,7 @@ has-led_to base withdrawn announced q =
     has-union (without base (set_of withdrawn)) (set_of announced) q
     ∙ (λ i. (has-without base (set_of withdrawn) q ∙ ap (λ b. has base q && not b) (has-set_of withdrawn q)) i || has-set_of announced q i)
 
--- records that follow, none of which stands twice
+-- records that follow, without duplicates
 abbrev Fresh : List Payload → Type 0
 Fresh vs = IsDistinct (eq_by_cmp vrp_cmp) vs
 

@@ -1,9 +1,9 @@
--- A machine that takes a piece, beside one that is alike until memory runs out there at a PDU: that one lacks memory just where the PDU
--- takes memory, and leaves no less of the piece.
+-- A machine that consumes a piece, beside one that is alike until memory runs out there at a PDU. The other lacks memory exactly if the PDU
+-- allocates memory, and leaves at least as much of the piece.
 use Rattle.rtr_world.proofs.Words.{◌≡◌, ℕ, zero, suc, ◌≤◌, Bool, true, false, List, [], ◌∷◌, ◌++◌, length, Option, Some, None, slice_get, refl, sym, ap, ◌∙◌, append_assoc, arith, append-nil, length-append, FedPiece, feed, feed_takes, stopped, false_true}
 use Rattle.rtr_ends.proofs.FeedingLaws.{goes_on}
 
--- the PDU that is named is there, and takes memory
+-- the PDU that is named is there, and allocates memory
 abbrev pub has : Option Bool → Bool
 has None = false
 has (Some takes) = takes
@@ -12,13 +12,13 @@ abbrev pub lacks_at : Option ℕ → List Bool → Bool
 lacks_at None readings = false
 lacks_at (Some unit) readings = has (slice_get readings unit)
 
--- A byte completes a PDU, which takes memory or not, or it completes none.
+-- A byte completes a PDU, which allocates memory or not, or it completes none.
 abbrev pub told : Option Bool → List Bool → List Bool
 told None readings = readings
 told (Some takes) readings = takes ∷ readings
 
 module _ {M : Type 0} (stops lacks : M → Bool) (Alike : Option ℕ → M → M → Type 0) where
-  -- two machines behind a byte, where memory was to run out at this PDU of the second
+  -- two machines behind a byte, with memory meant to run out at this PDU of the second
   abbrev pub After : Option Bool → Option ℕ → M → M → Type 0
   After None wanting m n = Alike wanting m n
   After (Some takes) None m n = Alike None m n
@@ -26,7 +26,7 @@ module _ {M : Type 0} (stops lacks : M → Bool) (Alike : Option ℕ → M → M
   After (Some true) (Some zero) m n = (stops n ≡ true) × (lacks n ≡ true)
   After (Some false) (Some zero) m n = Alike None m n
 
--- A machine, and when another is alike; what it logs of PDUs, and whether those that come take memory there
+-- A machine, and when another is alike; what it logs of PDUs, and whether those that come allocate memory there
 pub record Beside (M X : Type 0) : Type 1 where
   pub stops : M → Bool
   pub step : M → ℕ → M
@@ -49,7 +49,7 @@ module _ {M X : Type 0} (d : Beside M X) where
   untaken m [] h = refl
   untaken m (b ∷ bytes) h = stopped d.stops d.step m b bytes h
 
-  -- With memory these PDUs are taken of the bytes; the other machine lacks memory as is said, behind a PDU that took it or not.
+  -- With memory these PDUs are consumed of the bytes; the other machine lacks memory as is said, behind a PDU that allocates it or not.
   pub record Takes (t : Option Bool) (bytes : List ℕ) (wanting : Option ℕ) (m n : M) : Type 0 where
     pub units : List X
     pub log : d.log (fed m bytes).machine ≡ d.log m ++ units

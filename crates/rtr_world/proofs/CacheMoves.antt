@@ -18,7 +18,7 @@ dead_link Closed all i home home' r conn conn' up up' down down' dead g = g
 dead_link (Ended end) all i home home' r conn conn' up up' down down' dead g = g
 dead_link _ all i home home' r conn conn' up up' down down' dead g = false_true (sym dead)
 
--- PDUs are added at the cache's end, where nothing was to be pulled
+-- PDUs are added at the cache's end, if nothing was pending
 more_bytes : (down due lost sent : List ℕ) → due ≡ [] → lost ≡ [] → (down ++ (due ++ lost)) ++ sent ≡ down ++ (sent ++ lost)
 more_bytes down due lost sent de le =
     ap (λ x. (down ++ (x ++ lost)) ++ sent) de ∙ ap (λ x. (down ++ x) ++ sent) le ∙ ap (λ x. x ++ sent) (append-nil down) ∙ ap (λ x. down ++ x) (sym (append-nil sent) ∙ ap (λ x. sent ++ x) (sym le))
@@ -27,7 +27,7 @@ stream_more : (pv : Version) (held down due lost : List ℕ) (coming : List Sent
 stream_more pv held down due lost coming units de le fit s =
     subst (λ x. Stream held x (coming ++ in_version pv units)) (more_bytes down due lost (sent_all pv units) de le) (stream-append pv held (down ++ (due ++ lost)) coming units s fit)
 
--- Where a header has not come whole by the next byte, none had.
+-- If a header is not whole with the next byte, it was not before.
 unheard_more : (agreed : Option Version) (held more : List ℕ) (home : Instance) (coming : List Sent) (agrees : Bool) → Unheard (header_version agreed held) home coming agrees → Unheard (header_version agreed (held ++ more)) home coming agrees
 unheard_more (Some version) held more home coming agrees u = tt
 unheard_more None held more home coming agrees u = by_length (nat_lt (length (held ++ more)) 8) refl
@@ -177,7 +177,7 @@ module _ (all : List Instance) (i : Instance) (p : Present all i) (keep : ℕ) (
   abbrev pub DueNow : List ℕ → Option ℕ → Conn → Type 0
   DueNow old wanting o = (o.state.due ≡ old) ⊎ IsOfNow r.spoken i keep wanting r.link o.state.due
 
-  -- Memory runs out only where it was told.
+  -- Memory runs out only if the event says so.
   some_wants : (wanting now : Option ℕ) → (wanting ≡ None → now ≡ None) → not (finds_memory now) ≡ true → IsSome wanting
   some_wants (Some unit) now same lacks = refl
   some_wants None now same lacks = absurd (let e : false ≡ true = ap (λ x. not (finds_memory x)) (sym (same refl)) ∙ lacks in cc)
@@ -211,7 +211,7 @@ module _ (all : List Instance) (i : Instance) (p : Present all i) (keep : ℕ) (
   abbrev told : Conn → Version → Conn
   told o v = record o { state = conn_after keep timing o.state (Notify v i o.held) }
 
-  -- It lives, where the notify may come.
+  -- It lives, if the notify may come.
   notified_live : (o : Conn) (up : List ℕ) (v : Version) (h : Seen) (f : Flow all i h r (Some o) up down) → home ≡ Some h → o.state.due ≡ [] → let now : List Sent = f.coming ++ in_version v (notice (session_in v i) (versions i)) in
       OwnNotifies r.agreed r.spoken h.made now → Unheard (header_version o.state.version o.held) h.made now r.agreed → Live all i home r (Some (told o v)) up down
   notified_live o up v h f eh due own unheard =

@@ -10,7 +10,7 @@ code_of u = 0
 pub other_report : (one other : ℕ) (copy copied : List ℕ) → (one ≡ other → ⊥) → report one copy ∷ [] ≡ report other copied ∷ [] → ⊥
 other_report one other copy copied differs e = let same : report one copy ≡ report other copied = cc in differs (ap code_of same)
 
--- The connection goes on after an answer, save after Error Report 0.
+-- The connection continues after an answer, except after Error Report 0.
 pub goes_or_other : (pv : Version) (i : Instance) (keep : ℕ) (q : Question) → ((answer pv i keep timing (query q)).goes_on ≡ true) ⊎ ((copy : List ℕ) × ((answer pv i keep timing (query q)).units ≡ report 0 copy ∷ []))
 goes_or_other pv i keep AskReset = inl refl
 goes_or_other pv i keep (AskSerial session serial) =

@@ -9,7 +9,7 @@ use Rattle.rtr_world.proofs.UnitEffects.{by_answer, by_reply, fits_mine}
 use Rattle.rtr_world.proofs.UnitStreams.{Stream, case_by, first_in, head_is, one_case}
 use Rattle.rtr_world.proofs.Versions.{TableAt, Seen}
 
--- Where no byte is to come, no PDU is.
+-- If no byte is still to come, no PDU is.
 none_left : (pv : Version) (held : List ℕ) (units : List Unit) → Stream held [] (in_version pv units) → units ≡ []
 none_left pv held [] s = refl
 none_left pv [] (u ∷ units) s = by_bytes (sent pv u) refl s.whole
@@ -37,7 +37,7 @@ is_report u = false
 not_report : (copy : List ℕ) (u : Unit) (more : List Unit) → is_report u ≡ false → u ∷ more ≡ report 0 copy ∷ [] → ⊥
 not_report copy u more is e = let k : false ≡ true = sym is ∙ ap is_report (head_is u (report 0 copy) more [] e) in cc
 
--- where memory ran out, and where the cache's side is still open
+-- if memory ran out, and if the cache's side is still open
 module _ (all : List Instance) (h : Seen) (pv : Version) (q : Question) (lacking stays : Type 0) where
   -- why a link ends: memory ran out, or the router was emptied at a Serial Query
   abbrev pub Why : Router → Type 0

@@ -309,7 +309,7 @@ module _ (w : World) (p : Present (instances w) w.present) (h : Seen) where
         settled : (c : Quiet w p h s.router.spoken s.conn) → is_reading n.router.link ≡ true → settle (instances w) n ≡ n
         settled c live = settle_open (instances w) n c.conn c.conn_is (λ e. absurd (let k : true ≡ false = sym e ∙ c.on in cc)) live
 
-        -- Where memory ran out the connection may be closed.
+        -- If memory ran out the connection may be closed.
         waits_or : is_reading n.router.link ≡ true → (receives s.router.now at_router (take most s.down) s.router).rest ≡ [] → (Quiet w p h s.router.spoken s.conn → Ends q (settle (instances w) n)) → Stays → Ends q (settle (instances w) n)
         waits_or live none goes (inl c) = goes c
         waits_or live none goes (inr l) = elim (a.conn) [ inl shut ↦ closes ((settle_off (instances w) n shut (none_down none)).link) (inl l) | inr c ↦ goes c ]
@@ -336,7 +336,7 @@ module _ (w : World) (p : Present (instances w) w.present) (h : Seen) where
     round_ends q most s enough a =
         takes_all q most (sent_down w most at_cache s) enough (gives_all q most (read_up w most at_cache s) enough (gets_all q most (sent_up w most s) enough (sends_all w p h q most s enough a)))
 
--- Rounds end at each router that connects, after every list of events, and where memory does not run out they end in an idle link.
+-- Rounds end at each router that connects, after every list of events, and if memory does not run out they end in an idle link.
 module _ (w : World) (p : Present (instances w) w.present) where
   -- wherever memory ran out
   rests_next : (h : Seen) (s : Side) → Asks w p h AskReset s → RestsNext w s
@@ -356,7 +356,7 @@ module _ (w : World) (p : Present (instances w) w.present) where
         | asks_all serial b ↦ inr (b.link, rests_next h n b)
       ]
 
-  -- a connection that is just made, as it is seen where the cache reads on it
+  -- a connection that is just made, as it is seen if the cache reads on it
   abbrev closed_of : Side → Router
   closed_of s = close (clocked s.router.now s.router)
 
@@ -407,7 +407,7 @@ module _ (w : World) (p : Present (instances w) w.present) where
       let r : Router = close (clocked s.router.now s.router) in
       asks_new s AskReset (ap (λ v. choose (of_version r.speaks v) r.mark) k.version) k.held (subst (λ v. Mine (session_in r.speaks w.present) (of_version r.speaks v)) (sym k.version) tt) (subst₂ (λ v t. TableAt (instances w) v t) (sym k.version) (sym k.table) refl)
 
-  -- where memory did not run out
+  -- if memory did not run out
   idle_next : (h : Seen) (s : Side) → Asks w p h AskReset s → IdleNext w s
   idle_next h s a most m = elim (round_ends w p h None None AskReset most s m a) [
     | idles is quiet ↦ is

@@ -1,15 +1,15 @@
--- What the clean-up after an event does to a side on which bytes go on, and to one whose link has ended.
+-- What the clean-up after an event does to a side on which bytes continue, and to one whose link has ended.
 use Rattle.rtr_world.proofs.Words.{◌≡◌, ◌⊎◌, ℕ, true, false, List, [], Some, None, refl, sym, ap, ◌∙◌, subst, inl, inr, Instance, empty, End, Conn, Router, clocked, close, closed_at, Closed, Ended, is_closed, is_reading, false_true, open_link, by_clock, by_close, cases_Bool}
 use Rattle.rtr_world.specs.World.{Side, close_ended, settle, settle_conn, settle_link, settle_rest, settle_wire, tell_closed}
 use Rattle.rtr_world.specs.CaughtUp.{IsOff}
 use Rattle.rtr_world.proofs.EventCalls.{still_by, told_closes, closed_by, closed_link, behind_link, Lessens, reading_on}
 use Rattle.rtr_world.proofs.Rests.{GoesOn, Rests, not_closed, stays, conn_router}
 
--- A side with a live link rests where its connection goes on, or bytes are still on the way.
+-- A side with a live link rests if its connection continues, or bytes are still on the way.
 live_rests : (s : Side) → GoesOn s.conn → (s.conn ≡ None → s.down ≡ [] → ⊥) → is_reading s.router.link ≡ true → Rests s
 live_rests s on some live = record { cleared = not_closed s s.router.link refl (open_link s.router.link live) on (reading_on s.router.link live); told = λ none empty. absurd (some none empty) }
 
--- So a live link whose connection goes on is left as it is.
+-- So a live link whose connection continues is left as it is.
 pub settle_open : (all : List Instance) (s : Side) (o : Conn) → s.conn ≡ Some o → (o.state.ended ≡ true → o.state.due ≡ [] → ⊥) → is_reading s.router.link ≡ true → settle all s ≡ s
 settle_open all s o e goes live = stays all s (live_rests s (subst GoesOn (sym e) goes) (λ none empty. let k : Some o ≡ None = sym e ∙ none in cc) live)
 
@@ -42,7 +42,7 @@ settle_off all s none down =
       down = closed_by (λ t. t.down ≡ []) all s (λ e. down) (λ e. down);
     })
 
--- What a router that is told holds, and goes on to hold, it holds where its link has ended, with nothing to pull.
+-- What a router that is notified of a close holds, and continues to hold, it holds if its link has ended, with nothing to pull.
 module _ (all : List Instance) (P : Side → Type 0) (less : Lessens P) (told : (s : Side) → P s → P (tell_closed all s)) where
   pub settle_ended : (s : Side) (end : End) → s.router.link ≡ Ended end → s.router.out ≡ [] → ((a : Side) → a.router ≡ s.router → P (tell_closed all a)) → P (settle all s)
   unfolding settle
@@ -73,7 +73,7 @@ clocked_ended : (end : End) (now : ℕ) (r : Router) → EndedEmpty end r → En
 clocked_ended end now r e = by_clock (EndedEmpty end) now r (λ holds. record { link = e.link; version = e.version; table = e.table }) (λ over on. record { link = e.link; version = refl; table = refl })
     (λ over live open_so. false_true (sym (ap is_reading e.link) ∙ live))
 
--- A router that is told is closed, and what was emptied stays so.
+-- A router that is notified of a close is closed, and what was emptied stays so.
 told_ended : (all : List Instance) (end : End) (s : Side) → EndedEmpty end s.router → Emptied (tell_closed all s).router
 unfolding closed_at
 told_ended all end s e =

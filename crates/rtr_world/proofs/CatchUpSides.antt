@@ -1,4 +1,4 @@
--- A router that connected holds the newest version where its link is idle: its own moves keep that.
+-- A router that connected holds the newest version if its link is idle: its own moves keep that.
 use Rattle.rtr_world.proofs.Words.{◌≡◌, ℕ, ◌≤◌, Bool, true, false, not, ◌&&◌, nat_lt, List, [], ◌∷◌, ◌++◌, length, take, drop, Option, Some, refl, ◌+◌, ◌-◌, None, ⊤, map, AllByRecursion, sym, ap, ◌∙◌, subst, subst₂, arith, inl, inr, zero, suc, and_parts, nil_from_length, take-append-drop, length-append, nat_tests, Instance, versions, versions_from, VrpSet, serial_at, Judgement, Whole, judge, Version, Unit, session_in, report, whole_answer, Conn, is_none, finds_memory, feed, Router, emptied, on_unit, Receiving, clocked, close, connects_at, receives, router_byte, router_pulled, router_stops, with_bytes, Link, Closed, Idle, Ended, is_closed, is_reading, Committed, is_over, later, At, AskReset, base_of, led_to, of_version, unit_held, feed_keeps, false_true, by_clock, by_close, by_whole, true_of_not}
 use Rattle.rtr_world.specs.CatchUp.{IsMove, HoldsNewest, AreMoves, IdleIsCurrent, IsFresh, IsMoveOf}
 use Rattle.rtr_world.specs.History.{Outcome, Done, Memory, after, Entry, LeadsFrom, side_at}
@@ -20,7 +20,7 @@ use Rattle.rtr_world.proofs.WorldSteps.{GoodWorld, after_good, new_good}
 lasts : (limit now : ℕ) → nat_lt limit (now - now) ≡ false
 lasts limit now = grind (arith, nat_tests)
 
--- No Data Available is answered where nothing is published.
+-- No Data Available is answered if nothing is published.
 no_versions : (pv : Version) (session start : ℕ) (sets : List VrpSet) (copy : List ℕ) → report 2 copy ∷ [] ≡ whole_answer pv session timing (versions_from start sets) → sets ≡ []
 no_versions pv session start [] copy e = refl
 no_versions pv session start (x ∷ older) copy e = absurd (let k : report 2 copy ∷ [] ≡ whole_answer pv session timing (versions_from start (x ∷ older)) = e in cc)
@@ -51,7 +51,7 @@ module _ (all : List Instance) (i : Instance) (p : Present all i) (r : Router) (
       let one : i.sets ≡ set ∷ a.older = is ∙ ap (λ x. x ++ set ∷ a.older) none in
       subst (λ x. HoldsNewest r.spoken (session_in r.spoken i) (versions_from i.start x) (Some version) set) (sym one) (of, e, a.serial_is ∙ ap (λ x. serial_at x.start (length a.older)) same, refl)
 
-  -- Where nothing is published, nothing of this session is held.
+  -- If nothing is published, nothing of this session is held.
   none_of : (version : Option Committed) (table : VrpSet) → HeldAt all r.spoken version table → Mine h.session version → i.sets ≡ [] → version ≡ None
   none_of None table t mine e = refl
   none_of (Some version) table t mine e = absurd (has_sets all i p r.spoken version.session version.serial table t (mine ∙ own) e)
@@ -123,7 +123,7 @@ told_fresh i all s h = let k : Side = tell_closed all s in dead_fresh i k.home k
 pub settle_fresh : (i : Instance) (all : List Instance) (s : Side) → Fresh i s → Fresh i (settle all s)
 settle_fresh i all s h = settle_keeps (λ x. Fresh i x) (λ x c u d k. k) all (told_fresh i all) s h
 
--- the clock: no later moment is told
+-- the clock: it does not advance
 same_moment : (now : ℕ) → later now now ≡ now
 same_moment now = grind (arith, nat_tests)
 
@@ -245,8 +245,8 @@ module _ (w : World) (p : Present (instances w) w.present) where
   unfolding side_refused cut
   refused_fresh event bytes wanting s is g h = part_fresh event bytes wanting s is g h
 
--- After every list of events, a router that connected last and only moved since holds the newest version where its link is idle.
--- a fact of the side of this number
+-- After every list of events, a router that connected last and only moved since holds the newest version if its link is idle. a fact of the
+-- side of this number
 abbrev pub AtSide : (Side → Type 0) → ℕ → List Side → Type 0
 AtSide P r [] = ⊤
 AtSide P zero (s ∷ sides) = P s

@@ -33,14 +33,14 @@ none_connect : (r : ℕ) (entries : List Entry) → AreMoves r entries → KeepO
 none_connect r [] moves keep = refl
 none_connect r (x ∷ entries) moves keep = (λ i. connects_not r x.event moves.0 keep.0 i + none_connect r entries moves.1 keep.1 i)
 
--- Where a round leads to, told of the world before the connection
+-- Where a round leads to, stated of the world before the connection
 goes_at : (r : ℕ) (w v n : World) (more : List Entry) (t : Side) → OnlySides w v → side_at r v.sides ≡ Some t → (g : GoesRound r v more n) → (side_at r n.sides ≡ Some (round w all_bytes g.at_cache g.at_router t)) × OnlySides w n
 goes_at r w v n more t c found g = (
   ap (λ (x : World). side_at r x.sides) g.is ∙ (rounds_are_steps r v t found).round_is all_bytes g.at_cache g.at_router ∙ ap (λ x. Some (round x all_bytes g.at_cache g.at_router t)) c ∙ ap Some (round_same w v.sides all_bytes g.at_cache g.at_router t),
   g.is ∙ rounded_sides r all_bytes g.at_cache g.at_router v ∙ (λ i. record (c i) { sides = (sym g.is i).sides }),
 )
 
--- what a link that was told is
+-- the state of a link that was notified
 asked_or_rests : (s : Side) → told_link s.router.link ≡ links.Asked → Rests s → ⊥
 asked_or_rests s = by_link s.router.link
   where
@@ -217,7 +217,7 @@ module _ (made : Made) (history : List Entry) (r : ℕ) (s : Side) (mid : code.W
     rest : ComesToRest r s IdleOrDropped once.more once.leads.world
     rest = subst (λ y. By y (ComesToRest r s IdleOrDropped once.more once.leads.world) (Lacks r once.more once.leads.world)) ok once.ends
 
-    -- It was not told to drop what it held.
+    -- It did not have to drop what it held.
     pub just_once : ((x : World) (y : Side) → ShowsWorld x mid → side_at r x.sides ≡ Some y → IsSome s.router.version → is_some y.router.version ≡ true) → Reconnected 2 made history r s IsIdle (Ok tt) mid
     just_once kept = as_twice (Ok tt) (λ x. rests_behind r s s IdleOrDropped IsIdle [] once.more once.leads.world rest (λ told. elim told [
       | inl idle ↦ idle
@@ -244,7 +244,7 @@ module _ (made : Made) (history : List Entry) (r : ℕ) (s : Side) (mid : code.W
           | inr gone ↦ absurd (not_both (is_some rest.side.router.version) gone.0 (none once.leads.world rest.side once.leads.shows rest.found))
         ])
 
--- what the name that a router tells says of its version
+-- what the name that a router gives says of its version
 pub is_named : (r : ℕ) (w : World) (s : Side) → side_at r w.sides ≡ Some s → {A : Type 0} (f : A → Version × ℕ × ℕ) (told : Option A) → option_map f told ≡ option_and_then (λ (s : Side). name_of s.router.version) (side_at r w.sides) → is_some s.router.version ≡ is_some told
 is_named r w s found {A = A} f told e = by_name told s.router.version (e ∙ ap (λ o. option_and_then (λ (s : Side). name_of s.router.version) o) found)
   where

@@ -1,4 +1,4 @@
--- Each link ends lawfully, each end is noted, where an event is refused too, and none is dropped.
+-- Each link ends lawfully, each end is noted, also if an event is refused, and none is dropped.
 use Rattle.rtr_world.proofs.Words.{◌≡◌, ℕ, true, false, List, [], ◌∷◌, ◌++◌, Option, Some, None, zero, suc, Bool, refl, take, ⊤, not, ◌&&◌, ◌==◌, AllByRecursion, sym, ap, ◌∙◌, subst, inl, inr, subst₂, append_assoc, Instance, Unit, Judgement, Begins, Whole, Faulty, judge, type_of, End, Noted, called, RouterCall, clocked, close, closed_at, Connects, Receives, Pulls, Closes, AsksNow, Ticks, Speaks, router_pulled, asked_by, asks_if, connects_at, ticks_at, asks, receives, of_received, Receiving, router_byte, router_stops, with_bytes, Link, Ended, Asked, is_due, is_idle, outstanding, spoken, Item, Question, AskSerial, At, Reads, question_of, Router, on_unit, may_lack, LinkTells, counted, finds_memory, feed, Tells, feed_keeps, and_parts, false_true, by_unit, either, option_map}
 use Rattle.rtr_world.specs.World.{Ending, Side, World, instances, SideEvent, is_ended, ending_at, newly_ended, noted, outstanding_before_last, router_restarts, cut, side_part, side_refused, side_step, with_end, Publish, Restart, On, cache_gone, settle, tell_closed, RouterGets, Event}
 use Rattle.rtr_world.specs.Claims.{EndsNoted, NotesEnds, EndsKept, NoneDropped, OneMore, IsLawfulEnd, OfAnother, LawfulEnds, NamesNone, NoneByMemory, NotByMemory}
@@ -55,7 +55,7 @@ closed_so r = close_by (λ k. is_ended k.link ≡ false) r (λ e. ap is_ended (c
 pub record SideLawful (s : Side) : Type 0 where
   pub endings : AllByRecursion (λ (e : Ending). IsLawfulEnd e.end e.question e.version e.home) s.endings
 
--- A fact of all ends holds of one more, where it follows from what the link became.
+-- A fact of all ends holds of one more, if it follows from what the link became.
 with_end_so : (Q : Ending → Type 0) (s : Side) (items : List Item) (So : Link → Type 0) → ((end : End) → So (Ended end) → Q (ending_at s end items)) → (l k : Link) → (is_ended l ≡ false → So k) → AllByRecursion Q s.endings → AllByRecursion Q (with_end (newly_ended l k) s items)
 with_end_so Q s items So goes (Ended end) k is h = h
 with_end_so Q s items So goes _ (Ended end) is h = (goes end (is refl), h)
@@ -205,7 +205,7 @@ ends_noted made history w leads = all_weaker Rests (NotesEnds w) w.sides (λ s h
   refused = λ event bytes wanting end e. let n = notes_part w s h.link_on event bytes wanting end e in (n, settled_endings (instances w) (side_refused w event bytes wanting s) ∙ n);
 }) (history_rests made history w leads)
 
--- No link ends by running out of memory at its router where no outcome names a PDU.
+-- No link ends by running out of memory at its router if no outcome names a PDU.
 abbrev Free : Link → Type 0
 Free (Ended end) = NotByMemory end
 Free _ = ⊤
@@ -227,7 +227,7 @@ unit_free l u r h = by_unit (λ n. Free n.link) l u r (record {
   commits = λ on a version. tt;
 })
 
--- a byte, where memory does not run out
+-- a byte, if memory does not run out
 byte_free : (bytes : List ℕ) (r : Router) (j : Judgement) → Free r.link → Free (with_bytes true bytes r j).router.link
 byte_free bytes r Begins h = h
 byte_free bytes r (Whole u) h = either (λ (n : Noted). Free n.router.link) (may_lack r.link u r && not true) _ _ (λ lacking. false_true (and_parts (may_lack r.link u r) (not true) lacking).1) (λ there. unit_free r.link u (record r { held = [] }) h)
@@ -292,7 +292,7 @@ keeps_spared w = record {
   refused = λ s h. told_by Spared (instances w) spared_wires (λ s h. own_spared w s (Closes s.router.now) tt h) (refused_at s) (record { free = h.free; endings = h.endings });
 }
 
--- Where no outcome names a PDU, no bytes that come to a router do.
+-- If no outcome names a PDU, no bytes that come to a router do.
 none_comes : (event : Event) (outcome : Outcome) (s : Side) → NamesNone event outcome → IfComes (λ s wanting. wanting ≡ None) event outcome s
 none_comes (On r (RouterGets most)) (Done wanting) s none = none
 none_comes (On r (RouterGets most)) (Memory bytes wanting) s none = none

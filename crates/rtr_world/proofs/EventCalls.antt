@@ -25,7 +25,8 @@ module _ (P : Side → Type 0) (blind : Blind P) where
   gets_keep w most wanting s None h = h
   gets_keep w most wanting s (Some o) h = blind s _ _ _ _ h
 
--- What the parts of the clean-up keep: a connection that ended is closed, a router is told, bytes towards a closed link are gone, and where there is no connection nothing is on its way.
+-- What the parts of the clean-up keep. A connection that ended is closed, and its router is notified. Bytes towards a closed link are gone,
+-- and without a connection nothing is on its way.
 module _ (P : Side → Type 0) (all : List Instance) (ended : (s : Side) (o : Conn) → s.conn ≡ Some o → o.state.due ≡ [] → P s → P (record s { conn = None })) (told : (s : Side) → P s → P (tell_closed all s))
     (gone : (s : Side) (c : Bool) → s.router.link ≡ Closed → P s → P (record s { conn = if c then s.conn else None; down = [] })) (none : (s : Side) → P s → P (record (tell_closed all s) { up = [] })) where
   ended_keeps : (s : Side) (o : Conn) (b : Bool) (due : List ℕ) → s.conn ≡ Some o → o.state.due ≡ due → P s → P (close_ended s b due)
@@ -59,7 +60,7 @@ module _ (P : Side → Type 0) (all : List Instance) (ended : (s : Side) (o : Co
       let a : Side = settle_conn s s.conn in
       wires_keep (settle_link all (settle_conn s s.conn) (settle_conn s s.conn).router.link (settle_conn s s.conn).router.out) (link_keeps a a.router.link a.router.out (conn_keeps s s.conn refl h))
 
--- It holds too where there is less on the wires, or no connection at the cache.
+-- It holds too if there is less on the wires, or no connection at the cache.
 abbrev pub Lessens : (Side → Type 0) → Type 0
 Lessens P = (s : Side) (c u d : Bool) → P s → P (record s { conn = if c then s.conn else None; up = if u then s.up else []; down = if d then s.down else [] })
 
@@ -157,7 +158,7 @@ part_by P w (CacheSends most) bytes wanting s h k = k tt
 part_by P w (RouterGets most) bytes wanting s h k = k tt
 part_by P w _ bytes wanting s h k = h
 
--- A router that is told that it is closed is called so, where it was not closed.
+-- `closed` is called at a router that is notified of a close, if it was not closed.
 pub closed_by : (P : Side → Type 0) (all : List Instance) (s : Side) → (is_closed s.router.link ≡ true → P (record s { home = None; read_at = None }))
     → (is_closed s.router.link ≡ false → P (record (noted all (called (Closes s.router.now) s.router) s) { home = None; read_at = None })) → P (tell_closed all s)
 closed_by P all s shut told = either P (is_closed s.router.link) _ _ shut told
@@ -177,7 +178,7 @@ pub told_closes : (all : List Instance) (s : Side) → is_closed (tell_closed al
 unfolding closed_at
 told_closes all s = closed_by (λ t. is_closed t.router.link ≡ true) all s (λ e. e) (λ e. closes (clocked s.router.now s.router))
 
--- A connection that is cut with nothing to arrive is closed by the clean-up, and the router is told once.
+-- A connection that is cut with nothing to arrive is closed by the clean-up, and the router is notified once.
 module _ (P : Side → Type 0) (all : List Instance) where
   told_twice : (s : Side) → tell_closed all (tell_closed all s) ≡ tell_closed all s
   told_twice s =
@@ -215,7 +216,7 @@ abbrev pub IsOwnCall : RouterCall → Type 0
 IsOwnCall (Receives now wanting piece) = ⊥
 IsOwnCall call = ⊤
 
--- What is known where bytes come to the router
+-- What is known if bytes come to the router
 abbrev pub IfGets : SideEvent → Type 0 → Type 0
 IfGets (RouterGets most) X = X
 IfGets event X = ⊤
@@ -224,7 +225,7 @@ pub if_gets : (event : SideEvent) (X : Type 0) → X → IfGets event X
 if_gets (RouterGets most) X x = x
 if_gets _ X x = tt
 
--- a side whose event was refused, before the router is told
+-- a side whose event was refused, before the router is notified
 abbrev pub refused_at : Side → Side
 refused_at s = record s { conn = None; up = []; down = []; items = Refused ∷ s.items }
 
@@ -235,7 +236,7 @@ pub record KeptByCalls (w : World) (Comes : Side → Option ℕ → Type 0) (P :
   pub restart : (s : Side) → P s → P (router_restarts s)
   pub refused : (s : Side) → P s → P (tell_closed (instances w) (refused_at s))
 
--- A router is told that it is closed: what a close and other wires keep.
+-- A router is notified of a close: what a close and other wires keep.
 pub told_by : (P : Side → Type 0) (all : List Instance) → ((s : Side) → P s → Rewired P s) → ((s : Side) → P s → P (noted all (called (Closes s.router.now) s.router) s)) → (s : Side) → P s → P (tell_closed all s)
 told_by P all wires closes s h =
     let n : Side = noted all (called (Closes s.router.now) s.router) s in

@@ -1,5 +1,5 @@
--- Events of the world, worked out: one router that asks and is answered, a second one, notifies, questions, ticks, restarts, refusals
--- where memory ran out, and ends of links. Further steps are played by the scripts of tests/cases/world.py.
+-- Events of the world, worked out: one router that asks and is answered, a second one, notifies, questions, ticks, restarts, refusals for
+-- want of memory, and ends of links. Further steps are played by the scripts of tests/cases/world.py.
 use Rattle.rtr_world.proofs.Words.{◌≡◌, ℕ, ◌≤◌, Bool, true, false, List, [], ◌∷◌, ◌++◌, length, take, drop, Some, None, refl, Option, ap, arith, Instance, versions, VrpSet, empty, set_of, listing-set_of, judge, as_read, SerialNotify, SerialQuery, CacheResponse, EndOfData, Prefix, Version, V0, V1, report, sent, sent_all, Conn, new_conn, conn_takes, conn_byte, conn_pulled, conn_notified, Router, new_router, on_unit, router_byte, receives, clocked, closed_at, ticks_at, connects_at, router_pulled, Idle, Asked, Answering, default_intervals, At, Opened, Asks, Refused, Restarts, Shut, Item, AskReset, AskSerial, Committed, Reads, v, v_ascends, cache, with_all_of, reset_bytes, response_bytes, v_bytes, end_bytes, led_none}
 use Rattle.rtr_world.specs.CatchUp.{HoldsNewest}
 use Rattle.rtr_world.specs.Claims.{OfAnother, told}
@@ -104,14 +104,14 @@ idle = record new_router { table = just_v; version = Some version_5; due = Some 
 abbrev asked_again : Router
 asked_again = record idle { link = Asked (AskSerial 0x1234 5); out = sent V1 (SerialQuery 0x1234 5) }
 
--- The clock goes on where there is no connection: what has expired is emptied.
+-- The clock advances without a connection: what has expired is emptied.
 abbrev closed_side : Router → List Item → Side
 closed_side r items = record new_side { router = r; items = items }
 
 abbrev closed : Router
 closed = record new_router { table = just_v; version = Some version_5; due = Some 600 }
 
--- An expiry while a Serial Query is outstanding ends the link. That is noted, and the router is told in the same event.
+-- An expiry while a Serial Query is outstanding ends the link. That is noted, and the router is notified in the same event.
 expires_asked : after (On 0 (Tick 7201)) (Done None) (world (open_side asked_again (new_conn with_v) [] [] (Asks (AskSerial 0x1234 5) ∷ []) ∷ []))
     ≡ world (record (closed_side (record new_router { due = Some 7801; now = 7201 }) (Shut ∷ At 7201 ∷ At 7201 ∷ Asks (AskSerial 0x1234 5) ∷ [])) {
       endings = record { end = ends.Expired; question = Some (AskSerial 0x1234 5); version = V1; home = Some with_v } ∷ [];
@@ -119,7 +119,7 @@ expires_asked : after (On 0 (Tick 7201)) (Done None) (world (open_side asked_aga
 unfolding goes_through settled settle side_step ticks_at clocked closed_at
 expires_asked = refl
 
--- The cache began anew: the router is told so.
+-- The cache began anew: the router is notified.
 abbrev ended_conn : List ℕ → Conn
 ended_conn due = record { state = record { cache = with_v; version = Some V1; ended = true; due = due; notified = false; seen = [] }; held = [] }
 
@@ -150,7 +150,7 @@ restarts_router : after (On 0 RouterRestart) (Done None) (world (record (open_si
 unfolding goes_through settled settle side_step router_restarts
 restarts_router = refl
 
--- Refused because memory ran out: what came before has moved, the connection is cut with nothing to arrive, and the router is told.
+-- Refused because memory ran out: what came before has moved, the connection is cut with nothing to arrive, and the router is notified.
 cut_by_want : after (On 0 (CacheGets 8)) (Memory 3 None) (world (record (open_side (record asking { out = 9 ∷ [] }) (new_conn with_v) reset_bytes (7 ∷ []) opened) { read_at = Some with_v } ∷ []))
     ≡ world (closed_side (record new_router { due = Some 600 }) (Shut ∷ At 0 ∷ Refused ∷ opened) ∷ [])
 unfolding is_refused settled settle side_refused cut cache_gets conn_takes conn_byte judge as_read closed_at clocked
@@ -176,11 +176,11 @@ never_refuses : (may_refuse connected (On 0 (Cut 0)) ≡ false) × (may_refuse c
     × (may_refuse connected (On 1 (RouterSends 9)) ≡ false) × (may_refuse connected (On 1 (CacheGets 9)) ≡ false) × (may_refuse connected (On 1 (CacheSends 9)) ≡ false) × (may_refuse connected (On 1 (RouterGets 9)) ≡ false)
 never_refuses = (refl, refl, refl, refl, refl, refl, refl, refl, refl)
 
--- a router whose link is closed has a connection while one is open at the cache, and one that was not told yet has one too
+-- a router whose link is closed has a connection while one is open at the cache, and one that was not notified yet has one too
 still_connected : (has_connection (record new_side { conn = Some (new_conn with_v) }) ≡ true) × (has_connection cut_side ≡ true) × (has_connection new_side ≡ false)
 still_connected = (refl, refl, refl)
 
--- It tells at most the bytes that it would have moved with memory, and a PDU only where that came and takes memory.
+-- It reports at most the bytes that it would have moved with memory, and a PDU only if that came and allocates memory.
 all_of_it : moved connected (On 0 (CacheGets 99)) None ≡ 8
 unfolding cache_gets conn_takes conn_byte judge as_read
 all_of_it = refl
@@ -197,7 +197,7 @@ no_unit : MayEnd (refusal connected (Restart 1 1 1)) connected (Restart 1 1 1) (
 unfolding refusal
 no_unit h = absurd (let e : ◌≡◌ {A = Option Bool} None (Some true) = h in cc)
 
--- The cache published {v} after the connection was made. What it tells now is the new version.
+-- The cache published {v} after the connection was made. What it reports now is the new version.
 abbrev at_first : Instance
 at_first = cache 5 (empty ∷ [])
 
@@ -217,7 +217,7 @@ answers_as_now : after (On 0 (CacheGets 8)) (Done None) (later_world (new_conn a
 unfolding goes_through settled settle side_step cache_gets conn_takes conn_byte judge as_read
 answers_as_now = ap (λ vs. read_now (told_now (Some V1) (sent_all V1 (with_all_of 6 just_v vs)) false)) (listing-set_of (v ∷ []) v_ascends)
 
--- Where a PDU has not come whole none was read; and on a new connection none was.
+-- If a PDU has not come whole none was read, and on a new connection none was.
 reads_no_part : after (On 0 (CacheGets 7)) (Done None) (later_world (new_conn at_first) reset_bytes) ≡ later_world (record (new_conn at_first) { held = take 7 reset_bytes }) (drop 7 reset_bytes)
 unfolding goes_through settled settle side_step cache_gets conn_takes conn_byte judge as_read
 reads_no_part = refl
@@ -227,7 +227,7 @@ unfolding connects
 connects_unread = refl
 
 -- Too many versions are counted from the one that a router committed under this session, and from the one that was current when its
--- connection was made, or the first; an instance that ended does not count, nor is a set refused that is current already.
+-- connection was made, or the first. An instance that ended does not count, and a set that is current already is not refused.
 counted_so : (sets : List VrpSet) → length sets ≡ 2147483648 → let i = cache 5 sets in
     (is_near i (Some 0) ≡ false) × (is_near i (Some 1) ≡ true)
     × (room_since i (Some (cache 5 [])) ≡ false) × (room_since i (Some (cache 5 (just_v ∷ empty ∷ []))) ≡ true)
@@ -247,7 +247,7 @@ counted_in_its_version sets = (refl, refl, refl)
 held_in_its_version : (sets : List VrpSet) → (held_of (of_both sets) (Some (record version_5 { version = V0; session = 0x4321 })) ≡ Some 5) × (held_of (of_both sets) (Some (record version_5 { version = V0 })) ≡ None)
 held_in_its_version sets = (refl, refl)
 
--- So is its place, and the session of which a link is told that it is another.
+-- So is its place, and the session that a link learns to be another.
 placed_in_its_version : (version_place_of (of_both (just_v ∷ []) ∷ []) (Some (record version_5 { version = V0; session = 0x4321 })) ≡ Some (record { instance = 0; position = 0 }))
     × (version_place_of (of_both (just_v ∷ []) ∷ []) (Some (record version_5 { version = V0 })) ≡ None)
 placed_in_its_version = (refl, refl)
@@ -258,19 +258,19 @@ another_in_version_0 = λ e. absurd (omega (arith, e))
 the_same_in_version_0 : OfAnother (Some (AskSerial 0x4321 5)) V0 (Some (of_both [])) → ⊥
 the_same_in_version_0 h = h refl
 
--- A table of the other version may stay where nothing is published.
+-- A table of the other version may stay if nothing is published.
 held_of_the_other : (table : VrpSet) → HoldsNewest V0 0x4321 [] (Some version_5) table
 held_of_the_other table = (refl, λ e. absurd (let h : ◌≡◌ {A = Option Committed} (Some version_5) None = e in cc))
 
--- No more is moved than the event says.
+-- At most as much is moved as the event says.
 no_more_than_said : (moved (world (open_side asking (new_conn with_v) [] (1 ∷ 3 ∷ 5 ∷ []) opened ∷ [])) (On 0 (RouterGets 1)) None ≡ 1)
     × (moved (world (open_side (record asking { out = reset_bytes }) (new_conn with_v) [] [] opened ∷ [])) (On 0 (RouterSends 1)) None ≡ 1)
     × (moved (world (open_side asking notified [] [] opened ∷ [])) (On 0 (CacheSends 1)) None ≡ 1)
 unfolding router_gets receives clocked router_byte judge as_read
 no_more_than_said = (refl, refl, refl)
 
--- Memory may run out at a PDU that comes to a router only where that comes whole and takes memory: an End of Data of the answer does, a
--- Cache Response does not. The outcome tells no other PDU, and no other event of the router's tells one.
+-- Memory may run out at a PDU that comes to a router only if that comes whole and allocates memory. An End of Data of the answer does, a
+-- Cache Response does not. The outcome names no other PDU, and no other event of the router's names one.
 abbrev answering : Router
 answering = record new_router { link = Answering (record { question = AskReset; session = 0x1234; withdrawn = []; announced = [] }); agreed = true; session = Some 0x1234 }
 
@@ -304,12 +304,12 @@ not_where_it_sends : MayEnd (refusal response_comes (On 0 (RouterSends 8))) resp
 unfolding refusal
 not_where_it_sends h = absurd (let e : ◌≡◌ {A = Option Bool} None (Some true) = h in cc)
 
--- Each refusal is told as its own.
+-- Each refusal is reported as its own.
 told_as : (bytes : ℕ) (wanting : Option ℕ) → (outcome_fault (Done wanting) ≡ None) × (outcome_fault SessionUsed ≡ Some faults.SessionUsed) × (outcome_fault TooManyVersions ≡ Some faults.TooManyVersions)
     × (outcome_fault NoSuchRouter ≡ Some faults.NoSuchRouter) × (outcome_fault (Memory bytes wanting) ≡ Some faults.Memory)
 told_as bytes wanting = (refl, refl, refl, refl, refl)
 
--- What a router was told: the last that went through counts, of this router alone, and not what was told before it restarted.
+-- The version set for a router: the last Speak that went through counts, of this router alone, and not one before it restarted.
 abbrev went : Event → Entry
 went event = record { event = event; outcome = Done None }
 

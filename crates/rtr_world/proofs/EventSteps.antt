@@ -20,7 +20,7 @@ open_sent : (i : Instance) (pv : Version) (h : Seen) (most : ℕ) (out up : List
 open_sent i pv h most out up wanted coming agreed lost None op = tt
 open_sent i pv h most out up wanted coming agreed lost (Some o) op = record { upward = subst (λ x. Stream o.held x (in_version pv wanted)) (ap (λ x. up ++ x) (sym (take-append-drop most out)) ∙ sym (append_assoc up (take most out) (drop most out))) op.upward; spoken = op.spoken; unheard = op.unheard; linked = op.linked }
 
--- what was seen, where the cache read a PDU or not
+-- what was seen, whether the cache read a PDU or not
 seen_read : (i : Instance) (keep : ℕ) (home : Option Instance) (read : Bool) (seen : Option Seen) → IsSeen keep home seen → IsSeen keep home (seen_after i read seen)
 seen_read i keep home false seen s = s
 seen_read i keep home true None s = s

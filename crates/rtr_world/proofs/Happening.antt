@@ -39,7 +39,7 @@ module _ (w : World) (at : ℕ → Option Conn) where
     only = m.only;
   }
 
-  -- with the cut where memory runs out, and the clean-up
+  -- with the cut if memory runs out, and the clean-up
   pub happens : (e : model.SideEvent) (s : Side) (old v mid n : values.Side) (cache between later : Cache Steps) (result : Result ⊤ AllocError) → BeginsEvent w at e s (λ t. Moves w at old.conn t cache v) result
       → (is_err result ≡ true → Goes (λ w s. cut 0 s) cache v between mid) → (is_err result ≡ false → (between ≡ cache) × (mid ≡ v)) → Goes (λ w s. settle (instances w) s) between mid later n → Happens w at e s (λ t. Moves w at old.conn t later n) result
   unfolding side_refused

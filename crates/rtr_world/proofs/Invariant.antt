@@ -39,7 +39,7 @@ abbrev pub IsOwn : ℕ → Question → Type 0
 IsOwn session AskReset = ⊤
 IsOwn session (AskSerial one serial) = one ≡ session
 
--- the PDUs of records, of which the last stands first
+-- the PDUs of records, the last first
 abbrev pub records_of : Bool → List Payload → List Unit
 records_of announce [] = []
 records_of announce (v ∷ vs) = records_of announce vs ++ Prefix announce v ∷ []
@@ -75,7 +75,7 @@ pub record FromCache (all : List Instance) (pv : Version) (home : Seen) (q : Que
   pub was : WasCache all home cache
   pub are : units ≡ (answer pv cache home.keep timing (query q)).units
 
--- Its answer then takes memory.
+-- Its answer then allocates memory.
 pub record Lacked (all : List Instance) (pv : Version) (home : Seen) (q : Question) : Type 0 where
   pub cache : Instance
   pub was : WasCache all home cache
@@ -131,7 +131,7 @@ if_open P Q (Some o) f h = f o h
 abbrev pub IsEarly : Instance → Sent → Type 0
 IsEarly home s = (serial : ℕ) × (s ≡ record { version = V1; unit = SerialNotify (session_in V1 home) serial })
 
--- where no header has come whole, nothing else comes, and no version is agreed on
+-- if no header has come whole, nothing else comes, and no version is agreed on
 abbrev pub Unheard : Option Version → Instance → List Sent → Bool → Type 0
 Unheard None home coming agreed = AllByRecursion (IsEarly home) coming × (agreed ≡ false)
 Unheard (Some version) home coming agreed = ⊤
@@ -151,7 +151,7 @@ pub record Open (i : Instance) (pv : Version) (home : Seen) (out up : List ℕ) 
   pub spoken : MaySpeak pv o.state.version
   pub unheard : Unheard (header_version o.state.version o.held) home.made coming agreed
 
--- What of a router stays where only bytes move.
+-- What of a router stays if only bytes move.
 pub record Talk : Type 0 where
   pub spoken : Version
   pub link : Link

@@ -358,7 +358,7 @@ sent_whole w at s o most count old cache v has sent all = record {
   now = subst (λ x. Moves w at old (sends_from w.keep most s x) cache v) (sym has) (subst (λ t. Moves w at old t cache v) (sends_as w.keep count most s o all) sent.moves);
 }
 
--- where no more is due
+-- if nothing more is due
 pub sent_due : (w : World) (at : ℕ → Option Conn) (s : Side) (o : Conn) (most left : ℕ) (old : Option Number) (cache later : Cache Steps) (v n : values.Side) (sent : SentSo w at s o (most - left) old cache v)
     → (some : Result ℕ AllocError) → some ≡ Ok 0 → SendsSome w sent.moves.now left (so_far w (most - left) s o) (conn_pulled w.keep timing (most - left) o) (λ t. Moves w sent.moves.now v.conn t later n) some → left ≤ most → 0 < left → s.conn ≡ Some o
     → BeginsEvent w at (CacheSends most) s (λ t. Moves w at old t later n) (Ok tt)

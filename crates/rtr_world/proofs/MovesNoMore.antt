@@ -1,11 +1,11 @@
--- An event moves no more bytes than it says, and no more where memory runs out at a PDU of it.
+-- An event moves at most as many bytes as it says, and not more if memory runs out at a PDU of it.
 use Rattle.rtr_world.proofs.Words.{◌≡◌, ℕ, ◌-◌, ◌≤◌, Bool, true, false, nat_lt, List, ◌++◌, drop, length, take, Option, Some, None, if◌then◌else◌, arith, min-le_left, length-append, length-drop, length-take, Conn, conn_takes, receives}
 use Rattle.rtr_world.specs.Claims.{MovesNoMore}
 use Rattle.rtr_world.specs.History.{Memory, NoSuchRouter, MayEnd, moved, moved_at, most_of, refusal, side_at}
 use Rattle.rtr_world.specs.World.{Side, World, SideEvent, RouterRestart, RouterSends, CacheGets, CacheSends, RouterGets, On, cache_gets, gets_at, router_gets, timing}
 use Rattle.rtr_world.proofs.Readings.{conn_leaves, router_leaves}
 
--- What is left of so many bytes, with what is behind them
+-- What is left of this many bytes, with what is behind them
 left_most : (most : ℕ) (bytes rest : List ℕ) → length bytes - length (rest ++ drop most bytes) ≤ most
 left_most most bytes rest =
     let size = length-append rest (drop most bytes) in
@@ -46,7 +46,7 @@ fewer w (RouterGets most) wanting (Some s) = (
 fewer w RouterRestart wanting (Some s) = (omega arith, omega arith)
 fewer w _ wanting (Some s) = (omega arith, omega arith)
 
--- So many bytes are told at a refusal.
+-- A refusal reports this many bytes.
 told_fewer : (w : World) (r : ℕ) (event : SideEvent) (wanting : Option ℕ) (bytes : ℕ) → MayEnd (refusal w (On r event)) w (On r event) (Memory bytes wanting) → (bytes ≤ most_of event) × (bytes ≤ moved w (On r event) None)
 unfolding refusal
 told_fewer w r event wanting bytes = by_there (nat_lt r (length w.sides))

@@ -156,7 +156,7 @@ restarts w at s v n h new = record {
 
 -- The clean-up
 
--- A moment that was told already changes nothing more.
+-- A moment that is not later changes nothing more.
 later_same : (n : ℕ) → later n 0 ≡ later n n
 later_same n = grind (arith, nat_tests)
 

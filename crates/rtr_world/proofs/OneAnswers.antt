@@ -103,7 +103,7 @@ home_of : (keep : ℕ) (home : Option Instance) (h : Seen) → IsSeen keep home 
 home_of keep None h s = absurd s
 home_of keep (Some home) h s = (ap Some (sym s.0), s.1)
 
--- a cut alone takes bytes away
+-- only a cut removes bytes
 whole_of : (P : Conn → Type 0) (lost : List ℕ) (o : Option Conn) → ((c : Conn) → P c → lost ≡ []) → IfOpen o P → IsSome o → lost ≡ []
 whole_of P lost None whole op some = false_true some
 whole_of P lost (Some o) whole op some = whole o op

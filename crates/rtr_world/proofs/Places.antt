@@ -1,4 +1,4 @@
--- Where what is committed stands, and that none is committed that was published before what was committed earlier.
+-- The places of what is committed, and that nothing is committed that was published before what was committed earlier.
 use Rattle.rtr_world.proofs.Words.{◌≡◌, ℕ, ◌+◌, ◌-◌, ◌<◌, ◌≤◌, Bool, true, ◌==◌, List, [], ◌∷◌, ◌++◌, length, Option, Some, None, if◌then◌else◌, refl, ⊤, sym, ap, ◌∙◌, subst, subst₂, arith, inl, inr, option_map, cases_Bool, length-append, Instance, versions, VrpSet, Version, session_in, eq_self, eq_of}
 use Rattle.rtr_world.specs.VersionPlaces.{VersionPlace, position_of, place_named, IsNotAfter, NeverBack}
 use Rattle.rtr_world.proofs.Versions.{Stands, position_at, find_session, same_session_in, some_is, Seen, seen_after, seen_at}
@@ -11,7 +11,7 @@ rank_of pv session (i ∷ older) = if session_in pv i == session then Some (leng
 abbrev pub place_at : ℕ → ℕ → VersionPlace
 place_at instance position = record { instance = instance; position = position }
 
--- The place that is named where an instance has this session
+-- The place that is named if an instance has this session
 pub record Found (all : List Instance) (pv : Version) (session serial position : ℕ) : Type 0 where
   pub rank : ℕ
   pub is : rank_of pv session all ≡ Some rank
@@ -60,7 +60,7 @@ newest_place past i = place_at (length past) (length i.sets - 1)
 pub young_enough : (i : Instance) (newer : List VrpSet) (set : VrpSet) (older : List VrpSet) → i.sets ≡ newer ++ set ∷ older → length older + 1 ≤ length i.sets
 young_enough i newer set older e = let n = ap length e in let k = length-append newer (set ∷ older) in omega (arith, n, k)
 
--- What stands is not after the newest place.
+-- What is there is not after the newest place.
 pub not_after_newest : (past : List Instance) (i : Instance) (pv : Version) (session serial : ℕ) (set : VrpSet) (a : Stands (i ∷ past) pv session serial set) (rank : ℕ) → rank_of pv session (i ∷ past) ≡ Some rank
     → IsNotAfter (Some (place_at rank (length a.older))) (Some (newest_place past i))
 not_after_newest past i pv session serial set a rank is = elim (cases_Bool (session_in pv i == session)) [

@@ -78,7 +78,8 @@ keeps_places w = record {
   refused = λ s h. told_by (SidePlaces (instances w)) (instances w) (λ s h conn up down home read. h) (λ s h. noted_places (instances w) (called (Closes s.router.now) s.router) s h) (refused_at s) (one_more (instances w) Refused s.items s.places h);
 }
 
--- A version keeps its place where it stands behind as many and its session has the same rank: when another is published, and when the cache restarts.
+-- A version keeps its place if as many are before it and its session has the same rank: when another is published, and when the cache
+-- restarts.
 same_place : (all more : List Instance) (version : Committed) (table : VrpSet) (t : Stands all version.version version.session version.serial table) (s : Stands more version.version version.session version.serial table) → s.older ≡ t.older
     → rank_of version.version version.session all ≡ rank_of version.version version.session more → version_place_of all (Some version) ≡ version_place_of more (Some version)
 same_place all more version table t s older ranks =

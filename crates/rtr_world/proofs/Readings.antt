@@ -1,4 +1,4 @@
--- Memory runs out at just those PDUs of an event that take memory, of all that it reads, and then no more bytes are taken.
+-- Memory runs out at just those PDUs of an event that allocate memory, of all that it reads, and then no further bytes are consumed.
 use Rattle.rtr_world.proofs.Words.{◌≡◌, ◌≤◌, ℕ, zero, suc, length, Bool, true, false, not, ◌&&◌, ◌||◌, ◌==◌, List, [], ◌∷◌, ◌++◌, Option, Some, None, slice_get, if◌then◌else◌, refl, sym, ap, ◌∙◌, subst, subst₂, flat_map-append, append-nil, list_any-append, flat_map, list_any, Instance, Unit, SerialNotify, CacheResponse, Prefix, EndOfData, EndOfData0, CacheReset, ErrorReport, Version, Judgement, Begins, Whole, Faulty, judge, Conn, Taking, conn_byte, conn_judged, conn_stops, conn_takes, counted, finds_memory, version_at, with_moment, ConnMoment, Fault, Read, Wanting, is_wanting, takes_memory, Router, Staged, Stays, ask, commit, emptied, ended_by, fails, is_news, is_strange, may_lack, on_unit, stage, staged, told_off, Receiving, asked_by, breaks, clocked, lacks, reads, receives, router_byte, router_judged, router_stops, with_read, Link, Closed, Idle, Asked, Answering, Ended, is_lacking, taking, Item, At, AskReset, AskSerial, Question, Reads, base_of, bounded, is_serial, is_wrong, of_version, retry_of, sum_of, default_intervals, false_true}
 use Rattle.rtr_world.proofs.Beside.{After, Beside, Takes, beside, has, told}
 use Rattle.rtr_world.specs.History.{conn_reading, router_readings, units_read}
@@ -71,7 +71,7 @@ held_aside r held [] = refl
 held_aside r held (u ∷ units) =
     λ i. lack_aside r.link u r held i ∷ (ap (λ x. router_readings x units) (unit_aside r.link u r held) ∙ held_aside (on_unit r.link u r) held units) i
 
--- whether the PDU that is whole takes memory
+-- whether the PDU that is whole allocates memory
 abbrev took : Router → Judgement → Option Bool
 took r (Whole u) = Some (may_lack r.link u r)
 took r j = None
@@ -100,7 +100,7 @@ judged_alike r xs ys bytes none wanting (Whole u) = by_lack (may_lack r.link u r
     by_lack false (Some (suc unit)) = (refl, refl, refl, still)
 judged_alike r xs ys bytes none wanting j = (refl, refl, refl, none)
 
--- the PDUs that are read at a byte, and whether those behind them take memory
+-- the PDUs that are read at a byte, and whether those behind them allocate memory
 abbrev Logs : Router → List Item → Option Bool → Receiving → Type 0
 Logs r xs t m = (more : List Unit) × (units_read m.items ≡ units_read xs ++ more) × ((us : List Unit) → (router_stops m.router ≡ true → us ≡ []) → told t (router_readings m.router us) ≡ router_readings r (more ++ us))
 

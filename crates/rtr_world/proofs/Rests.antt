@@ -36,7 +36,7 @@ closed_goes_on : (l : Link) → is_closed l ≡ true → is_ended l ≡ false
 closed_goes_on (Ended end) h = false_true h
 closed_goes_on _ h = refl
 
--- what being told changes, and what not
+-- what a notification of a close changes, and what not
 record Tells (s n : Side) : Type 0 where
   pub conn : n.conn ≡ s.conn
   pub down : n.down ≡ s.down
@@ -47,7 +47,7 @@ record Tells (s n : Side) : Type 0 where
 tells : (all : List Instance) (s : Side) → Tells s (tell_closed all s)
 tells all s = closed_by (Tells s) all s (λ e. record { conn = refl; down = refl; up = refl; home = refl; read = refl }) (λ e. record { conn = refl; down = refl; up = refl; home = refl; read = refl })
 
--- step by step: a connection at the cache goes on, or it ended with nothing to be pulled and is closed
+-- step by step: a connection at the cache continues, or it ended with nothing pending and is closed
 conn_case : (s : Side) (o : Option Conn) → (GoesOn o × (settle_conn s o ≡ s)) ⊎ ((GoesOn o → ⊥) × (settle_conn s o ≡ record s { conn = None }))
 conn_case s None = inl (tt, refl)
 conn_case s (Some o) = by_end o.state.ended o.state.due

@@ -79,7 +79,7 @@ all_room i (s ∷ sides) h = (λ j. h zero s refl j && all_room i sides (λ r t 
 pub all_first : (w : World) (k : ℕ) → FirstHaveRoom w k → length w.sides ≤ k → true ≡ all_have_room w.present w.sides
 all_first w k first all = sym (all_room w.present w.sides (λ r s is. first r s (let low = low_of r w.sides s is in omega (arith, low, all)) is))
 
--- Where all have room, each has.
+-- If all have room, each has.
 pub each_room : (i : Instance) (sides : List Side) → all_have_room i sides ≡ true → (r : ℕ) (s : Side) → side_at r sides ≡ Some s → (room_for i s.router.version && room_since i s.home) ≡ true
 each_room i [] h r s is = absurd (let k : ◌≡◌ {A = Option Side} None (Some s) = is in cc)
 each_room i (t ∷ sides) h zero s is =

@@ -57,13 +57,13 @@ module _ (r : ℕ) (e : SideEvent) (w : World) (s : Side) (found : side_at r w.s
   no_refusal : (o : Outcome) → MayEnd (refusal w (On r e)) w (On r e) o → MayEnd None w (On r e) o
   no_refusal o may = subst (λ x. MayEnd x w (On r e) o) (found_router w r e (low_of r w.sides s found)) may
 
-  -- Where it failed, memory ran out, and the connection is cut.
+  -- If it failed, memory ran out, and the connection is cut.
   pub lacked : (o : Outcome) (fault : WorldFault) → AnswersOutcome (outcome_fault o) (Err fault) → MayEnd (refusal w (On r e)) w (On r e) o → IsCutOff r (after (On r e) o w) × (o ≡ Done None → ⊥)
   lacked (Done wanting) fault h may = absurd (let k : ◌≡◌ {A = Bool} false true = h in cc)
   lacked (Memory bytes wanting) fault h may = (after_refused r e bytes wanting w s found, λ is. cc)
   lacked o fault h may = absurd (no_refusal o may)
 
--- A cut leaves nothing, whatever came of it.
+-- A cut leaves nothing, whatever its result.
 pub cut_leaves : (r : ℕ) (w : World) (s : Side) → side_at r w.sides ≡ Some s → (o : Outcome) → MayEnd (refusal w (On r (Cut 0))) w (On r (Cut 0)) o → IsCutOff r (after (On r (Cut 0)) o w)
 unfolding side_step cut
 cut_leaves r w s found (Done wanting) may = record {
@@ -94,7 +94,7 @@ module _ (made : Made) (history : List Entry) (w : World) (r : ℕ) (e : SideEve
       let k = lacked r e w s found t.outcome fault (subst (λ x. AnswersOutcome (outcome_fault t.outcome) x) err t.answers) t.may in
       record { wanting = λ all. k.1 all.0; off = subst (IsCutOff r) (sym t.is) k.0 }
 
--- Moves that went through, and the world to which they lead; and what is so where memory did not run out
+-- Moves that went through, and the world to which they lead; and what is so if memory did not run out
 pub record Along (made : Made) (history : List Entry) (r : ℕ) (x : World) (Wants : Type 0) (new : code.World) : Type 0 where
   pub more : List Entry
   pub moves : AreMoves r more

@@ -2,7 +2,7 @@
 use Rattle.rtr_world.proofs.Words.{counted, by_clock, by_close, Judgement, Begins, ◌≡◌, ℕ, Bool, true, false, [], ◌∷◌, Some, None, refl, if◌then◌else◌, Router, ask, emptied, Noted, asks_if, clocked, close, expired, silent, Link, Closed, Asked, Answering, Ended, is_closed, AskSerial, Asks, choose, is_serial, later, of_version, retry_of, sum_of}
 use Rattle.rtr_ends.specs.declared.link.End.TheVariants as ends
 
--- What has expired is emptied, and the link goes on or ends.
+-- What has expired is emptied, and the link continues or ends.
 pub expired_by : (P : Router → Type 0) (l : Link) (r : Router) → P (emptied r) → P (record (emptied r) { link = Ended ends.Expired; out = [] }) → P (expired l r)
 expired_by P (Asked (AskSerial session serial)) r on ended = ended
 expired_by P (Answering a) r on ended = by_question (is_serial (Some a.question))
@@ -22,7 +22,7 @@ pub asks_by : (P : Noted → Type 0) (b : Bool) (r : Router) → P (record { rou
 asks_by P true r asks stays = asks
 asks_by P false r asks stays = stays
 
--- PDUs are not counted where memory runs out at none.
+-- PDUs are not counted if memory runs out at none.
 pub none_counted : (j : Judgement) → counted j None ≡ None
 none_counted Begins = refl
 none_counted _ = refl

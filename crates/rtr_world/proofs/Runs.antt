@@ -189,7 +189,7 @@ module _ (w : World) (is : IsInstance w.present) where
   step_runs NotifyRouter wanting s known h = notified_runs s s.conn refl h
   step_runs _ wanting s known h = h
 
--- The clean-up: the router is told that it is closed, or there is less on the wires.
+-- The clean-up: the router is notified of a close, or there is less on the wires.
 module _ (keep : ℕ) (present : Instance) (all : List Instance) where
   unknown : (home : Option Instance) (up : List ℕ) (o : Option Conn) → RunsAt keep present home up o → RunsAt keep present None up o
   unknown home up o h = IfSome_then o h (λ x r. record { run = record { opened = r.run.opened; can_open = r.run.can_open; home_is = tt; calls = r.run.calls; can_be = r.run.can_be; conn_is = r.run.conn_is; cache_is = r.run.cache_is }; low = r.low })

@@ -4,7 +4,7 @@ use Rattle.rtr_world.specs.OneAnswer.{AreIn, NotifiesOf, OwnNotifies, units_in, 
 use Rattle.rtr_world.proofs.AnswerLaws.{notifies-append}
 use Rattle.rtr_world.proofs.Invariant.{IsEarly}
 
--- A PDU is a notify, or stands among those that are none.
+-- A PDU is a notify, or is among those that are none.
 pub data HeadCase (u : Unit) (more : List Unit) : Type 0 where
   a_notify : (session serial : ℕ) → u ≡ SerialNotify session serial → HeadCase u more
   another : is_notify u ≡ false → without_notifies (u ∷ more) ≡ u ∷ without_notifies more → HeadCase u more
@@ -26,7 +26,7 @@ in_own false version home (u ∷ coming) h = inl h
 in_rest : (version : Version) (home : Instance) (u : Sent) (more : List Sent) → AreIn version home (u ∷ more) → AreIn version home more
 in_rest version home u more h = (h.0.1, notifies_rest (session_in version home) u.unit (units_in more) h.1)
 
--- and so may those behind the first. Where that is no notify, it agrees on the version.
+-- and so may those behind the first. If that is no notify, it agrees on the version.
 pub own_rest : (old now : Bool) (version : Version) (home : Instance) (u : Sent) (more : List Sent) → (is_notify u.unit ≡ true → now ≡ old) → OwnNotifies old version home (u ∷ more) → OwnNotifies now version home more
 own_rest true now version home u more same h = in_own now version home more (in_rest version home u more h)
 own_rest false now version home u more same (inl h) = in_own now version home more (in_rest version home u more h)
@@ -54,7 +54,7 @@ own-append false version home [] units h more = in_own false version home (in_ve
 own-append false version home (u ∷ coming) units (inl h) more = inl (in-append version home (u ∷ coming) units h more)
 own-append false version home (u ∷ coming) units (inr early) more = inr (early.0, early.1, own-append false version home coming units early.2 more)
 
--- and notifies of version 1 where no others come.
+-- and notifies of version 1 if no others come.
 pub early_own : (version : Version) (home : Instance) (coming : List Sent) → AllByRecursion (IsEarly home) coming → OwnNotifies false version home coming
 early_own version home [] h = tt
 early_own version home (u ∷ coming) h = inr (h.0.0, h.0.1, early_own version home coming h.1)

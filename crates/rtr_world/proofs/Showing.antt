@@ -45,7 +45,7 @@ found_side w at (Some s) (Some u) v e h = record { side = s; is = refl; shows = 
 found_side w at None None v e h = absurd (let k : ◌≡◌ {A = Option values.Side} None (Some v) = e in cc)
 found_side w at _ _ v e h = absurd h
 
--- so many sides
+-- this many sides
 same_length : (w : World) (at : ℕ → Option Conn) (sides : List Side) (items : List values.Side) → ((r : ℕ) → ShowsAt w at (side_at r sides) (slice_get items r)) → length sides ≡ length items
 same_length w at [] [] h = refl
 same_length w at (s ∷ sides) (v ∷ items) h = ap suc (same_length w at sides items (λ r. h (suc r)))

@@ -9,7 +9,7 @@ use Rattle.rtr_world.proofs.SentLaws.{own_rest}
 use Rattle.rtr_world.proofs.UnitStreams.{Stream, byte_case, case_by}
 use Rattle.rtr_world.proofs.Versions.{TableAt, Seen}
 
--- A link keeps its state; what lives goes on to live.
+-- A link keeps its state; what lives continues to live.
 pub live_map : (l : Link) (all all' : List Instance) (i i' : Instance) (home home' : Option Seen) (r r' : Router) (conn conn' : Option Conn) (up up' down down' : List ℕ)
     → (r.held ≡ [] → r'.held ≡ []) → (r.out ≡ [] → r'.out ≡ []) → r'.agreed ≡ r.agreed → r'.session ≡ r.session → GoodLink all i home l r conn up down → (Live all i home r conn up down → Live all' i' home' r' conn' up' down') → GoodLink all' i' home' l r' conn' up' down'
 live_map Closed all all' i i' home home' r r' conn conn' up up' down down' held out agreed session g f = (held g.0, agreed ∙ g.1, session ∙ g.2, out g.3)
@@ -21,7 +21,7 @@ live_of Closed all i home r conn up down g live = false_true live
 live_of (Ended end) all i home r conn up down g live = false_true live
 live_of _ all i home r conn up down g live = g
 
--- a Reset Query fits where nothing is committed
+-- a Reset Query fits if nothing is committed
 fits_nothing : (session : ℕ) (q : Question) → is_serial (Some q) ≡ false → QuestionFits session q None
 fits_nothing session AskReset h = tt
 fits_nothing session (AskSerial one serial) h = false_true (sym h)

@@ -1,4 +1,4 @@
--- A router of a world speaks what it was told.
+-- A router of a world speaks the version that was set.
 use Rattle.rtr_world.proofs.Words.{◌≡◌, ℕ, Bool, true, false, ◌==◌, List, [], ◌∷◌, take, Option, Some, None, if◌then◌else◌, ⊤, refl, option_map, sym, ap, ◌∙◌, subst, Instance, Version, V1, Router, Receiving, asks, asks_if, clocked, close, closed_at, connects_at, receives, router_byte, router_pulled, router_stops, ticks_at, is_due, is_idle, At, feed_keeps, clocked_keeps, either}
 use Rattle.rtr_world.specs.Claims.{EachSpeaks, told_since, told_by}
 use Rattle.rtr_world.specs.History.{Outcome, Done, Memory, Entry, LeadsFrom, after, side_at}
@@ -23,7 +23,7 @@ receives_speaks now wanting piece r =
     feed_keeps (λ (m : Receiving). router_stops m.router) router_byte (λ rest m. m.router.speaks ≡ r.speaks) (λ b rest m on h. byte_speaks m b ∙ h)
     (record { router = clocked now r; items = At now ∷ []; wanting = wanting }) piece (clocked_keeps now r).speaks
 
--- One router: what an event tells it
+-- One router: what an event sets for it
 abbrev Says : Version → Side → Type 0
 Says version s = s.router.speaks ≡ version
 
@@ -62,13 +62,13 @@ settle_says all s =
     settle_keeps (Says s.router.speaks) (λ t c u d h. h) all
     (λ t h. closed_by (Says s.router.speaks) all t (λ e. h) (λ e. close_speaks (clocked t.router.now t.router) ∙ (clocked_keeps t.router.now t.router).speaks ∙ h)) s refl
 
--- what an event at a router tells another, in the words of the law
+-- what an event at a router sets for another, in the words of the law
 told_on : (r d : ℕ) (event : SideEvent) (wanting : Option ℕ) (v : Version) → (if d == r then says_after event v else v) ≡ told_by r (On d event) (Done wanting) v
 told_on r d RouterRestart wanting v = refl
 told_on r d (Speak version) wanting v = refl
 told_on r d _ wanting v = either (λ x. x ≡ v) (d == r) v v (λ here. refl) (λ there. refl)
 
--- What is refused tells nothing.
+-- What is refused sets nothing.
 abbrev IsRefused : Outcome → Type 0
 IsRefused (Done wanting) = ⊥
 IsRefused outcome = ⊤
@@ -78,7 +78,7 @@ only_through r (On d (Speak new)) (Done wanting) h v = absurd h
 only_through r (On d RouterRestart) (Done wanting) h v = absurd h
 only_through r event outcome h v = refl
 
--- One event: what it makes of a router's side speaks what the event tells the router.
+-- One event: the router's side after it speaks the version that the event sets.
 side_says : (r : ℕ) (event : Event) (outcome : Outcome) (w : World) (s : Side) → Says (told_by r event outcome s.router.speaks) (side_after r event outcome w s)
 side_says r (On d event) (Done wanting) w s = settle_says (instances w) (if d == r then side_step w event wanting s else s) ∙ by_number (d == r) ∙ told_on r d event wanting s.router.speaks
   where

@@ -21,15 +21,15 @@ abbrev pub is_answering : Link → Bool
 is_answering (Answering a) = true
 is_answering l = false
 
--- How a link goes on: it stays at a notify; an answer begins; a record is staged; or no answer is under way.
+-- How a link continues: it stays at a notify; an answer begins; a record is staged; or no answer is under way.
 pub data Continues (l : Link) (u : Unit) (next : Link) : Type 0 where
   stays : (session serial : ℕ) → u ≡ SerialNotify session serial → next ≡ l → Continues l u next
   begins : (q : Question) (session : ℕ) → u ≡ CacheResponse session → next ≡ Answering (nothing_yet q session) → Continues l u next
   stages : (a b : Begun) (announce : Bool) (v : Payload) → l ≡ Answering a → u ≡ Prefix announce v → next ≡ Answering b → read_of b ≡ read_of a ++ Prefix announce v ∷ [] → Continues l u next
   leaves : is_answering next ≡ false → Continues l u next
 
--- The link goes on; or it is told that another session is asked for, or that memory runs out; or a version is committed that
--- stands no earlier than the one that was current when the connection was made.
+-- The link continues. Or a report says that another session is asked for, or that memory runs out. Or a version is committed that is at
+-- least as late as the one that was current when the connection was made.
 pub data Brings (all : List Instance) (h : Seen) (r : Router) (l : Link) (u : Unit) (k : Router) : Type 0 where
   goes_on : is_ended k.link ≡ false → is_end u ≡ false → Continues l u k.link → Brings all h r l u k
   ends_other : (session serial : ℕ) → l ≡ Asked (AskSerial session serial) → (session ≡ h.session → ⊥) → k.link ≡ Ended (ends.Told 0) → is_end u ≡ false → Brings all h r l u k
@@ -54,7 +54,7 @@ unit_brings all h r u more wanted c = by_shape all h r (Brings all h r) u more w
       commits (record { version = r.spoken; session = one; serial = number; moment = r.now; intervals = intervals }) (led_to (base_of a.question r.table) a.withdrawn a.announced) refl refl refl own stands since;
 })
 
--- What a router commits of a piece, and where that stands.
+-- What a router commits of a piece, and where that is.
 -- the places of items that come after others
 places-append : (all : List Instance) (xs ys before : List Item) → places_of all (xs ++ ys) before ≡ places_of all xs (ys ++ before) ++ places_of all ys before
 places-append all [] ys before = refl
@@ -87,7 +87,7 @@ unit_places all l out u items b e = asked l out ∙ one_place (is_commit (Reads 
     asked (Answering a) out = refl
     asked (Ended end) out = refl
 
--- What reading adds to the places: nothing, or that of a version that stands no earlier than what was seen
+-- What reading adds to the places: nothing, or that of a version at least as late as what was seen
 pub data Adds (past : List Instance) (i : Instance) (h : Seen) (n : Noted) (items : List Item) : Type 0 where
   nothing : places_of (i ∷ past) n.items items ≡ [] → Adds past i h n items
   one : (version : Committed) (table : VrpSet) (stands : Stands (i ∷ past) version.version version.session version.serial table) (f : Found (i ∷ past) version.version version.session version.serial (length stands.older))
@@ -126,7 +126,7 @@ module _ (keep : ℕ) (past : List Instance) (i : Instance) (home read : Option 
   abbrev all : List Instance
   all = i ∷ past
 
-  -- an idle router whose version stands later
+  -- an idle router whose version is later
   raised : (down : List ℕ) (r : Router) (h : Seen) (pv : Version) (session serial : ℕ) (set : VrpSet) (a : Stands (i ∷ past) pv session serial set) → pv ≡ h.version → session ≡ h.session → r.link ≡ Idle
       → GoodRouter (i ∷ past) i (Some h) conn up down r → GoodRouter (i ∷ past) i (Some (record h { sets = set ∷ a.older })) conn up down r
   raised down r h pv session serial set a of own is g =

@@ -1,5 +1,5 @@
--- What a PDU does to a router, where it belongs there: a notify, the reply to a question, or more of an answer. A law of each effect is
--- one of the PDU.
+-- What a PDU does to a router, if it belongs there: a notify, the reply to a question, or more of an answer. A law of each effect is one of
+-- the PDU.
 use Rattle.rtr_world.proofs.Words.{◌≡◌, ℕ, ◌+◌, ◌≤◌, ◌<◌, Bool, true, false, not, ◌&&◌, ◌==◌, List, [], ◌∷◌, ◌++◌, length, Option, Some, None, if◌then◌else◌, refl, sym, ap, ◌∙◌, inl, inr, subst, subst₂, Payload, eq_true, Instance, VrpSet, Unit, SerialNotify, CacheResponse, Prefix, EndOfData, EndOfData0, CacheReset, report, session_in, Sent, Router, Staged, Stays, asking, ask, commit, emptied, ended_by, fails, is_news, is_strange, on_unit, stage, staged, Link, Idle, Asked, Answering, is_reading, Intervals, default_intervals, Begun, Committed, Question, AskReset, AskSerial, base_of, bounded, differs, is_wrong, led_to, of_version, retry_of, session_of, sum_of, either, false_true}
 use Rattle.rtr_world.specs.OneAnswer.{NotifiesOf, OwnNotifies, units_in, without_notifies}
 use Rattle.rtr_world.proofs.Invariant.{after_stage, IsOwn, Leads, Mine, OfAnswer, OneReply, OwnSession, QuestionFits, Replies, no_data, not_kept, other_session, no_memory, response, Shape, nothing_yet}
@@ -87,7 +87,7 @@ module _ (all : List Instance) (h : Seen) (r : Router) where
       (sym (eq_true one a.session (leads.1 ∙ sym own))) (d.commits (EndOfData0 one number) one number default_intervals (λ serial set l. l))
   by_answer P a u rest serial set own leads d = absurd leads
 
-  -- what an answer leads to stands under the name of its End of Data
+  -- what an answer leads to is under the name of its End of Data
   stands_as : (one number session serial : ℕ) (led set : VrpSet) → one ≡ session → number ≡ serial → led ≡ set → (s : Stands all r.spoken session serial set) → (t : Stands all r.spoken one number led) × (t.older ≡ s.older)
   stands_as one number session serial led set es en el s = (
     record { i = s.i; found = ap (λ x. find_session r.spoken x all) es ∙ s.found; newer = s.newer; older = s.older; sets = s.sets ∙ ap (λ x. s.newer ++ x ∷ s.older) (sym el); serial_is = en ∙ s.serial_is; young = s.young; low = subst (λ x. x < 65536) (sym es) s.low },

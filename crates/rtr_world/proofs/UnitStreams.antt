@@ -2,7 +2,7 @@
 use Rattle.rtr_world.proofs.Words.{◌≡◌, ◌⊎◌, ℕ, ◌<◌, nat_lt, Bool, true, false, not, List, [], ◌∷◌, ◌++◌, length, Option, Some, None, if◌then◌else◌, ⊤, refl, ◌&&◌, AllByRecursion, sym, ap, ◌∙◌, subst, subst₂, arith, append_assoc, inl, inr, zero, suc, nat_tests, append-nil, append_cancel_left, length-append, flat_map-append, cases_lt, V4, V6, IpPrefix, first_version, header_version, version_in, version_number, Version, V0, V1, SerialNotify, Prefix, Begins, Whole, judge, AreBytes, IsUnit, IsUnitOf, prefix_bytes, zeros, Unit, as_read, IsPartial, version_in-append, judge_sent, judge_part, some_sent, strict, begins_exactly, reads_judged, as_read-append, partial_short, written_is_read, either, Noted, silent, reads, lacks, with_bytes, Router, may_lack, sent, sent_all, session_in, Sent, bytes_sent, in_version, Instance, all_both}
 use Rattle.rtr_world.specs.OneAnswer.{IsPart, OwnNotifies}
 
--- A notify of another version, which a router reads where it has not agreed on a version, as one of the expected version.
+-- A notify of another version, which a router reads if it has not agreed on a version, as one of the expected version.
 pub judge_notify : (version other : Version) (session serial : ℕ) → IsUnit (SerialNotify session serial) → judge version true (sent other (SerialNotify session serial)) ≡ Whole (SerialNotify session serial)
 unfolding as_read
 judge_notify version other session serial fits = reads_judged version true (sent other (SerialNotify session serial)) (SerialNotify session serial) (written_is_read version (SerialNotify session serial) fits refl)
@@ -33,7 +33,7 @@ pub record Stream (held after : List ℕ) (units : List Sent) : Type 0 where
   pub part : IsPart held units
   pub fit : AllByRecursion IsSent units
 
--- The next byte goes on with the first PDU.
+-- The next byte continues the first PDU.
 record Next (held : List ℕ) (b : ℕ) (after : List ℕ) (units : List Sent) : Type 0 where
   first : Sent
   more : List Sent
@@ -62,7 +62,7 @@ is_part : (held : List ℕ) (b : ℕ) (rest : List ℕ) (u : Sent) (more : List 
 is_part [] b rest u more e = tt
 is_part (c ∷ held) b rest u more e = (b, rest, e)
 
--- It is of the expected version, or a notify where none is agreed on.
+-- It is of the expected version, or a notify if none is agreed on.
 abbrev MayRead : Version → Bool → Sent → Type 0
 MayRead version any s = (s.version ≡ version) ⊎ ((any ≡ true) × ((session : ℕ) × (serial : ℕ) × (s.unit ≡ SerialNotify session serial)))
 
@@ -111,7 +111,7 @@ head_is x y xs ys e = cc
 pub tail_is : {X : Type 0} (x y : X) (xs ys : List X) → x ∷ xs ≡ y ∷ ys → xs ≡ ys
 tail_is x y xs ys e = cc
 
--- So it is at a router, where what comes is its own,
+-- So it is at a router, if what comes is its own,
 pub byte_case : (agreed : Bool) (version : Version) (home : Instance) (held : List ℕ) (b : ℕ) (after : List ℕ) (coming : List Sent) → OwnNotifies agreed version home coming → Stream held (b ∷ after) coming → ByteCase version (not agreed) held b after coming
 byte_case agreed version home held b after coming own s = case_by_first version (not agreed) held b after coming (λ u more e. may_read agreed u more (subst (OwnNotifies agreed version home) e own)) s
   where
@@ -133,7 +133,7 @@ first_in version (v ∷ units) u more e =
     let same = sym (head_is (record { version = version; unit = v }) u (in_version version units) more e) in
     record { own = ap (λ (x : Sent). x.version) same; rest = units; is = ap (λ (x : Sent). x.unit ∷ units) (sym same); more_is = sym (tail_is (record { version = version; unit = v }) u (in_version version units) more e) }
 
--- and where it is of one version.
+-- and if it is of one version.
 pub one_case : (version : Version) (any : Bool) (held : List ℕ) (b : ℕ) (after : List ℕ) (units : List Unit) → Stream held (b ∷ after) (in_version version units) → ByteCase version any held b after (in_version version units)
 one_case version any held b after units s = case_by_first version any held b after (in_version version units) (λ u more e. inl (first_in version units u more e).own) s
 
@@ -155,7 +155,7 @@ first_sent version (Prefix announce v) more = by_family v.prefix
     by_family (V6 p) = first_byte version _
 first_sent version _ more = first_byte version _
 
--- The beginning of a PDU tells its version.
+-- The beginning of a PDU determines its version.
 pub part_version : (version : Version) (agreed : Option Version) (u : Unit) (held rest : List ℕ) → MaySpeak version agreed → held ++ rest ≡ sent version u → 0 < length held → version_in agreed held ≡ version
 part_version version (Some one) u held rest speaks e some = speaks
 part_version version None u held rest speaks e some =
@@ -221,7 +221,8 @@ all_bytes (b ∷ bytes) h (suc i) = all_bytes bytes h.1 i
 pub either_by : (P : Noted → Type 0) (u : Unit) (k : Router) (b : Bool) → (b ≡ true → P (lacks u k)) → P (reads u k) → P (if b then lacks u k else reads u k)
 either_by P u k b l d = either P b (lacks u k) (reads u k) l (λ there. d)
 
--- What holds where a byte is kept, where memory runs out at the PDU that is whole with it, and where that is read, holds behind each byte.
+-- A statement holds behind each byte if it holds in three cases: a byte is kept, memory runs out at the PDU that is whole with it, and that
+-- is read.
 pub case_by : (P : Noted → Type 0) (r : Router) (b : ℕ) (memory : Bool) (rest : List ℕ) (coming : List Sent) → ByteCase r.spoken (not r.agreed) r.held b rest coming
     → (Stream (r.held ++ b ∷ []) rest coming → P (silent (record r { held = r.held ++ b ∷ [] })))
     → ((u : Unit) → (may_lack r.link u r && not memory) ≡ true → P (lacks u (record r { held = [] })))

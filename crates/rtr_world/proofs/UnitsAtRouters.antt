@@ -20,7 +20,7 @@ first_fits session None mark unmarked = tt
 first_fits session (Some version) true unmarked = false_true (sym unmarked)
 first_fits session (Some version) false unmarked = (refl, refl)
 
--- A question is put where none is on its way.
+-- A question is put if none is on its way.
 pub asked_on : (up : List ℕ) (pv : Version) (q : Question) (wanted : List Unit) (held : List ℕ) → wanted ≡ [] → IsUnitOf pv (query q) → Stream held (up ++ []) (in_version pv wanted) → Stream held (up ++ sent pv (query q)) (in_version pv (query q ∷ []))
 asked_on up pv q wanted held e fit s =
     subst (λ x. Stream held x (in_version pv (query q ∷ []))) (ap (λ x. x ++ sent_all pv (query q ∷ [])) (append-nil up) ∙ ap (λ x. up ++ x) (append-nil (sent pv (query q))))
@@ -103,7 +103,7 @@ module _ (all : List Instance) (i : Instance) (home : Option Seen) (conn : Optio
   live_link r (Ended end) is live h = false_true live
   live_link r _ is live h = subst (λ x. GoodLink all i home x r conn up down) (sym is) h
 
-  -- what is known of the wires when a PDU has just been read, and `more` are to come, where the version may then be agreed on or not
+  -- what is known of the wires when a PDU has just been read, and `more` are to come, whether the version is then agreed on or not
   pub record Comes (pv : Version) (May : Bool → Type 0) (more : List Sent) : Type 0 where
     pub h : Seen
     pub is_home : home ≡ Some h

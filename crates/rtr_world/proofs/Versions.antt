@@ -47,7 +47,7 @@ abbrev pub TableAt : List Instance → Option Committed → VrpSet → Type 0
 TableAt all None table = table ≡ empty
 TableAt all (Some version) table = Stands all version.version version.session version.serial table
 
--- what is held of a version of the protocol stands
+-- what is held of a version of the protocol is there
 abbrev pub HeldAt : List Instance → Version → Option Committed → VrpSet → Type 0
 HeldAt all pv None table = ⊤
 HeldAt all pv (Some version) table = Stands all pv version.session version.serial table
@@ -115,7 +115,7 @@ position_at all pv session serial set a =
         ap (λ b. if b then Some (length (versions_from a.i.start (newer ++ set ∷ a.older))) else position_of (serial_at a.i.start (length a.older)) (versions_from a.i.start (newer ++ set ∷ a.older))) other
         ∙ found newer (omega (arith, few))
 
--- It stands wherever its instance is found.
+-- It is there wherever its instance is found.
 stands_where : (all more : List Instance) (pv : Version) (session serial : ℕ) (set : VrpSet) (a : Stands all pv session serial set) → find_session pv session more ≡ Some a.i → (s : Stands more pv session serial set) × (s.older ≡ a.older)
 stands_where all more pv session serial set a found = (record { i = a.i; found = found; newer = a.newer; older = a.older; sets = a.sets; serial_is = a.serial_is; young = a.young; low = a.low }, refl)
 
@@ -148,9 +148,9 @@ stands_restarted all i pv session serial set new a = stands_where all (i ∷ all
 ])
 
 -- What an invariant knows of a connection.
--- The instance as it was when the connection was made, how many versions the cache keeps, the version of the connection, and the session in
--- it and the sets of that instance then, or when what was committed on the connection last was its newest version; and the cache as it was
--- when it last read a PDU on it
+-- The instance as it was when the connection was made, how many versions the cache keeps, and the version of the connection. The session in
+-- it and the sets of that instance then, or when what was committed on the connection last was its newest version. The cache as it was when
+-- it last read a PDU on it
 pub record Seen : Type 0 where
   pub made : Instance
   pub keep : ℕ

@@ -1,4 +1,4 @@
--- The words of other crates that the proofs of this crate speak in, and where each comes from.
+-- The names of other crates that the proofs of this crate use, and where each comes from.
 pub use Rattle.prefixes.proofs.Basics.{all_both, eq_of, eq_self, eq_true, false_if_never, false_of_not, lt_true, not_both, not_eq_of, or_swap, set_other, set_same, true_of_not}
 pub use Rattle.prefixes.specs.Orders.{vrp_total}
 pub use Rattle.prefixes.specs.Payload.{IsPayload, Payload, vrp_cmp}

@@ -79,7 +79,7 @@ module _ (keep : ℕ) (past : List Instance) (i : Instance) (y : VrpSet) (p : Pr
   abbrev next : Instance
   next = record i { sets = y ∷ i.sets }
 
-  -- room after a version that stands
+  -- room after a version that is there
   room_of : (pv : Version) (session serial : ℕ) (set : VrpSet) (a : Stands (i ∷ past) pv session serial set) (least : ℕ) → least ≤ length a.older → (session_in pv i ≡ session → nat_lt (length i.sets - least) (2 ^ 31) ≡ true) → session_in pv i ≡ session → length a.newer + 1 < 2 ^ 31
   room_of pv session serial set a least low test e =
       let found = of_present (i ∷ past) i p pv session serial set a (sym e) in
@@ -241,7 +241,7 @@ none_found (Some i) h = absurd (let e : true ≡ false = h in cc)
 abbrev pub begun : ℕ → ℕ → ℕ → Instance
 begun session session0 start = record { session = session; session0 = session0; start = start; sets = [] }
 
--- It goes through where no other has a session of it.
+-- It goes through if no other has a session of it.
 pub unused_so : (session session0 start : ℕ) (wanting : Option ℕ) (w : World) → MayEnd (refusal w (Restart session session0 start)) w (Restart session session0 start) (Done wanting) → (pv : Version) → find_session pv (session_in pv (begun session session0 start)) (instances w) ≡ None
 unfolding refusal
 unused_so session session0 start wanting w may =
@@ -290,7 +290,7 @@ through_good (On r event) wanting w fits may g t =
           (all_both (Good w.keep w.past w.present) SideTells w.sides g.sides t);
     }
 
--- what is refused because memory ran out, before the routers are told
+-- what is refused because memory ran out, before the routers are notified
 pub part_so : (r : ℕ) (event : SideEvent) (bytes : ℕ) (wanting : Option ℕ) (w : World) → GoodWorld w → AllTell w → GoodWorld (record w { sides = on_side r (side_refused w event bytes wanting) w.sides })
 part_so r event bytes wanting w g t = record {
   present = g.present;

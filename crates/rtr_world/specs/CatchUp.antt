@@ -29,16 +29,16 @@ IsMoveOf r event = ⊥
 abbrev pub AreMoves : ℕ → List Entry → Type 0
 AreMoves r entries = AllByRecursion (λ e. IsMoveOf r e.event) entries
 
--- What is held is the newest of these published sets, of this version of the protocol and this session; where there is none, no session
--- of this version is held, and where none is held at all the table is empty.
+-- What is held is the newest of these published sets, of this version of the protocol and this session. If there is none, no session of
+-- this version is held, and if none is held at all the table is empty.
 abbrev pub HoldsNewest : Version → ℕ → List NumberedSet → Option Committed → VrpSet → Type 0
 HoldsNewest version session [] held table = (of_version version held ≡ None) × (held ≡ None → table ≡ empty)
 HoldsNewest version session (now ∷ older) None table = ⊥
 HoldsNewest version session (now ∷ older) (Some held) table =
     (held.version ≡ version) × (held.session ≡ session) × (held.serial ≡ now.serial) × (table ≡ now.set)
 
--- The connection is of the version that the router speaks, and was made at this instance as it is; and where the link is idle, the router
--- holds its newest version.
+-- The connection is of the version that the router speaks, and was made at this instance as it is. If the link is idle, the router holds
+-- its newest version.
 abbrev pub IsFresh : Instance → Option Instance → Router → Link → Type 0
 IsFresh i home r Closed = ⊤
 IsFresh i home r (Ended end) = ⊤
@@ -52,8 +52,8 @@ IdleIsCurrent =
     Leads made (before ++ record { event = On r Connect; outcome = Done wanting } ∷ moves) w → AreMoves r moves → side_at r w.sides ≡ Some s →
     IsFresh w.present s.home s.router s.router.link
 
--- A round: at most so many bytes go each step of the way from the router to the cache and back. Memory may run out at a PDU at
--- either end.
+-- A round: at most this many bytes go each step of the way from the router to the cache and back. Memory may run out at a PDU at either
+-- end.
 abbrev pub sent_up : World → ℕ → Side → Side
 sent_up w most s = settle (instances w) (router_sends most s)
 
@@ -66,7 +66,7 @@ sent_down w most at_cache s = settle (instances w) (cache_sends w most (read_up 
 abbrev pub round : World → ℕ → Option ℕ → Option ℕ → Side → Side
 round w most at_cache at_router s = settle (instances w) (router_gets w most at_router (sent_down w most at_cache s))
 
--- So many bytes are all that there are: a question or an answer has at most 2^25 PDUs of at most 2^12 bytes.
+-- These are as many bytes as there can be: a question or an answer has at most 2^25 PDUs of at most 2^12 bytes.
 abbrev pub IsAll : ℕ → Type 0
 IsAll most = 2 ^ 37 ≤ most
 
@@ -78,7 +78,7 @@ pub record IsQuiet (s : Side) : Type 0 where
   pub due : conn_due s.conn ≡ []
   pub down : s.down ≡ []
 
--- Nothing moves any more: the link is closed, or it is idle and all is quiet.
+-- Nothing moves now: the link is closed, or it is idle and all is quiet.
 abbrev pub RestsSo : Side → Link → Type 0
 RestsSo s Closed = ⊤
 RestsSo s Idle = IsQuiet s
@@ -101,12 +101,12 @@ RestsSoon w s =
 abbrev pub RoundsEnd : Type 0
 RoundsEnd = Always (λ w s. RestsSoon w (settle (instances w) (connects w s)))
 
--- Where memory does not run out at either end the link is idle after a whole round;
+-- If memory does not run out at either end the link is idle after a whole round;
 abbrev pub IdleNext : World → Side → Type 0
 IdleNext w s = (most : ℕ) → IsAll most → (round w most None None s).router.link ≡ Idle
 
--- or the router asks for all, after a Cache Reset, and then it is after the next; or it held a session when it connected, was told to
--- drop it, and is closed, and then it is after one round on a new connection.
+-- or the router asks for all, after a Cache Reset, and then it is idle after the next round. Or it held a session when it connected, had to
+-- drop it, and is closed; then it is idle after one round on a new connection.
 abbrev pub IdleAfter : World → Option Committed → Side → Type 0
 IdleAfter w held s =
     (s.router.link ≡ Idle)

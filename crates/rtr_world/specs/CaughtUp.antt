@@ -99,7 +99,7 @@ pub record Rounded (made : Made) (history : List Entry) (r : ℕ) (old : World) 
   pub leads : LeadsTo made (history ++ more) new
   pub ends : By result (GoesRound r old more leads.world) (Lacks r more leads.world)
 
--- The last connection stays open, and nothing moves; where memory did not run out, the side that was so is so.
+-- The last connection stays open, and nothing moves; if memory did not run out, the side that was so is so.
 pub record ComesToRest (r : ℕ) (old : Side) (Becomes : Side → Side → Type 0) (more : List Entry) (w : World) : Type 0 where
   pub stays : StaysOpen r more
   pub side : Side
@@ -107,7 +107,7 @@ pub record ComesToRest (r : ℕ) (old : Side) (Becomes : Side → Side → Type 
   pub rests : Rests side
   pub becomes : AllWent more → Becomes old side
 
--- at most so many connections
+-- at most this many connections
 pub record Reconnected (most : ℕ) (made : Made) (history : List Entry) (r : ℕ) (old : Side) (Becomes : Side → Side → Type 0) (result : Result ⊤ WorldFault) (new : code.World) : Type 0 where
   pub more : List Entry
   pub moves : AreMoves r more
@@ -115,7 +115,7 @@ pub record Reconnected (most : ℕ) (made : Made) (history : List Entry) (r : �
   pub leads : LeadsTo made (history ++ more) new
   pub ends : By result (ComesToRest r old Becomes more leads.world) (Lacks r more leads.world)
 
--- It is idle, or it was told to drop the session that it held, and is closed.
+-- It is idle, or it had to drop the session that it held, and is closed.
 abbrev pub IdleOrDropped : Side → Side → Type 0
 IdleOrDropped old s = (s.router.link ≡ Idle) ⊎ (IsSome old.router.version × (s.router.link ≡ Closed) × (s.router.version ≡ None))
 

@@ -38,8 +38,8 @@ Tables = Always (λ w s. IsKept s.router s.items)
 abbrev pub OneAnswerAlways : Type 0
 OneAnswerAlways = Always (λ w s. Between w s s.router.link)
 
--- When bytes arrive at the cache from a router on a live link, nothing more is due than was; or its question was read, and what is due is
--- the answer of the cache as it is then, or Error Report 1 where memory ran out.
+-- When bytes arrive at the cache from a router on a live link, nothing more is due than was. Or its question was read, and what is due is
+-- the answer of the cache as it is then, or Error Report 1 if memory ran out.
 abbrev pub AnswersNow : Type 0
 AnswersNow = Always (λ w s.
     is_reading s.router.link ≡ true → (most : ℕ) (wanting : Option ℕ) →
@@ -49,7 +49,7 @@ AnswersNow = Always (λ w s.
 abbrev pub Settles : Type 0
 Settles = Always (λ w s. settle (instances w) s ≡ s)
 
--- The headline: the table is empty where no session is held, else the set that was published under the version, the session and the
+-- The headline: the table is empty if no session is held. Otherwise it is the set that was published under the version, the session and the
 -- serial of what was committed last, by the transcript.
 abbrev pub IsNamed : List Instance → Option Committed → VrpSet → Type 0
 IsNamed all None table = table ≡ empty
@@ -63,7 +63,7 @@ abbrev pub IsRouteJudged : List Instance → Option Committed → Route → Orig
 IsRouteJudged all None route answer = HasState empty route answer
 IsRouteJudged all (Some held) route answer = (set : VrpSet) × (named (session_in held.version) all held.session held.serial ≡ Some set) × HasState set route answer
 
--- Each commit: from the table that was held, or from the empty one after a Reset Query, each announcement and each withdrawal of the
+-- Each commit starts from the table that was held, or from the empty one after a Reset Query. Each announcement and each withdrawal of the
 -- answer acted, and acted once, and they led to the table that was held then.
 abbrev pub ActsOnce : Bool → Option Begun → VrpSet → VrpSet → Type 0
 ActsOnce false answer old new = ⊤
@@ -95,7 +95,7 @@ abbrev pub commits_in : List Item → ℕ
 commits_in [] = 0
 commits_in (item ∷ items) = if is_commit (item ∷ items) then suc (commits_in items) else commits_in items
 
--- Where a version is held, the last place is its own among all that was published so far.
+-- If a version is held, the last place is its own among all that was published so far.
 abbrev pub IsLastPlace : List Instance → Option Committed → List (Option VersionPlace) → Type 0
 IsLastPlace all None places = ⊤
 IsLastPlace all (Some version) [] = ⊥
@@ -109,8 +109,8 @@ pub record HasPlaces (all : List Instance) (items : List Item) (places : List (O
 abbrev pub PlacesNoted : Type 0
 PlacesNoted = Always (λ w s. HasPlaces (instances w) s.items s.places)
 
--- A link ends by running out of memory, by its expiry, by a report of code 1, or by one of code 0 to a Serial Query of another session than
--- the cache's in the version of the connection, and by nothing else.
+-- A link ends by running out of memory, by its expiry, or by a report, and by nothing else. The report has code 1, or code 0 and answers a
+-- Serial Query of another session than the cache's in the version of the connection.
 abbrev pub OfAnother : Option Question → Version → Option Instance → Type 0
 OfAnother (Some (AskSerial session serial)) version (Some home) = session ≡ session_in version home → ⊥
 OfAnother question version home = ⊥
@@ -128,7 +128,7 @@ AreLawful endings = AllByRecursion (λ (e : Ending). IsLawfulEnd e.end e.questio
 abbrev pub LawfulEnds : Type 0
 LawfulEnds = Always (λ w s. AreLawful s.endings)
 
--- An end that is noted stands before all ends that were noted, and the clean-up after the event leaves it there.
+-- An end that is noted is before all ends that were noted, and the clean-up after the event leaves it there.
 abbrev pub IsNoted : World → Ending → List Ending → Side → Type 0
 IsNoted w ending before s = (s.endings ≡ ending ∷ before) × ((settle (instances w) s).endings ≡ ending ∷ before)
 
@@ -185,8 +185,8 @@ OthersStay =
     (made : Made) (history : List Entry) (w : World) → Leads made history w → (r d : ℕ) (event : SideEvent) (outcome : Outcome) → ¬ (d ≡ r) →
     side_at d (after (On r event) outcome w).sides ≡ side_at d w.sides
 
--- Bytes: an event at a router moves no more than it says, and no more than with memory where that runs out at a PDU of it; and where it is refused for want
--- of memory, so many at most have moved.
+-- Bytes: an event at a router moves at most what it says, and at most what it moves with memory if that runs out at a PDU of it. If it is
+-- refused for want of memory, at most this many have moved.
 pub record MovesAtMost (w : World) (r : ℕ) (event : SideEvent) (wanting : Option ℕ) : Type 0 where
   pub said : moved w (On r event) wanting ≤ most_of event
   pub fewer : moved w (On r event) wanting ≤ moved w (On r event) None
@@ -195,7 +195,7 @@ pub record MovesAtMost (w : World) (r : ℕ) (event : SideEvent) (wanting : Opti
 abbrev pub MovesNoMore : Type 0
 MovesNoMore = (w : World) (r : ℕ) (event : SideEvent) (wanting : Option ℕ) → MovesAtMost w r event wanting
 
--- A set that is current already is never refused; and where a refusal is due there is no other outcome, out of memory included.
+-- A set that is current already is never refused. If a refusal is due there is no other outcome, out of memory included.
 pub record Refuses (w : World) : Type 0 where
   pub never : (set : VrpSet) → is_current w.present.sets set ≡ true → refusal w (Publish set) ≡ None
   pub alone : (event : Event) (refused outcome : Outcome) → refusal w event ≡ Some refused → MayEnd (refusal w event) w event outcome → outcome ≡ refused
@@ -220,8 +220,8 @@ pub record IsRun (r : Router) (items : List Item) : Type 0 where
 abbrev pub RoutersRun : Type 0
 RoutersRun = Always (λ w s. IsRun s.router s.items)
 
--- Calls that can be lead to a connection since it was opened, and to the cache as it is now. Where the router knows of a connection, it was opened at the instance as it
--- was then.
+-- Calls that can be lead to a connection since it was opened, and to the cache as it is now. If the router knows of a connection, it was
+-- opened at the instance as it was then.
 pub record IsConnRun (keep : ℕ) (present : Instance) (home : Option Instance) (o : Conn) : Type 0 where
   pub opened : Instance
   pub can_open : IsInstance opened
@@ -234,7 +234,7 @@ pub record IsConnRun (keep : ℕ) (present : Instance) (home : Option Instance) 
 abbrev pub ConnsRun : Type 0
 ConnsRun = Always (λ w s. IfSome s.conn (IsConnRun w.keep w.present s.home))
 
--- The version that is set for a router: by a Speak that goes through; and version 1 again where it restarts.
+-- The version that is set for a router: by a Speak that goes through; and version 1 again if it restarts.
 abbrev pub told_by : ℕ → Event → Outcome → Version → Version
 told_by r (On d (Speak new)) (Done wanting) version = if d == r then new else version
 told_by r (On d RouterRestart) (Done wanting) version = if d == r then V1 else version
@@ -244,7 +244,7 @@ abbrev pub told_since : ℕ → Version → List Entry → Version
 told_since r version [] = version
 told_since r version (entry ∷ history) = told_since r (told_by r entry.event entry.outcome version) history
 
--- The version that was set last for a router since it last restarted, 1 where none was set
+-- The version that was set last for a router since it last restarted, 1 if none was set
 abbrev pub told : ℕ → List Entry → Version
 told r history = told_since r V1 history
 

@@ -17,8 +17,8 @@ use Rattle.rtr_ends.specs.Transcript.{Committed, Item, Reads}
 use Rattle.rtr_world.specs.VersionPlaces.{position_of}
 use Rattle.rtr_world.specs.World.{Side, World, instances, SideEvent, RouterRestart, Connect, RouterSends, CacheGets, CacheSends, RouterGets, Event, Publish, Restart, On, cache_gets, router_gets, goes_through, settled, is_refused, new_world, timing}
 
--- How an event ended: it went through, and at this PDU of it an end ran out of memory, if at any; or it was refused: the session
--- is used already; too many versions; no such router; or out of memory, after so many bytes.
+-- How an event ended: it went through, and at this PDU of it an end ran out of memory, if at any. Or it was refused: the session is used
+-- already, too many versions, no such router, or out of memory, after this many bytes.
 pub data Outcome : Type 0 where
   Done : (wanting : Option ℕ) → Outcome
   SessionUsed : Outcome
@@ -26,7 +26,7 @@ pub data Outcome : Type 0 where
   NoSuchRouter : Outcome
   Memory : (bytes : ℕ) → (wanting : Option ℕ) → Outcome
 
--- A new version stands fewer than 2^31 after the one that a router committed under this session,
+-- A new version is fewer than 2^31 after the one that a router committed under this session,
 abbrev pub is_near : Instance → Option ℕ → Bool
 is_near i None = true
 is_near i (Some position) = nat_lt (length i.sets - position) (2 ^ 31)
@@ -35,7 +35,7 @@ abbrev pub room_for : Instance → Option Committed → Bool
 room_for i None = true
 room_for i (Some held) = if session_in held.version i == held.session then is_near i (position_of held.serial (versions i)) else true
 
--- and after the one that was current when a connection of this instance was made, or the first where there was none.
+-- and after the one that was current when a connection of this instance was made, or the first if there was none.
 abbrev pub room_since : Instance → Option Instance → Bool
 room_since i None = true
 room_since i (Some home) = if i.session == home.session then is_near i (Some (length home.sets - 1)) else true
@@ -109,7 +109,7 @@ abbrev pub most_moved : Event → ℕ
 most_moved (On r event) = most_of event
 most_moved event = 0
 
--- whether what the cache answers to a PDU takes memory, where one is read
+-- whether the cache's answer to a PDU allocates memory, if one is read
 abbrev pub conn_reading : ConnMoment → List Bool
 conn_reading (Read version cache unit bytes) = takes_memory version cache unit ∷ []
 conn_reading m = []
@@ -124,12 +124,12 @@ units_read [] = []
 units_read (Reads unit ∷ items) = units_read items ++ unit ∷ []
 units_read (item ∷ items) = units_read items
 
--- whether each PDU that a router reads takes memory there: it stages a record, or commits
+-- whether each PDU that a router reads allocates memory there: it stages a record, or commits
 abbrev pub router_readings : Router → List Unit → List Bool
 router_readings r [] = []
 router_readings r (unit ∷ units) = may_lack r.link unit r ∷ router_readings (on_unit r.link unit r) units
 
--- the PDUs that an event reads of so many bytes, in their order, each with whether what is done with it takes memory
+-- the PDUs that an event reads of this many bytes, in their order, each with whether its handling allocates memory
 abbrev pub readings_at : World → SideEvent → ℕ → Option Side → List Bool
 readings_at w event bytes None = []
 readings_at w (CacheGets most) bytes (Some s) = conn_readings w (take bytes s.up) s.conn
@@ -141,7 +141,7 @@ abbrev pub readings : World → Event → ℕ → List Bool
 readings w (On r event) bytes = readings_at w event bytes (side_at r w.sides)
 readings w event bytes = []
 
--- A PDU at which memory runs out, counted from 0, is read, and what is done with it takes memory.
+-- A PDU at which memory runs out, counted from 0, is read, and its handling allocates memory.
 abbrev pub IsWanted : World → Event → ℕ → Option ℕ → Type 0
 IsWanted w event bytes wanting = IfSome wanting (λ unit. slice_get (readings w event bytes) unit ≡ Some true)
 

@@ -59,7 +59,7 @@ pub record IsAnswer (w : World) (version : Version) (home : Instance) (read : Op
   pub read_so : read ≡ Some cache
   pub are : units ≡ (answer version cache w.keep timing (query question)).units
 
--- or Error Report 1 in the place of one that may take memory.
+-- or Error Report 1 in the place of one that may allocate memory.
 pub record IsWantingAnswer (w : World) (version : Version) (home : Instance) (read : Option Instance) (question : Question) (units : List Unit) : Type 0 where
   pub cache : Instance
   pub was : WasSo w home cache
@@ -110,8 +110,8 @@ Fits AskReset version = ⊤
 Fits (AskSerial session serial) None = ⊥
 Fits (AskSerial session serial) (Some version) = (session ≡ version.session) × (serial ≡ version.serial)
 
--- What is to come, notifies aside, and what a cut took of it: nothing on an idle link; nothing yet, or the whole answer, where a
--- question is outstanding; and the rest of one that has begun. What is staged is what was read of it.
+-- What is still to come, notifies aside, and what a cut removed of it: nothing on an idle link. If a question is outstanding, nothing yet
+-- or the whole answer. And the rest of one that has begun. What is staged is what was read of it.
 abbrev pub ComesOn : World → Instance → Side → Link → List Unit → Type 0
 ComesOn w home s Idle rest = rest ≡ []
 ComesOn w home s (Asked question) rest =
@@ -152,15 +152,15 @@ pub record OneAnswer (w : World) (s : Side) : Type 0 where
   pub notifies : OwnNotifies s.router.agreed s.router.spoken home coming
   pub rest : ComesOn w home s s.router.link (without_notifies (units_in coming))
 
--- Between events a closed link holds nothing, nothing is to be pulled from it, and nothing is on the wire to it; no link has ended;
--- and on any other there is one answer.
+-- Between events a closed link holds nothing, nothing is pending on it, and nothing is on the wire to it. No link has ended, and on any
+-- other there is one answer.
 abbrev pub Between : World → Side → Link → Type 0
 Between w s Closed = (s.router.held ≡ []) × (s.router.out ≡ []) × (s.down ≡ [])
 Between w s (Ended end) = ⊥
 Between w s link = OneAnswer w s
 
--- What is due where a question was read just now: the answer of the cache as it is now, or, where memory runs out at a PDU, Error
--- Report 1 in the place of one that may take memory.
+-- What is due if a question was read just now: the answer of the cache as it is now. If memory runs out at a PDU, it is Error Report 1 in
+-- the place of one that may allocate memory.
 abbrev pub IsOfNow : Version → Instance → ℕ → Option ℕ → Link → List ℕ → Type 0
 IsOfNow version cache keep wanting (Asked question) due =
     (due ≡ sent_all version (answer version cache keep timing (query question)).units)

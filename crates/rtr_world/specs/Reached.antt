@@ -53,7 +53,7 @@ pub record ShowsWorld (w : World) (v : code.World) : Type 0 where
   pub at : ℕ → Option Conn
   pub parts : ShowsParts w at v.cache v.sides.items
 
--- A connection is lost at a cache that is no more.
+-- A connection is lost at a cache that is gone.
 pub record Lost (old new : values.Side) : Type 0 where
   pub router : new.router ≡ old.router
   pub conn : new.conn ≡ None
@@ -95,7 +95,7 @@ pub record StepsTo (made : Made) (history : List Entry) (event : model.Event) (r
   pub answers : AnswersOutcome (outcome_fault outcome) result
   pub leads : LeadsTo made (history ++ record { event = event; outcome = outcome } ∷ []) new
 
--- Events more, one outcome for each, and so many refusals
+-- More events, one outcome for each, and this many refusals
 pub record RunsTo (made : Made) (history : List Entry) (events : List model.Event) (count : ℕ) (new : code.World) : Type 0 where
   pub more : List Entry
   pub events_are : map (λ e. e.event) more ≡ events

@@ -24,8 +24,8 @@ use Rattle.rtr_world.specs.declared.side.Side as values
 abbrev pub state_of : World → (ℕ → Option Conn) → CacheState
 state_of w at = record { keep = w.keep; timing = timing; cache = w.present; at = at }
 
--- The serial that was current when a connection to this instance was made, or the first one where nothing was published then; since
--- then fewer than 2^31 versions were published, or so many that none can be more.
+-- The serial that was current when a connection to this instance was made, or the first one if nothing was published then. Since then fewer
+-- than 2^31 versions were published, or as many as there can be.
 pub record IsSince (i home : Instance) (made : Option Serial) : Type 0 where
   pub serial : made ≡ Some (record { 0 = serial_at i.start (length home.sets - 1) })
   pub behind : length home.sets ≤ length i.sets
@@ -68,8 +68,8 @@ abbrev pub Has : Option Number → ℕ → Type 0
 Has None n = ⊥
 Has (Some number) n = number.0 ≡ n
 
--- What was shown of a side with this connection goes over into this. Its connection is the same, or a new one, and those of other
--- sides are as they were; what else is open at the cache was so before, and not this side's.
+-- What was shown of a side with this connection goes over into this. Its connection is the same, or a new one, and those of other sides are
+-- as they were. Whatever else is open at the cache was so before, and is not this side's.
 pub record Moves (w : World) (at : ℕ → Option Conn) (old : Option Number) (s : Side) (cache : Cache Steps) (v : values.Side) : Type 0 where
   pub now : ℕ → Option Conn
   pub shows : ShowsBoth w now s cache v
@@ -102,7 +102,7 @@ pub record Passes (w : World) (at : ℕ → Option Conn) (event : SideEvent) (s 
   pub wanted : IfSome wanting (λ unit. slice_get (readings_at w event (most_of event) (Some s)) unit ≡ Some true)
   pub now : Now (side_step w event wanting s)
 
--- It fails because memory ran out after so many bytes, and the cut is still to come.
+-- It fails because memory ran out after this many bytes, and the cut is still to come.
 pub record FailsForMemory (w : World) (at : ℕ → Option Conn) (event : SideEvent) (s : Side) (Now : Side → Type 0) : Type 0 where
   pub bytes : ℕ
   pub fewer : bytes ≤ moved_at w event None (Some s)

@@ -1,4 +1,4 @@
--- Where versions stand among all that a cache ever published.
+-- The places of versions among all that a cache ever published.
 use Rattle.std.specs.Prelude.{◌≡◌, ◌⊎◌, ℕ, ◌<◌, ◌≤◌, ◌==◌, List, [], ◌∷◌, length, Option, Some, None, if◌then◌else◌, ⊤}
 use Rattle.std.specs.Option.{option_map}
 use Rattle.vrps.specs.Instance.{Instance, NumberedSet, versions}
@@ -32,7 +32,7 @@ abbrev pub IsNotAfter : Option VersionPlace → Option VersionPlace → Type 0
 IsNotAfter (Some a) (Some b) = (a.instance < b.instance) ⊎ ((a.instance ≡ b.instance) × (a.position ≤ b.position))
 IsNotAfter a b = ⊥
 
--- Each is a place, and none was published before one that was committed earlier. The last stands first.
+-- Each is a place, and none was published before one that was committed earlier. The last comes first.
 abbrev pub NeverBack : List (Option VersionPlace) → Type 0
 NeverBack [] = ⊤
 NeverBack (last ∷ []) = IsNotAfter last last

@@ -23,10 +23,10 @@ pub record Ending : Type 0 where
   pub version : Version
   pub home : Option Instance
 
--- A router and its connection: the cache's side of it, none where it is closed there; the bytes on the way to the cache and to the
--- router; and the instance as it was when the connection was made, none when the router was notified that it is closed.
--- What stands behind no event looks at: the cache as it was when it last read a PDU on the connection, none before it did; and, the last
--- first, the transcript, the ends of links, and the places of the versions that were committed, as they were then.
+-- A router and its connection: the cache's side of it, none if it is closed there, and the bytes on the way to the cache and to the router.
+-- The instance as it was when the connection was made, none when the router was notified that it is closed. No event looks at what follows.
+-- The cache as it was when it last read a PDU on the connection, none before it did. And, the last first, the transcript, the ends of
+-- links, and the places of the versions that were committed, as they were then.
 pub record Side : Type 0 where
   pub router : Router
   pub conn : Option Conn
@@ -102,7 +102,7 @@ outstanding_before_last (last ∷ items) = outstanding items
 abbrev pub ending_at : Side → End → List Item → Ending
 ending_at s end items = record { end = end; question = outstanding_before_last items; version = spoken items; home = s.home }
 
--- The last end of a link, if any, stands first.
+-- The last end of a link, if any, comes first.
 abbrev pub with_end : Option End → Side → List Item → List Ending
 with_end None s items = s.endings
 with_end (Some end) s items = ending_at s end items ∷ s.endings

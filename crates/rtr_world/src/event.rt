@@ -28,25 +28,25 @@ pub enum Event {
 /// What happens at one router, its connection and the bytes on their way. Counts are of bytes.
 #[derive(Clone, Copy, Debug, PartialEq, Eq)]
 pub enum SideEvent {
-    /// The router restarts: a new one stands in its place, and its connection is gone.
+    /// The router restarts: a new one is in its place, and its connection is gone.
     RouterRestart,
     /// The router speaks this version of the protocol from its next connection on.
     Speak(Version),
     /// A connection is made. An older one is cut with nothing to arrive.
     Connect,
-    /// The router puts at most so many bytes on the wire to the cache.
+    /// The router puts at most this many bytes on the wire to the cache.
     RouterSends(u64),
-    /// At most so many of the bytes on it arrive at the cache.
+    /// At most this many of the bytes on it arrive at the cache.
     CacheGets(u64),
-    /// The cache puts at most so many bytes on the wire to the router.
+    /// The cache puts at most this many bytes on the wire to the router.
     CacheSends(u64),
-    /// At most so many of the bytes on it arrive at the router.
+    /// At most this many of the bytes on it arrive at the router.
     RouterGets(u64),
-    /// The cache's side is closed; at most so many of the bytes towards the router still arrive.
+    /// The cache's side is closed; at most this many of the bytes towards the router still arrive.
     Cut(u64),
-    /// The cache notifies the router, where it can.
+    /// The cache notifies the router, if it can.
     NotifyRouter,
-    /// The router asks, where its link is idle.
+    /// The router asks, if its link is idle.
     Ask,
     /// The router is given a moment, in seconds of its clock.
     Tick(u64),
@@ -58,7 +58,7 @@ pub enum WorldFault {
     /// An instance of the cache has this session, or had it, in the same version of the protocol.
     #[error("an instance of the cache has, or had, this session in the same version of the protocol (fault 1)")]
     SessionUsed = 1,
-    /// The new version would stand 2^31 or more after one that a router holds, or that was current when its connection was made.
+    /// The new version would be 2^31 or more after one that a router holds, or that was current when its connection was made.
     #[error("2^31 or more versions after one that is still in use (fault 2)")]
     TooManyVersions = 2,
     /// There is no such router.

@@ -19,15 +19,15 @@ use rtr_ends::{Cache, Conn, Router, Sessions};
 use std::alloc::{AllocError, Global};
 use vrps::{Serial, VersionLog};
 
-/// A router, its connection at the cache where one is open there, and the bytes on their way to the cache and to the router.
+/// A router, its connection at the cache if one is open there, and the bytes on their way to the cache and to the router.
 #[derive(Debug, Drop)]
 pub struct Side {
     pub router: Router,
     pub conn: Option<Conn>,
     pub up: Wire,
     pub down: Wire,
-    /// The serial that was current when the connection was made, or the first one where nothing was published; none where there is no
-    /// connection, or it was made to an earlier instance of the cache.
+    /// The serial that was current when the connection was made, or the first one if nothing was published. None if there is no connection,
+    /// or it was made to an earlier instance of the cache.
     pub made: Option<Serial>,
 }
 
@@ -55,7 +55,7 @@ impl Side {
         }
     }
 
-    /// The cache is no more: the connection is gone there, and the bytes towards it.
+    /// The cache is gone: so is the connection there, and the bytes towards it.
     pub fn lose_cache(&mut self)
         ensures { Lost self.old self.new }
     {
@@ -76,8 +76,8 @@ impl Side {
         }
     }
 
-    /// Whether a version of this serial would stand fewer than 2^31 after the one that the router holds of the instance with these
-    /// sessions, and after the one that was current when its connection was made.
+    /// Whether a version of this serial would be fewer than 2^31 after the one that the router holds of the instance with these sessions.
+    /// The same is asked of the one that was current when its connection was made.
     pub fn has_room(&self, sessions: Sessions, next: Serial) -> bool
         ensures { (w : model.World) (at : ℕ → Option Conned) (r : ℕ) (s : model.Side) → Reached w → side_at r w.sides ≡ Option.Some s → HasSessions w.present sessions →
             next.0 ≡ serial_at w.present.start (length w.present.sets) → ShowsSide w at s self.now → result ≡ (room_for w.present s.router.version && room_since w.present s.home) }
@@ -85,7 +85,7 @@ impl Side {
         is_near(self.held(sessions), next) && is_near(self.made, next)
     }
 
-    /// A new router stands in this one's place.
+    /// A new router is in this one's place.
     fn restart(&mut self, cache: &mut Cache<VersionLog>, alloc: Global)
         ensures { Goes (λ w s. model.router_restarts s) cache.old self.old cache.new self.new }
     {
@@ -93,7 +93,7 @@ impl Side {
         *self = Side::new(alloc);
     }
 
-    /// The cache's side is closed; so many of the bytes towards the router still arrive.
+    /// The cache's side is closed; this many of the bytes towards the router still arrive.
     fn cut(&mut self, cache: &mut Cache<VersionLog>, left: u64)
         ensures { Goes (λ w s. model.cut left s) cache.old self.old cache.new self.new }
     {
@@ -117,7 +117,7 @@ impl Side {
         Ok(())
     }
 
-    /// The cache notifies the router, where it can.
+    /// The cache notifies the router, if it can.
     fn notify(&mut self, cache: &mut Cache<VersionLog>)
         ensures { Goes (λ w s. model.notifies_at w s s.conn) cache.old self.old cache.new self.new }
     {
@@ -126,7 +126,7 @@ impl Side {
         }
     }
 
-    /// What an event does at this side, the clean-up aside. Where memory runs out, the cut is still to come.
+    /// What an event does at this side, the clean-up aside. If memory runs out, the cut is still to come.
     fn begin(
         &mut self,
         cache: &mut Cache<VersionLog>,
@@ -155,7 +155,7 @@ impl Side {
         Ok(())
     }
 
-    /// An event at this side, with the clean-up after it. Where memory runs out, the connection is cut with nothing to arrive.
+    /// An event at this side, with the clean-up after it. If memory runs out, the connection is cut with nothing to arrive.
     pub fn happen(
         &mut self,
         cache: &mut Cache<VersionLog>,
@@ -175,7 +175,7 @@ impl Side {
     }
 }
 
-/// The serial of the current version, or this one where nothing is published.
+/// The serial of the current version, or this one if nothing is published.
 fn current_or(cache: &Cache<VersionLog>, start: u32) -> Serial
     ensures { (w : model.World) (at : ℕ → Option Conned) → w.present.start ≡ start → ShowsCache HoldsSteps (state_of w at) cache.now → result.0 ≡ serial_at w.present.start (length w.present.sets - 1) }
 {
@@ -185,7 +185,7 @@ fn current_or(cache: &Cache<VersionLog>, start: u32) -> Serial
     }
 }
 
-/// Whether the version of a serial stands fewer than 2^31 after this one, if there is one.
+/// Whether the version of a serial is fewer than 2^31 after this one, if there is one.
 fn is_near(held: Option<Serial>, next: Serial) -> bool
     ensures { (start position steps : ℕ) → steps ≤ 2 ^ 31 → IfSome held (λ s. s.0 ≡ serial_at start position) → next.0 ≡ serial_at start (position + steps) → result ≡ (is_none held || nat_lt steps (2 ^ 31)) }
 {

@@ -10,7 +10,7 @@ use rtr_pdu::MAX_UNIT_LEN;
 use std::alloc::AllocError;
 use vrps::VersionLog;
 
-/// At most so many bytes, and at most as many as an end has ready, which are those of one PDU.
+/// At most this many bytes, and at most as many as an end has ready, which are those of one PDU.
 fn chunk(most: u64) -> usize
     ensures { result ≡ min most MAX_UNIT_LEN }
 {
@@ -22,7 +22,7 @@ fn chunk(most: u64) -> usize
 }
 
 impl Side {
-    /// At most so many bytes are pulled from the router, and put on the wire to the cache.
+    /// At most this many bytes are pulled from the router, and put on the wire to the cache.
     pub fn router_sends(&mut self, most: u64) -> Result<(), AllocError>
         ensures { (w : model.World) (at : ℕ → Option Conned) (s : model.Side) → ShowsSide w at s self.old →
             BeginsEvent w at (model.RouterSends most) s (λ t. AloneAt w at t self.old self.new) result }
@@ -37,7 +37,7 @@ impl Side {
         self.up.put(room, count)
     }
 
-    /// At most so many bytes arrive at the cache.
+    /// At most this many bytes arrive at the cache.
     pub fn cache_gets(&mut self, cache: &mut Cache<VersionLog>, most: u64)
         ensures { (w : model.World) (at : ℕ → Option Conned) (s : model.Side) → ShowsBoth w at s cache.old self.old →
             Passes w at (model.CacheGets most) s (λ t. Moves w at self.old.conn t cache.new self.new) }
@@ -51,7 +51,7 @@ impl Side {
         }
     }
 
-    /// At most so many bytes are pulled from the connection, and put on the wire to the router. It answers how many.
+    /// At most this many bytes are pulled from the connection, and put on the wire to the router. It answers how many.
     fn send_some(
         &mut self,
         cache: &mut Cache<VersionLog>,
@@ -70,7 +70,7 @@ impl Side {
         Ok(count)
     }
 
-    /// At most so many bytes are pulled from the connection, piece by piece, and put on the wire to the router.
+    /// At most this many bytes are pulled from the connection, piece by piece, and put on the wire to the router.
     fn send(
         &mut self,
         cache: &mut Cache<VersionLog>,
@@ -91,7 +91,7 @@ impl Side {
         Ok(())
     }
 
-    /// At most so many bytes of the cache's are put on the wire to the router.
+    /// At most this many bytes of the cache's are put on the wire to the router.
     pub fn cache_sends(
         &mut self,
         cache: &mut Cache<VersionLog>,
@@ -106,7 +106,7 @@ impl Side {
         }
     }
 
-    /// At most so many bytes arrive at the router.
+    /// At most this many bytes arrive at the router.
     pub fn router_gets(&mut self, most: u64)
         ensures { (w : model.World) (at : ℕ → Option Conned) (s : model.Side) → ShowsSide w at s self.old →
             Passes w at (model.RouterGets most) s (λ t. AloneAt w at t self.old self.new) }

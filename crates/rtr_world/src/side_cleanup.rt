@@ -61,7 +61,7 @@ impl Side {
         }
     }
 
-    /// Bytes towards a closed link are gone, and the cache's side is closed where nothing is on its way to it.
+    /// Bytes towards a closed link are gone, and the cache's side is closed if nothing is on its way to it.
     fn drop_rest(&mut self, cache: &mut Cache<VersionLog>)
         ensures { Goes (λ w s. model.settle_rest s s.router.link s.up) cache.old self.old cache.new self.new }
     {
@@ -74,7 +74,7 @@ impl Side {
         }
     }
 
-    /// A router whose connection is closed at the cache is notified where nothing is on its way to it. Then there is no connection.
+    /// A router whose connection is closed at the cache is notified if nothing is on its way to it. Then there is no connection.
     fn tell_cut(&mut self)
         ensures { Alone (λ w s. model.settle_wire (model.instances w) s s.conn s.down) self.old self.new }
     {

@@ -49,7 +49,7 @@ impl Wire {
         self.arrived = 0;
     }
 
-    /// All but the first of the bytes on their way are gone: so many are kept.
+    /// All but the first of the bytes on their way are gone: this many are kept.
     pub fn keep(&mut self, most: u64)
         ensures { self.new ≡ take most self.old }
     {
@@ -58,7 +58,7 @@ impl Wire {
         self.bytes.truncate(self.arrived + kept);
     }
 
-    /// The first of the bytes on their way, at most so many.
+    /// The first of the bytes on their way, at most this many.
     pub fn front(&self, most: u64) -> &[u8]
         ensures { result.now ≡ take most self.now }
     {
@@ -67,7 +67,7 @@ impl Wire {
         &left[..count]
     }
 
-    /// So many of the bytes arrive, or all that there are.
+    /// This many of the bytes arrive, or all that there are.
     pub fn arrive(&mut self, count: usize)
         ensures { self.new ≡ drop count self.old }
     {
@@ -78,7 +78,7 @@ impl Wire {
         }
     }
 
-    /// Puts the first of these bytes on the way, at most so many, behind all others. Without memory nothing is put.
+    /// Puts the first of these bytes on the way, at most this many, behind all others. Without memory nothing is put.
     pub fn put(&mut self, bytes: &[u8], most: usize) -> Result<(), AllocError>
         ensures { self.new ≡ (if is_ok result then self.old ++ take most bytes.now else self.old) }
     {

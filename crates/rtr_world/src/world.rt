@@ -58,7 +58,7 @@ pub struct World {
 
 impl World {
     /// A world of one cache, with this session, and `session0` in version 0 of the protocol, which keeps `keep` versions before the current
-    /// one, and so many routers. Nothing is published, and no router has a connection.
+    /// one, and this many routers. Nothing is published, and no router has a connection.
     pub fn new(
         alloc: Global,
         routers: u16,
@@ -90,7 +90,7 @@ impl World {
         })
     }
 
-    /// Whether this set is the cache's current one. It takes no memory.
+    /// Whether this set is the cache's current one. It allocates no memory.
     fn is_current(&self, set: &VrpSet) -> bool
         ensures { (w : model.World) → ShowsWorld w self.now → result ≡ is_current w.present.sets set.now }
     {
@@ -110,8 +110,8 @@ impl World {
         }
     }
 
-    /// Whether a new version would stand fewer than 2^31 after each that a router holds, and after each that was current when the
-    /// connection of one was made.
+    /// Whether a new version would be fewer than 2^31 after each that a router holds, and after each that was current when the connection
+    /// of one was made.
     fn has_room(&self) -> bool
         ensures { (w : model.World) → Reached w → ShowsWorld w self.now → result ≡ all_have_room w.present w.sides }
     {
@@ -201,12 +201,12 @@ impl World {
     }
 
     /// Events in their order, one outcome for each. It answers how many were refused. After every list of events, each router's table is
-    /// empty if it holds no session, and otherwise is exactly the set that the cache published under the version, session and serial of the
-    /// End of Data that this router committed last, each announcement and each withdrawal having acted exactly once, and the router's
-    /// answer for every route is RFC 6811's state over that set. Besides, each router holds what its transcript keeps; at most one
-    /// answer is on its way to it, that of the cache as it was when the question was read; it commits no version that was published before
-    /// one that it committed; and its link ends by running out of memory, by expiry, by a report that memory ran out, or by one of another session,
-    /// and by nothing else.
+    /// empty if it holds no session. Otherwise it is exactly the set that the cache published under the version, session and serial of the
+    /// End of Data that this router committed last. Each announcement and each withdrawal acted exactly once. The router's answer for every
+    /// route is RFC 6811's state over that set. Besides, each router holds what its transcript keeps. At most one answer is on its way to
+    /// it, that of the cache as it was when the question was read. It commits no version that was published before one that it committed.
+    /// Its link ends by running out of memory, by expiry, by a report that memory ran out, or by one of another session, and by nothing
+    /// else.
     pub fn run(&mut self, events: &[Event]) -> usize
         ensures steps { (made : Made) (history : List Entry) → LeadsTo made history self.old → RunsTo made history (map event_of events.now) result self.new }
         ensures tables { (made : Made) (history : List Entry) → LeadsTo made history self.old → RunsSo made history (map event_of events.now) result self.new (λ w s. IsKept s.router s.items) }
@@ -242,8 +242,8 @@ impl World {
         }
     }
 
-    /// Connects a router, and moves all bytes both ways until nothing moves: that is after one round, or after two where the cache
-    /// could not say what changed and the router asked for all.
+    /// Connects a router, and moves all bytes both ways until nothing moves. That is after one round, or after two if the cache could not
+    /// say what changed and the router asked for all.
     fn reconnect(&mut self, router: u16) -> Result<(), WorldFault>
         ensures { (made : Made) (history : List Entry) (l : LeadsTo made history self.old) (s : model.Side) → side_at router l.world.sides ≡ Option.Some s → Reconnected 1 made history router s IdleOrDropped result self.new }
     {
@@ -255,7 +255,7 @@ impl World {
         }
     }
 
-    /// Connects a router so, and once more where the cache told it to drop what it held of another session.
+    /// Connects a router so, and once more if it had to drop what it held of another session.
     fn reconnect_as_told(&mut self, router: u16) -> Result<(), WorldFault>
         ensures { (made : Made) (history : List Entry) (l : LeadsTo made history self.old) (s : model.Side) → side_at router l.world.sides ≡ Option.Some s → Reconnected 2 made history router s IsIdle result self.new }
     {
@@ -268,10 +268,10 @@ impl World {
     }
 
     /// Catches a router up with the cache: what is open is cut with nothing to arrive, a connection is made, and all bytes are moved both
-    /// ways until nothing moves. Where the cache told the router to drop what it held of another session, it connects once more. Ok: the
-    /// router holds the newest version of the present instance, in the version of the protocol that it speaks. NoData: nothing is published,
-    /// and the router holds no session of the version that it speaks. After both the last connection stays open, idle, with nothing on its way. NoSuchRouter: nothing is changed. Memory: it ran out at
-    /// one of these events, and the connection is cut.
+    /// ways until nothing moves. If the router had to drop what it held of another session, it connects once more. Ok: the router holds the
+    /// newest version of the present instance, in the version of the protocol that it speaks. NoData: nothing is published, and the router
+    /// holds no session of the version that it speaks. After both the last connection stays open, idle, with nothing on its way.
+    /// NoSuchRouter: nothing is changed. Memory: it ran out at one of these events, and the connection is cut.
     pub fn catch_up(&mut self, router: u16) -> Result<(), CatchFault>
         ensures caught { (made : Made) (history : List Entry) → LeadsTo made history self.old → CatchesUp made history router result self.new }
         ensures no_such { (made : Made) (history : List Entry) (l : LeadsTo made history self.old) → result ≡ Result.Err CatchFault.NoSuchRouter ↔ (length l.world.sides ≤ router) }
@@ -286,7 +286,7 @@ impl World {
         self.conclude(router)
     }
 
-    /// What became of catching up: where the link is not idle, memory ran out, and the connection is cut.
+    /// The result of catching up: if the link is not idle, memory ran out, and the connection is cut.
     fn conclude(&mut self, router: u16) -> Result<(), CatchFault>
         ensures concluded { (made : Made) (history : List Entry) (l : LeadsTo made history self.old) (s : model.Side) → StaysOpen router history → side_at router l.world.sides ≡ Option.Some s → Rests s → Concluded made history router s result self.new }
         ensures there { result ≡ Result.Err CatchFault.NoSuchRouter → ⊥ }
@@ -328,7 +328,7 @@ impl World {
     }
 }
 
-/// So many routers that were never connected.
+/// This many routers that were never connected.
 fn new_sides(alloc: Global, routers: u16) -> Result<Vec<Side>, AllocError>
     ensures { IfOk result (λ sides. (length sides.items ≡ routers) × AllByRecursion IsNewSide sides.items) }
 {
