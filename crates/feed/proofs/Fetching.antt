@@ -119,7 +119,7 @@ are_calls : (turns : List RouterCall) → AllByRecursion (IsFetchCall 0) turns �
 are_calls [] h = (tt, tt)
 are_calls (call ∷ turns) h = (is_call call h.0, are_calls turns h.1)
 
--- The router was told no version.
+-- No version was set for the router.
 connected_1 : (turns : List RouterCall) → AllByRecursion (IsFetchCall 0) turns → connected_version (calls_since turns 0 []) ≡ V1
 connected_1 [] h = refl
 connected_1 (Receives at wanting piece ∷ turns) h = connected_1 turns h.1

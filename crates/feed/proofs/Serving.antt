@@ -104,7 +104,7 @@ query_splits : WrittenIsRead → Splits V1 false (sent V1 ResetQuery) (ResetQuer
 unfolding as_read
 query_splits written = record { front = sent V1 ResetQuery; whole = refl; read = (sent V1 ResetQuery, [], refl, written V1 ResetQuery tt refl, refl); after = (refl, inl (omega arith)) }
 
--- No fault shows where there are no bytes.
+-- No fault shows if there are no bytes.
 shows_nothing : (version : Version) (fault : UnitFault) → Shows version [] fault → ⊥
 shows_nothing version faults.Version h = cc
 shows_nothing version faults.«Type» h = cc
@@ -172,7 +172,7 @@ module _ (apart : NoBeginning) (written : WrittenIsRead) (keep : ℕ) (t : Inter
 -- ---- the connection
 
 module _ (apart : NoBeginning) (written : WrittenIsRead) (one_split : OneSplit) (history_splits : HistorySplits) (serves : ServesHistory) where
-  -- Where nothing is due, what was pulled is the answer.
+  -- If nothing is due, what was pulled is the answer.
   pub answered : (set : VrpSet) (c : ℕ) (wire : List ℕ) (cache : Cache Steps) (g : GaveAt set c wire cache) → IsInstance (cache_publishing set) → (stood (publishing set) g.calls).conn.state.due ≡ [] → wire ≡ answer_bytes set
   unfolding answer_bytes
   answered set c wire cache g is none =
@@ -189,7 +189,7 @@ pub sent_in : (version : Version) (units : List Unit) → bytes_sent (in_version
 sent_in version [] = refl
 sent_in version (u ∷ units) = ap (λ x. sent version u ++ x) (sent_in version units)
 
--- What is told of a value is told of it otherwise.
+-- What is known of a value is stated otherwise.
 pub if_ok : {A E : Type 0} (r : Result A E) (P Q : A → Type 0) → ((a : A) → P a → Q a) → IfOk r P → IfOk r Q
 if_ok (Ok a) P Q f h = f a h
 if_ok (Err e) P Q f h = h

@@ -1,4 +1,4 @@
--- Offers that are taken one after the other.
+-- Offers that are accepted one after the other.
 use Rattle.std.specs.Prelude.{◌≡◌, ℕ, ◌+◌, ◌<◌, List, [], ◌∷◌, ◌++◌, length, take, drop, Some, Ok, IfSome, refl}
 use Rattle.std.proofs.Common.{sym, subst, ap, ◌∙◌, get_or, inl, inr, arith}
 use Rattle.std.proofs.lemmas.List.{drop_more, length-take-le, take-append-drop, take_more}
@@ -26,7 +26,7 @@ module _ (now : CivilMoment) (offers : List Offer) (i : ℕ) (within : i < lengt
   abbrev offer : Offer
   offer = get_or offers i nothing
 
-  -- What is offered next is taken.
+  -- What is offered next is accepted.
   pub one_more : (between after : Points) → AreTaken now no_points (take i offers) between → IsOfferTaken now between offer after → AreTaken now no_points (take (i + 1) offers) after
   one_more between after are one = subst (λ l. AreTaken now no_points l after) (sym (take_more offers i nothing within)) (taken_more now no_points between after (take i offers) offer are one)
 

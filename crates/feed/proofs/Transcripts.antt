@@ -90,7 +90,7 @@ module _ (vs : List Payload) where
   drops items new done same way (some front back parts is nothing_kept answer) = some front back parts is (same ∙ nothing_kept) (subst (Begins front) (sym way) tt)
   drops items new done same way (all is h) = all is (subst (Ends vs) (sym same) h)
 
-  -- A moment is told.
+  -- The clock advances to a moment.
   ticks : (now : ℕ) (items : List Item) (done : List Unit) → Came items done → Came (At now ∷ items) done
   ticks now items done (none is nothing_kept no_way) = none is (emptied (is_over (kept items).version (later (moment items) now)) (kept items) nothing_kept) no_way
   ticks now items done (some front back parts is nothing_kept answer) = some front back parts is (emptied (is_over (kept items).version (later (moment items) now)) (kept items) nothing_kept) answer

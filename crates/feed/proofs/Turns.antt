@@ -35,7 +35,7 @@ pub turns_are_calls : (calls : List ConnCall) → AllByRecursion IsTurn calls �
 turns_are_calls [] h = tt
 turns_are_calls (call ∷ calls) h = (turn_is_call call h.0, turns_are_calls calls h.1)
 
--- What is pulled stands at the front of the room.
+-- What is pulled is at the front of the room.
 pulled_front : (due room : List ℕ) (count : ℕ) (now rest : List ℕ) → PullsBytes due room count now rest → take count now ≡ take (length room) due
 pulled_front due room count now rest g =
     let l = length-take count due in

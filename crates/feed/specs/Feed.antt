@@ -23,7 +23,7 @@ use Rattle.feed.specs.declared.route.Fed.{Fed}
 
 -- ---- from offers to the payloads in use
 
--- An offer is judged so, where the points hold this.
+-- An offer is judged so, if the points hold this.
 abbrev pub IsOfferJudged : CivilMoment → Points → Offer → OfferJudgement → Type 0
 IsOfferJudged now points offer judgement = Judged (accepted_at points offer.name.now) offer.manifest.now offer.files.now now judgement
 
@@ -33,7 +33,7 @@ IsOfferTaken now before offer after =
     (IsOfferJudged now before offer New × BecomesAt (Ok offered.New) offer.name.now before after offer.manifest.now offer.files.now)
     ⊎ (IsOfferJudged now before offer Same × (after ≡ before))
 
--- All are taken, one after the other.
+-- All are accepted, one after the other.
 abbrev pub AreTaken : CivilMoment → Points → List Offer → Points → Type 0
 AreTaken now before [] after = after ≡ before
 AreTaken now before (offer ∷ later) after = (between : Points) × IsOfferTaken now before offer between × AreTaken now between later after
@@ -64,7 +64,7 @@ pub record IsFed (now : CivilMoment) (offers : List Offer) (route : Route) (fed 
 
 -- ---- refusals
 
--- Offer i is judged so that it is refused with this fault; those before it were taken.
+-- Offer i is judged so that it is refused with this fault; those before it were accepted.
 pub record IsRefusedAt (now : CivilMoment) (offers : List Offer) (i : ℕ) (fault : PointFault) : Type 0 where
   pub before : List Offer
   pub offer : Offer
@@ -77,7 +77,7 @@ pub record IsRefusedAt (now : CivilMoment) (offers : List Offer) (i : ℕ) (faul
   pub told : told_by_fault fault ≡ Some judgement
   pub judged : IsOfferJudged now points offer judgement
 
--- An offer is refused; or all were taken, and the set of the payloads in use passes the limit of a set; or memory ran out.
+-- An offer is refused; or all were accepted, and the set of the payloads in use passes the limit of a set; or memory ran out.
 abbrev pub IsRefused : CivilMoment → List Offer → FeedFault → Type 0
 IsRefused now offers (faults.Point i fault) = IsRefusedAt now offers i fault
 IsRefused now offers faults.TooMany = (set : VrpSet) × IsUsed now offers set × (16777215 < size set)

@@ -59,7 +59,7 @@ pub record Took (wire : List ℕ) (router : code.Router) : Type 0 where
   pub leads : CallsLead (calls_since turns 0 []) router
   pub came_is : came (calls_since turns 0 []) ≡ wire
 
--- These bytes went from the one to the other; where a turn moved none, no more are due.
+-- These bytes went from the one to the other; if a turn moved none, none are due.
 pub record Turned (set : VrpSet) (c : ℕ) (moved : Bool) (wire : List ℕ) (cache : Cache Steps) (router : code.Router) : Type 0 where
   pub gave : GaveAt set c wire cache
   pub took : Took wire router

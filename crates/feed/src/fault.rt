@@ -9,7 +9,7 @@ use vrps::SetFault;
 /// Why there is no state of a route. Each has a fixed number.
 #[derive(Clone, Copy, Debug, PartialEq, Eq, Error)]
 pub enum FeedFault {
-    /// 1: an offer is refused, for another cause than memory: its index, from 0, and the fault. All offers before it were taken.
+    /// 1: an offer is refused, for another cause than memory: its index, from 0, and the fault. All offers before it were accepted.
     #[error("offer {0} is refused: {1} (fault 1)")]
     Point(usize, PointFault),
     /// 2: over 16,777,215 different payloads are in use.

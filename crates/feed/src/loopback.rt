@@ -20,7 +20,7 @@ use vrps::{VersionLog, VrpSet};
 /// How many bytes go from one end to the other in a turn, at most.
 const TURN: usize = 4096;
 
-/// The laws by which PDUs are told apart in a stream.
+/// The laws by which PDUs are distinguished in a stream.
 fn know_units()
     ensures apart { NoBeginning }
     ensures written { WrittenIsRead }
@@ -40,7 +40,7 @@ fn cache_with(alloc: Global, set: VrpSet) -> Result<Cache<VersionLog>, AllocErro
     Ok(cache)
 }
 
-/// A new router that is connected, and how many bytes its question has, which stand in the room then.
+/// A new router that is connected, and how many bytes its question has, which are in the room then.
 fn asking(alloc: Global, room: &mut [u8]) -> (Router, usize)
     requires { 8 ≤ length room.old }
     ensures router { Took [] result.0 }

@@ -15,7 +15,7 @@ pub struct Offer<'a> {
     pub name: &'a str,
     /// The payload of the manifest (RFC 9286 section 4.2). Its signature was verified by the caller.
     pub manifest: &'a [u8],
-    /// The files that are handed in with it.
+    /// The files that are supplied with it.
     pub files: &'a [FileIn<'a>],
 }
 

@@ -19,9 +19,9 @@ pub struct Fed {
     pub wire: Vec<u8>,
 }
 
-/// The state of a route at a new router that asks a cache for all, where the cache has published what is in use at a moment after all
-/// these offers, made at that moment to publication points that had accepted nothing, in their order. An offer that is the same as what
-/// its point holds is no fault. The set is published as serial 0 of session 1, with the intervals that RFC 8210 section 6 recommends.
+/// The state of a route at a new router that asks a cache for all. The cache has published what is in use at a moment after all these
+/// offers. They were made at that moment, in their order, to publication points that had accepted nothing. An offer that is the same as
+/// what its point holds is no fault. The set is published as serial 0 of session 1, with the intervals that RFC 8210 section 6 recommends.
 /// Bytes go from the router to the cache and from the cache to the router in turns of at most 4,096.
 ///
 /// The first offer that is refused decides, or the first for which memory runs out; then too many payloads; then out of memory.
