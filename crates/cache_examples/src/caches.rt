@@ -18,8 +18,7 @@ const X: Row = ("203.0.113.0/24", 24, 64498);
 
 const Y: Row = ("2001:db8::/32", 48, 64499);
 
-/// What came, what is answered, and whether the connection goes on, at a cache of session 0x1234 whose one version, of serial 5,
-/// has v.
+/// What came, what is answered, and whether the connection continues, at a cache of session 0x1234 whose one version, of serial 5, has v.
 type Told = (&'static str, &'static str, bool);
 
 /// Spelled in version 1: in version 0 it is the same but for the version bytes and the End of Data.
@@ -93,7 +92,7 @@ const ROWS: &[Told] = &[
         "01 0a 0000 00000024 00000014 010400000000001401181700c00002000000fbf0 00000000",
         false,
     ),
-    // Error Reports are not answered, also where they are faulty.
+    // Error Reports are not answered, also if they are faulty.
     ("01 0a 0002 00000010 00000000 00000000", "", false),
     ("01 0a 0000 0000000f", "", false),
     ("01 0a 0000 00001001", "", false),
@@ -126,7 +125,7 @@ const ROWS_APART: &[Told] = &[
     ),
 ];
 
-/// Whether what came, cut at this place, is taken and answered so, on a connection of its own.
+/// Whether what came, split at this place, is consumed and answered so, on a connection of its own.
 fn is_answered<S: VersionStore>(
     cache: &mut Cache<S>,
     conn: Conn,
@@ -142,7 +141,7 @@ fn is_answered<S: VersionStore>(
         && pulled(cache, conn, 64).as_slice() == answer.as_slice()
 }
 
-/// Hands in what came, cut at each byte, each time on a connection of its own.
+/// Passes in what came, split at each byte, each time on a connection of its own.
 fn expect_row<S: VersionStore, R: Abort>(
     rt: &R,
     cache: &mut Cache<S>,
@@ -211,7 +210,7 @@ const CHANGE_BACK: &str =
 /// Versions, a query, and what is answered.
 type Answered = (&'static [Rows], &'static str, &'static str);
 
-/// What is withdrawn comes first, and each part ascends; where nothing is published, each query is answered so.
+/// What is withdrawn comes first, and each part ascends; if nothing is published, each query is answered so.
 const CHANGES: &[Answered] = &[
     (&[&[W, V], &[Y, X]], SERIAL_QUERY, CHANGE),
     (&[&[Y, X], &[W, V]], SERIAL_QUERY, CHANGE_BACK),
@@ -249,7 +248,7 @@ fn long_key(alloc: Global) -> Result<Vec<u8>, Fail> {
     Ok(key)
 }
 
-/// Whether all of a long key is taken.
+/// Whether all of a long key is consumed.
 fn takes_long_key<S: VersionStore>(
     cache: &mut Cache<S>,
     alloc: Global,
@@ -283,7 +282,7 @@ fn a_long_unit_is_copied_as_far_as_there_is_room<S: Log + Drop, R: AllocGlobal +
     Ok(())
 }
 
-/// So many IPv4 records.
+/// This many IPv4 records.
 fn many(alloc: Global, count: u32) -> Result<VrpSet, Fail> {
     let mut list = Vec::new(alloc);
     for n in 0..count {
@@ -293,7 +292,7 @@ fn many(alloc: Global, count: u32) -> Result<VrpSet, Fail> {
     Ok(VrpSet::from_list(list)?)
 }
 
-/// All that is due, pulled in pieces of so many bytes; after each piece a set is published, where that is wanted.
+/// All that is due, pulled in pieces of this many bytes; after each piece a set is published, if that is wanted.
 fn pieces<S: VersionStore>(
     cache: &mut Cache<S>,
     alloc: Global,
@@ -331,7 +330,7 @@ fn answer_in<S: VersionStore>(
     pieces(cache, alloc, conn, size, publish)
 }
 
-/// Whether the answer in pieces of so many bytes is this one.
+/// Whether the answer in pieces of this many bytes is this one.
 fn is_same_in<S: VersionStore>(
     cache: &mut Cache<S>,
     alloc: Global,

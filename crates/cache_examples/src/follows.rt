@@ -31,7 +31,7 @@ type Followed = (&'static [Rows], bool, usize, u32);
 
 const FOLLOWED: &[Followed] = &[(&[&[V, W]], true, 2, 6), (&[&[W], &[]], false, 0, 8)];
 
-/// Whether so many records are committed, under this serial of session 4660.
+/// Whether this many records are committed, under this serial of session 4660.
 fn holds(router: &Router, records: usize, serial: u32) -> bool {
     router.table().len() == records
         && router.committed() == Some((Version::V1, 4660, Serial(serial)))

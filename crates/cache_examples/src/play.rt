@@ -50,7 +50,7 @@ pub(crate) fn publish_all<S: VersionStore>(
     Ok(())
 }
 
-/// All that is due, pulled in pieces of at most so many bytes.
+/// All that is due, pulled in pieces of at most this many bytes.
 pub(crate) fn pulled<S: VersionStore>(cache: &mut Cache<S>, conn: Conn, size: usize) -> Bytes {
     let mut all = Bytes::new();
     let mut room = [0u8; 64];
@@ -66,21 +66,21 @@ pub(crate) fn pulled<S: VersionStore>(cache: &mut Cache<S>, conn: Conn, size: us
     all
 }
 
-/// What happens on a connection, and what has to come of it.
+/// What happens on a connection, and the result that it must have.
 pub(crate) enum Event {
-    /// Of these bytes so many are taken.
+    /// This many of these bytes are consumed.
     Takes(&'static str, usize),
     /// These bytes go out first, in one piece.
     Begins(&'static str),
-    /// These PDUs are due, and no more.
+    /// These PDUs are due, and nothing else.
     Sends(&'static [&'static str]),
     /// A notify is asked for, which is or is not sent.
     Notifies(bool),
-    /// Nothing goes out, and nothing is written where it would.
+    /// Nothing goes out, and nothing is written into its buffer.
     SendsNothing,
     /// Bytes are due.
     HasBytes(bool),
-    /// The connection goes on.
+    /// The connection continues.
     IsOpen(bool),
     Closes,
 }
@@ -89,7 +89,7 @@ pub(crate) enum Event {
 pub(crate) enum Step {
     /// A set is published, and this is answered.
     Publishes(Rows, Published),
-    /// The current version has this serial and so many records.
+    /// The current version has this serial and this many records.
     Has(u32, usize),
     /// Nothing was published yet.
     HasNothing,
@@ -127,7 +127,7 @@ fn sends_nothing<S: VersionStore>(cache: &mut Cache<S>, conn: Conn) -> bool {
     cache.pull(conn, &mut out) == 0 && out == [7u8; 8]
 }
 
-/// Whether an event goes as it has to, where bytes go out in pieces of so many.
+/// Whether an event goes as it has to, if bytes go out in pieces of this many.
 fn happens<S: VersionStore>(cache: &mut Cache<S>, conn: Conn, size: usize, event: &Event) -> bool {
     match event {
         Event::Takes(units, count) => cache.receive(conn, bytes(units).as_slice()) == *count,
@@ -210,7 +210,7 @@ fn go_on<S: VersionStore, R: AllocGlobal + Abort>(
     Ok(())
 }
 
-/// Plays steps, with what goes out pulled in pieces of so many bytes.
+/// Plays steps, with what goes out pulled in pieces of this many bytes.
 fn play<S: VersionStore, R: AllocGlobal + Abort>(
     rt: &R,
     cache: &mut Cache<S>,

@@ -20,7 +20,7 @@ const TWO_QUERIES: &str = "01 02 0000 00000008 | 01 02 0000 00000008";
 /// Code 2, No Data Available, to a Reset Query.
 const NO_DATA: &str = "01 0a 0002 00000018 00000008 0102000000000008 00000000";
 
-/// A reader of so many bytes a call, which fails after so many calls.
+/// A reader of this many bytes a call, which fails after a number of calls.
 #[derive(Drop)]
 struct Steps {
     bytes: Bytes,
@@ -55,7 +55,7 @@ impl Read for Steps {
     }
 }
 
-/// A writer that takes so many bytes in all, and then fails.
+/// A writer that accepts this many bytes in all, and then fails.
 #[derive(Drop)]
 struct Narrow {
     taken: Vec<u8>,
@@ -80,7 +80,7 @@ impl Write for Narrow {
     }
 }
 
-/// A writer that takes so many bytes a call, and after so many calls none: it fails, or says that it took none.
+/// A writer that accepts this many bytes a call, and after a number of calls none: it fails, or says that it accepted none.
 #[derive(Drop)]
 struct Stalling {
     taken: Vec<u8>,
@@ -135,7 +135,7 @@ impl Write for SharedEnd {
     }
 }
 
-/// A reader that gives its second query only where the list has the answer to the first.
+/// A reader that gives its second query only if the list has the answer to the first.
 #[derive(Drop)]
 struct Waiting {
     steps: Steps,
@@ -180,7 +180,7 @@ fn cache_of_v(alloc: Global) -> Result<Cache<VersionLog>, Fail> {
     cache_of::<VersionLog>(alloc, 0x1234, 5, &[&[V]])
 }
 
-/// Whether an input is served so. Whatever comes of it, its connection is closed behind it: the next one has its number.
+/// Whether an input is served so. Whatever its result, its connection is closed after it: the next one has its number.
 fn serves<I: Read, O: Write>(
     cache: &mut Cache<VersionLog>,
     input: &mut Counted<I>,
@@ -193,7 +193,7 @@ fn serves<I: Read, O: Write>(
     Ok(serve_stream(cache, input, output, limit) == served && cache.open()? == first)
 }
 
-/// Whether so many answers went out, and no more, where they are all.
+/// Whether this many answers went out; if they are all, nothing else did.
 fn has_answers(out: &[u8], answers: usize, are_all: bool) -> bool {
     let answer = bytes(ANSWER);
     for i in 0..answers {
@@ -205,7 +205,7 @@ fn has_answers(out: &[u8], answers: usize, are_all: bool) -> bool {
     !are_all || out.len() == answers.saturating_mul(52)
 }
 
-/// Whether these are served so, in at most so many reads, with so many answers; where the cache ends it, it tells why behind them.
+/// Whether these are served so, in at most this many reads, with this many answers; if the cache ends it, it says why after them.
 fn is_served(
     alloc: Global,
     units: &str,
@@ -236,7 +236,7 @@ fn a_connection_is_served_to_its_end(rt: HostRuntime) -> Result<(), Fail> {
     Ok(())
 }
 
-/// Two queries, the second of which comes only where the list has the answer to the first.
+/// Two queries, the second of which comes only if the list has the answer to the first.
 fn waiting_input(list: &Rc<RefCell<Vec<u8>>>) -> Result<Counted<Waiting>, Fail> {
     Ok(Counted::new(Waiting {
         steps: reader_of(TWO_QUERIES, 8, 9),
@@ -263,7 +263,7 @@ fn what_was_read_is_answered_before_the_next_read(rt: HostRuntime) -> Result<(),
     Ok(())
 }
 
-/// Whether the writer fails that takes so many bytes of two answers, and has taken as many.
+/// Whether the writer fails that accepts this many bytes of two answers, and has accepted as many.
 fn fails_to_write(alloc: Global, room: usize) -> Result<bool, Fail> {
     let mut cache = cache_of_v(alloc)?;
     let mut input = stepwise(TWO_QUERIES, 16, 9);
@@ -284,7 +284,7 @@ fn fails_to_write(alloc: Global, room: usize) -> Result<bool, Fail> {
     )
 }
 
-/// Whether one query is answered where the next read fails.
+/// Whether one query is answered if the next read fails.
 fn fails_to_read(alloc: Global) -> Result<bool, Fail> {
     let mut cache = cache_of_v(alloc)?;
     let mut input = stepwise(TWO_QUERIES, 8, 1);
@@ -316,7 +316,7 @@ fn is_unchanged_twice(out: &[u8], len: usize) -> bool {
     both.as_slice().get(..len) == Some(out)
 }
 
-/// Whether what was read before so many calls is answered.
+/// Whether what was read before this many calls is answered.
 fn is_answered_up_to(alloc: Global, calls: u8) -> Result<bool, Fail> {
     let mut cache = cache_of_v(alloc)?;
     let mut input = stepwise(SINCE_TWICE, 5, calls);
@@ -338,7 +338,7 @@ fn each_read_may_fail(rt: HostRuntime) -> Result<(), Fail> {
     Ok(())
 }
 
-/// Whether two queries are served so to a writer that takes seven bytes a call, and after so many calls none.
+/// Whether two queries are served so to a writer that accepts seven bytes a call, and after this many calls none.
 fn is_stalled(alloc: Global, calls: u8, fails: bool) -> Result<bool, Fail> {
     let mut cache = cache_of_v(alloc)?;
     let mut input = stepwise(SINCE_TWICE, 24, 9);
@@ -348,7 +348,7 @@ fn is_stalled(alloc: Global, calls: u8, fails: bool) -> Result<bool, Fail> {
         calls,
         fails,
     });
-    // Each answer of 32 bytes takes five calls.
+    // Each answer of 32 bytes needs five calls.
     let whole = usize::from(calls / 5) * 32 + usize::from(calls % 5) * 7;
     let served = if whole < 64 {
         Err(StreamFault::WriteFailed)
@@ -370,7 +370,7 @@ fn each_write_may_fail_or_take_nothing(rt: HostRuntime) -> Result<(), Fail> {
     Ok(())
 }
 
-/// Whether these bytes are fetched so, in at most so many reads, with one question that went out in one write.
+/// Whether these bytes are fetched so, in at most this many reads, with one question that went out in one write.
 fn fetches(
     router: &mut Router,
     alloc: Global,
@@ -385,7 +385,7 @@ fn fetches(
         && router.link() == Link::Closed
 }
 
-/// Whether a router that is told that there is no data has asked for all.
+/// Whether a router that receives No Data Available has asked for all.
 fn fetches_nothing(router: &mut Router, alloc: Global) -> bool {
     let mut input = stepwise(NO_DATA, 4096, 9);
     let mut output = list(alloc);

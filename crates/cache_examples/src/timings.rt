@@ -38,7 +38,7 @@ const ROWS: &[(u32, u32, u32, Option<TimingFault>)] = &[
     (4_294_967_295, 4_294_967_295, 4_294_967_295, OUT_OF_RANGE),
 ];
 
-/// Whether intervals are refused so, or are taken as they are.
+/// Whether intervals are refused so, or are accepted as they are.
 fn is_told(refresh: u32, retry: u32, expire: u32, fault: Option<TimingFault>) -> bool {
     match Timing::new(refresh, retry, expire) {
         Err(told) => fault == Some(told),
