@@ -1,4 +1,4 @@
-//! What comes of the cases in a file: `tests/exports.py` makes them at random, and compares this with what it reads itself.
+//! The results of the cases in a file: `tests/exports.py` makes them at random, and compares this with what it reads itself.
 use exports::{TimedExport, read_export_until};
 use payload_lists::write_list;
 use std::alloc::Global;
@@ -6,7 +6,7 @@ use std::io::Write;
 use std::test::Fail;
 use std::{fs, io, str};
 
-/// The file, in the folder where the tests run: on each line a moment, a blank, and a text in hexadecimal digits.
+/// The file, in the folder in which the tests run: on each line a moment, a blank, and a text in hexadecimal digits.
 const CASES: &str = "exports.cases";
 
 /// A second, or `-`.
@@ -17,7 +17,7 @@ fn second(alloc: Global, second: Option<u64>) -> Result<String, Fail> {
     }
 }
 
-/// What comes of a text at a moment: how many entries have expired, when it was made, until when it stays so and the payload list; or the
+/// The result of a text at a moment: how many entries have expired, when it was made, until when it stays so, and the payload list. Or the
 /// fault and its text.
 fn outcome(alloc: Global, now: u64, text: &[u8]) -> Result<String, Fail> {
     match read_export_until(alloc, text, now) {
@@ -31,13 +31,13 @@ fn outcome(alloc: Global, now: u64, text: &[u8]) -> Result<String, Fail> {
     }
 }
 
-/// The same of a moment and a text as they stand in the file.
+/// The same of a moment and a text as they are in the file.
 fn outcome_of(alloc: Global, now: &str, digits: &str) -> Result<String, Fail> {
     let text = hex::decode(alloc, digits)?;
     outcome(alloc, now.parse()?, text.as_slice())
 }
 
-/// Writes what comes of each line.
+/// Writes the result of each line.
 fn tell_each<W: Write>(alloc: Global, cases: &str, out: &mut W) -> Result<(), Fail> {
     for line in cases.lines() {
         if let Some((now, digits)) = line.split_once(' ') {

@@ -70,8 +70,8 @@ fn json_of_neither_form(rt: HostRuntime) {
     assert!(rt; all_have(rt.alloc(), OF_NEITHER_FORM, &ExportFault::NoRoas));
 }
 
-/// Names that are read and repeated: in the export, in the metadata, in an entry; before an entry that cannot be read, and where there
-/// are no `roas`.
+/// Names that are read and repeated: in the export, in the metadata, in an entry; before an entry that cannot be read, and if there are no
+/// `roas`.
 const REPEATED: &[&[u8]] = &[
     b"{\"roas\":[],\"roas\":[]}",
     b"{\"roas\":[],\"ro\\u0061s\":7}",
@@ -130,7 +130,7 @@ fn as_numbers(rt: HostRuntime) -> Result<(), Fail> {
     Ok(())
 }
 
-/// Entries, and what is told of them.
+/// Entries, and what is reported of them.
 const ENTRIES: &[(&str, EntryFault)] = &[
     ("[]", EntryFault::NoObject),
     ("{}", EntryFault::Asn),
@@ -189,7 +189,7 @@ const ENTRIES: &[(&str, EntryFault)] = &[
     ),
 ];
 
-/// Whether each is told of a second entry.
+/// Whether each is reported of a second entry.
 fn entries_have(alloc: Global, entries: &[(&str, EntryFault)]) -> Result<bool, Fail> {
     for &(entry, what) in entries {
         if entry_fault(alloc, entry)? != Some(ExportFault::Entry(1, what)) {
@@ -231,7 +231,7 @@ const FAULTS: &[(ExportFault, u8, &str)] = &[
     ),
 ];
 
-/// Whether each is told so.
+/// Whether each is reported so.
 fn are_told(alloc: Global, faults: &[(ExportFault, u8, &str)]) -> Result<bool, Fail> {
     for (fault, number, text) in faults {
         let told = format!(in alloc; "{fault}")?;

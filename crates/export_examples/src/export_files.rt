@@ -15,7 +15,7 @@ fn is_of(alloc: Global, export: &Export, rows: Rows) -> Result<bool, Fail> {
     Ok(export.set.as_slice() == set_of(alloc, rows)?.as_slice())
 }
 
-/// Whether a text is an export of the two records and no others, that was made then, and has so many entries which have expired.
+/// Whether a text is an export of the two records and no others, that was made then, and has this many entries which have expired.
 fn is_two_of(alloc: Global, text: &str, built: Option<u64>, expired: u64) -> Result<bool, Fail> {
     let export = read_export(alloc, text.as_bytes(), NOW)?;
     Ok(export.built == built && export.expired == expired && is_of(alloc, &export, TWO)?)
@@ -275,7 +275,7 @@ fn other_forms_are_the_same_exports(rt: HostRuntime) -> Result<(), Fail> {
     Ok(())
 }
 
-/// A name that is not read may stand twice, also within what is not read.
+/// A name that is not read may be there twice, also within what is not read.
 #[test]
 fn names_that_are_not_read_may_stand_twice(rt: HostRuntime) -> Result<(), Fail> {
     let text =

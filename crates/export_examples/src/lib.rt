@@ -1,6 +1,6 @@
 //! Examples of exports and of local exceptions (RFC 8416), which are the tests of the libraries `prefix_texts`, `json_texts`, `exports`,
-//! `slurm` and `sources`: files as validators write them, the RFC's own file, a fault of each kind, and what comes of sets. They stand apart,
-//! as a crate with tests is proved twice.
+//! `slurm` and `sources`. They use files as validators write them, the RFC's own file, a fault of each kind, and the results on sets. They
+//! are apart, because a crate with tests is proved twice.
 #![tactic(auto)]
 
 #[cfg(test)]

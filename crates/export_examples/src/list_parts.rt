@@ -1,4 +1,4 @@
-//! What other readers take from `payload_lists`.
+//! What other readers use of `payload_lists`.
 use example_values::sets::set_of;
 use payload_lists::ListFault;
 use payload_lists::parts::{plain_list, plain_number, records_of, text, whole};

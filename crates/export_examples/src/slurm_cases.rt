@@ -1,4 +1,4 @@
-//! What comes of the cases in a file: `tests/exceptions.py` makes them at random, and compares this with what it works out itself.
+//! The results of the cases in a file: `tests/exceptions.py` makes them at random, and compares this with what it works out itself.
 use payload_lists::{read_list, write_list};
 use slurm::{Slurm, apply, read_slurm};
 use std::alloc::Global;
@@ -6,10 +6,10 @@ use std::io::Write;
 use std::test::Fail;
 use std::{fs, io, str};
 
-/// The file, in the folder where the tests run: on each line a SLURM file and a payload list, both in hexadecimal digits.
+/// The file, in the folder in which the tests run: on each line a SLURM file and a payload list, both in hexadecimal digits.
 const CASES: &str = "exceptions.cases";
 
-/// The payload list that comes of a list with these exceptions.
+/// The payload list that results from a list with these exceptions.
 fn applied(alloc: Global, slurm: &Slurm, list: &[u8]) -> Result<String, Fail> {
     let left = apply(slurm, alloc, &read_list(alloc, list)?)?;
     Ok(write_list(alloc, left.as_slice())?)
@@ -23,14 +23,14 @@ fn outcome(alloc: Global, file: &[u8], list: &[u8]) -> Result<String, Fail> {
     }
 }
 
-/// The same of both as they stand in the file.
+/// The same of both as they are in the file.
 fn outcome_of(alloc: Global, file: &str, list: &str) -> Result<String, Fail> {
     let file = hex::decode(alloc, file)?;
     let list = hex::decode(alloc, list)?;
     outcome(alloc, file.as_slice(), list.as_slice())
 }
 
-/// Writes what comes of each line.
+/// Writes the result of each line.
 fn tell_each<W: Write>(alloc: Global, cases: &str, out: &mut W) -> Result<(), Fail> {
     for line in cases.lines() {
         if let Some((file, list)) = line.split_once(' ') {

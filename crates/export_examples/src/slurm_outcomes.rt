@@ -6,19 +6,19 @@ use std::alloc::Global;
 use std::test::Fail;
 use vrps::VrpSet;
 
-/// What comes of a set with the exceptions of the text.
+/// The result of a set with the exceptions of the text.
 fn applied(alloc: Global, text: &str, set: &VrpSet) -> Result<VrpSet, Fail> {
     let slurm = read_slurm(alloc, text.as_bytes())?;
     Ok(apply(&slurm, alloc, set)?)
 }
 
-/// Whether these come of the first records, and come again where the same is applied once more.
+/// Whether these result from the first records, and again if the same is applied once more.
 fn come_of(alloc: Global, text: &str, rows: &[Row], left: &[Row]) -> Result<bool, Fail> {
     let set = applied(alloc, text, &set_of(alloc, rows)?)?;
     Ok(set.is_same(&set_of(alloc, left)?) && applied(alloc, text, &set)?.is_same(&set))
 }
 
-/// Filters, assertions, a set, and what comes of it.
+/// Filters, assertions, a set, and its result.
 type Case = (&'static str, &'static str, &'static [Row], &'static [Row]);
 
 const A: Row = ("10.0.0.0/8", 8, 64496);
@@ -64,7 +64,7 @@ const CASES: &[Case] = &[
         &[A, B, C, D],
         &[A, C, D],
     ),
-    // an assertion stays where a filter matches it, and it has its own maximum
+    // an assertion stays if a filter matches it, and it has its own maximum
     (
         r#"[{"prefix":"10.0.0.0/8"}]"#,
         r#"[{"asn":64496,"prefix":"10.0.0.0/8"}]"#,
