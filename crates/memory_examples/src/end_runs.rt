@@ -30,7 +30,7 @@ pub(crate) fn cache_from(alloc: Global, start: u32) -> Result<Cache<VersionLog>,
     Ok(Cache::new(alloc, log, Timing::default()))
 }
 
-/// Opens a connection, at the second try where memory ran out.
+/// Opens a connection, at the second try if memory ran out.
 fn opened(rt: &HostRuntime, cache: &mut Cache<VersionLog>) -> Result<Conn, Fail> {
     if let Ok(conn) = cache.open() {
         return Ok(conn);
@@ -44,7 +44,7 @@ fn is_published(rt: &HostRuntime, cache: &mut Cache<VersionLog>, set: VrpSet) ->
     cache.publish(set).is_ok() || no_memory(rt)
 }
 
-/// Publishes a set, and once more where memory ran out.
+/// Publishes a set, and once more if memory ran out.
 fn publish(rt: &HostRuntime, cache: &mut Cache<VersionLog>, set: VrpSet, again: VrpSet) {
     if !is_published(rt, cache, set) {
         is_published(rt, cache, again);
@@ -58,7 +58,7 @@ fn publish_all(rt: &HostRuntime, cache: &mut Cache<VersionLog>, sets: Vec<(VrpSe
     }
 }
 
-/// Prints what is due, at most so many bytes.
+/// Prints what is due, at most this many bytes.
 pub(crate) fn tell_due(rt: &HostRuntime, cache: &mut Cache<VersionLog>, conn: Conn, most: usize) {
     let mut room = [0u8; 64];
     if let Some(out) = room.get_mut(..most) {
@@ -69,14 +69,14 @@ pub(crate) fn tell_due(rt: &HostRuntime, cache: &mut Cache<VersionLog>, conn: Co
     }
 }
 
-/// Prints what is due, at most so many bytes, and whether the connection goes on.
+/// Prints what is due, at most this many bytes, and whether the connection continues.
 fn tell_pulled(rt: &HostRuntime, cache: &mut Cache<VersionLog>, conn: Conn, most: usize) {
     tell_due(rt, cache, conn, most);
     let is_open = cache.is_open(conn);
     tell(rt, if is_open { "open" } else { "ended" });
 }
 
-/// Hands in a query, and prints what is due then.
+/// Passes in a query, and prints what is due then.
 fn tell_answer(rt: &HostRuntime, cache: &mut Cache<VersionLog>, conn: Conn, query: &[u8]) {
     cache.receive(conn, query);
     tell_pulled(rt, cache, conn, 64);
@@ -184,7 +184,7 @@ pub(crate) fn tell_router(rt: &HostRuntime, router: &Router) {
     };
 }
 
-/// Connects, takes the question away, and hands in an answer.
+/// Connects, pulls the question, and passes in an answer.
 pub(crate) fn answered(router: &mut Router, answer: &[u8]) {
     let mut room = [0u8; 64];
     router.connect(0);
@@ -192,14 +192,14 @@ pub(crate) fn answered(router: &mut Router, answer: &[u8]) {
     router.receive(answer, 0);
 }
 
-/// Hands in an answer on a connection, prints what stands then, and tells whether it is committed.
+/// Passes in an answer on a connection, prints the router's state then, and returns whether the version of this serial is committed.
 fn is_committed(rt: &HostRuntime, router: &mut Router, answer: &[u8], serial: u32) -> bool {
     answered(router, answer);
     tell_router(rt, router);
     router.committed().is_some_and(|it| it.2.0 == serial)
 }
 
-/// The same on another connection where it is not.
+/// The same on another connection if it is not.
 fn tell_committed(rt: &HostRuntime, router: &mut Router, answer: &[u8], serial: u32) {
     let _done = is_committed(rt, router, answer, serial)
         || is_committed(rt, router, answer, serial);

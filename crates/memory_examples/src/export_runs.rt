@@ -11,7 +11,7 @@ fn is_read(rt: &HostRuntime, text: &[u8]) -> bool {
     true
 }
 
-/// Reads an export, and once more where memory ran out.
+/// Reads an export, and once more if memory ran out.
 fn tell_export(rt: &HostRuntime, text: &[u8]) {
     begin(rt.alloc());
     let _done = is_read(rt, text) || is_read(rt, text);

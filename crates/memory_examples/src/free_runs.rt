@@ -1,4 +1,4 @@
-//! Calls that take no memory: they give their answers with every request refused.
+//! Calls that allocate no memory: they give their answers with every request refused.
 
 use crate::end_runs::{
     ANSWER, RESET_QUERY, SERIAL_QUERY, answered, cache_from, tell_due, tell_router,
@@ -235,7 +235,7 @@ fn tell_read(rt: &HostRuntime) {
     tell_whether(rt, read_unit(&mut input).is_ok_and(|it| it.is_some()));
 }
 
-/// Prints whether a PDU is written to a stream, and what stands there then.
+/// Prints whether a PDU is written to a stream, and what is there then.
 fn tell_written(rt: &HostRuntime) {
     let unit = Unit::CacheResponse { session: 4660 };
     let mut room = [0u8; 8];

@@ -1,6 +1,6 @@
-//! Runs in which requests for memory are refused: each test prints what came of its calls and what stands afterwards, and tries once more
-//! where memory ran out. By themselves they show the answers of ample memory; `tests/memory.py` runs each with the first request
-//! refused, then the second, and so on, and compares what is printed.
+//! Runs in which requests for memory are refused: each test prints the results of its calls and the state afterwards, and tries once more
+//! if memory ran out. By themselves they show the answers of ample memory; `tests/memory.py` runs each with the first request refused, then
+//! the second, and so on, and compares what is printed.
 #![tactic(auto)]
 
 #[cfg(test)]

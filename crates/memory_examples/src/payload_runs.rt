@@ -58,7 +58,7 @@ fn is_decoded(rt: &HostRuntime, payload: &[u8]) -> bool {
     true
 }
 
-/// Decodes a ROA, and once more where memory ran out.
+/// Decodes a ROA, and once more if memory ran out.
 pub(crate) fn tell_decoded(rt: &HostRuntime, payload: &[u8]) {
     let _done = is_decoded(rt, payload) || is_decoded(rt, payload);
 }
@@ -87,7 +87,7 @@ fn is_same(rt: &HostRuntime, written: Result<Vec<u8>, AllocError>, payload: &[u8
     }
 }
 
-/// Writes the ROA that a payload holds, and once more where memory ran out.
+/// Writes the ROA that a payload holds, and once more if memory ran out.
 fn tell_written(rt: &HostRuntime, payload: &[u8]) -> Result<(), Fail> {
     let alloc = rt.alloc();
     let roa = decode_roa(alloc, payload)?;
@@ -143,7 +143,7 @@ fn list(
     Ok(files.push(ListedFile::new(name, *hash))?)
 }
 
-/// The files of a manifest, to be handed in again.
+/// The files of a manifest, to be supplied again.
 fn files_of(alloc: Global, manifest: &Manifest) -> Result<Vec<ListedFile>, AllocError> {
     let mut files = Vec::new(alloc);
     for it in manifest.files() {
@@ -224,7 +224,7 @@ fn tell_in_use(rt: &HostRuntime, repository: &Repository, now: Moment) {
     let _done = is_listed(rt, repository, now) || is_listed(rt, repository, now);
 }
 
-/// Offers, prints the answer and what is in use then, and tells whether there was memory for the offer.
+/// Offers, prints the answer and what is in use then, and returns whether there was memory for the offer.
 fn is_judged(
     rt: &HostRuntime,
     repository: &mut Repository,
@@ -238,7 +238,7 @@ fn is_judged(
     answer != "memory"
 }
 
-/// Offers, and once more where memory ran out.
+/// Offers, and once more if memory ran out.
 fn tell_offered(
     rt: &HostRuntime,
     repository: &mut Repository,

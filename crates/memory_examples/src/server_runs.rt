@@ -7,7 +7,7 @@ use std::io::{ErrorKind, Read, Write};
 use std::test::Fail;
 use vrps::{VersionLog, VrpSet};
 
-/// What comes of a router: this, and then no more for now.
+/// What comes from a router: this, and then nothing more for now.
 #[derive(Drop)]
 struct Feed {
     bytes: &'static [u8],
@@ -61,14 +61,14 @@ fn is_published(rt: &HostRuntime, server: &mut Memory, set: VrpSet) -> bool {
     server.publish(set).is_ok() || no_memory(rt)
 }
 
-/// Publishes a set, and once more where memory ran out.
+/// Publishes a set, and once more if memory ran out.
 fn publish(rt: &HostRuntime, server: &mut Memory, set: VrpSet, again: VrpSet) {
     if !is_published(rt, server, set) {
         is_published(rt, server, again);
     }
 }
 
-/// Admits a client, at the second try where memory ran out.
+/// Admits a client, at the second try if memory ran out.
 fn admitted(rt: &HostRuntime, server: &mut Memory, query: &'static [u8]) -> Result<Client, Fail> {
     if let Ok(client) = server.admit(line(query)) {
         return Ok(client);
@@ -111,7 +111,7 @@ fn tell_both(rt: &HostRuntime, server: &mut Memory, query: &'static [u8]) -> Res
     Ok(())
 }
 
-/// Two routers ask what has changed: where memory runs out for the change, that client ends with a report, and the other is answered.
+/// Two routers ask what has changed: if memory runs out for the change, that client ends with a report, and the other is answered.
 #[test]
 fn serve_serial_queries(rt: HostRuntime) -> Result<(), Fail> {
     let alloc = rt.alloc();

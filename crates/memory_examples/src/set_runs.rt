@@ -32,7 +32,7 @@ fn is_inserted(rt: &HostRuntime, gathered: &mut Gathered, vrp: &Vrp) -> bool {
     true
 }
 
-/// Inserts records, each of them once more where memory ran out.
+/// Inserts records, each of them once more if memory ran out.
 fn insert(rt: &HostRuntime, gathered: &mut Gathered, records: &[Vrp]) {
     for vrp in records {
         let _done = is_inserted(rt, gathered, vrp) || is_inserted(rt, gathered, vrp);
@@ -51,7 +51,7 @@ fn gather_out_of_order(rt: HostRuntime) -> Result<(), Fail> {
     Ok(())
 }
 
-/// Applies the change between two sets to the first, once more where memory ran out, and prints what comes of it.
+/// Applies the change between two sets to the first, once more if memory ran out, and prints the result.
 fn tell_applied(rt: &HostRuntime, from: &[Row], to: &[Row]) -> Result<(), Fail> {
     let alloc = rt.alloc();
     let from = set_of(alloc, from)?;
@@ -102,7 +102,7 @@ fn is_published(rt: &HostRuntime, log: &mut VersionLog, set: VrpSet) -> bool {
     true
 }
 
-/// Publishes sets, each of them once more where memory ran out.
+/// Publishes sets, each of them once more if memory ran out.
 fn publish(rt: &HostRuntime, log: &mut VersionLog, sets: Vec<(VrpSet, VrpSet)>) {
     for (set, again) in sets {
         if !is_published(rt, log, set) {

@@ -5,7 +5,7 @@ use std::alloc::{AllocError, Global};
 use std::test::Fail;
 use vrps::{SetFault, VrpSet};
 
-/// A request for so many bytes tells whoever watches that the preparations are over. It is not refused.
+/// A request for this many bytes signals the observer that the preparations are over. It is not refused.
 const BEGIN: usize = 1_234_567;
 
 /// A payload: its prefix, its maximum length and its AS number.
@@ -20,12 +20,12 @@ pub(crate) fn begin(alloc: Global) {
     let _mark: Result<Vec<u8>, AllocError> = Vec::with_capacity(alloc, BEGIN);
 }
 
-/// Prints a line. One that cannot be printed is missed where the lines are compared.
+/// Prints a line. One that cannot be printed is missed when the lines are compared.
 pub(crate) fn tell(rt: &HostRuntime, line: &str) {
     let _printed = rt.println(line);
 }
 
-/// Prints that memory ran out, and tells that nothing came of the try.
+/// Prints that memory ran out, and returns that the try failed.
 pub(crate) fn no_memory(rt: &HostRuntime) -> bool {
     tell(rt, "memory");
     false

@@ -13,7 +13,7 @@ fn tell_held(rt: &HostRuntime, world: &World) {
     }
 }
 
-/// Prints that memory ran out and what router 0 holds, and tells that nothing came of the try.
+/// Prints that memory ran out and what router 0 holds, and returns that the try failed.
 fn no_memory(rt: &HostRuntime, world: &World) -> bool {
     tell(rt, "memory");
     tell_held(rt, world);
@@ -56,7 +56,7 @@ fn is_caught_up(rt: &HostRuntime, world: &mut World) -> bool {
     true
 }
 
-/// Router 0 catches up, at the second try where memory ran out.
+/// Router 0 catches up, at the second try if memory ran out.
 fn tell_caught_up(rt: &HostRuntime, world: &mut World) {
     let _done = is_caught_up(rt, world) || is_caught_up(rt, world);
 }
@@ -102,7 +102,7 @@ fn is_stepped(rt: &HostRuntime, world: &mut World, event: &Event) -> bool {
     }
 }
 
-/// One event, at the second try where memory ran out.
+/// One event, at the second try if memory ran out.
 fn tell_stepped(rt: &HostRuntime, world: &mut World, event: &Event) {
     let _done = is_stepped(rt, world, event) || is_stepped(rt, world, event);
 }
@@ -114,7 +114,7 @@ fn tell_each_stepped(rt: &HostRuntime, world: &mut World, events: &[SideEvent]) 
     }
 }
 
-/// Router 0 connects and takes the first answer.
+/// Router 0 connects and receives the first answer.
 const FIRST_ANSWER: &[SideEvent] = &[
     SideEvent::Connect,
     SideEvent::RouterSends(8),
@@ -123,7 +123,7 @@ const FIRST_ANSWER: &[SideEvent] = &[
     SideEvent::RouterGets(52),
 ];
 
-/// It asks what changed, takes the answer, loses its connection, and restarts.
+/// It asks what changed, receives the answer, loses its connection, and restarts.
 const SECOND_ANSWER: &[SideEvent] = &[
     SideEvent::Ask,
     SideEvent::RouterSends(12),
