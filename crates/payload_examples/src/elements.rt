@@ -5,8 +5,8 @@ use std::alloc::{AllocError, Global};
 use std::process::Abort;
 use std::test::Fail;
 
-/// How long the content is of the element of this tag that stands at the cursor. A SEQUENCE is
-/// read as one without members.
+/// How long the content is of the element of this tag at the cursor. A SEQUENCE is read as one
+/// without members.
 fn read_one(cursor: &mut Cursor, tag: u8) -> Result<usize, DerFault> {
     match tag {
         2 => Ok(cursor.integer()?.len()),
@@ -108,7 +108,7 @@ fn tells_the_first_fault(rt: HostRuntime) {
     assert!(rt; fault(48, b"\x30\x02\x04\x00") == Some((5, 2)));
 }
 
-/// Whether the faults of these members tell their places in the payload.
+/// Whether the faults of these members give their places in the payload.
 fn has_offsets(inner: &mut Cursor) -> bool {
     inner.offset() == 4
         && place(inner.octets().err()) == Some((2, 4))
@@ -157,7 +157,7 @@ const LENGTHS: &[(u32, &[u8])] = &[
     (16777216, b"\x04\x84\x01\x00\x00\x00"),
 ];
 
-/// The element of so many octets.
+/// The element of this many octets.
 fn octets_of(alloc: Global, len: u32) -> Result<Vec<u8>, AllocError> {
     let content = vec![in alloc; 7u8; len as usize]?;
     let mut writer = DerWriter::new(alloc);
@@ -165,7 +165,7 @@ fn octets_of(alloc: Global, len: u32) -> Result<Vec<u8>, AllocError> {
     Ok(writer.into_bytes())
 }
 
-/// Whether this is the element of so many octets behind this head.
+/// Whether this is the element of this many octets behind this head.
 fn is_headed(written: &[u8], len: u32, head: &[u8]) -> bool {
     let mut cursor = Cursor::new(written);
     written.starts_with(head)
@@ -349,7 +349,7 @@ fn walks_nested_elements(rt: HostRuntime) {
     expect_walk_faults(&rt, NOT_NESTED);
 }
 
-/// No beginning of nested elements is taken for all of them.
+/// No beginning of nested elements is mistaken for all of them.
 fn expect_no_beginning<R: Abort>(rt: &R, whole: &[u8]) {
     for cut in 0..whole.len() {
         assert!(rt; walk_fault(&whole[..cut]) == Some((1, 0)), "{cut} bytes");
@@ -372,7 +372,7 @@ fn changed(index: usize, byte: u8) -> [u8; 25] {
     payload
 }
 
-/// Whether nested elements are taken, or have a fault that is reported inside them.
+/// Whether nested elements are accepted, or have a fault that is reported inside them.
 fn is_inside(payload: &[u8]) -> bool {
     match walk(payload) {
         Ok(_) => true,

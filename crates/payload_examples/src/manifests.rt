@@ -172,7 +172,7 @@ fn knows_leap_years(rt: HostRuntime) {
     expect_days(&rt, rt.alloc(), DAYS);
 }
 
-/// Whether bytes are taken for a manifest, which has to be written as they are, and otherwise have a fault that is reported inside them.
+/// Whether bytes are accepted as a manifest, which has to be written as they are, and otherwise have a fault that is reported inside them.
 fn is_taken(alloc: Global, payload: &[u8]) -> Option<bool> {
     match decode_manifest(alloc, payload) {
         Ok(manifest) => is_written(alloc, &manifest, payload).then_some(true),
@@ -200,9 +200,8 @@ fn writes_each_manifest_with_one_other_byte(rt: HostRuntime) {
     for index in 0..96usize {
         spelled = spelled.saturating_add(taken_at(&rt, rt.alloc(), index));
     }
-    // The number: 0 to 127. thisUpdate before nextUpdate: 61, and nextUpdate behind it: 99. The name:
-    // 64 before the dot, 26 for each letter behind it. The hash: 256 for each byte. At each of the 29
-    // other bytes only the one that stands there.
+    // The number: 0 to 127. thisUpdate before nextUpdate: 61, and nextUpdate behind it: 99. The name: 64 before the dot, 26 for each letter
+    // behind it. The hash: 256 for each byte. At each of the 29 other bytes only the one that is there.
     assert!(rt; spelled == 128 + 61 + 99 + 64 + 3 * 26 + 32 * 256 + 29);
 }
 
@@ -306,7 +305,7 @@ fn tells_names(rt: HostRuntime) -> Result<(), Fail> {
     expect_faults_of(&rt, rt.alloc(), NAMES)
 }
 
-/// The fault of a payload with this byte so many places before its end.
+/// The fault of a payload with this byte this many places before its end.
 fn fault_behind(
     alloc: Global,
     payload: &[u8],

@@ -227,8 +227,8 @@ fn knows_what_it_holds(rt: HostRuntime) {
     }
 }
 
-/// An offer at noon to a point that accepted the first manifest: the number and thisUpdate of its manifest, the files which that lists,
-/// those that are handed in, and what is answered.
+/// An offer at noon to a point that accepted the first manifest. It has the number and thisUpdate of its manifest, the files which that
+/// lists, those that are supplied, and what is answered.
 type Later = (
     u8,
     &'static str,
@@ -375,7 +375,7 @@ const LEAST: &[Later] = &[
         &[WITH_VERSION_FILE, SECOND_WITH_VERSION],
         Err((9, Some(0))),
     ),
-    // Two files of one name come before all that is listed, also where neither is listed, and where they are equal.
+    // Two files of one name come before all that is listed, also if neither is listed, and if they are equal.
     (2, NOON, BOTH, &[ROA_FILE, ROA_FILE], Err((6, Some(1)))),
     (
         2,
@@ -404,7 +404,7 @@ fn uses_a_point_until_its_next_update(rt: HostRuntime) {
     let mut repository = Repository::new(rt.alloc());
     let first = offer_to(&mut repository, "one", FIRST, FILES, NOON);
     assert!(rt; is(first, &Ok(Offered::New)));
-    // nextUpdate alone is looked at, and an offer that is refused, here as too late, takes nothing away.
+    // Only nextUpdate is looked at, and an offer that is refused, here as too late, removes nothing.
     assert!(rt; uses_the_roa(&repository, EARLY));
     let late = offer_to(&mut repository, "one", FIRST, &[], LATE);
     assert!(rt; is(late, &Err((3, None))));

@@ -205,7 +205,7 @@ pub(crate) fn is_written(alloc: Global, roa: &Roa, payload: &[u8]) -> bool {
     }
 }
 
-/// Whether a payload is taken and is what its ROA is written as, or has a fault that is reported inside it.
+/// Whether a payload is accepted and is what its ROA is written as, or has a fault that is reported inside it.
 fn is_judged(alloc: Global, payload: &[u8]) -> bool {
     match decode_roa(alloc, payload) {
         Ok(roa) => is_written(alloc, &roa, payload),
@@ -320,7 +320,7 @@ fn makes_roas_of_values(rt: HostRuntime) -> Result<(), Fail> {
     expect_made(&rt, rt.alloc(), VALUES)
 }
 
-/// The entries of so many prefixes of 24 bits, from 0.0.0.0 on.
+/// The entries of this many prefixes of 24 bits, from 0.0.0.0 on.
 fn many_entries(alloc: Global, count: u32) -> Result<Vec<u8>, AllocError> {
     let mut list = Vec::new(alloc);
     for index in 0..count {
@@ -330,7 +330,7 @@ fn many_entries(alloc: Global, count: u32) -> Result<Vec<u8>, AllocError> {
     Ok(list)
 }
 
-/// A family of this number with these entries, and what stands behind the family.
+/// A family of this number with these entries, and what follows the family.
 fn blocks_of<R: Abort>(
     rt: &R,
     alloc: Global,
@@ -348,7 +348,7 @@ fn blocks_of<R: Abort>(
     Ok(blocks)
 }
 
-/// The payload of AS64496, of a family of this number with these entries, and of what stands behind the family.
+/// The payload of AS64496, of a family of this number with these entries, and of what follows the family.
 fn payload_of<R: Abort>(
     rt: &R,
     alloc: Global,
@@ -365,7 +365,7 @@ fn payload_of<R: Abort>(
     Ok(whole.into_bytes())
 }
 
-/// The payload of AS64496 and of so many prefixes of 24 bits, from 0.0.0.0 on.
+/// The payload of AS64496 and of this many prefixes of 24 bits, from 0.0.0.0 on.
 pub(crate) fn long_payload<R: Abort>(
     rt: &R,
     alloc: Global,
@@ -375,7 +375,7 @@ pub(crate) fn long_payload<R: Abort>(
     payload_of(rt, alloc, 1, entries.as_slice(), b"")
 }
 
-/// Whether a payload has a fault of this number, so many bytes before its end.
+/// Whether a payload has a fault of this number, this many bytes before its end.
 fn is_fault_before_end(alloc: Global, payload: &[u8], number: u8, before: usize) -> bool {
     match fault(alloc, payload) {
         None => false,
@@ -385,7 +385,7 @@ fn is_fault_before_end(alloc: Global, payload: &[u8], number: u8, before: usize)
     }
 }
 
-/// Whether these bytes are a ROA of so many entries.
+/// Whether these bytes are a ROA of this many entries.
 fn has_entries(alloc: Global, payload: &[u8], count: usize) -> bool {
     decode_roa(alloc, payload).is_ok_and(|roa| roa.entries().len() == count)
 }
@@ -400,7 +400,7 @@ fn takes_65536_entries_and_no_more(rt: HostRuntime) -> Result<(), Fail> {
     Ok(())
 }
 
-/// What stands behind as many entries as there may be, and the number of its fault: an entry with eight unused bits, one below the last,
+/// What follows as many entries as there may be, and the number of its fault. It is an entry with eight unused bits, one below the last,
 /// one of another tag, one of a length in too many bytes, and one that is cut.
 const LAST: &[(&[u8], u8)] = &[
     (b"\x30\x06\x03\x04\x08\x01\x00\x00", 19u8),
@@ -444,8 +444,8 @@ fn judges_an_entry_too_many_behind_its_head(rt: HostRuntime) -> Result<(), Fail>
     Ok(expect_last(&rt, rt.alloc(), entries.as_slice(), LAST)?)
 }
 
-/// What stands behind a family, by its number, of as many entries as there may be: the same family, IPv4 behind IPv6, a family without
-/// addresses, and one with an entry. The fault of this number stands so many bytes before the end.
+/// What follows a family, by its number, of as many entries as there may be. It is the same family, IPv4 behind IPv6, a family without
+/// addresses, and one with an entry. The fault of this number is this many bytes before the end.
 const BEHIND: &[(u8, &[u8], u8, usize)] = &[
     (
         1u8,

@@ -4,7 +4,7 @@ use der_lite::DerWriter;
 use std::alloc::AllocError;
 use std::process::Abort;
 
-/// Writes a SEQUENCE of these members, whose length four bytes tell.
+/// Writes a SEQUENCE of these members, with a length of four bytes.
 pub(crate) fn nest<R: Abort>(
     rt: &R,
     writer: &mut DerWriter,

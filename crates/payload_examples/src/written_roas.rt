@@ -48,9 +48,9 @@ fn writes_each_roa_with_one_other_byte(rt: HostRuntime) {
             None => assert!(rt; false, "at {index}"),
         }
     }
-    // The AS number: 128, 128 and 256 values. The length of the address: 5, or 8, by which the three
-    // bytes of the maximum are bits too. The unused bits: 0 to 3. Four bytes of address: 256 each.
-    // The maximum: 33 to 127. At each of the 19 other bytes only the one that stands there.
+    // The AS number: 128, 128 and 256 values. The length of the address: 5, or 8, by which the
+    // three bytes of the maximum are bits too. The unused bits: 0 to 3. Four bytes of address: 256
+    // each. The maximum: 33 to 127. At each of the 19 other bytes only the one that is there.
     assert!(rt; spelled == 128 + 128 + 256 + 2 + 4 + 4 * 256 + 95 + 19);
 }
 
