@@ -5,7 +5,7 @@ use std::io;
 use std::io::{ErrorKind, Read, Write};
 use std::process::Abort;
 
-/// A device that fails at its first call. Then it works, but for its second call as a writer, which takes no byte.
+/// A device that fails at its first call. Then it works, except at its second call as a writer, which accepts no byte.
 #[derive(Drop)]
 struct Recovering {
     reads: u8,
@@ -77,8 +77,8 @@ enum Call {
     WriteUnit,
 }
 
-/// What has to come of a call: the answer, of a read with what stands at the front of the room then, or none where it fails; the calls that
-/// came to the device; how many bytes were asked for or handed on with the last; and how many calls and failures were counted.
+/// What a call has to do: the answer, of a read with what is at the front of the room then, or none if it fails. Then the calls that came
+/// to the device, how many bytes were asked for or passed on with the last, and how many calls and failures were counted.
 type Row = (Call, Option<(usize, u8)>, (u8, u8, u8), usize, (u64, u64));
 
 const A_READ_IS_HANDED_ON_ONCE: &[Row] = &[
@@ -119,7 +119,7 @@ const A_FAILED_UNIT_IS_NOT_WRITTEN_AGAIN: &[Row] = &[
     (Call::WriteUnit, Some((0, 0)), (0, 3, 0), 8, (3, 2)),
 ];
 
-/// What a read answers, and what stands at the front of the room then. The rest of the room is as it was.
+/// What a read answers, and what is at the front of the room then. The rest of the room is as it was.
 fn read(device: &mut Counted<Recovering>) -> Option<(usize, u8)> {
     let mut room = [0u8; 4];
     let count = device.read(&mut room).ok()?;

@@ -1,5 +1,5 @@
 //! Examples of PDUs, which are the tests of the public items of `rtr_pdu`: values of the standards, and each public call once on its happy
-//! path. They stand apart, as a crate with tests is proved twice.
+//! path. They are apart, because a crate with tests is proved twice.
 #![tactic(auto)]
 
 #[cfg(test)]

@@ -234,7 +234,7 @@ fn agreement_within_a_unit(rt: HostRuntime) {
     assert!(rt; matches!(reader.next(&mut again), Next::Fault(UnitFault::Version)));
 }
 
-/// Agreement is notified when so many bytes of a notify of another version have come: it counts for this PDU where its header has not come
+/// Agreement is notified when this many bytes of a notify of another version have come. It counts for this PDU if its header has not come
 /// whole, and for the PDUs after it in every case.
 #[test]
 fn agreement_at_each_byte(rt: HostRuntime) {
@@ -264,7 +264,7 @@ fn agreement_at_each_byte(rt: HostRuntime) {
     }
 }
 
-/// A writer that takes one byte a call, and as many calls as it may; then it fails.
+/// A writer that accepts one byte a call, and as many calls as it may; then it fails.
 #[derive(Drop)]
 struct Narrow {
     taken: Vec<u8>,
@@ -376,7 +376,7 @@ fn end_and_failure_of_a_reader(rt: HostRuntime) {
     assert!(rt; ReadFault::ReadFailed.number() == 8);
 }
 
-/// Whether a writer of so many calls gets as many bytes of a PDU of 20, and fails where they are fewer.
+/// Whether a writer of this many calls gets as many bytes of a PDU of 20, and fails if they are fewer.
 fn is_written(alloc: Global, unit: &Unit, calls: u8) -> bool {
     if !unit.fits(Version::V1) {
         return false;
