@@ -1,5 +1,5 @@
-//! Examples of routers, which are the tests of the public items of `rtr_ends` that ask: values of the standards, and each public call once on
-//! its happy path. They stand apart, as a crate with tests is proved twice.
+//! Examples of routers, which are the tests of the public items of `rtr_ends` that ask: values of the standards, and each public call once
+//! on its happy path. They are apart, because a crate with tests is proved twice.
 #![tactic(auto)]
 
 #[cfg(test)]

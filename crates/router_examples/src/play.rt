@@ -9,19 +9,19 @@ use std::alloc::AllocGlobal;
 use std::process::Abort;
 use vrps::{OriginState, Serial};
 
-/// What happens at a router, and what has to come of it.
+/// What happens at a router, and the result that it must have.
 pub(crate) enum Step {
     Speaks(Version),
     Connects(u64),
-    /// These PDUs come, one after the other, and all of each is taken.
+    /// These PDUs come, one after the other, and all of each is consumed.
     Takes(&'static [&'static str], u64),
-    /// Nothing of this PDU is taken.
+    /// Nothing of this PDU is consumed.
     Leaves(&'static str, u64),
-    /// Of these PDUs, in one piece, so many bytes are taken.
+    /// Of these PDUs, in one piece, this many bytes are consumed.
     TakesPart(&'static str, usize, u64),
     /// These bytes are pulled, in one piece.
     Begins(&'static str),
-    /// These PDUs are to be pulled, and no more.
+    /// These PDUs are pending, and nothing else.
     Sends(&'static str),
     /// It is asked to put its question.
     Asks(Result<(), AskFault>),
@@ -32,14 +32,14 @@ pub(crate) enum Step {
     IsDue(u64),
     HasBytes(bool),
     HasLink(Link),
-    /// So many records are committed, under this session and serial of this version.
+    /// This many records are committed, under this session and serial of this version.
     Holds(usize, Version, u16, u32),
     HoldsNothing,
     /// A route of this prefix and AS has this state.
     Judges(&'static str, u32, OriginState),
 }
 
-/// Whether all of these PDUs is taken.
+/// Whether all of these PDUs is consumed.
 fn takes(router: &mut Router, version: Version, units: &[&str], now: u64) -> bool {
     for unit in units {
         let piece = bytes_in(version.number(), unit);
@@ -50,7 +50,7 @@ fn takes(router: &mut Router, version: Version, units: &[&str], now: u64) -> boo
     true
 }
 
-/// Whether these bytes, and no more, are to be pulled.
+/// Whether exactly these bytes are pending.
 pub(crate) fn sends(router: &mut Router, expected: &Bytes) -> bool {
     let mut room = [0u8; 64];
     if router.has_bytes() == expected.is_empty() {
@@ -60,7 +60,7 @@ pub(crate) fn sends(router: &mut Router, expected: &Bytes) -> bool {
     room.get(..count) == Some(expected.as_slice()) && !router.has_bytes()
 }
 
-/// Whether so many records are committed, under this session and serial of this version.
+/// Whether this many records are committed, under this session and serial of this version.
 pub(crate) fn holds(
     router: &Router,
     records: usize,

@@ -9,8 +9,9 @@ use rtr_pdu::{Version, error_code};
 use std::alloc::AllocGlobal;
 use std::process::Abort;
 
-/// The links of the protocol's table: how a router comes there, and how many records it has then. Idle; a first Reset Query is not answered
-/// yet, and no version is agreed on; a Serial Query is not answered yet; its answer has begun; so has the answer to a first Reset Query.
+/// The links of the protocol's table: how a router comes there, and how many records it has then. The states: idle. A first Reset Query is
+/// not answered yet, and no version is agreed on. A Serial Query is not answered yet. Its answer has begun. The answer to a first Reset
+/// Query has begun.
 const LINKS: [(&[Step], usize); 5] = [
     (HOLDING, 1),
     (FIRST, 0),
@@ -50,7 +51,7 @@ enum Does {
     /// The link ends by a report of this code that was read. What is committed stays, or is dropped.
     Ends(u16),
     Empties(u16),
-    /// So many records are committed as serial 6.
+    /// This many records are committed as serial 6.
     Commits(usize),
 }
 
@@ -192,7 +193,7 @@ const CELLS: &[(&str, [Does; 5])] = &[
     ),
 ];
 
-/// Whether a report of code 0 on this PDU is to be pulled.
+/// Whether a report of code 0 on this PDU is pending.
 fn reports(router: &mut Router, version: Version, unit: &str) -> bool {
     let mut room = [0u8; 128];
     let unit = bytes_in(version.number(), unit);
@@ -217,7 +218,7 @@ fn is_done(router: &mut Router, version: Version, unit: &str, does: &Does) -> bo
     }
 }
 
-/// Whether a router that had so many records has those that it has to have then.
+/// Whether a router that had this many records has those that it has to have then.
 fn is_kept(router: &Router, does: &Does, records: usize) -> bool {
     let kept = match does {
         Does::Commits(_) => return true,

@@ -72,7 +72,7 @@ fn routers_go_by_version_0(rt: HostRuntime) {
     play_each(&rt, IN_VERSION_0);
 }
 
-/// An answer of session 4660, serial 5, with so many records: 0.0.0.0 and the next addresses, of AS 0 and the next.
+/// An answer of session 4660, serial 5, with this many records: 0.0.0.0 and the next addresses, of AS 0 and the next.
 fn answer_of(alloc: Global, records: u32) -> Result<Vec<u8>, Fail> {
     let mut answer = Vec::new(alloc);
     answer.extend_from_slice(bytes(RESPONSE).as_slice())?;
@@ -86,7 +86,7 @@ fn answer_of(alloc: Global, records: u32) -> Result<Vec<u8>, Fail> {
     Ok(answer)
 }
 
-/// Whether so many records are committed as serial 5, or nothing is.
+/// Whether this many records are committed as serial 5, or nothing is.
 fn has(router: &Router, records: Option<usize>) -> bool {
     match records {
         None => router.table().is_empty() && router.committed().is_none(),
@@ -94,7 +94,7 @@ fn has(router: &Router, records: Option<usize>) -> bool {
     }
 }
 
-/// Whether an answer that is cut behind so many bytes is taken, and this is committed once the connection is closed.
+/// Whether an answer that is cut behind this many bytes is consumed, and this is committed once the connection is closed.
 fn commits(router: &mut Router, front: &[u8], records: Option<usize>) -> bool {
     let count = router.receive(front, 0);
     router.closed(0);
@@ -133,7 +133,7 @@ fn a_change_commits_at_its_last_byte(rt: HostRuntime) {
     }
 }
 
-/// Whether the latest commit withdrew and announced so many records.
+/// Whether the latest commit withdrew and announced this many records.
 fn has_changed(router: &Router, withdrawn: usize, announced: usize) -> Result<bool, AllocError> {
     match router.last_change()? {
         None => Ok(false),
@@ -205,7 +205,7 @@ const INTERVALS: &[(&str, [u64; 3])] = &[
     ("ffffffff ffffffff ffffffff", [86_400, 7200, 172_800]),
 ];
 
-/// Whether a router that was asked for all at moment 100 keeps these intervals where they are told so.
+/// Whether a router that was asked for all at moment 100 keeps these intervals if it receives them.
 fn keeps(router: &mut Router, told: &str, kept: &[u64; 3]) -> bool {
     let [refresh, retry, expire] = *kept;
     let last = expire.saturating_add(100);
@@ -233,7 +233,7 @@ fn intervals_are_brought_into_their_ranges(rt: HostRuntime) {
     }
 }
 
-/// What comes after a Reset Query, how many bytes of it are taken, what is sent, and how the link ends.
+/// What comes after a Reset Query, how many bytes of it are consumed, what is sent, and how the link ends.
 type Hostile = (&'static str, usize, &'static str, End);
 
 /// Spelled in version 1, and the same in version 0.
@@ -329,7 +329,7 @@ const HOSTILE_APART: &[Hostile] = &[
     ),
 ];
 
-/// Whether a connected router of this version takes so many bytes, cut at this place, reports, and ends so.
+/// Whether a connected router of this version consumes this many bytes, split at this place, reports, and ends so.
 fn refuses(router: &mut Router, version: Version, row: &Hostile, came: &Bytes, cut: usize) -> bool {
     let (_, taken, report, end) = row;
     sends(router, &bytes_in(version.number(), RESET_QUERY))
@@ -366,7 +366,7 @@ fn hostile_units_are_refused(rt: HostRuntime) {
     }
 }
 
-/// How many bytes a router takes where they come in two pieces, and what it leaves comes again.
+/// How many bytes a router consumes if they come in two pieces, and what it leaves comes again.
 fn taken_of(router: &mut Router, bytes: &[u8], cut: usize) -> usize {
     let mut count = match bytes.get(..cut) {
         Some(front) => router.receive(front, 0),
@@ -380,7 +380,7 @@ fn taken_of(router: &mut Router, bytes: &[u8], cut: usize) -> usize {
     count
 }
 
-/// Hands in an answer in pieces of so many bytes.
+/// Passes in an answer in pieces of this many bytes.
 fn router_fed<R: AllocGlobal + Abort>(rt: &R, answer: &[u8], size: usize) -> Router {
     let mut router = played(rt, Version::V1, ASKED, "asked");
     for piece in answer.chunks(size.max(1)) {
@@ -389,7 +389,7 @@ fn router_fed<R: AllocGlobal + Abort>(rt: &R, answer: &[u8], size: usize) -> Rou
     router
 }
 
-/// Whether an answer of so many records makes the same table in pieces of every size.
+/// Whether an answer of this many records makes the same table in pieces of every size.
 fn expect_one_table<R: AllocGlobal + Abort>(rt: &R, answer: &[u8], records: usize) {
     let whole = router_fed(rt, answer, 200_032);
     assert!(rt; has(&whole, Some(records)));

@@ -578,7 +578,7 @@ pub(crate) const AT_MOMENTS: &[Script] = &[
             Step::Holds(1, Version::V1, 4660, 5),
         ],
     },
-    // Where what is held expires, the link of a Serial Query ends.
+    // If what is held expires, the link of a Serial Query ends.
     Script {
         name: "a question expires",
         begin: HOLDING,
@@ -652,9 +652,9 @@ pub(crate) const AT_MOMENTS: &[Script] = &[
     },
 ];
 
-/// What a call does, and how much of a piece is taken.
+/// What a call does, and how much of a piece is consumed.
 pub(crate) const AT_CALLS: &[Script] = &[
-    // A connection that is open is closed before the next one: what came of an answer and of a PDU goes.
+    // A connection that is open is closed before the next one: what arrived of an answer and of a PDU is dropped.
     Script {
         name: "connects in an answer",
         begin: SLOW_SINCE,

@@ -1,4 +1,4 @@
-//! What a router does where version 0 is spoken, or was, as scripts. PDUs are spelled as they come and go.
+//! What a router does if version 0 is spoken, or was, as scripts. PDUs are spelled as they come and go.
 use crate::play::Step;
 use crate::scripts::{HOLDING, HOLDING_0, RESET_QUERY_0, Script};
 use example_values::units::{RESPONSE, V_0};
@@ -8,7 +8,7 @@ use rtr_pdu::{Version, error_code};
 /// Code 2, No Data Available, on nothing.
 const NO_DATA_0: &str = "00 0a 0002 00000010 00000000 00000000";
 
-/// Where version 0 is spoken, or was.
+/// If version 0 is spoken, or was.
 pub(crate) const IN_VERSION_0: &[Script] = &[
     Script {
         name: "version 0: connects again",
