@@ -60,7 +60,7 @@ fn calls(server: &Watched, client: Client) -> Option<(usize, Option<Call>)> {
     Some((answers.len(), answers.as_slice().last().copied()))
 }
 
-/// The first turn of a client, of so many calls at most: it is Busy after exactly as many, or it waits, as its last call said.
+/// The first turn of a client, of at most this many calls: it is Busy after exactly as many, or it waits, as its last call said.
 fn turns_well(server: &mut Watched, client: Client, budget: u32) -> bool {
     let most = budget as usize;
     let turn = server.serve(client, budget);
@@ -73,7 +73,7 @@ fn turns_well(server: &mut Watched, client: Client, budget: u32) -> bool {
     }
 }
 
-/// A query on a line that takes seven bytes at a call.
+/// A query on a line that accepts seven bytes at a call.
 fn slow_line(alloc: Global) -> Result<Kept<Line>, Fail> {
     let out = shared(alloc, &[])?;
     let slow = Manner { size: 7, ..PLAIN };

@@ -23,7 +23,7 @@ const TWO_ANSWERS: &str =
 /// A Reset Query in version 0.
 const QUERY_0: &str = "00 02 0000 00000008";
 
-/// Serves a client to its end, in turns of so many calls.
+/// Serves a client to its end, in turns of this many calls.
 fn end_of(server: &mut Memory, client: Client, budget: u32) -> Option<Turn> {
     let mut last = None;
     for _turn in 0..400 {
@@ -182,7 +182,7 @@ fn is_counted(server: &mut Memory, client: Client, answers: u64) -> bool {
         && server.last_serial(client) == Some(Serial(5))
 }
 
-/// A client whose line takes seven bytes at a call.
+/// A client whose line accepts seven bytes at a call.
 fn slow(server: &mut Memory, alloc: Global, asks: &str, out: &Shared) -> Result<Client, Fail> {
     let cut = Manner { size: 7, ..PLAIN };
     client_of(server, alloc, bytes(asks).as_slice(), cut, out)
@@ -213,7 +213,7 @@ const RUNS: Rows = &[
     ("2001:db8:4::/48", 48, 64496),
 ];
 
-/// The same, but for five and one that others take the place of.
+/// The same, except five and one, which others replace.
 const OTHER_RUNS: Rows = &[
     ("192.0.2.0/28", 28, 64496),
     ("198.51.100.0/28", 28, 64496),
@@ -228,8 +228,8 @@ const OTHER_RUNS: Rows = &[
     ("2001:db8:5::/48", 48, 64496),
 ];
 
-/// How many PDUs for IPv4 and IPv6, and how many End of Data, are counted as sent to a router that asks for all and for a difference, where
-/// its line takes so many bytes at a call.
+/// How many PDUs for IPv4 and IPv6, and how many End of Data, are counted as sent to a router. It asks for all and for a difference, and
+/// its line accepts this many bytes at a call.
 fn sent_by_pieces(
     alloc: Global,
     query: &[u8],
@@ -274,7 +274,7 @@ fn is_truncated(server: &mut Memory, alloc: Global, out: &Shared) -> Result<bool
     Ok(server.serve(client, 9) == Some(Turn::Gone(CloseReason::Truncated)))
 }
 
-/// Whether a client that sends what is no PDU has an answer, goes behind that, and is not there any more.
+/// Whether a client that sends what is no PDU has an answer, is closed after it, and is gone.
 fn is_ended(server: &mut Memory, alloc: Global, out: &Shared) -> Result<bool, Fail> {
     let waits = Manner {
         bad_call: 2,

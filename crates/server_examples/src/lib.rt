@@ -1,5 +1,5 @@
-//! Examples of a server of many routers, which are the tests of the public items of `rtr_server`: streams over memory that wait, are
-//! interrupted, fail or take a part at one call, for each call, and clients in every order of turns.
+//! Examples of a server of many routers, which are the tests of the public items of `rtr_server`. They use streams over memory that would
+//! block, are interrupted, fail or accept a part at one call, for each call, and clients in every order of turns.
 #![tactic(auto)]
 
 #[cfg(test)]

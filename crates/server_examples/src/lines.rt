@@ -1,4 +1,4 @@
-//! Lines over memory: what comes of a router, and what went to it.
+//! Lines over memory: what comes from a router, and what went to it.
 use example_values::sets::set_of;
 use rtr_ends::{Cache, Timing};
 use rtr_server::{Client, Duplex, Server};
@@ -13,7 +13,7 @@ use vrps::VersionLog;
 /// Bytes that the test and a stream hold both.
 pub(crate) type Shared = Rc<RefCell<Vec<u8>>>;
 
-/// How a line carries bytes: so many at a call, but at one call (counted from 1, for reads and for writes) an error of this kind. At its
+/// How a line carries bytes: this many at a call, but at one call (counted from 1, for reads and for writes) an error of this kind. At its
 /// end it waits, or is over.
 #[derive(Clone, Copy)]
 pub(crate) struct Manner {
@@ -31,7 +31,7 @@ pub(crate) const PLAIN: Manner = Manner {
     stays_open: true,
 };
 
-/// What comes of a router.
+/// What comes from a router.
 #[derive(Drop)]
 pub(crate) struct Feed {
     list: Shared,
@@ -111,7 +111,7 @@ pub(crate) fn shared(alloc: Global, bytes: &[u8]) -> Result<Shared, Fail> {
     Ok(Rc::new(alloc, RefCell::new(list))?)
 }
 
-/// A line on which these bytes come, and what goes out stands behind what `out` has.
+/// A line on which these bytes come, and what goes out is appended to what `out` has.
 pub(crate) fn line(
     alloc: Global,
     bytes: &[u8],
@@ -176,7 +176,7 @@ pub(crate) fn cache_of(alloc: Global, rows: &[(&str, u8, u32)]) -> Result<Cache<
     Ok(cache)
 }
 
-/// A server of that cache, for so many clients.
+/// A server of that cache, for this many clients.
 pub(crate) fn server_of(
     alloc: Global,
     rows: &[(&str, u8, u32)],

@@ -28,7 +28,7 @@ fn waits(server: &mut Memory, client: Client, budget: u32) -> bool {
     server.serve(client, budget) == Some(Turn::WaitsToRead)
 }
 
-/// Whether the current version has this serial, and so many records.
+/// Whether the current version has this serial, and this many records.
 fn has(server: &Memory, serial: u32, records: usize) -> bool {
     match server.current() {
         None => false,
@@ -121,7 +121,7 @@ fn a_client_in_an_answer_is_notified_right_behind_it(rt: HostRuntime) -> Result<
     Ok(())
 }
 
-/// Whether these bytes stand at a place.
+/// Whether these bytes are at a place.
 fn stands_at(list: &Shared, place: usize, bytes: &[u8]) -> bool {
     match list.try_borrow() {
         Err(_) => false,

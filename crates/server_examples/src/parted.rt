@@ -8,7 +8,7 @@ use rtr_server::{ByteCounts, Client, CloseReason, Parted, PdusByKind, Report, Tu
 use std::alloc::Global;
 use std::test::Fail;
 
-/// What comes of a client, after which its bytes end or it waits, how it goes, and what is counted then of it.
+/// What comes from a client, after which its bytes end or it waits, how it is closed, and what is counted then of it.
 struct Leaving {
     sends: &'static str,
     stays_open: bool,
@@ -120,7 +120,7 @@ const LEAVINGS: &[Leaving] = &[
     },
 ];
 
-/// How often a type stands in a list.
+/// How often a type is in a list.
 fn told(list: &[(Kind, u64)], kind: Kind) -> u64 {
     for &(other, count) in list {
         if other == kind {

@@ -196,7 +196,7 @@ fn waits(server: &mut Memory, client: Client) -> bool {
     server.serve(client, 99) == Some(Turn::WaitsToRead)
 }
 
-/// Whether a story goes as it is told.
+/// Whether a story goes as it is written.
 fn goes_so(server: &mut Memory, alloc: Global, story: &Story) -> Result<bool, Fail> {
     let comes = shared(alloc, &[])?;
     let out = shared(alloc, &[])?;

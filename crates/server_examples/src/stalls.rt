@@ -1,4 +1,4 @@
-//! A client that takes no byte, and one that takes few.
+//! A client that accepts no byte, and one that accepts few.
 use crate::lines::cache_of;
 use example_values::sets::V;
 use rtr_server::{ByteCounts, Client, Duplex, Server, Turn};
@@ -10,10 +10,10 @@ use std::rc::Rc;
 use std::test::Fail;
 use vrps::VersionLog;
 
-/// How many bytes more a client takes, which the test and its line hold both.
+/// How many bytes more a client accepts, which the test and its line both hold.
 type Room = Rc<RefCell<usize>>;
 
-/// What goes to a client that takes so many bytes, and then none.
+/// What goes to a client that accepts this many bytes, and then none.
 #[derive(Drop)]
 struct Narrow {
     room: Room,
@@ -44,7 +44,7 @@ type Tight = Server<VersionLog, Duplex<&'static [u8], Narrow>>;
 /// A Reset Query.
 const QUERY: &[u8] = &[1, 2, 0, 0, 0, 0, 0, 8];
 
-/// The client takes so many bytes more.
+/// The client accepts this many bytes more.
 fn widen(room: &Room, more: usize) -> bool {
     match room.try_borrow_mut() {
         Err(_) => false,
@@ -55,14 +55,14 @@ fn widen(room: &Room, more: usize) -> bool {
     }
 }
 
-/// Whether a client that takes so many bytes more waits to be written to, and has so many then.
+/// Whether a client that accepts this many bytes more waits to be written to, and has this many then.
 fn waits_with(server: &mut Tight, client: Client, room: &Room, more: usize, written: u64) -> bool {
     widen(room, more)
         && server.serve(client, 9) == Some(Turn::WaitsToWrite)
         && server.carried(client) == Some(ByteCounts { read: 8, written })
 }
 
-/// A client whose answer has 52 bytes takes 20 of them, none in two turns, one, and none.
+/// A client whose answer has 52 bytes accepts 20 of them, none in two turns, one, and none.
 fn takes_some(server: &mut Tight, client: Client, room: &Room) -> bool {
     waits_with(server, client, room, 20, 20)
         && waits_with(server, client, room, 0, 20)
