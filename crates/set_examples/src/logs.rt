@@ -59,7 +59,7 @@ fn a_log_knows_what_changed_since_a_version(rt: HostRuntime) -> Result<(), Fail>
     expect_changes(&rt, &mut WholeLog::new(rt.alloc(), 0x1234, 4, 2)?)
 }
 
-/// Whether this is answered: what is withdrawn and announced, or nothing where the version is not known.
+/// Whether this is answered: what is withdrawn and announced, or nothing if the version is not known.
 fn is_answer(alloc: Global, since: &Since, want: Option<(Rows, Rows)>) -> Result<bool, Fail> {
     match (since, want) {
         (Since::Unknown, None) => Ok(true),

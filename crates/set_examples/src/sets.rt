@@ -49,7 +49,7 @@ fn is_walked(set: &VrpSet) -> bool {
     count == set.len()
 }
 
-/// Whether a set is the same where it is duplicated, and as a list.
+/// Whether a set is the same if it is duplicated, and as a list.
 fn is_duplicated(set: &VrpSet) -> Result<bool, Fail> {
     let list = set.duplicate()?.into_list();
     Ok(set.duplicate()?.as_slice() == set.as_slice() && list.as_slice() == set.as_slice())
@@ -262,7 +262,7 @@ const GATHERED: &[&[(Row, bool)]] = &[
     ],
 ];
 
-/// Whether records that come one by one are new where it is said so, are found from then on, and are the same set at the end.
+/// Whether records that come one by one are new if it is said so, are found from then on, and are the same set at the end.
 fn gathers(alloc: Global, rows: &[(Row, bool)]) -> Result<bool, Fail> {
     let mut gathered = Gathered::new(alloc);
     let mut list = Vec::new(alloc);
