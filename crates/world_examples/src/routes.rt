@@ -52,7 +52,7 @@ fn offer<'a>(name: &'a str, files: &'a [FileIn<'a>]) -> Offer<'a> {
     }
 }
 
-/// What comes of these offers at a moment for a route of AS 64496.
+/// The result of these offers at a moment for a route of AS 64496.
 fn fed(
     alloc: Global,
     offers: &[Offer],

@@ -15,7 +15,7 @@ fn route() -> Option<Route> {
     })
 }
 
-/// Whether the one router has so many records, under this session and serial of this version.
+/// Whether the one router has this many records, under this session and serial of this version.
 fn holds(world: &World, records: usize, version: Version, session: u16, serial: u32) -> bool {
     match world.table(0) {
         None => false,
@@ -25,7 +25,7 @@ fn holds(world: &World, records: usize, version: Version, session: u16, serial: 
     }
 }
 
-/// Whether it catches up, and has so many records then.
+/// Whether it catches up, and has this many records then.
 fn catches_up(
     world: &mut World,
     records: usize,
@@ -105,7 +105,7 @@ fn publishes(world: &mut World, alloc: Global, rows: &[Row]) -> Result<bool, Fai
     Ok(world.step(&Event::Publish(set_of(alloc, rows)?)) == Ok(()))
 }
 
-/// What comes of a restart of the cache.
+/// The result of a restart of the cache.
 fn restarts(world: &mut World, session: u16, session0: u16, start: u32) -> Result<(), WorldFault> {
     world.step(&Event::Restart {
         session,
