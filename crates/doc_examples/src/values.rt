@@ -52,7 +52,7 @@ fn manifest(alloc: Global, number: u8, hash: u8) -> Option<Manifest> {
     Manifest::new(alloc, content, from, to, files).ok()
 }
 
-/// Whether a manifest of this number and this hash is that one, where it can be made.
+/// Whether a manifest of this number and this hash is that one, if it can be made.
 fn is_manifest(alloc: Global, one: &Manifest, number: u8, hash: u8) -> Option<bool> {
     let made = manifest(alloc, number, hash)?;
     Some(made == *one)
@@ -75,7 +75,7 @@ fn roa(alloc: Global, asn: u32, prefix: &str, max_len: Option<u8>) -> Option<Roa
     Roa::new(Asn(asn), entries).ok()
 }
 
-/// Whether a ROA of this AS, this prefix and this maximum length is that one, where it can be made.
+/// Whether a ROA of this AS, this prefix and this maximum length is that one, if it can be made.
 fn is_roa(alloc: Global, one: &Roa, asn: u32, prefix: &str, max_len: Option<u8>) -> Option<bool> {
     let made = roa(alloc, asn, prefix, max_len)?;
     Some(made == *one)
