@@ -4,7 +4,7 @@ use arrayvec::ArrayVec;
 /// The bytes of a short payload or of a few PDUs.
 pub type Bytes = ArrayVec<u8, 256>;
 
-/// The bytes that hexadecimal digits spell. What is none is passed over.
+/// The bytes that hexadecimal digits spell. Anything else is skipped.
 pub fn bytes(text: &str) -> Bytes {
     let mut bytes = Bytes::new();
     let mut first = None;

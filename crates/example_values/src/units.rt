@@ -10,8 +10,8 @@ pub fn all_of(units: &[&str]) -> Bytes {
     all
 }
 
-/// A PDU of version 1 that is no Error Report, as it is in version 0: the End of Data has 12 bytes, without intervals (RFC 6810
-/// section 5.8), and all others differ in the version byte alone.
+/// A PDU of version 1 that is no Error Report, as it is in version 0. The End of Data has 12 bytes, without intervals (RFC 6810 section
+/// 5.8). All others differ in the version byte alone.
 fn plain_in_0(unit: &[u8]) -> Bytes {
     let mut all = Bytes::new();
     for (at, &byte) in unit.iter().enumerate() {
