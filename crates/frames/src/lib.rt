@@ -53,7 +53,7 @@ impl<R: Read> FrameReader<R> {
         }
     }
 
-    /// The bytes of the next frame. There is none where the input ends behind a whole frame.
+    /// The bytes of the next frame. There is none if the input ends behind a whole frame.
     pub fn read_frame(&mut self) -> Result<Option<Vec<u8>>, FrameFault>
         ensures { IfOk result (λ found. IfSome found (λ bytes. 0 < length bytes.items)) }
     {
@@ -87,7 +87,7 @@ impl<R: Read> FrameReader<R> {
         Ok(Some(bytes))
     }
 
-    /// So many bytes of the input, or fewer where it ends.
+    /// This many bytes of the input, or fewer if it ends.
     fn read_up_to(&mut self, count: usize) -> io::Result<Vec<u8>> {
         let mut bytes = Vec::new(self.alloc);
         let input = self.input.by_ref();
