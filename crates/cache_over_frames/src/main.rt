@@ -1,11 +1,12 @@
-//! A cache (RFC 8210) over a transport of one's own, which here is frames over the standard streams: a router's frames come on standard
-//! input, and the cache's go to standard output. Over any transport it does the same: it publishes, opens a connection, hands in what comes
-//! on it, sends what is due, and closes it in the end. The SSH subsystem `rpki-rtr` (RFC 8210 section 9.1) has these bytes without frames.
+//! A cache (RFC 8210) over a transport of one's own, which here is frames over the standard streams. A router's frames come on standard
+//! input, and the cache's go to standard output. Over any transport it does the same: it publishes, opens a connection, passes in what
+//! comes on it, sends what is due, and closes it in the end. The SSH subsystem `rpki-rtr` (RFC 8210 section 9.1) has these bytes without
+//! frames.
 //!
-//! Its words are the session and the serial of the first version. A cache that starts again without its earlier versions must not give a new
-//! set an old name (RFC 8210 section 5.1): it takes another session, or goes on with later serials, as by the seconds of a clock.
+//! Its words are the session and the serial of the first version. A cache that starts again without its earlier versions must not give a
+//! new set an old name (RFC 8210 section 5.1). It uses another session, or continues with later serials, such as the seconds of a clock.
 //!
-//! Each loop is proved to end, so those that go on as long as frames come are counted.
+//! Each loop is proved to end, so those that run as long as frames come are counted.
 #![tactic(auto)]
 
 use anyhow::{Result, bail};
@@ -24,7 +25,7 @@ struct Names {
     serial: u32,
 }
 
-/// How many versions before the current one are kept, to tell a router what changed since.
+/// How many versions before the current one are kept, to answer a router what changed since.
 const KEPT_VERSIONS: u32 = 16;
 
 /// What is published: prefixes, the greatest lengths of their routes, and the AS that announces these.
@@ -89,8 +90,8 @@ fn serve<R: Read, W: Write>(
     Ok(())
 }
 
-/// Hands in bytes of the router, and sends what becomes due to it. A call takes them up to the end of a query, whose answer is sent before the
-/// next one is read, and it takes none once the connection has ended.
+/// Passes in bytes of the router, and sends what becomes due to it. A call consumes them up to the end of a query, whose answer is sent
+/// before the next one is read. It consumes none once the connection has ended.
 fn answer<W: Write>(
     cache: &mut Cache<VersionLog>,
     conn: Conn,
