@@ -1,11 +1,12 @@
-//! A router (RFC 8210) over a transport of one's own, which here is frames over the standard streams: the cache's frames come on standard
-//! input, the router's go to standard output, and so what it holds in the end is printed on standard error. Over any transport it does the
-//! same: it connects, sends its question, hands in what comes, and looks at its link.
+//! A router (RFC 8210) over a transport of one's own, which here is frames over the standard streams. The cache's frames come on standard
+//! input, and the router's go to standard output. So what it holds in the end is printed on standard error. Over any transport it does the
+//! same: it connects, sends its question, passes in what comes, and looks at its link.
 //!
-//! A router that goes on calls `tick` when `due` has come, so a read from its transport has to end by then: data that are not refreshed expire
-//! (RFC 8210 section 6), and a cache that is silent is not awaited for ever. Here reads wait, and the clock is looked at after each.
+//! A router that continues calls `tick` when `due` has come, so a read from its transport has to end by then. Data that are not refreshed
+//! expire (RFC 8210 section 6), and a router must not block for ever on a silent cache. Here reads wait, and the clock is looked at after
+//! each.
 //!
-//! Each loop is proved to end, so those that go on as long as frames come are counted.
+//! Each loop is proved to end, so those that run as long as frames come are counted.
 #![tactic(auto)]
 
 use anyhow::{Result, bail};
@@ -68,7 +69,7 @@ fn fetch<R: Read, W: Write, C: Clock>(
     bail!("the input ended before the End of Data");
 }
 
-/// Whether the router holds what the cache has. It is an error where it never will.
+/// Whether the router holds what the cache has. It is an error if it never will.
 fn is_answered(router: &Router) -> Result<bool> {
     match router.link() {
         Link::Asked | Link::Answering => Ok(false),
@@ -79,7 +80,7 @@ fn is_answered(router: &Router) -> Result<bool> {
     }
 }
 
-/// Hands in these bytes of the cache at a moment, and sends what becomes due to it.
+/// Passes in these bytes of the cache at a moment, and sends what becomes due to it.
 fn take<W: Write>(router: &mut Router, bytes: &[u8], output: &mut W, now: u64) -> io::Result<()> {
     let mut rest = bytes;
     for _ in 0..u64::MAX {
@@ -93,7 +94,7 @@ fn take<W: Write>(router: &mut Router, bytes: &[u8], output: &mut W, now: u64) -
     Ok(())
 }
 
-/// Sends what is to be sent to the cache, in frames of up to 4,096 bytes.
+/// Sends what is pending to the cache, in frames of up to 4,096 bytes.
 fn send_due<W: Write>(router: &mut Router, output: &mut W) -> io::Result<()> {
     let mut room = [0; 4096];
     for _ in 0..u64::MAX {
