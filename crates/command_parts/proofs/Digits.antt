@@ -24,7 +24,7 @@ pub prints_more : (a b c : Option (List ℕ)) (done piece : List ℕ) → Append
 prints_more a b c done piece before after =
     subst (λ (t : List ℕ). Appends a c t) (sym (digits-append done piece)) (Appends-trans a b c (encode_lower done) (encode_lower piece) before after)
 
--- what holds where there is a value
+-- what holds if there is a value
 pub when_ok : {T E : Type 0} (r : Result T E) (P : Type 0) → IsOk r → OnOk r P → P
 when_ok (Ok x) P is h = h
 when_ok (Err e) P is h = absurd cc
