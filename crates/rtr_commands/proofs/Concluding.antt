@@ -1,4 +1,4 @@
--- The lines of a connection to which all bytes were handed in.
+-- The lines of a connection that received all bytes.
 use Rattle.std.specs.Prelude.{◌≡◌, ℕ, ◌<◌, Bool, true, false, not, List, [], ◌∷◌, ◌++◌, length, String, string_bytes, Option, None, if◌then◌else◌, MatchBool, refl}
 use Rattle.std.proofs.Common.{Global, sym, ap, ◌∙◌, subst, append-nil, arith, length-append}
 use Rattle.std.specs.List.{AllByRecursion}
@@ -42,7 +42,7 @@ module _ (version : Version) where
       none_after : (units : List Unit) → IsPartial version (as_read version (any_after false units) [])
       none_after units = partial_empty version (any_after false units)
 
-  -- the lines tell these PDUs
+  -- the lines show these PDUs
   same_units : (bytes text : List ℕ) (units : List Unit) → HasLines version bytes text → bytes ≡ sent_all version units → AllByRecursion (IsUnitOf version) units
       → (text ≡ lines_of version units) × AllByRecursion (λ u. is_internal_error u ≡ false) units
   same_units bytes text units h e fit =
@@ -81,7 +81,7 @@ module _ (i : Instance) where
       by_goes true = more
       by_goes false = refl
 
-  -- The version of the bytes, where there are any
+  -- The version of the bytes, if there are any
   abbrev Tells : Version → Connection → List ℕ → Type 0
   Tells version c bytes = 0 < length bytes → version_in c.version bytes ≡ version
 
@@ -145,7 +145,7 @@ left_by : (bytes : List ℕ) (going ended : Bool) (left : Option ℕ) → going 
 left_by bytes going true left e on off = off e
 left_by bytes going false left e on off = on e
 
--- The lines of the replies, where all was handed in
+-- The lines of the replies, if all was received
 pub answers_all : (i : Instance) (c : ℕ) (bytes given : List ℕ) (cache : Cache Steps) (answered : Answered) (going : Bool) → AreBytes bytes → HasExchanged i c bytes given cache → HasLines (first_version bytes) given (string_bytes answered.lines)
     → ((m : CacheState) → ShowsCache HoldsSteps m cache → going ≡ is_open_at (m.at c)) → (going ≡ true → LeavesOff bytes answered.left) → (going ≡ false → answered.left ≡ None) → AnswersBytes i bytes answered
 answers_all i c bytes given cache answered going each x lines opens on off =

@@ -97,7 +97,7 @@ module _ (i : Instance) (c : ℕ) where
       ∙ ap (λ t. length piece - length (conn_takes 1 t s.state.cache p.wanting piece (by_calls i s.calls).conn).rest) s.timing_is
       ∙ ap (λ j. length piece - length (conn_takes 1 default_intervals j p.wanting piece (by_calls i s.calls).conn).rest) (s.cache_is ∙ sym s.cache_now)
 
-  -- A piece is handed in.
+  -- A piece is received.
   pub serves_take : (came old : List ℕ) (cache new : Cache Steps) (piece : List ℕ) (count : ℕ) → (s : ServesOn i c came old cache) → AreBytes piece → TakesPiece HoldsSteps s.state c piece count new → ServesOn i c (came ++ take count piece) old new
   serves_take came old cache new piece count s each p =
       let conn : Conn = (by_calls i s.calls).conn in
@@ -122,7 +122,7 @@ module _ (i : Instance) (c : ℕ) where
         given_is = s.given_is;
       }
 
-  -- Something is consumed where the connection does not stop.
+  -- Something is consumed if the connection does not stop.
   some_taken : (wanting : Option ℕ) (b : ℕ) (piece : List ℕ) (o : Conn) → conn_stops o ≡ false → length (conn_takes 1 default_intervals i wanting (b ∷ piece) o).rest < length (b ∷ piece)
   unfolding conn_takes
   some_taken wanting b piece o h =

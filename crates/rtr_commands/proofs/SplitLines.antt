@@ -19,7 +19,7 @@ use Rattle.rtr_commands.specs.Answered.{LeavesOff, offset_of}
 use Rattle.rtr_commands.specs.Lines.{line_of, lines_of}
 use Rattle.rtr_commands.specs.Serves.{HasLines, is_internal_error}
 
--- where the bytes leave off
+-- the place at which the bytes leave off
 offset_fault : (size : ℕ) (rest : List ℕ) (fault : UnitFault) → offset_of size rest (Some fault) ≡ None
 offset_fault size [] fault = refl
 offset_fault size (b ∷ rest) fault = refl
@@ -56,7 +56,7 @@ pub tests_some : (xs : List ℕ) (b : Bool) → b ≡ (length xs == 0) → b ≡
 tests_some xs b is h = not_zero_of (length xs) (sym is ∙ h)
 
 module _ (version : Version) where
-  -- this holds of the PDUs with which the bytes begin, and the split of what is left goes on behind them
+  -- this holds of the PDUs with which the bytes begin, and the split of what is left continues behind them
   pub record Read (P : List Unit → Type 0) (bytes left : List ℕ) : Type 0 where
     pub units : List Unit
     pub front : List ℕ

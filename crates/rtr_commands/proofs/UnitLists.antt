@@ -1,4 +1,4 @@
--- PDUs that are told one after the other.
+-- PDUs that are shown one after the other.
 use Rattle.std.proofs.Common.{◌≡◌, ℕ, ◌-◌, ◌++◌, false, List, [], ◌∷◌, length, Option, Some, None, Result, Ok, Err, ◌<◌, ◌≤◌, arith, length-append, refl, ap, sym, subst, ◌∙◌, append_assoc, append-nil}
 use Rattle.std.specs.List.{flat_map}
 use Rattle.std.specs.Io.KnownBytes.{Appends}
@@ -24,7 +24,7 @@ use Rattle.rtr_commands.specs.declared.unit_lines.UnitsEnd.TheVariants.{Whole, R
 pub of_first : (bytes : List ℕ) (v : Version) (before left : Option (List ℕ)) (calls now : ℕ) (answer : Result (Option Unit) ReadFault) → v ≡ first_version bytes → ReadsUnit v before left calls now answer → ReadsUnit (first_version bytes) before left calls now answer
 of_first bytes v before left calls now answer e r = subst (λ (x : Version). ReadsUnit x before left calls now answer) e r
 
--- PDUs with which the bytes begin are printed, and the split of what is left goes on behind them
+-- PDUs with which the bytes begin are printed, and the split of what is left continues behind them
 pub record Told (bytes left : List ℕ) (old now : Option (List ℕ)) : Type 0 where
   pub units : List Unit
   pub front : List ℕ

@@ -22,8 +22,8 @@ IsOf i (Pull count) = ⊤
 abbrev pub at_input_end : Instance → List ConnMoment → Connection
 at_input_end i moments = after_all 1 default_intervals (opened i) moments
 
--- Bytes are handed in on a connection of this cache to the last, or to its end, and all that is due is pulled: these PDUs, in the
--- version of the first header, are its replies, and this says whether it has ended.
+-- Bytes are received on a connection of this cache to the last, or to its end, and all that is due is pulled. These PDUs, in the version of
+-- the first header, are its replies, and this says whether it has ended.
 pub record Replies (i : Instance) (bytes : List ℕ) (units : List Unit) (ended : Bool) : Type 0 where
   pub moments : List ConnMoment
   pub came : List ℕ
@@ -36,7 +36,7 @@ pub record Replies (i : Instance) (bytes : List ℕ) (units : List Unit) (ended 
   pub all : ended ≡ false → rest ≡ []
   pub units_are : in_version (first_version bytes) units ≡ replies_from 1 default_intervals None moments
 
--- where the beginning of a PDU stands that follows the PDUs of a stream
+-- the place of the beginning of a PDU that follows the PDUs of a stream
 abbrev pub offset_of : ℕ → List ℕ → Option UnitFault → Option ℕ
 offset_of size (b ∷ rest) None = Some (size - length (b ∷ rest))
 offset_of size rest fault = None
@@ -48,7 +48,7 @@ pub record LeavesOff (bytes : List ℕ) (left : Option ℕ) : Type 0 where
   pub splits : Splits (first_version bytes) false bytes units rest fault
   pub left_is : left ≡ offset_of (length bytes) rest fault
 
--- A line shows each PDU of the replies. What is left is nothing where the connection has ended.
+-- A line shows each PDU of the replies. What is left is nothing if the connection has ended.
 pub record AnswersBytes (i : Instance) (bytes : List ℕ) (answered : Answered) : Type 0 where
   pub units : List Unit
   pub ended : Bool

@@ -19,7 +19,7 @@ use Rattle.rtr_commands.specs.declared.unit_lines.UnitsEnd.TheVariants.{Whole, R
 abbrev pub number_text : ℕ → List ℕ
 number_text n = codes " " ++ decimal n
 
--- the copy in an Error Report in hexadecimal, `-` where it is empty
+-- the copy in an Error Report in hexadecimal, `-` if it is empty
 unfoldable pub copy_text : List ℕ → List ℕ
 copy_text [] = codes "-"
 copy_text (b ∷ bytes) = encode_lower (b ∷ bytes)

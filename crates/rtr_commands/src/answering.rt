@@ -93,7 +93,7 @@ fn pull_all(
     Ok(())
 }
 
-/// Hands in bytes on a connection, piece by piece, and pulls all replies.
+/// Passes in bytes on a connection, piece by piece, and pulls all replies.
 fn exchange(
     cache: &mut Cache<VersionLog>,
     conn: Conn,
@@ -181,7 +181,7 @@ fn unit_lines(alloc: Global, version: Version, bytes: &[u8]) -> Result<String, A
     }
 }
 
-/// Where the beginning of a PDU stands with which the bytes end. They are of the version that the first header gives.
+/// The place of the beginning of a PDU with which the bytes end. They are of the version that the first header gives.
 fn cut_off(bytes: &[u8]) -> Option<usize>
     ensures { LeavesOff bytes.now result }
 {

@@ -15,7 +15,7 @@ use std::net::Net;
 use std::rt::Files;
 use vrps::{VersionLog, VrpSet};
 
-/// The command `units`: the PDUs with which the bytes of a file begin, as a cache reads them. Status 1 where other bytes follow.
+/// The command `units`: the PDUs with which the bytes of a file begin, as a cache reads them. Status 1 if other bytes follow.
 pub fn units<R: Files + AllocGlobal, O: Write>(
     rt: &R,
     file: &str,
@@ -50,7 +50,7 @@ fn cache_of(alloc: Global, name: CacheName, set: VrpSet) -> Result<Cache<Version
 }
 
 /// The command `answer`: the answers of a cache whose one version is the list of the file `vrps`, to the bytes that `hex` spells. Status 1
-/// where the file holds no list, `hex` is no hexadecimal, or the beginning of a PDU is left.
+/// if the file holds no list, `hex` is no hexadecimal, or the beginning of a PDU is left.
 pub fn answer<R: Files + AllocGlobal, O: Write>(
     rt: &R,
     name: CacheName,
@@ -77,8 +77,8 @@ pub fn answer<R: Files + AllocGlobal, O: Write>(
     }
 }
 
-/// The command `serve`: serves so many connections on a port of this machine, by a cache that has published the list of the file `vrps`
-/// under `name`. A connection that failed is counted too, and the first one's fault is answered. Status 1 where the file holds no list.
+/// The command `serve`: serves this many connections on a port of this machine, by a cache that has published the list of the file `vrps`
+/// under `name`. A connection that failed is counted too, and the first one's fault is answered. Status 1 if the file holds no list.
 pub fn serve<R: Files + Net + AllocGlobal, O: Write>(
     rt: &R,
     port: u16,
@@ -103,8 +103,8 @@ pub fn serve<R: Files + Net + AllocGlobal, O: Write>(
     }
 }
 
-/// The command `fetch`: what a router that speaks this version of the protocol fetches from a cache on a port of this machine. Status 1
-/// where that is no list, which is reported.
+/// The command `fetch`: what a router that speaks this version of the protocol fetches from a cache on a port of this machine. Status 1 if
+/// that is no list, which is reported.
 pub fn fetch<R: Net + AllocGlobal, O: Write>(
     rt: &R,
     port: u16,
@@ -119,8 +119,8 @@ pub fn fetch<R: Net + AllocGlobal, O: Write>(
 }
 
 /// The command `loop`: both ends in this process over a connection of this machine. The cache has published the list of the file `vrps`
-/// under `name`; what the router judges is the route of two words. Status 1 where they name none, the file holds no list, or the router
-/// gets none.
+/// under `name`; what the router judges is the route of two words. Status 1 if they name none, the file holds no list, or the router gets
+/// none.
 pub fn both_ends<R: Files + Net + AllocGlobal, O: Write>(
     rt: &R,
     name: CacheName,
@@ -147,7 +147,7 @@ pub fn both_ends<R: Files + Net + AllocGlobal, O: Write>(
     Ok(0)
 }
 
-/// Prints the answers of a cache, and where the beginning of a PDU remains, with the status.
+/// Prints the answers of a cache, and the place of a remaining beginning of a PDU, with the status.
 fn tell_answers<O: Write>(answered: &Answered, out: &mut O) -> Result<u8, ProgramFault>
     ensures { IfOk result (λ s. s ≤ 1) }
 {

@@ -39,7 +39,7 @@ pub fn dial<R: Net>(rt: &R, port: u16) -> io::Result<R::Stream> {
     TcpStream::connect(rt, loopback(port))
 }
 
-/// The next connection. One that its router gave up before it was taken is passed over, and a call that was interrupted is made again.
+/// The next connection. One that its router gave up before it was accepted is skipped, and a call that was interrupted is made again.
 fn accept<L: OpenListener>(listener: &L) -> io::Result<L::Stream> {
     for _call in 0..MOST_READS {
         match listener.accept() {
@@ -56,7 +56,7 @@ fn is_passing(kind: ErrorKind) -> bool {
     matches!(kind, ErrorKind::ConnectionAborted | ErrorKind::Interrupted)
 }
 
-/// Serves so many connections, one after the other. It answers how the first failed that did, and fails where none can be accepted.
+/// Serves this many connections, one after the other. It answers how the first failed that did, and fails if none can be accepted.
 pub fn serve_all<L: OpenListener>(
     listener: &L,
     cache: &mut Cache<VersionLog>,
@@ -101,9 +101,9 @@ fn serve_prepared<T: Read + Write + OpenStream + Drop>(
     Ok(served.err())
 }
 
-/// Ends a connection at which the cache reads no more. Were the socket closed while bytes of the router are unread, the system would reset
-/// the connection, and the Error Report that was sent last could be lost on its way. So the end of the output is sent, and what still
-/// comes is read for some seconds at most.
+/// Ends a connection at which the cache has stopped reading. If the socket were closed while bytes of the router are unread, the system
+/// would reset the connection. The Error Report that was sent last could then be lost on its way. So the end of the output is sent, and
+/// what still comes is read for some seconds at most.
 fn let_go<T: Read + OpenStream>(stream: &mut T) {
     let mut room = [0u8; 32768];
     let wait = Some(Duration::from_millis(LAST_WAIT));
@@ -165,7 +165,7 @@ pub fn fetch_in_turns<T: Read + Write + Drop>(
     Ok((router, fetched))
 }
 
-/// Moves what is to be pulled from a router to the cache. It answers whether there was anything.
+/// Moves what is pending from a router to the cache. It answers whether there was anything.
 fn send_question<T: Read + Write>(
     router: &mut Router,
     cache: &mut Cache<VersionLog>,

@@ -31,7 +31,7 @@ fn print_prefix<W: Write>(announce: bool, vrp: &Vrp, out: &mut W) -> io::Result<
     }
 }
 
-/// Prints the copy of an Error Report in hexadecimal, `-` where it is empty.
+/// Prints the copy of an Error Report in hexadecimal, `-` if it is empty.
 #[tactic(auto, unfolding(crate::specs::UnitLines::copy_text))]
 fn print_copy<W: Write>(copy: &[u8], out: &mut W) -> io::Result<()>
     ensures { OnOk result (Appends (W.contents out.old) (W.contents out.new) (copy_text copy.now)) }

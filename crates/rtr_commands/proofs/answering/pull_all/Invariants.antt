@@ -5,7 +5,7 @@ use Rattle.rtr_commands.specs.Serves.{ServesOn}
 use Rattle.rtr_commands.proofs.Exchanging.{due_in}
 use Rattle.rtr_commands.proofs.answering.pull_all.Given as goal
 
--- what was pulled stands behind what was there
+-- what was pulled is behind what was there
 abbrev pub invariant-loop-conn : goal.invariant-loop-conn
 invariant-loop-conn l =
     (length l.buffer ≡ 4096) × ((i : Instance) (came : List ℕ) → ServesOn i l.conn.0 came l.initial.replies.items l.initial.cache → ServesOn i l.conn.0 came l.replies.items l.cache)
