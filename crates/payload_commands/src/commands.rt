@@ -15,7 +15,7 @@ use std::alloc::Global;
 use std::io::{BufWriter, Write};
 use std::rt::Files;
 
-/// The command `roa`: the entries of the payload of a ROA in a file. Status 1 where it is refused, of which the first fault is printed.
+/// The command `roa`: the entries of the payload of a ROA in a file. Status 1 if it is refused; its first fault is printed.
 pub fn roa<R: Files + AllocGlobal, O: Write>(
     rt: &R,
     file: &str,
@@ -35,8 +35,8 @@ pub fn roa<R: Files + AllocGlobal, O: Write>(
     }
 }
 
-/// The command `manifest`: the fields and the files of the payload of a manifest in a file. Status 1 where it is refused, of which the
-/// first fault is printed.
+/// The command `manifest`: the fields and the files of the payload of a manifest in a file. Status 1 if it is refused; its first fault is
+/// printed.
 pub fn manifest<R: Files + AllocGlobal, O: Write>(
     rt: &R,
     file: &str,
@@ -56,8 +56,8 @@ pub fn manifest<R: Files + AllocGlobal, O: Write>(
     }
 }
 
-/// The command `payloads`: the payloads in use at a moment, after each directory was offered to the
-/// point of its name. All files are read before anything is printed. Status 1 where an offer is refused, or `now` is no moment.
+/// The command `payloads`: the payloads in use at a moment, after each directory was offered to the point of its name. All files are read
+/// before anything is printed. Status 1 if an offer is refused, or `now` is no moment.
 pub fn payloads<R: Files + AllocGlobal + Clone + Drop, O: Write, E: Write>(
     rt: &R,
     now: &str,
@@ -116,8 +116,8 @@ fn refuse_payload<O: Write>(fault: PayloadFault, out: &mut O) -> Result<u8, Prog
     }
 }
 
-/// The command `route`: the state of the route that the words name, over the list of the file `vrps`. Status 1 where they name none, or
-/// the file holds no list.
+/// The command `route`: the state of the route that the words name, over the list of the file `vrps`. Status 1 if they name none, or the
+/// file holds no list.
 pub fn route<R: Files + AllocGlobal, O: Write>(
     rt: &R,
     vrps: &str,

@@ -33,7 +33,7 @@ impl<'a> Directory<'a> {
         &self.manifest
     }
 
-    /// The files, as they are handed in.
+    /// The files, as they are supplied.
     pub fn files(&self, alloc: Global) -> Result<Vec<FileIn<'_>>, AllocError> {
         let mut files = Vec::with_capacity(alloc, self.files.len())?;
         for file in self.files.iter() {
@@ -59,9 +59,8 @@ pub fn read_directories<'a, R: Files + AllocGlobal + Clone + Drop>(
     Ok(directories)
 }
 
-/// Reads `manifest.der`, and each regular file of `objects` with the file of the same name in `contents`,
-/// or with empty content where there is none. What else stands in `objects` is passed over: nothing but a
-/// regular file is opened, a link being what it leads to.
+/// Reads `manifest.der`, and each regular file of `objects` with the file of the same name in `contents`, or with empty content if there is
+/// none. Anything else in `objects` is skipped: nothing but a regular file is opened, a link being what it leads to.
 fn read_directory<'a, R: Files + AllocGlobal + Clone + Drop>(
     rt: &R,
     name: &'a str,
@@ -135,7 +134,7 @@ fn read_regular<R: Files + AllocGlobal>(rt: &R, file: &str) -> io::Result<Vec<u8
     }
 }
 
-/// The bytes of a regular file, none where there is no such file.
+/// The bytes of a regular file, none if there is no such file.
 fn read_or_empty<R: Files + AllocGlobal>(rt: &R, file: &str) -> io::Result<Vec<u8>> {
     match read_regular(rt, file) {
         Err(error) if error.kind() == ErrorKind::NotFound => Ok(Vec::new(rt.alloc())),

@@ -30,7 +30,7 @@ pub fn offer_directory(
 }
 
 /// Prints what became of an offer: the name and `new`, `same`, or `refused` with the number of the
-/// fault and the index of the file, where one is meant.
+/// fault and the index of the file, if one is meant.
 pub fn tell_answer<E: Write>(
     name: &str,
     answer: &Result<Offered, PointFault>,
