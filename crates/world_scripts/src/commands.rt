@@ -6,7 +6,7 @@ use command_parts::{ProgramFault, read_file};
 use std::io::{BufWriter, Write};
 use std::rt::Files;
 
-/// The command `world`: what the script in a file does to a world. Status 1 where a line cannot be read, at which it ends.
+/// The command `world`: what the script in a file does to a world. Status 1 if a line cannot be read, at which it ends.
 pub fn world<R: Files + AllocGlobal, O: Write>(
     rt: &R,
     file: &str,

@@ -38,8 +38,8 @@ impl<'a> Lines<'a> {
     }
 }
 
-/// Plays a script, and prints what it shows and what is refused, with the status: 0 where it reached its end, 1 where a line could not be
-/// read, at which it ends.
+/// Plays a script, and prints what it shows and what is refused, with the status. 0: it reached its end. 1: a line could not be read, at
+/// which it ends.
 pub fn play<O: Write>(alloc: Global, script: &[u8], out: &mut O) -> Result<u8, ProgramFault>
     ensures { IfOk result (λ s. s ≤ 1) }
 {
@@ -124,7 +124,7 @@ fn tell_refused<O: Write>(number: u64, fault: WorldFault, out: &mut O) -> Result
     Ok(())
 }
 
-/// Shows what a router has committed: `v0` where that is of version 0 of the protocol, its session, its serial, and the size of its table.
+/// Shows what a router has committed: `v0` if that is of version 0 of the protocol, its session, its serial, and the size of its table.
 fn show<O: Write>(
     world: &World,
     number: u64,

@@ -8,8 +8,8 @@ use rtr_world::{Event, SideEvent};
 use std::alloc::Global;
 use vrps::{SetFault, VrpSet};
 
-/// With what a world begins: how many routers it has, the session of the cache, and that in version 0 of the protocol, the serial of its
-/// first version, and how many versions before the current one it keeps, from 1 to 65,536.
+/// With what a world begins: how many routers it has, the session of the cache, and that in version 0 of the protocol. Then the serial of
+/// its first version, and how many versions before the current one it keeps, from 1 to 65,536.
 #[derive(Clone, Copy, Debug, PartialEq, Eq)]
 pub struct Beginning {
     /// How many routers.
@@ -74,7 +74,7 @@ impl<'a> Words<'a> {
         u32::try_from(self.number()?).ok()
     }
 
-    /// A number of 16 bits, or this one where the line is over.
+    /// A number of 16 bits, or this one if the line is over.
     fn number_16_or(&mut self, number: u16) -> Option<u16> {
         if self.is_over() {
             Some(number)
@@ -129,7 +129,7 @@ pub fn read_beginning(line: &str) -> Option<Beginning>
     })
 }
 
-/// What a later line says, or `None` where it cannot be read.
+/// What a later line says, or `None` if it cannot be read.
 pub fn read_line(alloc: Global, line: &str) -> Result<Option<Line>, ProgramFault> {
     let mut words = Words::of(line);
     let Some(name) = words.next() else {
