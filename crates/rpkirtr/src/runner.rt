@@ -26,13 +26,13 @@ pub fn out_of_memory<E: Write>(err: &mut E) -> u8
     4
 }
 
-/// Writes the fault's line on standard error. Where that fails too, nothing more can be reported.
+/// Writes the fault's line on standard error. If that fails too, nothing more can be reported.
 fn tell<E: Write>(fault: ProgramFault, err: &mut E) {
     let _ = writeln!(err, "{fault}");
 }
 
-/// Does all that the program does for these words, and answers its status: 0 done, 1 refused input, 2 the words do not parse,
-/// 3 a file, a socket or an output failed, 4 out of memory.
+/// Does all that the program does for these words, and answers its status. It is 0 if done, 1 at refused input, and 2 if the words do not
+/// parse. It is 3 if a file, a socket or an output failed, and 4 if out of memory.
 pub fn run_words<R: Files + Net + AllocGlobal + Clone + Drop, O: Write, E: Write>(
     rt: &R,
     words: &[String],
