@@ -45,7 +45,7 @@ pub struct Publication {
     pub withdrawn: u64,
     /// How many records it has.
     pub records: u64,
-    /// How many milliseconds the publication took.
+    /// The duration of the publication in milliseconds.
     pub milliseconds: u64,
 }
 
