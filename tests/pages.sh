@@ -1,5 +1,6 @@
 #!/usr/bin/env bash
-# The pages of docs/ that are made from the sources are what the sources make, and the pages stay free of the turns that tests/prose.py counts.
+# The pages of docs/ that are made from the sources are what the sources make, and pages and comments stay free of the turns that tests/prose.py
+# counts.
 set -u
 top=$(cd "$(dirname "${BASH_SOURCE[0]}")/.." && pwd) || exit 1
 failed=0

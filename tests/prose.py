@@ -1,10 +1,12 @@
 #!/usr/bin/env python3
-"""Counts in the pages turns of phrase that a reader stumbles over, and sentences of more than 30 words.
+"""Counts in the pages, and in the comments of sources and definitions, turns of phrase that a reader stumbles over, and sentences of more
+than 30 words.
 
 usage: tests/prose.py [--list [PAGE]]
 
-The pages are README.md, SECURITY.md, docs/*.md but the generated DEFINITIONS.md, and the manual pages. Code, examples and output do not
-count. The status is 1 if a count over all pages is above its bound. With --list each place is printed, of all pages or of one."""
+The pages are README.md, SECURITY.md, docs/*.md but the generated DEFINITIONS.md, and the manual pages. The comments are those of crates/*/src
+and crates/*/specs. Code, examples and output do not count. The status is 1 if a count over all pages, or over all comments, is above its
+bound. With --list each place is printed: of all pages and comments, of one page, or of the comments of one file or crate."""
 import glob
 import os
 import re
@@ -13,25 +15,29 @@ import sys
 TOP = os.path.realpath(f"{os.path.dirname(os.path.abspath(__file__))}/..")
 LONGEST = 30
 
-# Each turn, its pattern, and how often it may occur in all pages: some are right now and then.
+# Each turn, its pattern, and how often it may occur in all pages and in all comments: some are right now and then. The bounds of comments are
+# the counts that were reached; whoever lowers a count lowers its bound.
 TURNS = [
-    ("where (for a condition, mostly)", r"\bwhere\b", 6),
-    ("take, taken", r"\b(?:take|takes|taken|taking|took)\b", 3),
-    ("stand, stands", r"\b(?:stand|stands|stood|standing)\b", 0),
-    ("told, tells", r"\b(?:tell|tells|told|telling)\b", 3),
-    ("owed, owes", r"\bow(?:e|es|ed)\b", 0),
-    ("is to be", r"\b(?:is|are|was|were) to be\b", 0),
-    ("does not wait", r"\b(?:does|do|did) not wait\b", 0),
-    ("any more, no more", r"\bany more\b|\bno more\b(?! than)", 1),
-    ("else, heading a clause", r"(?:^|[,;:.] |\bor |\band )else\b(?! who| where)", 0),
-    ("so many", r"\bso many\b", 0),
-    ("goes on", r"\b(?:go|goes|went|going) on\b", 0),
-    ("handed in", r"\b(?:hand|hands|handed|handing) in\b", 0),
-    ("behind", r"\bbehind\b", 4),
-    ("passed over, at hand", r"\b(?:pass|passes|passed) over\b|\bat hand\b", 0),
-    ("comes of", r"\b(?:came|come|comes) of\b", 0),
+    ("where (for a condition, mostly)", r"\bwhere\b", 6, 85),
+    ("take, taken", r"\b(?:take|takes|taken|taking|took)\b", 3, 28),
+    ("stand, stands", r"\b(?:stand|stands|stood|standing)\b", 0, 39),
+    ("told, tells", r"\b(?:tell|tells|told|telling)\b", 3, 5),
+    ("owed, owes", r"\bow(?:e|es|ed)\b", 0, 0),
+    ("is to be", r"\b(?:is|are|was|were) to be\b", 0, 0),
+    ("does not wait", r"\b(?:does|do|did) not wait\b", 0, 0),
+    ("any more, no more", r"\bany more\b|\bno more\b(?! than)", 1, 4),
+    ("else, heading a clause", r"(?:^|[,;:.] |\bor |\band )else\b(?! who| where)", 0, 3),
+    ("so many", r"\bso many\b", 0, 10),
+    ("goes on", r"\b(?:go|goes|went|going) on\b", 0, 0),
+    ("handed in", r"\b(?:hand|hands|handed|handing) in\b", 0, 0),
+    ("behind", r"\bbehind\b", 4, 124),
+    ("passed over, at hand", r"\b(?:pass|passes|passed) over\b|\bat hand\b", 0, 4),
+    ("comes of", r"\b(?:came|come|comes) of\b", 0, 1),
 ]
-SENTENCES = 6
+SENTENCES, LONG_IN_COMMENTS = 6, 18
+
+# A comment that has its line for itself: its indent with its mark, and its words.
+COMMENT = re.compile(r"( *(?://[/!]?|--))(?: +(.*)|)$")
 
 
 def read(path):
@@ -42,6 +48,31 @@ def read(path):
 def pages():
     found = [f"{TOP}/README.md", f"{TOP}/SECURITY.md", *sorted(glob.glob(f"{TOP}/docs/*.md")), *sorted(glob.glob(f"{TOP}/docs/man/*.[18]"))]
     return [it for it in found if not it.endswith("/DEFINITIONS.md")]
+
+
+def commented():
+    """The sources and definitions of all crates."""
+    found = []
+    for kind in ("src/**/*.rt", "specs/**/*.antt"):
+        found += glob.glob(f"{TOP}/crates/*/{kind}", recursive=True)
+    return sorted(found)
+
+
+def of_comments(text):
+    """The paragraphs and list items of a file's comments, without the examples in them."""
+    parts, block, mark, on = [], [], None, True
+    for line in [*text.split("\n"), ""]:
+        found = COMMENT.match(line)
+        said = (found.group(2) or "") if found else ""
+        is_fence = said.startswith("```")
+        on = (on != is_fence) if found else True
+        if not said or is_fence or said.startswith(("- ", "* ", "|", "#", "----")) or found.group(1) != mark:
+            parts.append(" ".join(block))
+            block = []
+        mark = found.group(1) if found else None
+        if said and on and not is_fence:
+            block.append(said)
+    return [plain(it) for it in [*parts, " ".join(block)] if it.strip(" -|")]
 
 
 def of_markdown(text):
@@ -93,30 +124,48 @@ def words(sentence):
     return len(re.findall(r"[^\W_][\w'.,:/-]*", sentence))
 
 
+def parts_of(path):
+    """The texts of a page or of a file's comments."""
+    kinds = {".md": of_markdown, ".rt": of_comments, ".antt": of_comments}
+    return kinds.get(os.path.splitext(path)[1], of_manual)(read(path))
+
+
 def found_in(path):
-    """What is counted in a page: the name of a turn, or None for a long sentence, and the text around it."""
-    text = read(path)
-    for part in of_markdown(text) if path.endswith(".md") else of_manual(text):
+    """What is counted in a page or in a file: the name of a turn, or None for a long sentence, and the text around it."""
+    for part in parts_of(path):
         for sentence in sentences(part):
             if words(sentence) > LONGEST:
                 yield None, f"{words(sentence)} words: {sentence}"
-            for name, pattern, _bound in TURNS:
+            for name, pattern, *_bounds in TURNS:
                 for hit in re.finditer(pattern, sentence, re.I):
                     yield name, sentence[max(0, hit.start() - 50) : hit.end() + 50]
 
 
-def main(listed, only):
-    counts = {name: 0 for name, _pattern, _bound in TURNS} | {None: 0}
-    for path in pages():
+def is_listed(path, only):
+    """Whether the places of a page or file are printed: if `only` is empty, its name, or the name of its crate."""
+    name = os.path.relpath(path, TOP)
+    return only in ("", os.path.basename(path), name) or name.startswith(f"crates/{only}/")
+
+
+def is_over(what, paths, bounds, listed, only):
+    """Whether a count over all these paths is above its bound. Counts above their bounds are printed, and with `listed` all."""
+    counts = dict.fromkeys(bounds, 0)
+    for path in paths:
         for name, around in found_in(path):
             counts[name] += 1
-            if listed and only in ("", os.path.basename(path)):
+            if listed and is_listed(path, only):
                 print(f"{os.path.relpath(path, TOP)}: {name or 'long sentence'}: {around}")
-    bounds = {name: bound for name, _pattern, bound in TURNS} | {None: SENTENCES}
     over = [it for it in counts if counts[it] > bounds[it]]
     for it in counts if listed else over:
-        print(f"{counts[it]} times {it or f'a sentence of over {LONGEST} words'}, and at most {bounds[it]} are allowed", file=sys.stderr)
-    return 1 if over else 0
+        print(f"{what}: {counts[it]} times {it or f'a sentence of over {LONGEST} words'}, and at most {bounds[it]} are allowed", file=sys.stderr)
+    return bool(over)
+
+
+def main(listed, only):
+    in_pages = {name: bound for name, _pattern, bound, _comments in TURNS} | {None: SENTENCES}
+    in_comments = {name: bound for name, _pattern, _pages, bound in TURNS} | {None: LONG_IN_COMMENTS}
+    over = [is_over("pages", pages(), in_pages, listed, only), is_over("comments", commented(), in_comments, listed, only)]
+    return 1 if any(over) else 0
 
 
 if __name__ == "__main__":
