@@ -62,8 +62,8 @@ pub fn text<'a>(value: &'a Value, key: &str) -> Option<&'a str>
     value.get(key).and_then(Value::as_str)
 }
 
-/// The payload of these numbers and this text. `None` if the text is no prefix or the AS number is not below 2^32. Also `None` if the maximum
-/// length is below that of the prefix, or over 32 (IPv4) or 128 (IPv6).
+/// The payload of these numbers and this text. `None` if the text is no prefix or the AS number is not below 2^32. Also `None` if the
+/// maximum length is below that of the prefix, or over 32 (IPv4) or 128 (IPv6).
 pub fn payload(asn: u64, max_len: u64, prefix: &str) -> Option<Vrp>
     ensures some { IfSome result (λ v. MakesPayload asn max_len prefix.now v) }
     ensures one { IfSome result (λ v. (w : Payload) → MakesPayload asn max_len prefix.now w → w ≡ v) }

@@ -210,7 +210,7 @@ WritesFrom remaining contents From old new To =
     (s : Serving) (before had : Option (List ℕ)) → From (client_of s old) → Flow before (remaining old.stream) had (contents old.stream) (client_of s old)
     → Wrote remaining contents before had s old new To
 
--- This is what comes next.
+-- This is the next step of a client in this state.
 abbrev pub StandsFor : Next → ClientState → Type 0
 StandsFor Write s = IsToWrite s
 StandsFor Read s = IsIdle s
