@@ -22,7 +22,7 @@ abbrev pub IsTimeOf : Option (List ℕ) → Option ℕ → Type 0
 IsTimeOf text (Some n) = (t : List ℕ) × (text ≡ Some t) × ((m : CivilMoment) × SaysTime m t × (n ≡ seconds_of m))
 IsTimeOf text None = (t : List ℕ) → text ≡ Some t → (m : CivilMoment) → ¬ (SaysTime m t)
 
--- The whole number `generated`; where there is none, the moment that the text `buildtime` says
+-- The whole number `generated`; if there is none, the moment that the text `buildtime` says
 abbrev pub IsBuilt : Option ℕ → Option (List ℕ) → Option ℕ → Type 0
 IsBuilt (Some n) text built = built ≡ Some n
 IsBuilt None text built = IsTimeOf text built

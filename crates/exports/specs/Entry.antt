@@ -11,8 +11,8 @@ use Rattle.exports.specs.declared.entry.ExportEntry.{ExportEntry}
 use Rattle.exports.specs.declared.fault.EntryFault.{EntryFault}
 use Rattle.exports.specs.declared.fault.EntryFault.TheVariants as faults
 
--- What is looked at in an entry: under each key the whole number or the text that stands there, if one does. Under `expires`
--- something may stand that is no whole number.
+-- What is looked at in an entry: under each key its whole number or its text, if it has one. The value of `expires`
+-- may be no whole number.
 pub record Said : Type 0 where
   pub asn_number : Option ℕ
   pub asn_text : Option (List ℕ)
@@ -74,7 +74,7 @@ SaysFault s faults.MaxLength =
 SaysFault s faults.Expires =
     ((n : ℕ) × SaysAsn s n) × ((p : IpPrefix) × SaysPrefix s p × ((m : ℕ) × SaysMaxLen s p m)) × ((t : Option ℕ) → ¬ (SaysExpiry s t))
 
--- An entry is an object; its other members are passed over.
+-- An entry is an object. Its other members are ignored.
 abbrev pub IsEntry : Data → ExportEntry → Type 0
 IsEntry d e = (is_some (as_object d) ≡ true) × SaysEntry (said d) e
 

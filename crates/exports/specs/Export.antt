@@ -28,7 +28,7 @@ pub record IsList (d : Data) (es : List ExportEntry) : Type 0 where
   pub listed : lists.AreEntries items payloads
   pub entries_are : es ≡ map lasting payloads
 
--- the array roas, where there is one
+-- the array roas, if there is one
 abbrev pub roas : Data → Option Items
 roas d = option_and_then as_array (get (codes "roas") d)
 
@@ -46,8 +46,8 @@ Lists d es = IsList d es ⊎ HasRoas d es
 abbrev pub Reads : List ℕ → Data → Type 0
 Reads bytes d = IsUtf8 bytes × (json.read bytes ≡ Some d)
 
--- These bytes are an export, in which each name that is read stands once in its object: at a moment, the set of the entries that count, how many
--- do not, and when it was made.
+-- These bytes are an export at a moment: the set of the entries that count, how many do not, and when it was made. Each name that is read is in
+-- its object once.
 pub record IsExport (bytes : List ℕ) (now : ℕ) (x : Export) : Type 0 where
   pub value : Data
   pub reads : Reads bytes value
@@ -59,7 +59,7 @@ pub record IsExport (bytes : List ℕ) (now : ℕ) (x : Export) : Type 0 where
   pub expired_is : x.expired ≡ expired now entries
   pub built_is : IsBuilt (generated value) (buildtime value) x.built
 
--- These bytes are JSON of this value, and of an object each name that is read stands once in its object.
+-- These bytes are JSON of this value. In an export of the object form each name that is read is in its object once.
 abbrev pub ReadsOnce : List ℕ → Data → Type 0
 ReadsOnce bytes d = Reads bytes d × ¬ (Repeats bytes)
 

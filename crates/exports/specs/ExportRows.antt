@@ -128,7 +128,7 @@ leap_day = record { text_is = refl; real = refl }
 
 -- ---- what an entry says
 
--- `expires` where it is a number, a text, and nothing
+-- `expires` is a number, a text, and missing
 expires_as_number : in_text (λ d. Some (said d).expires) (codes "{\"expires\":100}") ≡ Some (Some (Some 100))
 unfolding serde_json_on_literals
 expires_as_number = refl

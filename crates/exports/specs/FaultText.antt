@@ -1,4 +1,4 @@
--- A fault in words, beside what stands in the file
+-- A fault in words, without the values in the file
 use Rattle.std.specs.Prelude.{ℕ, List, [], ◌++◌, codes}
 use Rattle.std.specs.Fmt.{decimal}
 use Rattle.exports.specs.Faults.{export_fault_number}

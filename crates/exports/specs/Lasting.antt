@@ -17,13 +17,13 @@ last_second (Some t) = t - 1
 abbrev pub last_seconds : ℕ → List ExportEntry → List ℕ
 last_seconds now es = map (λ e. last_second e.expires) (filter (counts_at now) es)
 
--- The payloads whose last second is not before a moment. One beside which none stands counts.
+-- The payloads whose last second is not before a moment. One that has none counts.
 abbrev pub counting : ℕ → List Payload → List ℕ → List Payload
 counting t [] lasts = []
 counting t (v ∷ vs) [] = v ∷ vs
 counting t (v ∷ vs) (last ∷ lasts) = cond (nat_le t last) (v ∷ counting t vs lasts) (counting t vs lasts)
 
--- the last second that stands at a place, if one does
+-- the last second at a place, if there is one
 abbrev pub last_at : List ℕ → ℕ → ℕ
 last_at lasts i = unwrap_or (slice_get lasts i) 18446744073709551615
 

@@ -28,7 +28,7 @@ without_expiry = refl
 greatest_expiry : last_second (Some 18446744073709551615) ≡ 18446744073709551614
 greatest_expiry = refl
 
--- of three entries at 100 the first counts no more
+-- of three entries at 100 the first has expired
 those_that_count : last_seconds 100 (ends 1 100 ∷ ends 2 101 ∷ stays 3 ∷ []) ≡ 100 ∷ 18446744073709551615 ∷ []
 those_that_count = refl
 

@@ -61,7 +61,7 @@ PassesItems k = ReadsItems k (λ js ds. ⊤)
 abbrev pub PassesMembers : ℕ → List Token → List Token → Type 0
 PassesMembers k = ReadsMembers k (λ js ms. ⊤)
 
--- what was scalar of a value
+-- The scalar is this value.
 abbrev pub IsScalar : Data → Scalar → Type 0
 IsScalar d s =
     (whole d ≡ s.number) × (as_str d ≡ option_map (λ t. t.now) s.text) × (is_some (as_array d) ≡ s.array) × (is_some (as_object d) ≡ s.object)
@@ -110,16 +110,16 @@ TellsItems now ds (Broken i w) = FailsAt ds i w
 abbrev pub ReadsEntry : List Token → List Token → Result ExportEntry EntryFault × Bool → Type 0
 ReadsEntry old new r = ReadsSome 125 (λ j d. IsJudged d r.0 × (r.1 ≡ entry_repeats j)) old new
 
--- The entries of which this is told were read to the end of their array, and whether a name is repeated in one of them.
+-- These entries were read to the end of their array, and whether a name is repeated in one of them.
 abbrev pub ReadsEntries : ℕ → List Token → List Token → Entries × Bool → Type 0
 ReadsEntries now old new r = ReadsItems 125 (λ js ds. TellsListed now ds r.0 × (r.1 ≡ items_repeat js)) old new
 
--- This is told of the value roas.
+-- The value roas has these entries.
 abbrev pub TellsRoas : ℕ → Data → Option Entries → Type 0
 TellsRoas now d None = as_array d ≡ None
 TellsRoas now d (Some entries) = (ds : Items) × (as_array d ≡ Some ds) × TellsItems now ds entries
 
--- The value roas was read, of which this is told, and whether a name is repeated in an entry.
+-- The value roas was read, and whether a name is repeated in an entry.
 abbrev pub ReadsRoas : ℕ → List Token → List Token → Option Entries × Bool → Type 0
 ReadsRoas now old new r = ReadsSome 126 (λ j d. TellsRoas now d r.0 × (r.1 ≡ roas_repeat j)) old new
 
@@ -127,7 +127,7 @@ ReadsRoas now old new r = ReadsSome 126 (λ j d. TellsRoas now d r.0 × (r.1 ≡
 abbrev pub ReadsBuilt : List Token → List Token → Option ℕ × Bool → Type 0
 ReadsBuilt old new r = ReadsSome 126 (λ j d. TellsBuilt d r.0 × (r.1 ≡ metadata_repeat j)) old new
 
--- This is told of the member roas, where it is an array.
+-- The member roas has these entries, if it is an array.
 abbrev pub HasEntries : ℕ → Data → Option Entries → Type 0
 HasEntries now d None = roas d ≡ None
 HasEntries now d (Some entries) = (ds : Items) × (roas d ≡ Some ds) × TellsItems now ds entries
@@ -142,7 +142,7 @@ abbrev pub ReadsPart : ℕ → List ℕ → ExportMembers → ExportMembers → 
 ReadsPart now name before after old new =
     ReadsSome 126 (λ j d. ((ms : Members) → HasParts now ms before → HasParts now (put name d ms) after) × (after.repeats ≡ (before.repeats || member_repeats name j))) old new
 
--- What is told of the entries of a value in either form
+-- The entries of a value in either form
 abbrev pub TellsEntries : ℕ → Data → Option Entries → Type 0
 TellsEntries now d None = (roas d ≡ None) × ((es : List ExportEntry) → ¬ (IsList d es))
 TellsEntries now d (Some (Whole g)) = (es : List ExportEntry) × Lists d es × Gathers now es g

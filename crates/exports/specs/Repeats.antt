@@ -8,12 +8,12 @@ use Rattle.serde_json.specs.Read.{max_depth}
 abbrev pub tree : List ℕ → Option Json
 tree text = option_and_then (λ p. if_last p.0 p.1) (value max_depth (tokens text))
 
--- A name stands among members ..
+-- A name is among members ..
 abbrev pub Stands : List ℕ → Members → Type 0
 Stands name no_members = ⊥
 Stands name (member k j ms) = (name ≡ k) ⊎ Stands name ms
 
--- .. and once more behind the first of that name.
+-- .. and again after the first of that name.
 abbrev pub StandsTwice : List ℕ → Members → Type 0
 StandsTwice name no_members = ⊥
 StandsTwice name (member k j ms) = ((name ≡ k) × Stands name ms) ⊎ StandsTwice name ms

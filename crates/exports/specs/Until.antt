@@ -9,12 +9,12 @@ use Rattle.exports.specs.declared.export.TimedExport.{TimedExport}
 abbrev pub endings : ℕ → List ExportEntry → List ℕ
 endings now es = filter_map (λ e. e.expires) (filter (counts_at now) es)
 
--- The first of some seconds, where there is one
+-- The first of some seconds, if there is one
 abbrev pub IsFirst : List ℕ → Option ℕ → Type 0
 IsFirst ts None = ts ≡ []
 IsFirst ts (Some t) = Contains ts t × All (λ s. t ≤ s) ts
 
--- A second is before an end; where there is none, each is.
+-- A second is before an end. If there is none, each is.
 abbrev pub IsBefore : ℕ → Option ℕ → Type 0
 IsBefore t None = ⊤
 IsBefore t (Some end) = t < end

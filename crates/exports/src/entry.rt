@@ -10,15 +10,15 @@ use crate::fault::EntryFault;
 use prefix_texts::parse_prefix;
 use prefixes::{Asn, IpPrefix, Vrp};
 
-/// What an entry lists: a payload, and the second since 1970 from which on it does not count, where the entry has one.
+/// What an entry lists: a payload, and its expiry in seconds since 1970, if it has one.
 #[derive(Clone, Copy, Debug)]
 pub struct ExportEntry {
     pub(crate) payload: Vrp,
     pub(crate) expires: Option<u64>,
 }
 
-/// What was found in an entry: under each key the whole number or the text that stands there, if one does. Under `expires` something may
-/// stand that is no whole number.
+/// What was found in an entry: under each key its whole number or its text, if it has one. The value of `expires` may
+/// be no whole number.
 #[derive(Clone, Copy, Debug)]
 pub struct RawEntry<'a> {
     pub(crate) asn_number: Option<u64>,

@@ -22,7 +22,7 @@ pub struct Export {
     pub set: VrpSet,
     /// How many entries do not count, as their `expires` is not after the moment.
     pub expired: u64,
-    /// When the export was made, in seconds since 1970, where it says so.
+    /// When the export was made, in seconds since 1970, if it says so.
     pub built: Option<u64>,
 }
 
@@ -31,8 +31,8 @@ pub struct Export {
 pub struct TimedExport {
     /// The export at the moment. It is the same at each later one before `until`.
     pub export: Export,
-    /// The least `expires` of the entries that count, in seconds since 1970: then one of them counts no more. Where none of them has
-    /// one, the export stays what it is.
+    /// The least `expires` of the entries that count, in seconds since 1970. From that second on, one of them does not count. `None`: none of
+    /// them has an expiry.
     pub until: Option<u64>,
 }
 

@@ -11,7 +11,7 @@ use prefixes::Vrp;
 use std::alloc::{AllocError, Global};
 
 /// What was gathered of entries: the payloads of those that count and for each the last second at which it does, how many entries do not
-/// count, and the first second at which one that counts does not, where there is one.
+/// count, and the first second at which one that counts does not, if there is one.
 #[derive(Debug, Drop)]
 pub struct EntryRecords {
     pub(crate) records: Vec<Vrp>,
@@ -40,7 +40,7 @@ fn last_second(expires: Option<u64>) -> u64
     }
 }
 
-/// The sooner of two ends, where there are any.
+/// The sooner of two ends, if there are any.
 fn sooner(one: Option<u64>, other: Option<u64>) -> Option<u64>
     ensures { (ts us : List ℕ) → IsFirst ts one → IsFirst us other → IsFirst (ts ++ us) result }
 {
@@ -77,7 +77,7 @@ impl EntryRecords {
         })
     }
 
-    /// Whether the count of those that do not count can grow no more.
+    /// Whether the number of expired entries has reached its limit.
     pub(crate) fn is_full(&self) -> bool
         ensures full { OnTrue result (self.now.expired + 1 ≡ 2 ^ 64) }
         ensures room { OnFalse result (self.now.expired + 1 < 2 ^ 64) }

@@ -1,4 +1,4 @@
-//! Why a text is not JSON, and where.
+//! The reason why a text is not JSON, and its position.
 use crate::numbers::scalar_number;
 use crate::streaming::NESTING;
 use json::{Reader, Scratch, Token};
@@ -95,7 +95,7 @@ fn large_number<'a>(token: &Token<'a>) -> Option<&'a str> {
     }
 }
 
-/// What of a text is not JSON. `at` is where, in a text that is not JSON at this byte.
+/// The reason why a text is not JSON. `at` is the position of the first byte that is not.
 fn reason(alloc: Global, at: Position, number: Option<&str>) -> Result<String, AllocError> {
     match number {
         Some(number) => {

@@ -35,7 +35,7 @@ fn set_of_copy(alloc: Global, records: &[Vrp]) -> Result<VrpSet, ExportFault>
     set_from(records.to_vec(alloc)?)
 }
 
-/// Where a member stands in a listing: at the place that is guessed, or at another.
+/// The index of a member in a listing: the guessed one, or another.
 fn place_of(members: &[Vrp], vrp: &Vrp, guess: usize) -> usize
     requires ascends { IsStrictlySortedBy vrp_cmp members.now }
     requires member { has (set_of members.now) vrp.now ≡ true }
@@ -60,7 +60,7 @@ fn last_at(lasts: &[u64], index: usize) -> u64
     }
 }
 
-/// For each member of the set of these records the greatest of the last seconds that stand beside it.
+/// For each member of the set of these records the greatest of its last seconds.
 fn lasts_of(
     alloc: Global,
     members: &[Vrp],

@@ -12,7 +12,7 @@ pub fn one_export()
     one_saying();
 }
 
-/// Bytes that are an export, at a moment, have no fault; so `read_export` refuses them only where memory runs out.
+/// Bytes that are an export, at a moment, have no fault; so `read_export` refuses them only if memory runs out.
 pub fn no_fault_of_exports()
     ensures { NoFaultOfExports }
 {

@@ -1,4 +1,4 @@
-//! Numbers of JSON, as `serde_json` takes them.
+//! Numbers of JSON, as `serde_json` reads them.
 ghost use Rattle.std.specs.Prelude.{◌≡◌, ◌==◌, ◌<◌, false, length, option_map, slice_index, true, IsTrue};
 ghost use Rattle.serde_json.specs.Find.{as_u64};
 ghost use Rattle.serde_json.specs.Read.{float_of, number_from, number_of};
@@ -13,7 +13,8 @@ fn has_minus(bytes: &[u8]) -> bool
     !bytes.is_empty() && bytes[0] == b'-'
 }
 
-/// What is scalar of a number that is read as a float. `None`: it is too large for one.
+/// A number that is read as a float. `None`: it is too large for one. Such numbers are rare.
+#[inline(never)]
 fn as_float(negative: bool, numeral: &Numeral<'_>) -> Option<Option<u64>>
     ensures { result ≡ option_map as_u64 (float_of negative numeral.now) }
 {
@@ -24,7 +25,7 @@ fn as_float(negative: bool, numeral: &Numeral<'_>) -> Option<Option<u64>>
     }
 }
 
-/// What is scalar of a number without a minus.
+/// A number without a minus.
 fn unsigned(numeral: &Numeral<'_>) -> Option<Option<u64>>
     ensures { result ≡ option_map as_u64 (number_from false numeral.now) }
 {
@@ -34,7 +35,8 @@ fn unsigned(numeral: &Numeral<'_>) -> Option<Option<u64>>
     }
 }
 
-/// What is scalar of a number behind a minus.
+/// A number with a minus. Such numbers are rare.
+#[inline(never)]
 fn negative(numeral: &Numeral<'_>) -> Option<Option<u64>>
     ensures { result ≡ option_map as_u64 (number_from true numeral.now) }
 {

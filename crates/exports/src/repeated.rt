@@ -1,4 +1,4 @@
-//! Which name is repeated in an export, and where.
+//! The name that is repeated in an export, and its object.
 ghost use Rattle.std.specs.Prelude.{◌<◌, length, IfOk, IfNone, IfSome};
 
 use crate::names::{EntryNames, Names};
@@ -85,7 +85,7 @@ fn in_metadata<'a>(reader: &mut Reader<'a>) -> Option<Option<&'a str>>
     }
 }
 
-/// Which name is repeated in the value of a member of the export, which comes next, and where. `None`: it cannot be read.
+/// Which name is repeated in the value of a member of the export, which comes next, and its object. `None`: it cannot be read.
 fn in_value(
     alloc: Global,
     reader: &mut Reader<'_>,
@@ -110,7 +110,7 @@ fn in_value(
     }
 }
 
-/// Which name is repeated in an export whose members come next, and where.
+/// Which name is repeated in an export whose members come next, and its object.
 fn in_export(alloc: Global, reader: &mut Reader<'_>) -> Result<Option<String>, AllocError> {
     let mut names = Names::NONE;
     while let Some(Some(name)) = next_name(reader) {

@@ -19,7 +19,7 @@ use std::alloc::{AllocError, Global};
 /// How deep a text may nest.
 pub(crate) const NESTING: usize = 127;
 
-/// What was scalar of a value: the whole number or the text that it is, if it is one, and whether it is an array or an object.
+/// A value, as far as an export needs it: its whole number or its text, if it is one, and whether it is an array or an object.
 #[derive(Clone, Copy, Debug, Drop)]
 pub struct Scalar<'a> {
     pub(crate) number: Option<u64>,
@@ -28,7 +28,7 @@ pub struct Scalar<'a> {
     pub(crate) object: bool,
 }
 
-/// What is scalar of a value that is none of these.
+/// A value that is none of these.
 const NEITHER: Scalar<'static> = Scalar {
     number: None,
     text: None,
@@ -36,7 +36,7 @@ const NEITHER: Scalar<'static> = Scalar {
     object: false,
 };
 
-/// What is scalar of an array.
+/// An array.
 const ARRAY: Scalar<'static> = Scalar {
     number: None,
     text: None,
@@ -44,7 +44,7 @@ const ARRAY: Scalar<'static> = Scalar {
     object: false,
 };
 
-/// What is scalar of an object.
+/// An object.
 const OBJECT: Scalar<'static> = Scalar {
     number: None,
     text: None,
@@ -164,7 +164,7 @@ fn pass_members(reader: &mut Reader<'_>, depth: usize) -> bool
     }
 }
 
-/// What was found with one member more, which takes the place of one of its name.
+/// The entry with one member more. It replaces an earlier member of its name.
 fn with_member<'a>(found: RawEntry<'a>, name: &str, scalar: Scalar<'a>) -> RawEntry<'a>
     ensures { (ms : Members) (d : Data) → IsRawEntry ms found.entry → IsScalar d scalar.entry → IsRawEntry (put name.now d ms) result }
 {
@@ -386,7 +386,7 @@ pub struct ExportMembers {
     pub(crate) repeats: bool,
 }
 
-/// Reads the value of a member, which takes the place of one of its name.
+/// Reads the value of a member. It replaces an earlier member of its name.
 fn with_part(
     alloc: Global,
     reader: &mut Reader<'_>,

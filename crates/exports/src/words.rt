@@ -1,4 +1,4 @@
-//! Faults of exports in words, with what stands in the file.
+//! Faults of exports in words, with the values in the file.
 ghost use Rattle.std.specs.Prelude.{◌≡◌, ◌++◌, List, ℕ, IfOk, string_bytes};
 ghost use Rattle.exports.specs.FaultText.{number_text, place};
 
@@ -13,7 +13,7 @@ use json_texts::{NO_ASN, NO_MAX_LENGTH, NO_PREFIX, Position, cut_text, name_text
 use std::alloc::{AllocError, Global};
 use std::str;
 
-/// The entry of `roas` in which a fault is, counted from 0, or what else stands first.
+/// The entry of `roas` that has a fault, counted from 0, or what else a message begins with.
 fn place(alloc: Global, fault: ExportFault) -> Result<String, AllocError>
     ensures { IfOk result (λ text. string_bytes text ≡ place fault) }
 {

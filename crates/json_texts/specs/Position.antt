@@ -1,4 +1,4 @@
--- Where a text ends, as editors count: a line ends with a line feed.
+-- The line and the column after a text, as editors count: a line ends with a line feed.
 use Rattle.std.specs.Prelude.{◌≡◌, ◌≢◌, ◌⊎◌, ◌==◌, ℕ, suc, List, [], ◌∷◌, ◌++◌, length, count_by, codes}
 use Rattle.std.specs.List.{All}
 use Rattle.std.specs.Fmt.{decimal}
@@ -6,7 +6,7 @@ use Rattle.std.specs.Fmt.{decimal}
 abbrev pub line_feed : ℕ
 line_feed = 10
 
--- Behind this text the next byte stands in this line, in this column: the last line has all that follows the last line feed.
+-- The next byte after this text is in this line, in this column. The last line has all that follows the last line feed.
 pub record StandsAt (text : List ℕ) (line column : ℕ) : Type 0 where
   pub line_is : line ≡ suc (count_by (λ b. b == line_feed) text)
   pub before : List ℕ

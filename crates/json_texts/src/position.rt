@@ -1,4 +1,4 @@
-//! Where a byte stands in a text.
+//! The line and the column of a byte in a text.
 ghost use Rattle.std.specs.Prelude.{◌≡◌, take};
 ghost use Rattle.json_texts.specs.Position.{StandsAt};
 
@@ -14,7 +14,7 @@ pub struct Position {
 }
 
 impl Position {
-    /// The place of the byte behind so many others. Behind the end of the text it is that of the end.
+    /// The place of the byte at an offset. If that is after the end of the text, it is the place of the end.
     pub fn at(text: &[u8], offset: usize) -> Position
         ensures { StandsAt (take offset text.now) result.line result.column }
     {

@@ -1,4 +1,4 @@
--- Texts of prefixes in which an IPv6 address may be in mixed notation: its last 32 bits stand as an IPv4 address does
+-- Texts of prefixes in which an IPv6 address may be in mixed notation: its last 32 bits are written as an IPv4 address
 -- (RFC 4291 section 2.2, form 3; RFC 5952 section 5). The plain texts are those of `prefixes`.
 use Rattle.std.specs.Prelude.{◌≡◌, ◌⊎◌, ℕ, ◌%◌, ◌^◌, ◌≤◌, ◌<◌, List, ◌++◌, flat_map, take, replicate, Result, Ok, Err, codes}
 use Rattle.std.specs.Fmt.{decimal}
@@ -18,15 +18,15 @@ high_groups addr = take 6 (groups addr)
 abbrev pub dotted_tail : ℕ → List ℕ
 dotted_tail addr = v4_address (addr % 2 ^ 32)
 
--- a colon behind each
+-- a colon after each
 abbrev pub with_colons : List (List ℕ) → List ℕ
 with_colons texts = flat_map (λ text. text ++ codes ":") texts
 
--- The six groups have a colon behind each ..
+-- The six groups have a colon after each ..
 abbrev pub IsFullMixed : ℕ → List ℕ → Type 0
 IsFullMixed addr text = (texts : List (List ℕ)) × AreHexGroups (high_groups addr) texts × (text ≡ with_colons texts ++ dotted_tail addr)
 
--- .. or `::` stands among them, for one zero group or more.
+-- .. or `::` is among them, for one zero group or more.
 pub record IsCompressedMixed (addr : ℕ) (text : List ℕ) : Type 0 where
   pub before : List ℕ
   pub after : List ℕ

@@ -60,7 +60,7 @@ fn v6_prefix(text: &str) -> Result<IpPrefix, PrefixFault>
     Ok(IpPrefix::V6(judged(addr, len)?))
 }
 
-/// The prefix that a text spells, as `IpPrefix::parse` reads it. Besides, the last 32 bits of an IPv6 address may stand as an IPv4
+/// The prefix that a text spells, as `IpPrefix::parse` reads it. Besides, the last 32 bits of an IPv6 address may be written as an IPv4
 /// address does, in dotted decimal (RFC 4291 section 2.2, form 3; RFC 5952 section 5). Other text is `BadText`; then a length over the
 /// family's width is `TooLong`; then a bit set after the first bits is `HostBits`.
 pub fn parse_prefix(text: &str) -> Result<IpPrefix, PrefixFault>

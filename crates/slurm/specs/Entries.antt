@@ -28,7 +28,7 @@ asn_of d = given why.Asn (whole_at (codes "asn") d) >>= λ n. if nat_lt n (2 ^ 3
 abbrev pub asn_if_any : Data → Result (Option Asn) SlurmEntryFault
 asn_if_any d = if is_none (get (codes "asn") d) then Ok None else (asn_of d >>= λ a. Ok (Some a))
 
--- what stands under a name is a text
+-- the value of a name is a text
 abbrev pub text_of : SlurmEntryFault → List ℕ → Data → Result ⊤ SlurmEntryFault
 text_of e name d = unless e (is_some (text_at name d))
 

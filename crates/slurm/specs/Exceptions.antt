@@ -39,7 +39,7 @@ exceptions_of s = record { filters = s.filters.items; assertions = s.assertions 
 abbrev pub excepted : Exceptions → VrpSet → VrpSet
 excepted e s = union (map.retain_keys s (λ v. not (is_filtered e.filters v))) e.assertions
 
--- A payload is in what comes of a set exactly where it is in the set and no filter matches it, or an assertion says it.
+-- A payload is in the result for a set if and only if it is in the set and no filter matches it, or an assertion has it.
 abbrev pub IsExcepted : Exceptions → VrpSet → VrpSet → Type 0
 IsExcepted e s t = (v : Payload) → has t v ≡ ((has s v && not (is_filtered e.filters v)) || has e.assertions v)
 

@@ -12,7 +12,7 @@ total d = option_map member_count (as_object d)
 abbrev pub one_for : List ℕ → Data → ℕ
 one_for key d = if is_some (get key d) then 1 else 0
 
--- An object of so many members. It has each key once, so that it has no others if so many known keys are there.
+-- An object of this number of members. It has each key once. So if it has as many known keys, it has no others.
 abbrev pub is_of_members : ℕ → Option ℕ → Bool
 is_of_members n None = false
 is_of_members n (Some m) = m == n

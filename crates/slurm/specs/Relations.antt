@@ -45,7 +45,7 @@ abbrev pub SaysPrefix : Data → Option IpPrefix → Type 0
 SaysPrefix d None = get (codes "prefix") d ≡ None
 SaysPrefix d (Some p) = SpellsPrefix d p
 
--- What stands under a name is a text.
+-- The value of a name is a text.
 abbrev pub HasText : List ℕ → Data → Type 0
 HasText name d = IsSome (text_at name d)
 
@@ -104,7 +104,7 @@ Each Says (d ∷ ds) (x ∷ xs) = Says d x × Each Says ds xs
 Each Says [] (x ∷ xs) = ⊥
 Each Says (d ∷ ds) [] = ⊥
 
--- An array stands under this name, and its entries are such.
+-- The value of this name is an array of such entries.
 abbrev pub Lists : List ℕ → (List Data → Type 0) → Data → Type 0
 Lists name Are d = (ds : Items) × (option_and_then as_array (get name d) ≡ Some ds) × Are (listed ds)
 
@@ -143,6 +143,6 @@ pub record IsSlurmFile (bytes : List ℕ) (e : Exceptions) : Type 0 where
   pub names_once : NamesOnce bytes
   pub is_file : IsFile value e
 
--- Exceptions are read of the bytes exactly where the bytes are a file of them.
+-- Exceptions are read of the bytes if and only if the bytes are a file of them.
 abbrev pub ReadsExactly : Type 0
 ReadsExactly = (bytes : List ℕ) (e : Exceptions) → (ReadsSlurm bytes (Ok e) ↔ IsSlurmFile bytes e)

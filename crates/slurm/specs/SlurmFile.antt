@@ -85,11 +85,11 @@ abbrev pub ReadsJson : List ℕ → Result Data SlurmFault → Type 0
 ReadsJson bytes (Ok d) = IsJson bytes d
 ReadsJson bytes (Err e) = (e ≡ fault.NotJson) × ((d : Data) → ¬ (IsJson bytes d))
 
--- No name stands twice in an object of the text, at any depth. (A value keeps the last of two members of a name, and the text has both.)
+-- No name is repeated in an object of the text, at any depth. (A value keeps the last of two members of a name, and the text has both.)
 abbrev pub NamesOnce : List ℕ → Type 0
 NamesOnce bytes = (j : Json) × (document bytes ≡ Some j) × HasUniqueKeys j
 
--- A value is judged if no name stands twice.
+-- A value is judged if no name is repeated.
 abbrev pub ReadsOnce : List ℕ → Data → Result Exceptions SlurmFault → Type 0
 ReadsOnce bytes d r = (NamesOnce bytes × ReadsValue d r) ⊎ ((¬ (NamesOnce bytes)) × (r ≡ Err fault.Repeated))
 

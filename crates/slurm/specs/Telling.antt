@@ -1,4 +1,4 @@
--- A fault in words, beside what stands in the file
+-- A fault in words, without the values in the file
 use Rattle.std.specs.Prelude.{◌≡◌, ◌⊎◌, ℕ, ◌≤◌, false, List, [], ◌++◌, length, take, codes}
 use Rattle.std.specs.Fmt.{decimal}
 use Rattle.serde_json.specs.Data.{Data}
@@ -35,9 +35,9 @@ place Repeated = []
 abbrev pub number_text : SlurmFault → List ℕ
 number_text f = codes " (fault " ++ decimal (slurm_fault_number f) ++ codes ")"
 
--- ---- what stands in the file
+-- ---- the values in the file
 
--- An array stands in one of the file's two objects.
+-- The file's two objects have these arrays.
 abbrev pub object_of : SlurmArray → SlurmObject
 object_of PrefixFilters = Filters
 object_of BgpsecFilters = Filters

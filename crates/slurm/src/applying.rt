@@ -21,7 +21,7 @@ fn push_if(records: &mut Vec<Vrp>, vrp: &Vrp, wanted: bool) -> Result<(), AllocE
     Ok(())
 }
 
-/// The records that some filter matches, in their order. The records and the filters are walked once, side by side: the filters at hand are
+/// The records that some filter matches, in their order. The records and the filters are walked once, side by side: the current filters are
 /// those that cover the present record.
 fn filtered(
     alloc: Global,
@@ -53,7 +53,7 @@ fn matched(alloc: Global, filters: &[PrefixFilter], set: &VrpSet) -> Result<VrpS
 }
 
 /// The members of the set that no filter matches, together with the assertions, on which filters do not act.
-/// `TooMany` where these are more than a set may have; `Memory` where memory runs out.
+/// `TooMany`: these are more than a set may have. `Memory`: out of memory.
 pub fn apply(slurm: &Slurm, alloc: Global, set: &VrpSet) -> Result<VrpSet, SetFault>
     ensures ok { IfOk result (λ t. (t ≡ excepted (exceptions_of slurm.now) set.now) × (size t ≤ 16777215)) }
     ensures members { IfOk result (IsExcepted (exceptions_of slurm.now) set.now) }

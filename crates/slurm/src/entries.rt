@@ -17,7 +17,7 @@ use prefixes::{Asn, IpPrefix, Vrp};
 use serde_json::Value;
 use std::alloc::Global;
 
-/// What stands in an array.
+/// The items of an array.
 pub(crate) trait Entry: Copy {
     ghost use Rattle.slurm.specs.declared.fault.SlurmEntryFault.{SlurmEntryFault};
 
@@ -51,7 +51,7 @@ pub(crate) fn entries<E: Entry>(
     Ok(values)
 }
 
-/// Judges whether an entry is an object that has so many members.
+/// Judges whether an entry is an object of this number of members.
 fn know_members(value: &Value, known: usize) -> Result<(), SlurmEntryFault>
     ensures { result ≡ members_known known (total (view value.now)) }
 {
@@ -86,7 +86,7 @@ fn asn_if_any(value: &Value) -> Result<Option<Asn>, SlurmEntryFault>
     Ok(Some(asn))
 }
 
-/// Judges what stands under a key of an entry, which is a text.
+/// Judges whether the value of a key of an entry is a text.
 fn know_text(value: &Value, key: &str, fault: SlurmEntryFault) -> Result<(), SlurmEntryFault>
     ensures { result ≡ text_of fault key.now (view value.now) }
 {
@@ -96,7 +96,7 @@ fn know_text(value: &Value, key: &str, fault: SlurmEntryFault) -> Result<(), Slu
     Err(fault)
 }
 
-/// Judges what stands under a key of an entry, if anything does.
+/// Judges the value of a key of an entry, if there is one.
 fn know_text_if_any(value: &Value, key: &str, fault: SlurmEntryFault) -> Result<(), SlurmEntryFault>
     ensures { result ≡ text_if_any fault key.now (view value.now) }
 {

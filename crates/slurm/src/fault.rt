@@ -21,7 +21,7 @@ pub enum SlurmArray {
 impl SlurmArray {
     ghost use Rattle.slurm.specs.Telling.{array_key, object_of};
 
-    /// The key under which it stands.
+    /// Its key.
     pub fn key(self) -> &'static str
         ensures { result.now ≡ array_key self }
     {
@@ -33,7 +33,7 @@ impl SlurmArray {
         }
     }
 
-    /// The object in which it stands.
+    /// The object that has it.
     pub(crate) fn object(self) -> SlurmObject
         ensures { result ≡ object_of self }
     {
@@ -44,7 +44,7 @@ impl SlurmArray {
     }
 }
 
-/// The key under which it stands.
+/// The key of an object.
 impl Display for SlurmArray {
     fn fmt<W: fmt::Write>(&self, f: &mut fmt::Formatter<W>) -> fmt::Result {
         write!(f, "{}", self.key())
@@ -65,7 +65,7 @@ pub enum SlurmObject {
 impl SlurmObject {
     ghost use Rattle.slurm.specs.Telling.{object_name};
 
-    /// The key under which it stands, or that it is the file.
+    /// Its key, or that it is the file.
     pub fn name(self) -> &'static str
         ensures { result.now ≡ object_name self }
     {
@@ -77,14 +77,14 @@ impl SlurmObject {
     }
 }
 
-/// The key under which it stands, or that it is the file.
+/// Its key, or that it is the file.
 impl Display for SlurmObject {
     fn fmt<W: fmt::Write>(&self, f: &mut fmt::Formatter<W>) -> fmt::Result {
         write!(f, "{}", self.name())
     }
 }
 
-/// Why an entry of an array cannot be read. Where there are several reasons, the first of these is reported.
+/// Why an entry of an array cannot be read. If there are several reasons, the first of these is reported.
 #[derive(Clone, Copy, Debug, PartialEq, Eq, Error)]
 pub enum SlurmEntryFault {
     /// It is no object.

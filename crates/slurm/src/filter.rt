@@ -4,8 +4,8 @@ ghost use Rattle.std.specs.Prelude.{◌≡◌};
 use prefixes::{Asn, IpPrefix, Vrp};
 use vrps::VrpSet;
 
-/// A prefix filter (RFC 8416 section 3.3.1). It matches a record whose prefix is this prefix or is covered by it, where there is one, and
-/// whose AS is this AS, where there is one.
+/// A prefix filter (RFC 8416 section 3.3.1). It matches a record whose prefix is this prefix or is covered by it, if there is one, and
+/// whose AS is this AS, if there is one.
 #[derive(Clone, Copy, Debug, PartialEq, Eq)]
 pub struct PrefixFilter {
     /// The prefix that it reaches, with all that it covers; none for every prefix.

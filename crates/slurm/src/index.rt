@@ -123,7 +123,7 @@ fn know_prefixes(prefixes: &[IpPrefix])
     }
 }
 
-/// Of ascending prefixes adds those from a place on that are not after another one, and answers where these end.
+/// Of ascending prefixes adds those from a place on that are not after another one, and returns the index after the last of these.
 pub(crate) fn add_up_to(
     opened: &mut Vec<IpPrefix>,
     prefixes: &[IpPrefix],
@@ -148,7 +148,7 @@ pub(crate) fn keep_covering(opened: &mut Vec<IpPrefix>, prefix: &IpPrefix)
     opened.retain(|other| other.covers(prefix));
 }
 
-/// Whether one of the filters, which stand in ascending order of the AS, is of the AS and covers the prefix.
+/// Whether one of the filters, which are in ascending order of the AS, is of the AS and covers the prefix.
 fn any_of_both(filters: &[Both], asn: u32, prefix: &IpPrefix) -> bool
     requires { IsNonDecreasingBy (λ f. f.asn) filters.now }
     ensures { result ≡ list_any (λ f. (f.asn == asn) && covers f.prefix prefix.now) filters.now }
@@ -166,7 +166,7 @@ fn any_of_these_covers(filters: &[Both], prefix: &IpPrefix) -> bool
     filters.iter().any(|filter| filter.prefix.covers(prefix))
 }
 
-/// Whether the number stands in the ascending list.
+/// Whether the number is in the ascending list.
 fn has_number(numbers: &[u32], number: u32) -> bool
     requires { IsNonDecreasing numbers.now }
     ensures { result ≡ list_any (λ n. n == number) numbers.now }

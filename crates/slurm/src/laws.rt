@@ -18,7 +18,7 @@ pub fn one_reading()
     ensures { OneReading }
 {}
 
-/// Exceptions are read of bytes exactly where these are a SLURM file of them.
+/// Exceptions are read of bytes if and only if these are a SLURM file of them.
 pub fn reads_exactly()
     ensures { ReadsExactly }
 {}

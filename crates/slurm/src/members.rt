@@ -31,7 +31,7 @@ pub(crate) fn one_for(value: &Value, key: &str) -> usize
     if has(value, key) { 1 } else { 0 }
 }
 
-/// Whether it is an object of so many members.
+/// Whether it is an object of this number of members.
 pub(crate) fn is_of_members(value: &Value, count: usize) -> bool
     ensures { result ≡ is_of_members count (total (view value.now)) }
 {

@@ -85,7 +85,7 @@ fn in_array<'a>(
     Ok(None)
 }
 
-/// Which name is repeated, and where.
+/// The name that is repeated, and its object.
 fn found_text(alloc: Global, file: &Tree<'_>) -> Result<String, AllocError> {
     if let Some(name) = repeated(alloc, file)? {
         let shown = name_text(alloc, name)?;

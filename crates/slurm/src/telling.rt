@@ -1,4 +1,4 @@
-//! Faults in words, with what stands in the file.
+//! Faults in words, with the values in the file.
 ghost use Rattle.std.specs.Prelude.{◌≡◌, ◌++◌, List, ℕ, IfOk, string_bytes, codes};
 ghost use Rattle.std.specs.Fmt.{decimal};
 ghost use Rattle.slurm.specs.Telling.{number_text, place};
@@ -48,7 +48,7 @@ fn entry_members(array: SlurmArray) -> &'static [&'static str] {
     }
 }
 
-/// Where a fault lies.
+/// The object, array or entry that has a fault.
 fn place(alloc: Global, fault: SlurmFault) -> Result<String, AllocError>
     ensures { IfOk result (λ text. string_bytes text ≡ place fault) }
 {
@@ -246,7 +246,7 @@ fn why_in(alloc: Global, file: &Value, fault: SlurmFault) -> Result<String, Allo
     }
 }
 
-/// What is wrong with bytes that have this fault and are JSON, or where they are none.
+/// What is wrong with bytes that have this fault, or the position at which they are not JSON.
 fn json_why(alloc: Global, bytes: &[u8], fault: SlurmFault) -> Result<String, AllocError> {
     match Value::from_slice(alloc, bytes) {
         Ok(file) => why_in(alloc, &file, fault),

@@ -28,7 +28,7 @@ abbrev pub with_lists : ℕ → VrpSet → List Listed → VrpSet
 with_lists at s [] = s
 with_lists at s (l ∷ ls) = with_lists at (union s (counting_at at l)) ls
 
--- with local exceptions, where there are any
+-- with local exceptions, if there are any
 abbrev pub excepted_by : Option Slurm → VrpSet → VrpSet
 excepted_by None s = s
 excepted_by (Some e) s = excepted (exceptions_of e) s
@@ -53,8 +53,8 @@ pub record IsServed (points : Points) (lists : List Listed) (exceptions : Option
   pub in_use : Lists used points now
   pub is : t ≡ narrowed leaves (excepted_by exceptions (with_lists (seconds_of now) (set_of used) lists))
 
--- The payloads that publication points have in use at a moment and those of files that count then are more than a set may have, or local
--- exceptions make so many of them.
+-- The payloads that publication points have in use at a moment and those of files that count then are more than a set may have. Or the local
+-- exceptions make more than that of them.
 pub record PassesLimit (points : Points) (lists : List Listed) (exceptions : Option Slurm) (now : CivilMoment) : Type 0 where
   pub used : List Payload
   pub in_use : Lists used points now
@@ -74,7 +74,7 @@ abbrev pub is_asserted : Option Slurm → Payload → Bool
 is_asserted None v = false
 is_asserted (Some e) v = has e.assertions v
 
--- So many payloads are left out.
+-- This number of payloads is left out.
 pub record LeavesOut (points : Points) (lists : List Listed) (exceptions : Option Slurm) (leaves : Bool) (now : CivilMoment) (n : ℕ) : Type 0 where
   pub used : List Payload
   pub in_use : Lists used points now
@@ -94,7 +94,7 @@ pub record HasServed (points : Points) (lists : List Listed) (exceptions : Optio
 abbrev pub is_any_before : ℕ → List ℕ → Bool
 is_any_before at lasts = list_any (λ last. nat_lt last at) lasts
 
--- What was taken of a file is the set of its export at the moment, with the last second of each payload.
+-- What is kept of a file is the set of its export at the moment, with the last second of each payload.
 pub record IsTaken (bytes : List ℕ) (now : ℕ) (expired : ℕ) (l : Listed) : Type 0 where
   pub read : ExportLasting
   pub is : IsExportLasting bytes now read
@@ -103,32 +103,32 @@ pub record IsTaken (bytes : List ℕ) (now : ℕ) (expired : ℕ) (l : Listed) :
   pub built_is : l.built ≡ read.export.built
   pub expired_is : expired ≡ read.export.expired
 
--- Why an export is not taken: there is no such file, or its bytes have a fault.
+-- Why an export is refused: there is no such file, or its bytes have a fault.
 abbrev pub IsRefused : List ℕ → ℕ → ℕ → List Listed → TakeFault → Type 0
 IsRefused bytes now i lists NoSuchFile = length lists ≤ i
 IsRefused bytes now i lists (Export fault) = (i < length lists) × HasFault bytes now fault
 
--- The export of a file is taken whole, or nothing changes.
+-- The export of a file is replaced as a whole, or nothing changes.
 abbrev pub TakesExport : List ℕ → ℕ → ℕ → Result ℕ TakeFault → List Listed → List Listed → Type 0
 TakesExport bytes now i (Ok expired) old new = (i < length old) × ((l : Listed) × IsTaken bytes now expired l × (new ≡ slice_set old i l))
 TakesExport bytes now i (Err fault) old new = IsRefused bytes now i old fault × (new ≡ old)
 
--- Local exceptions are taken whole, or nothing changes.
+-- Local exceptions are replaced as a whole, or nothing changes.
 abbrev pub TakesSlurm : List ℕ → Result (Unit {0}) SlurmFault → Option Slurm → Option Slurm → Type 0
 TakesSlurm bytes (Ok u) old new = (e : Slurm) × ReadsSlurm bytes (Ok (exceptions_of e)) × (new ≡ Some e)
 TakesSlurm bytes (Err fault) old new = (fault ≡ Memory ⊎ ReadsSlurm bytes (Err fault)) × (new ≡ old)
 
--- Nothing was taken of a file yet ..
+-- No export of a file was read yet ..
 pub record IsNothing (l : Listed) : Type 0 where
   pub set : l.set ≡ empty
   pub lasts : l.lasts.items ≡ []
   pub built : l.built ≡ None
 
--- .. nor of any of so many.
+-- .. nor of any of these files.
 abbrev pub NoneTaken : ℕ → List Listed → Type 0
 NoneTaken n lists = (length lists ≡ n) × All IsNothing lists
 
--- how many payloads of a file that counted when it was taken do not count at the moment
+-- how many payloads of a file counted when it was read and do not count at the moment
 abbrev pub expired_of : ℕ → Option Listed → ℕ
 expired_of now None = 0
 expired_of now (Some l) = count_by (λ last. nat_lt last now) l.lasts.items
@@ -142,7 +142,7 @@ built_at (Some l) = l.built
 abbrev pub ServesAt : Sources → CivilMoment → VrpSet → Type 0
 ServesAt s now t = IsServed s.repository s.lists.items s.exceptions s.leaves_out now t
 
--- What is taken of an export, and of local exceptions, by the sources
+-- What the sources keep of an export, and of local exceptions
 abbrev pub ExportTaken : List ℕ → ℕ → ℕ → Result ℕ TakeFault → Sources → Sources → Type 0
 ExportTaken bytes now i result old new =
     TakesExport bytes now i result old.lists.items new.lists.items × (new.exceptions ≡ old.exceptions) × (new.repository ≡ old.repository) × (new.leaves_out ≡ old.leaves_out)

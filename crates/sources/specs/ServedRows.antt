@@ -1,4 +1,4 @@
--- What counts at a moment of what was taken of a file, worked out.
+-- Which records of a file count at a moment, worked out.
 use Rattle.std.specs.Prelude.{◌≡◌, ℕ, List, [], ◌∷◌, true, false, count_by, nat_lt, ◌||◌, Some, refl}
 use Rattle.std.proofs.Common.{ap, ◌∙◌}
 use Rattle.std.specs.List.Sorted.{IsStrictlySortedBy}

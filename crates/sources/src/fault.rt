@@ -1,13 +1,13 @@
-//! Why the export of a file is not taken.
+//! Why the export of a file is refused.
 ghost use Rattle.std.specs.Prelude.{◌≡◌};
 
 use exports::ExportFault;
 use thiserror::Error;
 
-/// Why the export of a file is not taken.
+/// Why the export of a file is refused.
 #[derive(Clone, Copy, Debug, Drop, PartialEq, Eq, Error)]
 pub enum TakeFault {
-    /// There are not so many files: no file has this number, counted from 0.
+    /// No file has this number, counted from 0.
     #[error("no file has this number")]
     NoSuchFile,
     /// The bytes give no export.

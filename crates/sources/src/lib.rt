@@ -1,5 +1,5 @@
-//! What a cache serves, from where it comes: exports of validators, publication points, and local exceptions. [`Sources`] keeps what was
-//! taken last of each, and makes one set of them.
+//! The sources of what a cache serves: exports of validators, publication points, and local exceptions. [`Sources`] keeps the
+//! last good content of each, and makes one set of them.
 //!
 //! For example, where `rt` is the runtime that `main` is handed:
 //!

@@ -16,12 +16,12 @@ pub struct Listed {
     pub set: VrpSet,
     /// For each record, in the set's order, the last second at which it counts; `u64::MAX` if it does not end.
     pub lasts: Vec<u64>,
-    /// When the export was made, where it says so.
+    /// When the export was made, if it says so.
     pub built: Option<u64>,
 }
 
 impl Listed {
-    /// No record yet. It takes no memory.
+    /// No record yet. It allocates nothing.
     pub fn empty(alloc: Global) -> Listed
         ensures { IsNothing result }
     {
@@ -69,7 +69,7 @@ fn is_counting(lasts: &[u64], index: usize, now: u64) -> bool
     }
 }
 
-/// Puts a record behind others, if it counts.
+/// Appends a record, if it counts.
 fn push_if(left: &mut Vec<Vrp>, vrp: &Vrp, counts: bool) -> Result<(), AllocError>
     ensures { OnOk result (left.new.items ≡ left.old.items ++ cond counts (vrp.now ∷ []) []) }
 {

@@ -16,7 +16,7 @@ use slurm::{Slurm, SlurmFault, apply, read_slurm};
 use std::alloc::{AllocError, Global};
 use vrps::{Change, SetFault, VrpSet};
 
-/// What was taken last of each source, and the set that is made of all.
+/// The last good content of each source, and the set that is made of all.
 #[derive(Debug, Drop)]
 pub struct Sources {
     alloc: Global,
@@ -37,7 +37,7 @@ pub struct ServedSet {
 }
 
 impl Sources {
-    /// Sources of so many files, of which nothing was taken yet, without exceptions and publication points. No payload is left out.
+    /// Sources of this number of files, none of which was read yet, without exceptions and publication points. No payload is left out.
     pub fn new(alloc: Global, files: usize) -> Result<Sources, AllocError>
         ensures { IfOk result (λ s. (s.exceptions ≡ None) × (s.repository ≡ no_points) × NoneTaken files s.lists.items × (s.leaves_out ≡ false)) }
     {
@@ -79,7 +79,7 @@ impl Sources {
         }
     }
 
-    /// When the export of a file was made, where it says so.
+    /// When the export of a file was made, if it says so.
     pub fn built(&self, file: usize) -> Option<u64>
         ensures { result ≡ built_at (slice_get self.now.lists.items file) }
     {
@@ -89,8 +89,8 @@ impl Sources {
         }
     }
 
-    /// Takes the export of a file, counted from 0, as it is at a moment in seconds since 1970, and answers how many of its entries did not count any
-    /// more. Where there is no such file, or the bytes give no export, nothing changes.
+    /// Replaces the export of a file, counted from 0, by what these bytes are at a moment, in seconds since 1970. It returns how many of their
+    /// entries had expired. If there is no such file, or the bytes are no export, nothing changes.
     pub fn take_export(&mut self, file: usize, bytes: &[u8], now: u64) -> Result<u64, TakeFault>
         ensures lists { TakesExport bytes.now now file result self.old.lists.items self.new.lists.items }
         ensures rest { (self.new.exceptions ≡ self.old.exceptions) × (self.new.repository ≡ self.old.repository) × (self.new.leaves_out ≡ self.old.leaves_out) }
@@ -104,7 +104,7 @@ impl Sources {
         Ok(expired)
     }
 
-    /// Takes local exceptions. Where the bytes are none nothing changes.
+    /// Replaces the local exceptions. If the bytes are no SLURM file, nothing changes.
     pub fn take_slurm(&mut self, bytes: &[u8]) -> Result<(), SlurmFault>
         ensures exceptions { TakesSlurm bytes.now result self.old.exceptions self.new.exceptions }
         ensures rest { (self.new.lists ≡ self.old.lists) × (self.new.repository ≡ self.old.repository) × (self.new.leaves_out ≡ self.old.leaves_out) }
