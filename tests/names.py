@@ -43,16 +43,17 @@ REPLACED = {
         "Served": "SourcePaths", "log_form": "log_format",
     },
     "rtr_server": {"Carried": "ByteCounts", "Pdus": "PdusByKind", "Moved": "Progress"},
+    "exports": {
+        "Seen": "Scalar", "Found": "RawEntry", "Parts": "ExportMembers", "ExportUntil": "TimedExport", "Gathered": "EntryRecords",
+        "Listed": "ExportEntry", "see": "read_value", "seen": "scalar",
+    },
+    "slurm": {"EntryFault": "SlurmEntryFault"},
     "rpkirtr_cli": {"Order": "Command", "WordsFault": "CommandFault", "NoOrder": "Invalid", "Form": "CommandSpec"},
 }
 
 # The public type names that two libraries may declare, with the reason.
 SHARED = {
     "Command": "the parsed command line of each program",
-    "EntryFault": "the fault of an entry of an export, or of a SLURM file",
-    "Gathered": "a growing set, and the entries of an export so far",
-    "Listed": "an entry of an export, and an export of the sources",
-    "Served": "how a connection ended, and the set of the sources",
 }
 
 # Comments, texts in quotes, and characters in quotes.
