@@ -4,6 +4,8 @@
 #![tactic(auto)]
 
 #[cfg(test)]
+mod as_texts;
+#[cfg(test)]
 mod export_cases;
 #[cfg(test)]
 mod export_faults;

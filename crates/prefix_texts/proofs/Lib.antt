@@ -1,3 +1,4 @@
+pub mod AsnTexts
 pub mod Groups
 pub mod MixedRows
 pub mod Refused

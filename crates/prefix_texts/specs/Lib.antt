@@ -1,3 +1,4 @@
+pub mod AsnText
 pub mod MixedText
 pub mod MixedLaws
 pub mod Steps

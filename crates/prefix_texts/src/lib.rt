@@ -1,4 +1,5 @@
-//! Texts of prefixes in which an IPv6 address may be in mixed notation, as rpki-client and FORT write `::ffff:192.0.2.0/120`.
+//! Texts of prefixes and AS numbers as validators write them. An IPv6 address may be in mixed notation, as rpki-client and FORT write
+//! `::ffff:192.0.2.0/120`. An AS number may have `AS` before it.
 //!
 //! For example, where `rt` is the runtime that `main` is handed:
 //!
@@ -12,7 +13,9 @@
 //! ```
 #![tactic(auto)]
 
+mod asn;
 pub mod laws;
 mod reading;
 
+pub use asn::parse_asn;
 pub use reading::parse_prefix;

@@ -1,6 +1,5 @@
 pub mod KindLaws
 pub mod ValidityRows
 pub mod Written
-pub mod AsnTexts
 pub mod Queries
 pub mod TextRows

@@ -1,17 +1,13 @@
 -- The query of a request for the validity of a route: `asn=NUMBER&prefix=PREFIX`.
-use Rattle.std.specs.Prelude.{◌≡◌, ◌⊎◌, ℕ, ◌^◌, ◌<◌, List, [], ◌∷◌, ◌++◌, map, Option, Some, Result, Ok, Err, codes, ⊤}
-use Rattle.std.specs.Fmt.{decimal}
+use Rattle.std.specs.Prelude.{◌≡◌, ◌⊎◌, ℕ, ◌^◌, ◌<◌, List, [], ◌∷◌, map, Option, Some, Result, Ok, Err, codes, ⊤}
 use Rattle.std.specs.Str.Lossy.{utf8_lossy}
 use Rattle.form_urlencoded.specs.Form.{decode, raw_pairs}
+use Rattle.prefix_texts.specs.AsnText.{AsnText, IsNoAsn}
 use Rattle.prefixes.specs.Text.{PrefixText, ReadsAs}
 use Rattle.prefixes.specs.declared.fault.PrefixFault.{PrefixFault}
 use Rattle.prefixes.specs.declared.route.Route.{Route}
 use Rattle.status_pages.specs.declared.query_fault.QueryFault.{QueryFault}
 use Rattle.status_pages.specs.declared.query_fault.QueryFault.TheVariants as fault
-
--- The text of an AS number: the number in decimal, with or without AS before it
-abbrev pub AsnText : ℕ → List ℕ → Type 0
-AsnText n text = (text ≡ decimal n) ⊎ (text ≡ codes "AS" ++ decimal n)
 
 -- the decoded text of a name or a value (the URL Standard, section 5.1)
 abbrev pub text_of : List ℕ → List ℕ
@@ -24,9 +20,6 @@ pairs_of query = map (λ (name, value). (text_of name, text_of value)) (raw_pair
 -- The pairs have these two values and no others: `asn` and `prefix` occur once each, in either order.
 abbrev pub HasValues : List (List ℕ × List ℕ) → List ℕ → List ℕ → Type 0
 HasValues pairs asn prefix = (pairs ≡ (codes "asn", asn) ∷ (codes "prefix", prefix) ∷ []) ⊎ (pairs ≡ (codes "prefix", prefix) ∷ (codes "asn", asn) ∷ [])
-
-abbrev pub IsNoAsn : List ℕ → Type 0
-IsNoAsn text = (n : ℕ) → n < 2 ^ 32 → ¬ (AsnText n text)
 
 -- The route of two texts, or their first fault. The AS is judged first, then the prefix.
 abbrev pub FindsRoute : List ℕ → List ℕ → Result Route QueryFault → Type 0

@@ -1,13 +1,13 @@
 //! Reads the query of a request for the validity of a route.
-ghost use Rattle.std.specs.Prelude.{◌≡◌, ◌<◌, ◌^◌, ◌∷◌, [], ℕ, List, IfOk, IfSome, IfNone};
+ghost use Rattle.std.specs.Prelude.{◌≡◌, ◌∷◌, [], ℕ, List, IfOk, IfSome, IfNone};
 ghost use Rattle.std.specs.Cow.{cow_str_bytes};
-ghost use Rattle.std.specs.Fmt.{decimal};
 ghost use Rattle.form_urlencoded.specs.Form.{raw_pairs};
-ghost use Rattle.status_pages.specs.Query.{AsnText, Finds, FindsIn, FindsRoute, IsNoAsn, text_of};
+ghost use Rattle.status_pages.specs.Query.{Finds, FindsIn, FindsRoute, text_of};
 
 use crate::query_fault::QueryFault;
 use form_urlencoded::{decode, raw_pairs};
-use prefixes::{Asn, IpPrefix, Route};
+use prefix_texts::parse_asn;
+use prefixes::{IpPrefix, Route};
 use std::alloc::{AllocError, Global};
 use std::borrow::CowStr;
 
@@ -51,39 +51,17 @@ fn decoded<'a>(alloc: Global, pair: &RawPair<'a>) -> Result<DecodedPair<'a>, All
     Ok(DecodedPair { name, value })
 }
 
-/// The AS number of a decimal text.
-fn number(text: &str) -> Option<u32>
-    ensures some { IfSome result (λ n. (n < 2 ^ 32) × (text.now ≡ decimal n)) }
-    ensures none { IfNone result ((n : ℕ) → n < 2 ^ 32 → ¬ (text.now ≡ decimal n)) }
-{
-    match Asn::parse(text) {
-        Ok(asn) => Some(asn.0),
-        Err(_) => None,
-    }
-}
-
-/// The AS number of a decimal text, with or without `AS` before it.
-fn asn_in(text: &str) -> Option<u32>
-    ensures some { IfSome result (λ n. (n < 2 ^ 32) × AsnText n text.now) }
-    ensures none { IfNone result (IsNoAsn text.now) }
-{
-    match text.strip_prefix("AS") {
-        Some(digits) => number(digits),
-        None => number(text),
-    }
-}
-
 /// The route of these two texts.
 fn route_of(asn: &str, prefix: &str) -> Result<Route, QueryFault>
     ensures { FindsRoute asn.now prefix.now result }
 {
-    let Some(asn) = asn_in(asn) else {
+    let Some(asn) = parse_asn(asn) else {
         return Err(QueryFault::Asn);
     };
     match IpPrefix::parse(prefix) {
         Ok(prefix) => Ok(Route {
             prefix,
-            origin: Some(asn),
+            origin: Some(asn.0),
         }),
         Err(fault) => Err(QueryFault::Prefix(fault)),
     }
