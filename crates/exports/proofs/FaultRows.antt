@@ -20,7 +20,8 @@ use Rattle.prefix_texts.specs.MixedText.{SaysText, SpellsPrefix}
 use Rattle.payload_lists.proofs.Entries.{one_some}
 use Rattle.payload_lists.specs.PayloadList as lists
 use Rattle.vrps.specs.VrpSet.{set_of, size}
-use Rattle.exports.specs.Entry.{AsnText, IsEntry, Said, SaysAsn, SaysExpiry, SaysFault, SaysMaxLen, SaysPrefix, current, said}
+use Rattle.prefix_texts.specs.AsnText.{AsnText}
+use Rattle.exports.specs.Entry.{IsEntry, Said, SaysAsn, SaysExpiry, SaysFault, SaysMaxLen, SaysPrefix, current, said}
 use Rattle.exports.specs.Export.{HasFault, Lists, ReadsOnce}
 use Rattle.exports.specs.declared.entry.ExportEntry.{ExportEntry}
 use Rattle.exports.specs.Faults.{export_fault_number}

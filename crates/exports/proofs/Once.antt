@@ -10,7 +10,8 @@ use Rattle.prefix_texts.specs.MixedLaws.{OneSaying}
 use Rattle.prefix_texts.specs.MixedText.{SaysText}
 use Rattle.serde_json.specs.Data.{Data, Items, no_items, item}
 use Rattle.payload_lists.proofs.Entries.{one_some}
-use Rattle.exports.specs.Entry.{AreEntries, AsnText, FailsAt, IsEntry, IsNoEntry, Said, SaysAsn, SaysEntry, SaysExpiry, SaysFault, SaysMaxLen, SaysPrefix, SpellsAsn, said}
+use Rattle.prefix_texts.specs.AsnText.{AsnText}
+use Rattle.exports.specs.Entry.{AreEntries, FailsAt, IsEntry, IsNoEntry, Said, SaysAsn, SaysEntry, SaysExpiry, SaysFault, SaysMaxLen, SaysPrefix, SpellsAsn, said}
 use Rattle.exports.specs.declared.entry.ExportEntry.{ExportEntry}
 use Rattle.exports.specs.declared.fault.EntryFault.{EntryFault}
 use Rattle.exports.specs.declared.fault.EntryFault.TheVariants as faults

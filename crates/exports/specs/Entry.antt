@@ -1,10 +1,10 @@
 -- The entries of an export.
-use Rattle.std.specs.Prelude.{◌≡◌, ◌⊎◌, ℕ, zero, suc, ◌^◌, ◌<◌, ◌≤◌, Bool, true, false, not, nat_lt, List, [], ◌∷◌, ◌++◌, map, filter, count_by, Option, Some, None, option_map, option_and_then, is_some, codes, ⊤}
-use Rattle.std.specs.Fmt.{decimal}
+use Rattle.std.specs.Prelude.{◌≡◌, ◌⊎◌, ℕ, zero, suc, ◌^◌, ◌<◌, ◌≤◌, Bool, true, false, not, nat_lt, List, [], ◌∷◌, map, filter, count_by, Option, Some, None, option_map, option_and_then, is_some, codes, ⊤}
 use Rattle.serde_json.specs.Data.{Data, Items, no_items, item}
 use Rattle.serde_json.specs.Find.{get, as_number, as_object, as_u64}
 use Rattle.prefixes.specs.Payload.{Payload, block_of, width_of}
 use Rattle.prefixes.specs.declared.prefix.IpPrefix.{IpPrefix}
+use Rattle.prefix_texts.specs.AsnText.{AsnText}
 use Rattle.prefix_texts.specs.MixedText.{SpellsPrefix}
 use Rattle.payload_lists.specs.PayloadList.{text_at, whole_at}
 use Rattle.exports.specs.declared.entry.ExportEntry.{ExportEntry}
@@ -31,10 +31,6 @@ said d = record {
   max_len = whole_at (codes "maxLength") d;
   expires = option_map whole (get (codes "expires") d);
 }
-
--- The text of an AS number: the number in decimal, with AS before it or without
-abbrev pub AsnText : ℕ → List ℕ → Type 0
-AsnText n text = (text ≡ decimal n) ⊎ (text ≡ codes "AS" ++ decimal n)
 
 -- An AS is spelled by a whole number, or by a text of one.
 abbrev pub SpellsAsn : Option ℕ → Option (List ℕ) → ℕ → Type 0

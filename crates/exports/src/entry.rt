@@ -1,13 +1,12 @@
 //! The entries of an export.
-ghost use Rattle.std.specs.Prelude.{◌≡◌, ℕ, ◌<◌, ◌≤◌, ◌^◌, ◌++◌, Some, IfSome, IfNone, IfOk, IfErr};
-ghost use Rattle.std.specs.Fmt.{decimal};
+ghost use Rattle.std.specs.Prelude.{◌≡◌, ℕ, ◌≤◌, Some, IfSome, IfNone, IfOk, IfErr};
 ghost use Rattle.prefixes.specs.Payload.{block_of, width_of};
 ghost use Rattle.prefixes.specs.declared.prefix.IpPrefix.{IpPrefix as Prefix};
-ghost use Rattle.exports.specs.Entry.{AsnText, SaysAsn, SaysEntry, SaysFault, SaysPrefix};
+ghost use Rattle.exports.specs.Entry.{SaysAsn, SaysEntry, SaysFault, SaysPrefix};
 ghost use Rattle.exports.specs.Gathering.{said_by};
 
 use crate::fault::EntryFault;
-use prefix_texts::parse_prefix;
+use prefix_texts::{parse_asn, parse_prefix};
 use prefixes::{Asn, IpPrefix, Vrp};
 
 /// What an entry lists: a payload, and its expiry in seconds since 1970, if it has one.
@@ -28,28 +27,6 @@ pub struct RawEntry<'a> {
     pub(crate) expires: Option<Option<u64>>,
 }
 
-/// The AS number that a text writes in decimal.
-fn number(text: &str) -> Option<u32>
-    ensures some { IfSome result (λ n. (n < 2 ^ 32) × (text.now ≡ decimal n)) }
-    ensures none { IfNone result ((n : ℕ) → n < 2 ^ 32 → ¬ (text.now ≡ decimal n)) }
-{
-    match Asn::parse(text) {
-        Ok(asn) => Some(asn.0),
-        Err(_) => None,
-    }
-}
-
-/// The AS number that a text writes in decimal, with `AS` before it or without.
-fn asn_in(text: &str) -> Option<u32>
-    ensures some { IfSome result (λ n. (n < 2 ^ 32) × AsnText n text.now) }
-    ensures none { IfNone result ((n : ℕ) → n < 2 ^ 32 → ¬ (AsnText n text.now)) }
-{
-    match text.strip_prefix("AS") {
-        Some(digits) => number(digits),
-        None => number(text),
-    }
-}
-
 /// The AS number of an entry.
 fn asn(found: &RawEntry<'_>) -> Option<u32>
     ensures some { IfSome result (λ n. SaysAsn (said_by found.now) n) }
@@ -61,7 +38,10 @@ fn asn(found: &RawEntry<'_>) -> Option<u32>
             Err(_) => None,
         };
     }
-    asn_in(found.asn_text?)
+    match parse_asn(found.asn_text?) {
+        Some(asn) => Some(asn.0),
+        None => None,
+    }
 }
 
 /// The prefix of an entry.
