@@ -32,7 +32,7 @@ use Rattle.exports.proofs.Ascii.{utf8}
 use Rattle.exports.proofs.Deciding.{stand_once, stand_twice}
 use Rattle.exports.proofs.Once.{OneMeaning}
 use Rattle.exports.proofs.Outcomes.{one_lists, one_value}
-use Rattle.exports.proofs.Texts.{none_after}
+use Rattle.prefix_texts.proofs.AsnTexts.{none_after}
 
 -- ---- the texts of AS numbers
 

@@ -1,6 +1,6 @@
 -- The members of an export, and its whole text.
 use Rattle.std.proofs.Common.{inr, ◌≡◌, ◌≢◌, ◌||◌, ℕ, Bool, true, false, cond, bytes_eq, List, [], ◌∷◌, Vec, Global, Option, Some, None, Result, Ok, Err, refl, sym, ap, subst, ◌∙◌}
-use Rattle.std.specs.Prelude.{IfOk, MatchBool, MatchOption, codes, is_some, option_and_then}
+use Rattle.std.specs.Prelude.{IfOk, MatchOption, codes, is_some, option_and_then}
 use Rattle.json.specs.Token.{Token}
 use Rattle.json.specs.Json as json
 use Rattle.json.specs.Json.{value}
@@ -8,7 +8,7 @@ use Rattle.json.specs.Lex.{tokens}
 use Rattle.serde_json.specs.Data.{Data, Items, Members, array, boolean, no_items, no_members, null, number, object, put, string}
 use Rattle.prefixes.specs.Payload.{Payload}
 use Rattle.serde_json.specs.Find.{as_array, as_object, get}
-use Rattle.serde_json.specs.Read.{of_json, of_members, read}
+use Rattle.serde_json.specs.Read.{of_json, read}
 use Rattle.serde_json.proofs.Views.{get_member-put, get_member-put_other}
 use Rattle.payload_lists.specs.PayloadList as lists
 use Rattle.payload_lists.specs.PayloadList.{text_at, whole_at}
@@ -18,7 +18,7 @@ use Rattle.exports.specs.Gathering.{IsLasting}
 use Rattle.exports.specs.ListForm.{ReadsRecords, Records}
 use Rattle.exports.specs.PlainForm.{HasEntries, HasParts, IsScalar, ReadsBuilt, ReadsForm, ReadsListParts, ReadsMembers, ReadsNoItems, ReadsNoMembers, ReadsNone, ReadsPart, ReadsParts, ReadsRoas, ReadsSome, TellsBuilt, TellsEntries, TellsParts, TellsRoas, before}
 use Rattle.exports.specs.Repeating.{AreMet, export_repeats, export_twice, member_repeats, members_repeat, metadata_repeat, roas_repeat}
-use Rattle.exports.specs.Repeats.{ExportRepeats, Repeats, tree}
+use Rattle.exports.specs.Repeats.{tree}
 use Rattle.exports.specs.declared.gathered.EntryRecords.{EntryRecords}
 use Rattle.exports.specs.declared.names.Names.{Names}
 use Rattle.exports.specs.declared.streaming.Entries.{Entries}
@@ -27,7 +27,7 @@ use Rattle.exports.specs.declared.streaming.ExportMembers.{ExportMembers}
 use Rattle.exports.specs.declared.streaming.Scalar.{Scalar}
 use Rattle.exports.proofs.Deciding.{names_differ, of_tree}
 use Rattle.exports.proofs.Items.{gather_list}
-use Rattle.exports.proofs.PlainParts.{made_by, no_array_here, no_object_here, object_first, or_false, or_more}
+use Rattle.exports.proofs.PlainParts.{no_array_here, no_object_here, object_first, or_false, or_more}
 use Rattle.exports.proofs.PlainSteps.{Unread, array_read, no_array, no_object, object_read, other, unread}
 
 pub has_none : (now : ℕ) → HasParts now no_members (record { entries = None; built = None; repeats = false })
@@ -196,24 +196,3 @@ pub whole_form : (text : List ℕ) (now : ℕ) (p : ExportMembers) (reader rest 
 whole_form text now p reader rest whole form over =
     let v = whole_value text reader rest (λ j d. TellsParts now d p × (p.repeats ≡ export_repeats j)) whole form over in
     record { value = v.1; reads = v.3; parts = v.4.0; repeats = of_tree text v.0 p.repeats v.2 v.4.1 }
-
--- In a text that is an array no name is repeated.
-array_once : (text : List ℕ) (ds : Items) → read text ≡ Some (array ds) → ¬ (Repeats text)
-array_once text ds is r = by r.0 r.2 (sym (ap (option_and_then of_json) r.1) ∙ is)
-  where
-    by : (j : json.Json) → ExportRepeats j → of_json j ≡ Some (array ds) → ⊥
-    by json.null h e = h
-    by (json.boolean b) h e = h
-    by (json.number s) h e = h
-    by (json.string s) h e = h
-    by (json.array js) h e = h
-    by (json.object ms) h e = let o = made_by object (of_members ms no_members) (array ds) e in let no : true ≡ false = ap (λ d. is_some (as_array d)) o.1 in cc
-
--- A payload list in its plain form
-pub plain_form : (text : List ℕ) (now : ℕ) (p : ExportMembers) (vs : List Payload) → ((ds : Items) → lists.AreEntries ds vs → TellsParts now (array ds) p) → p.repeats ≡ false → (ds : Items) × (read text ≡ Some (array ds)) × lists.AreEntries ds vs → ReadsParts now text p
-plain_form text now p vs parts once list = record {
-  value = array list.0;
-  reads = list.1;
-  parts = parts list.0 list.2;
-  repeats = subst (λ b. MatchBool b (Repeats text) (¬ (Repeats text))) (sym once) (array_once text list.0 list.1);
-}

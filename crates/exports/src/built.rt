@@ -1,5 +1,5 @@
 //! When an export was made.
-ghost use Rattle.std.specs.Prelude.{◌≡◌, option_map, Some};
+ghost use Rattle.std.specs.Prelude.{option_map, Some};
 ghost use Rattle.exports.specs.Built.{IsBuilt, IsTimeOf};
 
 use der_lite::Moment;

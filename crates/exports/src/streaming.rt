@@ -1,6 +1,6 @@
 //! Exports read token by token.
-ghost use Rattle.std.specs.Prelude.{◌≡◌, ◌≢◌, ◌+◌, ◌++◌, ◌||◌, ◌∷◌, [], length, codes, List, MatchBool, MatchOption, None, Some, ℕ, IfOk, IfErr, option_map};
-ghost use Rattle.json.specs.Json.{Json, member, read_key};
+ghost use Rattle.std.specs.Prelude.{◌≡◌, ◌≢◌, ◌+◌, ◌++◌, ◌∷◌, [], length, codes, List, MatchBool, MatchOption, None, Some, IfOk, option_map};
+ghost use Rattle.json.specs.Json.{member, read_key};
 ghost use Rattle.json.specs.Reads.{token_of};
 ghost use Rattle.json.specs.Token.{Token as SpecToken};
 ghost use Rattle.serde_json.specs.Data.{Data, Members, put};

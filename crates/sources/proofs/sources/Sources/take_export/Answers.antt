@@ -1,4 +1,4 @@
-use Rattle.std.proofs.Common.{◌∙◌, refl, sym, ap, arith}
+use Rattle.std.proofs.Common.{refl, ap, arith}
 use Rattle.sources.specs.Served.{IsTaken}
 use Rattle.sources.proofs.sources.Sources.take_export.Goals as goal
 
