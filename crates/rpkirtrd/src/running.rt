@@ -147,8 +147,8 @@ fn endpoint_at<R: Files + Net + Clock + RandomSource + AllocGlobal + Clone + Dro
     system: &mut System<'_, R, E>,
 ) -> Result<StatusEndpoint, SocketFault> {
     let keys = RandomState::new(rt)?;
-    match StatusEndpoint::open(system, keys, address) {
-        Ok(endpoint) => Ok(endpoint),
+    match system.listen_for_http(address) {
+        Ok(()) => Ok(StatusEndpoint::new(rt.alloc(), keys)),
         Err(error) => Err(SocketFault {
             address: Some(address),
             error,

@@ -1,11 +1,12 @@
 //! The system: sockets over `mio`, files, clocks, and standard error.
-use crate::connection::Connection;
+use crate::connection::{Connection, is_bounded};
 use crate::running::refuse_sockets;
 use event_log::{LogEvent, LogFormat, write_event};
 use mio::net::{TcpListener, TcpStream};
 use mio::{Events, Interest, Poll, Token};
 use payload_commands::{Directory, read_directories};
 use rtr_daemon::{AcceptResult, Disk, EventLog, Ready, Sockets, Stamp, StartFault, Time};
+use status_server::{HttpAccept, HttpReady, HttpSockets};
 use std::alloc::Global;
 use std::collections::VecDeque;
 use std::fmt::{self, Debug};
@@ -34,15 +35,6 @@ const FIRST_HTTP_CONNECTION: usize = 4_611_686_018_427_387_904;
 /// The errors of `accept` by which this process or the system has no descriptor or no memory left: ENOMEM, ENFILE, EMFILE, ENOBUFS.
 const SHORTAGES: [i32; 4] = [12, 23, 24, 105];
 
-/// What is ready at the status endpoint.
-#[derive(Clone, Copy, Debug, PartialEq, Eq)]
-pub enum HttpReady {
-    /// A connection may be pending at its listener.
-    Listener,
-    /// The HTTP connection of this poll token may be readable or writable.
-    Connection(usize),
-}
-
 /// The system.
 #[derive(Drop)]
 pub struct System<'a, R, E> {
@@ -55,6 +47,8 @@ pub struct System<'a, R, E> {
     ready: VecDeque<Ready>,
     http_ready: VecDeque<HttpReady>,
     listeners: Vec<TcpListener>,
+    /// The listener of the status endpoint, if there is one.
+    http_listener: Option<TcpListener>,
     next_token: usize,
     next_http_token: usize,
     /// The longest next wait that the status endpoint allows, in milliseconds.
@@ -115,6 +109,7 @@ impl<'a, R: Files + Net + Clock + AllocGlobal, E: Write> System<'a, R, E> {
             ready: VecDeque::with_capacity(rt.alloc(), EVENTS).map_err(io::Error::from)?,
             http_ready: VecDeque::with_capacity(rt.alloc(), EVENTS).map_err(io::Error::from)?,
             listeners: Vec::new(rt.alloc()),
+            http_listener: None,
             next_token: FIRST_CONNECTION,
             next_http_token: FIRST_HTTP_CONNECTION,
             wait_limit: u64::MAX,
@@ -176,11 +171,12 @@ impl<'a, R: Files + Net + Clock + AllocGlobal, E: Write> System<'a, R, E> {
     }
 
     /// Opens the listener of the status endpoint, and reports its address.
-    pub fn listen_for_http(&mut self, address: SocketAddr) -> io::Result<TcpListener> {
+    pub fn listen_for_http(&mut self, address: SocketAddr) -> io::Result<()> {
         let (listener, address) = self.bind(address, Token(STATUS_TOKEN))?;
+        self.http_listener = Some(listener);
         let now = self.seconds();
         self.log(now, &LogEvent::Status { address });
-        Ok(listener)
+        Ok(())
     }
 
     /// A listener at an address, registered under a poll token, and its local address.
@@ -297,28 +293,43 @@ impl<'a, R: AllocGlobal, E: Write> Sockets<Connection> for System<'a, R, E> {
     }
 }
 
-impl<'a, R, E> System<'a, R, E> {
-    /// The next of what is ready at the status endpoint.
-    pub fn next_http_ready(&mut self) -> Option<HttpReady> {
+impl<'a, R, E> HttpSockets<TcpStream> for System<'a, R, E> {
+    fn next(&mut self) -> Option<HttpReady> {
         self.http_ready.pop_front()
     }
 
+    fn accept(&mut self) -> HttpAccept<TcpStream> {
+        let Some(listener) = &self.http_listener else {
+            return HttpAccept::WouldBlock;
+        };
+        match listener.accept() {
+            Ok((stream, _address)) => self.register_http(stream),
+            Err(e) if e.kind() == ErrorKind::WouldBlock => HttpAccept::WouldBlock,
+            Err(_) => HttpAccept::Failed,
+        }
+    }
+}
+
+impl<'a, R, E> System<'a, R, E> {
     /// Limits the next waits to this many milliseconds.
     pub fn wait_at_most(&mut self, millis: u64) {
         self.wait_limit = millis;
     }
 
-    /// Registers an HTTP connection, and answers its poll token. `None` if that fails.
-    pub fn register_http(&mut self, stream: &mut TcpStream) -> Option<usize> {
+    /// Bounds the send buffer of an HTTP connection, and registers it. If that fails, the connection is closed.
+    fn register_http(&mut self, stream: TcpStream) -> HttpAccept<TcpStream> {
+        let mut stream = stream;
+        if !is_bounded(&stream) {
+            return HttpAccept::Again;
+        }
         let token = self.next_http_token;
         self.next_http_token = token.saturating_add(1);
         let both = Interest::READABLE | Interest::WRITABLE;
-        let registered = self.poll.registry().register(stream, Token(token), both);
-        if registered.is_ok() {
-            Some(token)
-        } else {
-            None
+        let registry = self.poll.registry();
+        if registry.register(&mut stream, Token(token), both).is_err() {
+            return HttpAccept::Again;
         }
+        HttpAccept::Connection { stream, token }
     }
 
     /// Registers the connection of a router.

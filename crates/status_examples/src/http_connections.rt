@@ -14,7 +14,7 @@ use vrps::{OriginIndex, VrpSet};
 
 /// A cache with one record, or without a version.
 #[derive(Drop)]
-struct Small {
+pub(crate) struct Small {
     alloc: Global,
     index: Option<OriginIndex>,
 }
@@ -43,7 +43,7 @@ impl StatusSource for Small {
     }
 }
 
-fn source(alloc: Global) -> Result<Small, Fail> {
+pub(crate) fn source(alloc: Global) -> Result<Small, Fail> {
     let mut list = Vec::new(alloc);
     list.push(Vrp::new(IpPrefix::parse("192.0.2.0/24")?, 24, Asn(64496))?)?;
     let index = OriginIndex::over(alloc, &VrpSet::from_list(list)?)?;
@@ -53,12 +53,23 @@ fn source(alloc: Global) -> Result<Small, Fail> {
     })
 }
 
-/// The outcome of a connection that sends this, at this many bytes a call, and the response.
+/// The progress of the one connection.
+fn progress(connections: &HttpConnections<Wire>) -> HttpProgress {
+    if connections.is_empty() {
+        HttpProgress::Closed
+    } else if connections.has_busy() {
+        HttpProgress::Busy
+    } else {
+        HttpProgress::WouldBlock
+    }
+}
+
+/// The progress of a connection that sends this, at this many bytes a call, and the response.
 fn answered(
     rt: &HostRuntime,
     request: &[u8],
     piece: usize,
-) -> Result<(Option<HttpProgress>, Shared), Fail> {
+) -> Result<(HttpProgress, Shared), Fail> {
     let mut source = source(rt.alloc())?;
     answered_by(rt, &mut source, request, piece)
 }
@@ -69,13 +80,13 @@ fn answered_by(
     source: &mut Small,
     request: &[u8],
     piece: usize,
-) -> Result<(Option<HttpProgress>, Shared), Fail> {
+) -> Result<(HttpProgress, Shared), Fail> {
     let output = shared(rt.alloc(), b"")?;
     let wire = Wire::of(&shared(rt.alloc(), request)?, &output, piece)?;
     let mut connections = HttpConnections::new(rt.alloc(), RandomState::new(rt)?);
     connections.admit(7, wire, 0)?;
-    let answered = connections.serve(7, source, 100_000);
-    Ok((answered, output))
+    connections.serve(source, 100_000);
+    Ok((progress(&connections), output))
 }
 
 /// A request, with the start and a part of its response.
@@ -128,10 +139,10 @@ const ANSWERS: &[Answer] = &[
 fn requests_are_answered(rt: HostRuntime) -> Result<(), Fail> {
     for &(request, begin, part) in ANSWERS {
         let (came, output) = answered(&rt, request.as_bytes(), 4096)?;
-        assert!(rt; came == Some(HttpProgress::WouldBlock), "{request}");
+        assert!(rt; came == HttpProgress::WouldBlock, "{request}");
         assert!(rt; has(rt.alloc(), &output, begin, part)?, "{request}");
         let (came, slow) = answered(&rt, request.as_bytes(), 1)?;
-        assert!(rt; came == Some(HttpProgress::WouldBlock), "{request}");
+        assert!(rt; came == HttpProgress::WouldBlock, "{request}");
         assert!(rt; is_list(&slow, &output), "{request}");
     }
     Ok(())
@@ -159,7 +170,7 @@ fn nothing_is_said_of_records_before_a_version(rt: HostRuntime) -> Result<(), Fa
             index: None,
         };
         let (came, output) = answered_by(&rt, &mut source, request.as_bytes(), 4096)?;
-        assert!(rt; came == Some(HttpProgress::WouldBlock), "{request}");
+        assert!(rt; came == HttpProgress::WouldBlock, "{request}");
         assert!(rt; has(rt.alloc(), &output, begin, part)?, "{request}");
     }
     Ok(())
@@ -182,7 +193,7 @@ const ENDS: &[(&str, &str)] = &[
 fn visits_end(rt: HostRuntime) -> Result<(), Fail> {
     for &(request, begin) in ENDS {
         let (came, output) = answered(&rt, request.as_bytes(), 4096)?;
-        assert!(rt; came == Some(HttpProgress::Closed), "{request}");
+        assert!(rt; came == HttpProgress::Closed, "{request}");
         assert!(rt; has(rt.alloc(), &output, begin, "\r\n")?, "{request}");
     }
     let mut long = Vec::new(rt.alloc());
@@ -191,7 +202,7 @@ fn visits_end(rt: HostRuntime) -> Result<(), Fail> {
         long.push(b'a')?;
     }
     let (came, output) = answered(&rt, &long, 4096)?;
-    assert!(rt; came == Some(HttpProgress::Closed));
+    assert!(rt; came == HttpProgress::Closed);
     assert!(rt; has(rt.alloc(), &output, "HTTP/1.1 414 URI Too Long\r\n", "\r\n")?);
     Ok(())
 }
@@ -200,7 +211,7 @@ fn visits_end(rt: HostRuntime) -> Result<(), Fail> {
 fn requests_behind_one_another(rt: HostRuntime) -> Result<(), Fail> {
     let twice = b"GET /vrps.json HTTP/1.1\r\nHost: a\r\n\r\nHEAD /a HTTP/1.1\r\nHost: a\r\n\r\n";
     let (came, output) = answered(&rt, twice, 4096)?;
-    assert!(rt; came == Some(HttpProgress::WouldBlock));
+    assert!(rt; came == HttpProgress::WouldBlock);
     assert!(rt;
         has(
             rt.alloc(),
@@ -219,12 +230,17 @@ fn a_turn_is_bounded(rt: HostRuntime) -> Result<(), Fail> {
     let wire = Wire::of(&shared(rt.alloc(), request)?, &output, 1)?;
     let mut connections = HttpConnections::new(rt.alloc(), RandomState::new(&rt)?);
     let mut source = source(rt.alloc())?;
-    assert!(rt; connections.serve(7, &mut source, 8) == None);
+    connections.wake(7);
+    connections.serve(&mut source, 8);
+    assert!(rt; connections.is_empty());
     connections.admit(7, wire, 0)?;
-    assert!(rt; connections.serve(7, &mut source, 0) == Some(HttpProgress::Busy));
-    assert!(rt; connections.serve(7, &mut source, 27) == Some(HttpProgress::Busy));
+    connections.serve(&mut source, 0);
+    assert!(rt; progress(&connections) == HttpProgress::Busy);
+    connections.serve(&mut source, 27);
+    assert!(rt; progress(&connections) == HttpProgress::Busy);
     assert!(rt; is_list(&output, &shared(rt.alloc(), b"")?));
-    assert!(rt; connections.serve(7, &mut source, 1) == Some(HttpProgress::Busy));
+    connections.serve(&mut source, 1);
+    assert!(rt; progress(&connections) == HttpProgress::Busy);
     assert!(rt; is_list(&output, &shared(rt.alloc(), b"H")?));
     Ok(())
 }

@@ -5,6 +5,8 @@
 #[cfg(test)]
 mod http_connections;
 #[cfg(test)]
+mod http_endpoint;
+#[cfg(test)]
 mod metrics;
 #[cfg(test)]
 mod pages;

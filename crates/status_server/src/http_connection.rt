@@ -1,19 +1,37 @@
 //! One HTTP connection, over a non-blocking stream.
+ghost use Rattle.std.specs.Prelude.{◌≡◌};
+ghost use Rattle.status_server.specs.Connections.{is_busy, is_closed};
 
 use http_server::{Config, Connection, Service};
 use std::alloc::Global;
 use std::hash::RandomState;
 use std::io::{ErrorKind, Read, Write};
 
-/// The outcome of a turn of a connection.
+/// What a connection can do next.
 #[derive(Clone, Copy, Debug, PartialEq, Eq)]
 pub enum HttpProgress {
     /// The stream would block.
     WouldBlock,
-    /// All calls of the budget were made.
+    /// All calls of the budget were made, or the stream became ready. It is served in the next turn.
     Busy,
     /// The connection was finished, or its stream failed. It is removed.
     Closed,
+}
+
+impl HttpProgress {
+    /// Whether the connection is busy.
+    pub fn is_busy(self) -> bool
+        ensures { result ≡ is_busy self }
+    {
+        matches!(self, HttpProgress::Busy)
+    }
+
+    /// Whether the connection is closed.
+    pub fn is_closed(self) -> bool
+        ensures { result ≡ is_closed self }
+    {
+        matches!(self, HttpProgress::Closed)
+    }
 }
 
 /// The limits of a request: 8,192 bytes of target and headers, 1,024 bytes of body, and few trailers and extensions.

@@ -1,7 +1,8 @@
 //! All HTTP connections.
-ghost use Rattle.std.specs.Prelude.{◌≡◌, ◌==◌, ◌++◌, ◌∷◌, ◌↔◌, ◌≤◌, [], length, Err, IfSome, IsNone, OnOk, OnErr, false, ◌<◌, map, position, ℕ};
+ghost use Rattle.std.specs.Prelude.{◌≡◌, ◌==◌, ◌++◌, ◌∷◌, ◌↔◌, ◌≤◌, [], length, Err, OnOk, OnErr, map};
 ghost use Rattle.std.specs.List.{list_any};
-ghost use Rattle.status_server.specs.Connections.{has_token, in_time, others};
+ghost use Rattle.status_server.specs.Connections.{Connection, Each, IsServed, Serves, has_busy, has_token, in_time, is_busy, unclosed, wake, woken};
+ghost use Rattle.status_server.specs.declared.http_connection.HttpProgress.TheVariants.{Busy};
 
 use crate::answers::Answers;
 use crate::http_connection::{HttpConnection, HttpProgress};
@@ -30,11 +31,12 @@ pub enum HttpAdmitFault {
     Memory,
 }
 
-/// A connection, with its poll token and when it was admitted.
+/// A connection, with its poll token, when it was admitted, and its progress. If it is busy, it is served in the next turn.
 #[derive(Drop)]
 struct Entry<T> {
     token: usize,
     came: u64,
+    progress: HttpProgress,
     connection: HttpConnection<T>,
 }
 
@@ -52,18 +54,30 @@ impl<T> Model for HttpConnections<T> {
 
     ghost Value = { Connections };
 
-    ghost view = { λ v. map (λ p. (p.token, p.came)) v.entries.items };
+    ghost view = { λ v. map (λ p. (p.token, p.came, p.progress)) v.entries.items };
 
     ghost invariant = { λ v. length v.entries.items ≤ 64 };
 }
 
-impl<T: Read + Write> Entry<T> {
-    /// Serves the connection.
-    fn serve<S: StatusSource>(&mut self, answers: &mut Answers<'_, S>, budget: u32) -> HttpProgress
-        ensures token { self.new.token ≡ self.old.token }
-        ensures came { self.new.came ≡ self.old.came }
+impl<T> Entry<T> {
+    /// Wakes the connection, if it has this token.
+    fn wake(&mut self, token: usize)
+        ensures { (self.new.token, self.new.came, self.new.progress) ≡ woken token (self.old.token, self.old.came, self.old.progress) }
     {
-        self.connection.serve(answers, budget)
+        if self.token == token {
+            self.progress = HttpProgress::Busy;
+        }
+    }
+}
+
+impl<T: Read + Write> Entry<T> {
+    /// Serves the connection, if it is busy.
+    fn serve<S: StatusSource>(&mut self, answers: &mut Answers<'_, S>, budget: u32)
+        ensures { IsServed (self.old.token, self.old.came, self.old.progress) (self.new.token, self.new.came, self.new.progress) }
+    {
+        if self.progress.is_busy() {
+            self.progress = self.connection.serve(answers, budget);
+        }
     }
 }
 
@@ -81,24 +95,33 @@ fn any_at<T>(entries: &[Entry<T>], token: usize) -> bool
     entries.iter().any(|entry| entry.token == token)
 }
 
-/// The index of the first entry that has the token.
-fn index_in<T>(entries: &[Entry<T>], token: usize) -> Option<usize>
-    ensures { result ≡ position (λ p. p.token == token) entries.now }
+/// Whether some entry is busy.
+fn any_busy<T>(entries: &[Entry<T>]) -> bool
+    ensures { result ≡ list_any (λ p. is_busy p.progress) entries.now }
 {
-    entries.iter().position(|entry| entry.token == token)
+    entries.iter().any(|entry| entry.progress.is_busy())
 }
 
-/// Serves the connection at an index.
+/// Wakes the entries of a token.
+fn wake_in<T>(entries: &mut [Entry<T>], token: usize)
+    ensures { map {B = Connection} (λ p. (p.token, p.came, p.progress)) entries.new ≡ wake token (map {B = Connection} (λ p. (p.token, p.came, p.progress)) entries.old) }
+{
+    for entry in entries.iter_mut() {
+        entry.wake(token);
+    }
+}
+
+/// Serves the busy entries.
 fn serve_in<T: Read + Write, S: StatusSource>(
     entries: &mut [Entry<T>],
-    index: usize,
     answers: &mut Answers<'_, S>,
     budget: u32,
-) -> HttpProgress
-    requires { index < length entries.old }
-    ensures { map {B = ℕ × ℕ} (λ p. (p.token, p.came)) entries.new ≡ map {B = ℕ × ℕ} (λ p. (p.token, p.came)) entries.old }
+)
+    ensures { Each IsServed (map {B = Connection} (λ p. (p.token, p.came, p.progress)) entries.old) (map {B = Connection} (λ p. (p.token, p.came, p.progress)) entries.new) }
 {
-    entries[index].serve(answers, budget)
+    for entry in entries.iter_mut() {
+        entry.serve(answers, budget);
+    }
 }
 
 impl<T: Read + Write + Drop> HttpConnections<T> {
@@ -128,9 +151,9 @@ impl<T: Read + Write + Drop> HttpConnections<T> {
         self.entries.is_empty()
     }
 
-    /// Admits a connection with this poll token, which is served next. On an error all others are unchanged.
+    /// Admits a connection with this poll token, which is busy: it is served next. On an error all others are unchanged.
     pub fn admit(&mut self, token: usize, stream: T, now: u64) -> Result<(), HttpAdmitFault>
-        ensures ok { OnOk result (self.new ≡ self.old ++ (token, now) ∷ []) }
+        ensures ok { OnOk result (self.new ≡ self.old ++ (token, now, Busy) ∷ []) }
         ensures full { result ≡ Err HttpAdmitFault.TooManyConnections ↔ (64 ≤ length self.old) }
         ensures err { OnErr result (self.new ≡ self.old) }
     {
@@ -140,6 +163,7 @@ impl<T: Read + Write + Drop> HttpConnections<T> {
         let entry = Entry {
             token,
             came: now,
+            progress: HttpProgress::Busy,
             connection: HttpConnection::new(self.alloc, self.keys, stream),
         };
         if self.entries.push(entry).is_err() {
@@ -155,57 +179,44 @@ impl<T: Read + Write + Drop> HttpConnections<T> {
         any_at(&self.entries, token)
     }
 
-    /// The index of the connection of a token.
-    fn index_of(&self, token: usize) -> Option<usize>
-        ensures some { IfSome result (λ index. index < length self.now) }
-        ensures none { IsNone result ↔ (has_token token self.now ≡ false) }
+    /// Whether a connection is busy.
+    pub fn has_busy(&self) -> bool
+        ensures { result ≡ has_busy self.now }
     {
-        index_in(&self.entries, token)
+        any_busy(&self.entries)
     }
 
-    /// Serves the connection at an index.
-    fn serve_at<S: StatusSource>(
-        &mut self,
-        index: usize,
-        source: &mut S,
-        budget: u32,
-    ) -> HttpProgress
-        requires { index < length self.old }
-        ensures { self.new ≡ self.old }
+    /// Makes the connection of a token busy. A token that no connection has changes nothing.
+    pub fn wake(&mut self, token: usize)
+        ensures { self.new ≡ wake token self.old }
+    {
+        wake_in(&mut self.entries, token);
+    }
+
+    /// Serves the busy connections.
+    fn serve_busy<S: StatusSource>(&mut self, source: &mut S, budget: u32)
+        ensures { Each IsServed self.old self.new }
     {
         let mut answers = Answers {
             alloc: self.alloc,
             source,
         };
-        serve_in(&mut self.entries, index, &mut answers, budget)
+        serve_in(&mut self.entries, &mut answers, budget);
     }
 
-    /// Removes the connection of a token.
-    fn remove(&mut self, token: usize)
-        ensures { self.new ≡ others token self.old }
+    /// Removes the closed connections.
+    fn remove_closed(&mut self)
+        ensures { self.new ≡ unclosed self.old }
     {
-        self.entries.retain(|entry| entry.token != token);
+        self.entries.retain(|entry| !entry.progress.is_closed());
     }
 
-    /// Serves the connection of a token until its stream would block, or until this many calls were made. After `Closed` it is removed. `None` if
-    /// no connection has the token.
-    pub fn serve<S: StatusSource>(
-        &mut self,
-        token: usize,
-        source: &mut S,
-        budget: u32,
-    ) -> Option<HttpProgress>
-        ensures none { IsNone result ↔ (has_token token self.old ≡ false) }
-        ensures gone { result ≡ Some HttpProgress.Closed → self.new ≡ others token self.old }
-        ensures stays { ¬ (result ≡ Some HttpProgress.Closed) → self.new ≡ self.old }
+    /// Serves each busy connection until its stream would block, or until this many calls were made. Those that are closed then are removed.
+    pub fn serve<S: StatusSource>(&mut self, source: &mut S, budget: u32)
+        ensures { Serves self.old self.new }
     {
-        let index = self.index_of(token)?;
-        let progress = self.serve_at(index, source, budget);
-        match progress {
-            HttpProgress::Closed => self.remove(token),
-            HttpProgress::WouldBlock | HttpProgress::Busy => {}
-        }
-        Some(progress)
+        self.serve_busy(source, budget);
+        self.remove_closed();
     }
 
     /// Drops the connections that were admitted `CONNECTION_MILLIS` ago or earlier.

@@ -40,8 +40,12 @@
 mod answers;
 mod http_connection;
 mod http_connections;
+mod http_endpoint;
+mod http_sockets;
 mod status_source;
 
 pub use http_connection::HttpProgress;
 pub use http_connections::{CONNECTION_MILLIS, HttpAdmitFault, HttpConnections, MAX_CONNECTIONS};
+pub use http_endpoint::HttpEndpoint;
+pub use http_sockets::{HttpAccept, HttpReady, HttpSockets};
 pub use status_source::StatusSource;

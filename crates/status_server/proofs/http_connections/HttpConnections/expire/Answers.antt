@@ -7,4 +7,4 @@ use Rattle.status_server.proofs.http_connections.HttpConnections.expire.Goals as
 pub returns : goal.returns
 returns g c =
     rw (← c.self.view_is)
-    (ap (map (λ p. (p.token, p.came))) (filter_same _ (λ p. nat_lt c.args.now (p.came + 30000)) _ (λ x b f' h. grind (arith, nat_tests)) _ _ c.retain.ensures.filtered) ∙ map-filter (λ p. (p.token, p.came)) (λ v. nat_lt c.args.now (v.1 + 30000)) c.self.inside.entries.items)
+    (ap (map (λ p. (p.token, p.came, p.progress))) (filter_same _ (λ p. nat_lt c.args.now (p.came + 30000)) _ (λ x b f' h. grind (arith, nat_tests)) _ _ c.retain.ensures.filtered) ∙ map-filter (λ p. (p.token, p.came, p.progress)) (λ v. nat_lt c.args.now (v.1 + 30000)) c.self.inside.entries.items)

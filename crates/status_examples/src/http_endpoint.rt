@@ -1,0 +1,176 @@
+//! Turns of an endpoint over a listener and streams in memory.
+use crate::http_connections::source;
+use crate::wires::{Shared, Wire, has, is_list, shared};
+use status_server::{
+    CONNECTION_MILLIS, HttpAccept, HttpEndpoint, HttpReady, HttpSockets, MAX_CONNECTIONS,
+};
+use std::alloc::Global;
+use std::collections::VecDeque;
+use std::hash::RandomState;
+use std::test::Fail;
+
+/// What becomes ready, and what the accepts answer. Then none is pending.
+#[derive(Drop)]
+struct Script {
+    ready: VecDeque<HttpReady>,
+    accepts: VecDeque<HttpAccept<Wire>>,
+}
+
+impl HttpSockets<Wire> for Script {
+    fn next(&mut self) -> Option<HttpReady> {
+        self.ready.pop_front()
+    }
+
+    fn accept(&mut self) -> HttpAccept<Wire> {
+        match self.accepts.pop_front() {
+            Some(accepted) => accepted,
+            None => HttpAccept::WouldBlock,
+        }
+    }
+}
+
+impl Script {
+    /// A connection is pending under this token.
+    fn add(&mut self, token: usize, stream: Wire) -> Result<(), Fail> {
+        self.ready.push_back(HttpReady::Listener)?;
+        self.accepts
+            .push_back(HttpAccept::Connection { stream, token })?;
+        Ok(())
+    }
+
+    /// The connection of this token is ready.
+    fn wake(&mut self, token: usize) -> Result<(), Fail> {
+        self.ready.push_back(HttpReady::Connection(token))?;
+        Ok(())
+    }
+}
+
+fn nothing_ready(alloc: Global) -> Script {
+    Script {
+        ready: VecDeque::new(alloc),
+        accepts: VecDeque::new(alloc),
+    }
+}
+
+fn endpoint(rt: &HostRuntime) -> Result<HttpEndpoint<Wire>, Fail> {
+    Ok(HttpEndpoint::new(rt.alloc(), RandomState::new(rt)?))
+}
+
+/// Puts bytes behind those that a stream has.
+fn send(input: &Shared, bytes: &[u8]) -> Result<(), Fail> {
+    match input.try_borrow_mut() {
+        Err(_) => Err(Fail::new("the input is borrowed")),
+        Ok(mut list) => Ok(list.extend_from_slice(bytes)?),
+    }
+}
+
+const LIST: &[u8] = b"GET /vrps.json HTTP/1.1\r\nHost: a\r\n\r\n";
+
+const ELSEWHERE: &[u8] = b"GET /status HTTP/1.1\r\nHost: a\r\n\r\n";
+
+#[test]
+fn the_65th_is_closed_and_all_time_out(rt: HostRuntime) -> Result<(), Fail> {
+    let (input, output) = (shared(rt.alloc(), b"")?, shared(rt.alloc(), b"")?);
+    let mut script = nothing_ready(rt.alloc());
+    let mut endpoint = endpoint(&rt)?;
+    let mut source = source(rt.alloc())?;
+    for token in 0..MAX_CONNECTIONS + 1 {
+        script.add(token, Wire::of(&input, &output, 1)?)?;
+    }
+    endpoint.turn(5, &mut script, &mut source);
+    endpoint.turn(6, &mut script, &mut source);
+    assert!(rt; endpoint.connections().len() == MAX_CONNECTIONS);
+    assert!(rt; endpoint.connections().has(MAX_CONNECTIONS - 1));
+    assert!(rt; !endpoint.connections().has(MAX_CONNECTIONS));
+    endpoint.turn(CONNECTION_MILLIS + 4, &mut script, &mut source);
+    assert!(rt; endpoint.connections().len() == MAX_CONNECTIONS);
+    assert!(rt; endpoint.wait_limit() == 1000);
+    script.add(MAX_CONNECTIONS + 1, Wire::of(&input, &output, 1)?)?;
+    endpoint.turn(CONNECTION_MILLIS + 5, &mut script, &mut source);
+    assert!(rt; endpoint.connections().is_empty());
+    assert!(rt; endpoint.wait_limit() == u64::MAX);
+    Ok(())
+}
+
+#[test]
+fn a_failed_accept_is_tried_again(rt: HostRuntime) -> Result<(), Fail> {
+    let (input, output) = (shared(rt.alloc(), b"")?, shared(rt.alloc(), b"")?);
+    let mut script = nothing_ready(rt.alloc());
+    let mut endpoint = endpoint(&rt)?;
+    let mut source = source(rt.alloc())?;
+    script.accepts.push_back(HttpAccept::Failed)?;
+    script.accepts.push_back(HttpAccept::Again)?;
+    script.add(7, Wire::of(&input, &output, 1)?)?;
+    endpoint.turn(0, &mut script, &mut source);
+    assert!(rt; endpoint.connections().is_empty());
+    assert!(rt; endpoint.wait_limit() == 1000);
+    endpoint.turn(1, &mut script, &mut source);
+    assert!(rt; endpoint.connections().has(7));
+    Ok(())
+}
+
+#[test]
+fn a_blocked_stream_is_kept(rt: HostRuntime) -> Result<(), Fail> {
+    let (input, output) = (shared(rt.alloc(), b"")?, shared(rt.alloc(), b"")?);
+    let mut script = nothing_ready(rt.alloc());
+    let mut endpoint = endpoint(&rt)?;
+    let mut source = source(rt.alloc())?;
+    script.add(7, Wire::of(&input, &output, 4096)?)?;
+    endpoint.turn(0, &mut script, &mut source);
+    assert!(rt; endpoint.connections().has(7));
+    assert!(rt; endpoint.wait_limit() == 1000);
+    send(&input, LIST)?;
+    endpoint.turn(1, &mut script, &mut source);
+    assert!(rt; is_list(&output, &shared(rt.alloc(), b"")?));
+    script.wake(8)?;
+    script.wake(7)?;
+    endpoint.turn(2, &mut script, &mut source);
+    assert!(rt; has(rt.alloc(), &output, "HTTP/1.1 200 OK\r\n", "\r\n\r\n[]")?);
+    Ok(())
+}
+
+#[test]
+fn a_request_in_pieces_takes_turns(rt: HostRuntime) -> Result<(), Fail> {
+    let (input, output) = (shared(rt.alloc(), LIST)?, shared(rt.alloc(), b"")?);
+    let mut script = nothing_ready(rt.alloc());
+    let mut endpoint = endpoint(&rt)?;
+    let mut source = source(rt.alloc())?;
+    script.add(7, Wire::of(&input, &output, 1)?)?;
+    for now in 0..4 {
+        endpoint.turn(now, &mut script, &mut source);
+        assert!(rt; endpoint.wait_limit() == 0);
+        assert!(rt; is_list(&output, &shared(rt.alloc(), b"")?));
+    }
+    endpoint.turn(4, &mut script, &mut source);
+    assert!(rt; is_list(&output, &shared(rt.alloc(), b"HTTP")?));
+    Ok(())
+}
+
+#[test]
+fn tokens_are_not_mixed(rt: HostRuntime) -> Result<(), Fail> {
+    let (one, other) = (shared(rt.alloc(), b"")?, shared(rt.alloc(), b"")?);
+    let (to_one, to_other) = (shared(rt.alloc(), b"")?, shared(rt.alloc(), b"")?);
+    let mut script = nothing_ready(rt.alloc());
+    let mut endpoint = endpoint(&rt)?;
+    let mut source = source(rt.alloc())?;
+    script.add(7, Wire::of(&one, &to_one, 4096)?)?;
+    script.add(8, Wire::of(&other, &to_other, 4096)?)?;
+    endpoint.turn(0, &mut script, &mut source);
+    send(&one, LIST)?;
+    send(&other, ELSEWHERE)?;
+    script.wake(8)?;
+    endpoint.turn(1, &mut script, &mut source);
+    assert!(rt; is_list(&to_one, &shared(rt.alloc(), b"")?));
+    assert!(rt;
+        has(
+            rt.alloc(),
+            &to_other,
+            "HTTP/1.1 404 Not Found\r\n",
+            "\r\n\r\n"
+        )?
+    );
+    script.wake(7)?;
+    endpoint.turn(2, &mut script, &mut source);
+    assert!(rt; has(rt.alloc(), &to_one, "HTTP/1.1 200 OK\r\n", "\r\n\r\n[]")?);
+    Ok(())
+}

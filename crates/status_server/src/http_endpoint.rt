@@ -1,0 +1,174 @@
+//! The HTTP endpoint: it accepts connections and serves them, turn by turn.
+ghost use Rattle.std.specs.Prelude.{◌≡◌, [], true};
+ghost use Rattle.status_server.specs.Connections.{Accepts, Connections, Each, IsWoken, Serves, Turns, in_time, wait_for, wait_of};
+
+use crate::http_connections::HttpConnections;
+use crate::http_sockets::{HttpAccept, HttpReady, HttpSockets};
+use crate::status_source::StatusSource;
+use std::alloc::Global;
+use std::fmt::{self, Debug};
+use std::hash::RandomState;
+use std::io::{Read, Write};
+use std::marker::Model;
+
+/// How many calls of its stream a connection has in one turn.
+const BUDGET: u32 = 8;
+
+/// How many readiness events are read in one turn.
+const READY: usize = 65_536;
+
+/// How many connections are accepted in one turn.
+const AT_ONCE: usize = 64;
+
+/// The longest wait while connections are open or pending, in milliseconds.
+const SOON: u64 = 1000;
+
+/// The HTTP connections, and whether one may be pending at the listener. Times are in milliseconds of a monotonic clock.
+#[derive(Drop)]
+pub struct HttpEndpoint<T> {
+    connections: HttpConnections<T>,
+    pending: bool,
+}
+
+impl<T> Model for HttpEndpoint<T> {
+    ghost use Rattle.std.specs.Prelude.{Bool};
+    ghost use Rattle.status_server.specs.Connections.{Connections};
+
+    ghost Value = { Connections × Bool };
+
+    ghost view = { λ v. (v.connections, v.pending) };
+}
+
+/// How many connections there are.
+impl<T> Debug for HttpEndpoint<T> {
+    fn fmt<W: fmt::Write>(&self, f: &mut fmt::Formatter<W>) -> fmt::Result {
+        write!(f, "HttpEndpoint({:?})", self.connections)
+    }
+}
+
+impl<T: Read + Write + Drop> HttpEndpoint<T> {
+    /// An endpoint without connections. One may be pending. Clients choose the names of headers, so the keys must be random.
+    pub fn new(alloc: Global, keys: RandomState) -> HttpEndpoint<T>
+        ensures { result ≡ ([], true) }
+    {
+        HttpEndpoint {
+            connections: HttpConnections::new(alloc, keys),
+            pending: true,
+        }
+    }
+
+    /// The connections.
+    pub fn connections(&self) -> &HttpConnections<T>
+        ensures { result.now ≡ self.now.0 }
+    {
+        &self.connections
+    }
+
+    /// One turn at this time: it accepts connections, serves those that are busy or ready, and removes those that are closed or timed out.
+    pub fn turn<N: HttpSockets<T>, S: StatusSource>(
+        &mut self,
+        now: u64,
+        sockets: &mut N,
+        source: &mut S,
+    )
+        ensures { Turns now self.old.0 self.new.0 }
+    {
+        self.note_all(sockets);
+        self.accept_all(now, sockets);
+        self.serve(now, source);
+    }
+
+    /// How long the next turn may wait, in milliseconds: 0 if a connection is busy, a second if one is open or pending.
+    pub fn wait_limit(&self) -> u64
+        ensures { result ≡ wait_of self.now.0 self.now.1 }
+    {
+        wait_for(
+            self.connections.has_busy(),
+            self.pending,
+            self.connections.is_empty(),
+        )
+    }
+
+    /// Reads what is ready.
+    fn note_all<N: HttpSockets<T>>(&mut self, sockets: &mut N)
+        ensures { Each IsWoken self.old.0 self.new.0 }
+    {
+        for _ready in 0..READY {
+            let Some(ready) = sockets.next() else {
+                return;
+            };
+            self.note(ready);
+        }
+    }
+
+    /// Notes what is ready.
+    fn note(&mut self, ready: HttpReady)
+        ensures { Each IsWoken self.old.0 self.new.0 }
+    {
+        match ready {
+            HttpReady::Listener => self.pending = true,
+            HttpReady::Connection(token) => self.connections.wake(token),
+        }
+    }
+
+    /// Accepts pending connections. If an accept fails, it is tried again in the next turn.
+    fn accept_all<N: HttpSockets<T>>(&mut self, now: u64, sockets: &mut N)
+        ensures { Accepts now self.old.0 self.new.0 }
+    {
+        for _connection in 0..AT_ONCE {
+            if !self.accept(now, sockets) {
+                return;
+            }
+        }
+    }
+
+    /// Accepts a connection, if one may be pending. Answers whether another may be accepted.
+    fn accept<N: HttpSockets<T>>(&mut self, now: u64, sockets: &mut N) -> bool
+        ensures { Accepts now self.old.0 self.new.0 }
+    {
+        if !self.pending {
+            return false;
+        }
+        self.admit(now, sockets.accept())
+    }
+
+    /// Admits an accepted connection. If that fails, it is closed. Answers whether another may be accepted.
+    fn admit(&mut self, now: u64, accepted: HttpAccept<T>) -> bool
+        ensures accepts { Accepts now self.old.0 self.new.0 }
+        ensures failed { accepted ≡ HttpAccept.Failed → self.new ≡ self.old }
+    {
+        match accepted {
+            HttpAccept::Connection { stream, token } => {
+                let _ = self.connections.admit(token, stream, now);
+                true
+            }
+            HttpAccept::WouldBlock => {
+                self.pending = false;
+                false
+            }
+            HttpAccept::Again => true,
+            HttpAccept::Failed => false,
+        }
+    }
+
+    /// Serves the busy connections, and removes those that timed out.
+    fn serve<S: StatusSource>(&mut self, now: u64, source: &mut S)
+        ensures { (rest : Connections) × Serves self.old.0 rest × (self.new.0 ≡ in_time now rest) }
+    {
+        self.connections.serve(source, BUDGET);
+        self.connections.expire(now);
+    }
+}
+
+/// How long the next turn may wait, in milliseconds: by whether a connection is busy, whether one may be pending, and whether none is open.
+fn wait_for(is_busy: bool, is_pending: bool, is_empty: bool) -> u64
+    ensures { result ≡ wait_for is_busy is_pending is_empty }
+{
+    if is_busy {
+        0
+    } else if is_pending || !is_empty {
+        SOON
+    } else {
+        u64::MAX
+    }
+}
