@@ -8,7 +8,7 @@ use libc::net::{
 use mio::net::TcpStream;
 use rtr_server::{Progress, Stream};
 use std::fmt::{self, Debug};
-use std::io::{ErrorKind, Read, Write};
+use std::io::{Read, Write};
 use std::os::fd::AsRawFd;
 
 /// The size of the send buffer that is asked of the system, in bytes.
@@ -78,24 +78,10 @@ impl Stream for Connection {
     ghost answers = { λ l. Option.None };
 
     fn read(&mut self, buf: &mut [u8]) -> Progress {
-        match self.stream.read(buf) {
-            Ok(n) => Progress::Bytes(n),
-            Err(error) => match error.kind() {
-                ErrorKind::WouldBlock => Progress::Waits,
-                ErrorKind::Interrupted => Progress::Interrupted,
-                _ => Progress::Failed,
-            },
-        }
+        Progress::of(self.stream.read(buf))
     }
 
     fn write(&mut self, buf: &[u8]) -> Progress {
-        match self.stream.write(buf) {
-            Ok(n) => Progress::Bytes(n),
-            Err(error) => match error.kind() {
-                ErrorKind::WouldBlock => Progress::Waits,
-                ErrorKind::Interrupted => Progress::Interrupted,
-                _ => Progress::Failed,
-            },
-        }
+        Progress::of(self.stream.write(buf))
     }
 }

@@ -1,6 +1,8 @@
 -- What the calls of a non-blocking stream do to its bytes, if those are known.
-use Rattle.std.specs.Prelude.{◌≡◌, ℕ, ◌<◌, ◌≤◌, ◌==◌, List, [], ◌∷◌, ◌++◌, length, take, drop, Option, Some, None, if◌then◌else◌, ⊤}
+use Rattle.std.specs.Prelude.{◌≡◌, ℕ, ◌<◌, ◌≤◌, ◌==◌, List, [], ◌∷◌, ◌++◌, length, take, drop, Option, Some, None, Result, Ok, Err, if◌then◌else◌, ⊤}
 use Rattle.std.specs.Io.KnownBytes.{Appends, Consumes, IsAtEnd, Keeps}
+use Rattle.std.specs.IoError.{error_kind}
+use Rattle.std.specs.declared.io.Error.{Error}
 use Rattle.std.specs.declared.io.ErrorKind.{ErrorKind}
 use Rattle.std.specs.declared.io.ErrorKind.TheVariants.{WouldBlock}
 use Rattle.std.specs.declared.io.ErrorKind.TheVariants as kinds
@@ -17,6 +19,11 @@ abbrev pub moved_by : ErrorKind → Progress
 moved_by WouldBlock = Waits
 moved_by kinds.Interrupted = Interrupted
 moved_by kind = Failed
+
+-- what a call with this result came to
+abbrev pub progress_of : Result ℕ Error → Progress
+progress_of (Ok n) = Bytes n
+progress_of (Err e) = moved_by (error_kind e)
 
 -- no more than there is room for
 abbrev pub IsWithin : ℕ → Progress → Type 0

@@ -2,7 +2,7 @@
 ghost use Rattle.std.specs.Prelude.{◌≡◌, ℕ, ◌≤◌, List, Option, length};
 ghost use Rattle.std.specs.Io.KnownBytes.{Keeps};
 ghost use Rattle.std.specs.IoError.{error_kind};
-ghost use Rattle.rtr_server.specs.Streams.{IsWithin, Logged, ReadsSo, WritesSo, a_read, a_write, moved_by, moved_count};
+ghost use Rattle.rtr_server.specs.Streams.{IsWithin, Logged, ReadsSo, WritesSo, a_read, a_write, moved_by, moved_count, progress_of};
 
 use std::io;
 use std::io::{ErrorKind, Read, Write};
@@ -21,6 +21,17 @@ pub enum Progress {
 }
 
 impl Progress {
+    /// What a call of a device came to. An error of kind `WouldBlock` is that it would block, and one of kind `Interrupted` that it was
+    /// interrupted. Any other is that it failed.
+    pub fn of(came: io::Result<usize>) -> Progress
+        ensures { result ≡ progress_of came }
+    {
+        match came {
+            Ok(n) => Progress::Bytes(n),
+            Err(error) => moved_of(&error),
+        }
+    }
+
     /// How many bytes went.
     pub(crate) fn count(self) -> u64
         ensures { result ≡ moved_count self }
@@ -98,16 +109,10 @@ impl<R: Read, W: Write> Stream for Duplex<R, W> {
     ghost answers = { λ d. Option.None };
 
     fn read(&mut self, buf: &mut [u8]) -> Progress {
-        match self.input.read(buf) {
-            Ok(n) => Progress::Bytes(n),
-            Err(error) => moved_of(&error),
-        }
+        Progress::of(self.input.read(buf))
     }
 
     fn write(&mut self, buf: &[u8]) -> Progress {
-        match self.output.write(buf) {
-            Ok(n) => Progress::Bytes(n),
-            Err(error) => moved_of(&error),
-        }
+        Progress::of(self.output.write(buf))
     }
 }
