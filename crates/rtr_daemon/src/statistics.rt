@@ -10,6 +10,20 @@ use std::collections::VecDeque;
 /// How many of the last versions are listed.
 const CHANGES: usize = 64;
 
+/// The types of PDUs, in the order of the fields of `PdusByType`.
+const KINDS: [Kind; 10] = [
+    Kind::SerialNotify,
+    Kind::SerialQuery,
+    Kind::ResetQuery,
+    Kind::CacheResponse,
+    Kind::Ipv4Prefix,
+    Kind::Ipv6Prefix,
+    Kind::EndOfData,
+    Kind::CacheReset,
+    Kind::RouterKey,
+    Kind::ErrorReport,
+];
+
 /// How many records of each address family a set has.
 #[derive(Clone, Copy, Debug, PartialEq, Eq)]
 pub(crate) struct Families {
@@ -30,19 +44,75 @@ impl Families {
     }
 }
 
+/// The traffic of connections in one direction: bytes, and PDUs by their type, in the order of `KINDS`.
+#[derive(Clone, Copy, Debug, PartialEq, Eq)]
+pub(crate) struct Traffic {
+    bytes: u64,
+    pdus: [u64; 10],
+}
+
+impl Traffic {
+    /// With this many bytes and these PDUs more.
+    fn and(self, bytes: u64, pdus: PdusByKind) -> Traffic {
+        let mut sum = self.pdus;
+        for (index, count) in counts_of(pdus).iter().enumerate() {
+            sum[index] = sum[index].saturating_add(*count);
+        }
+        Traffic {
+            bytes: self.bytes.saturating_add(bytes),
+            pdus: sum,
+        }
+    }
+
+    /// The counts by name, as the status shows them.
+    pub(crate) fn shown(self) -> TotalTraffic {
+        let [
+            serial_notify,
+            serial_query,
+            reset_query,
+            cache_response,
+            ipv4_prefix,
+            ipv6_prefix,
+            end_of_data,
+            cache_reset,
+            router_key,
+            error_report,
+        ] = self.pdus;
+        TotalTraffic {
+            bytes: self.bytes,
+            pdus: PdusByType {
+                serial_notify,
+                serial_query,
+                reset_query,
+                cache_response,
+                ipv4_prefix,
+                ipv6_prefix,
+                end_of_data,
+                cache_reset,
+                router_key,
+                error_report,
+            },
+        }
+    }
+}
+
 /// The traffic of all connections, in both directions.
 #[derive(Clone, Copy, Debug, PartialEq, Eq)]
 pub(crate) struct TrafficTotals {
-    pub(crate) received: TotalTraffic,
-    pub(crate) sent: TotalTraffic,
+    pub(crate) received: Traffic,
+    pub(crate) sent: Traffic,
 }
 
 impl TrafficTotals {
     /// No traffic.
     pub(crate) fn none() -> TrafficTotals {
+        let none = Traffic {
+            bytes: 0,
+            pdus: [0; 10],
+        };
         TrafficTotals {
-            received: no_traffic(),
-            sent: no_traffic(),
+            received: none,
+            sent: none,
         }
     }
 
@@ -54,8 +124,8 @@ impl TrafficTotals {
         sent: PdusByKind,
     ) -> TrafficTotals {
         TrafficTotals {
-            received: with(self.received, carried.read, received),
-            sent: with(self.sent, carried.written, sent),
+            received: self.received.and(carried.read, received),
+            sent: self.sent.and(carried.written, sent),
         }
     }
 }
@@ -150,72 +220,12 @@ impl Statistics {
 
 /// How many PDUs there are of all types.
 pub(crate) fn total(pdus: PdusByKind) -> u64 {
-    let counts = counts_of(pdus);
-    [
-        counts.serial_notify,
-        counts.serial_query,
-        counts.reset_query,
-        counts.cache_response,
-        counts.ipv4_prefix,
-        counts.ipv6_prefix,
-        counts.end_of_data,
-        counts.cache_reset,
-        counts.router_key,
-        counts.error_report,
-    ]
-    .iter()
-    .fold(0u64, |sum, count| sum.saturating_add(*count))
+    counts_of(pdus)
+        .iter()
+        .fold(0u64, |sum, count| sum.saturating_add(*count))
 }
 
-fn counts_of(pdus: PdusByKind) -> PdusByType {
-    PdusByType {
-        serial_notify: pdus.of(Kind::SerialNotify),
-        serial_query: pdus.of(Kind::SerialQuery),
-        reset_query: pdus.of(Kind::ResetQuery),
-        cache_response: pdus.of(Kind::CacheResponse),
-        ipv4_prefix: pdus.of(Kind::Ipv4Prefix),
-        ipv6_prefix: pdus.of(Kind::Ipv6Prefix),
-        end_of_data: pdus.of(Kind::EndOfData),
-        cache_reset: pdus.of(Kind::CacheReset),
-        router_key: pdus.of(Kind::RouterKey),
-        error_report: pdus.of(Kind::ErrorReport),
-    }
-}
-
-fn no_traffic() -> TotalTraffic {
-    TotalTraffic {
-        bytes: 0,
-        pdus: PdusByType {
-            serial_notify: 0,
-            serial_query: 0,
-            reset_query: 0,
-            cache_response: 0,
-            ipv4_prefix: 0,
-            ipv6_prefix: 0,
-            end_of_data: 0,
-            cache_reset: 0,
-            router_key: 0,
-            error_report: 0,
-        },
-    }
-}
-
-/// Traffic, plus this many bytes and these PDUs.
-fn with(traffic: TotalTraffic, bytes: u64, pdus: PdusByKind) -> TotalTraffic {
-    let (old, new) = (traffic.pdus, counts_of(pdus));
-    TotalTraffic {
-        bytes: traffic.bytes.saturating_add(bytes),
-        pdus: PdusByType {
-            serial_notify: old.serial_notify.saturating_add(new.serial_notify),
-            serial_query: old.serial_query.saturating_add(new.serial_query),
-            reset_query: old.reset_query.saturating_add(new.reset_query),
-            cache_response: old.cache_response.saturating_add(new.cache_response),
-            ipv4_prefix: old.ipv4_prefix.saturating_add(new.ipv4_prefix),
-            ipv6_prefix: old.ipv6_prefix.saturating_add(new.ipv6_prefix),
-            end_of_data: old.end_of_data.saturating_add(new.end_of_data),
-            cache_reset: old.cache_reset.saturating_add(new.cache_reset),
-            router_key: old.router_key.saturating_add(new.router_key),
-            error_report: old.error_report.saturating_add(new.error_report),
-        },
-    }
+/// How many PDUs there are of each type, in the order of `KINDS`.
+fn counts_of(pdus: PdusByKind) -> [u64; 10] {
+    KINDS.map(|kind| pdus.of(kind))
 }
