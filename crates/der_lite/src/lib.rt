@@ -33,4 +33,5 @@ pub use content::{Bits, is_integer, unsigned};
 pub use cursor::Cursor;
 pub use fault::{DerFault, DerFaultKind, MomentFault};
 pub use moment::Moment;
+pub use seconds::{days_of_month, days_of_year};
 pub use writer::DerWriter;

@@ -14,7 +14,7 @@ fn is_leap(year: u16) -> bool
 }
 
 /// How many days a year has.
-fn days_of_year(year: u16) -> u64
+pub fn days_of_year(year: u16) -> u64
     ensures value { result ≡ days_of_year year }
     ensures small { result ≤ 366 }
 {
@@ -22,7 +22,7 @@ fn days_of_year(year: u16) -> u64
 }
 
 /// How many days a month has; a month is a number from 1 to 12.
-fn days_of_month(year: u16, month: u16) -> u64
+pub fn days_of_month(year: u16, month: u16) -> u64
     ensures value { result ≡ days_of_month year month }
     ensures small { result ≤ 31 }
 {

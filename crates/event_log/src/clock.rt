@@ -1,10 +1,10 @@
 //! The calendar: the date and time of a second since 1970, and the time of a log line.
 ghost use Rattle.std.specs.Prelude.{◌≡◌, ◌<◌, ◌≤◌, ◌+◌, ◌-◌};
-ghost use Rattle.der_lite.specs.Moments.{days_of_month, decimals, is_leap, moment_text, told_moment};
+ghost use Rattle.der_lite.specs.Moments.{days_of_month, decimals, moment_text, told_moment};
 ghost use Rattle.der_lite.specs.Seconds.{days_of_months, days_of_year, days_of_years};
 ghost use Rattle.event_log.specs.Clock.{IsAt, IsMomentAt, IsTimeOf, time_text};
 
-use der_lite::Moment;
+use der_lite::{Moment, days_of_month, days_of_year};
 
 /// The last second of the year 9999.
 const LAST: u64 = 253_402_300_799;
@@ -21,31 +21,6 @@ pub(crate) struct Civil {
     pub(crate) hour: u16,
     pub(crate) minute: u16,
     pub(crate) second: u16,
-}
-
-/// Whether a year has a 29 February: every fourth year, but of the centuries only every fourth.
-fn is_leap(year: u16) -> bool
-    ensures { result ≡ is_leap year }
-{
-    year % 4 == 0 && (year % 100 != 0 || year % 400 == 0)
-}
-
-/// How many days a year has.
-fn days_of_year(year: u16) -> u64
-    ensures { result ≡ days_of_year year }
-{
-    if is_leap(year) { 366 } else { 365 }
-}
-
-/// How many days a month has. A month is a number from 1 to 12.
-fn days_of_month(year: u16, month: u16) -> u64
-    ensures { result ≡ days_of_month year month }
-{
-    match month {
-        2 => { if is_leap(year) { 29 } else { 28 } }
-        4 | 6 | 9 | 11 => 30,
-        _ => 31,
-    }
 }
 
 /// The year of a day, which is counted from 1970-01-01, and how many days of that year are before it.

@@ -1,6 +1,6 @@
 //! Moments by hand: their texts, their order, and their elements.
 
-use der_lite::{Cursor, DerWriter, Moment};
+use der_lite::{Cursor, DerWriter, Moment, days_of_month, days_of_year};
 use std::alloc::Global;
 use std::process::Abort;
 use std::test::Fail;
@@ -58,6 +58,43 @@ fn expect_seconds<R: Abort>(rt: &R, rows: &[(&str, u64)]) {
 fn counts_seconds_since_1970(rt: HostRuntime) {
     expect_seconds(&rt, COUNTED);
     assert!(rt; Moment::from_text(b"2024-02-29T23:59:59Z").is_none());
+}
+
+/// Years, and how many days each and its February has.
+const YEARS: &[(u16, u64, u64)] = &[
+    (1970, 365, 28),
+    (2000, 366, 29),
+    (2023, 365, 28),
+    (2024, 366, 29),
+    (2100, 365, 28),
+    (2400, 366, 29),
+];
+
+/// The months of 2025, and how many days each has.
+const MONTHS: &[(u16, u64)] = &[
+    (1, 31),
+    (2, 28),
+    (3, 31),
+    (4, 30),
+    (5, 31),
+    (6, 30),
+    (7, 31),
+    (8, 31),
+    (9, 30),
+    (10, 31),
+    (11, 30),
+    (12, 31),
+];
+
+#[test]
+fn days_of_years_and_months(rt: HostRuntime) {
+    for &(year, days, february) in YEARS {
+        assert!(rt; days_of_year(year) == days, "{year}");
+        assert!(rt; days_of_month(year, 2) == february, "{year}");
+    }
+    for &(month, days) in MONTHS {
+        assert!(rt; days_of_month(2025, month) == days, "{month}");
+    }
 }
 
 const NO_MOMENTS: &[&str] = &[

@@ -7,7 +7,7 @@ pub loop-count-init : goal.loop-count-init
 loop-count-init c = omega (arith, no_months c.args.year)
 
 pub loop-count-preserved : goal.loop-count-preserved
-loop-count-preserved c = omega (arith, c.loop-count.invariant, c.if-rest-length.false, c.days_of_month-length.ensures, months_more c.args.year c.loop-count.count)
+loop-count-preserved c = omega (arith, c.loop-count.invariant, c.if-rest-length.false, c.days_of_month-length.ensures.value, months_more c.args.year c.loop-count.count)
 
 pub returns-clause-within : goal.returns-clause-within
 returns-clause-within c =

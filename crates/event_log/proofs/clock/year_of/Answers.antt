@@ -7,7 +7,7 @@ pub loop-count-init : goal.loop-count-init
 loop-count-init c = omega (arith, no_years)
 
 pub loop-count-preserved : goal.loop-count-preserved
-loop-count-preserved c = omega (arith, c.loop-count.invariant, c.if-rest-length.false, c.days_of_year-length.ensures, years_more c.loop-count.count)
+loop-count-preserved c = omega (arith, c.loop-count.invariant, c.if-rest-length.false, c.days_of_year-length.ensures.value, years_more c.loop-count.count)
 
 pub returns-clause-within : goal.returns-clause-within
 returns-clause-within c =
