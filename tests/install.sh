@@ -46,7 +46,7 @@ install_it() { # install_it STATUS WORD..
 # What is installed below a prefix, but for the list of it.
 wanted_files() { # wanted_files PREFIX OPTIONS
     printf '%s\n' "$2" "$1/bin/rpkirtr" "$1/bin/rpkirtrd" "$1/lib/systemd/system/rpkirtrd.service"
-    (cd "$top" && ls README.md CHANGELOG.md SECURITY.md docs/*.md docs/alerts.yml docs/Containerfile && find samples docs/figures -type f) | sed "s|^|$1/share/doc/rpkirtr/|"
+    (cd "$top" && ls README.md CHANGELOG.md SECURITY.md docs/*.md docs/alerts.yml docs/grafana.json docs/Containerfile && find samples docs/figures -type f) | sed "s|^|$1/share/doc/rpkirtr/|"
 }
 
 # Each link of a page below a folder that is no address leads to a file.

@@ -121,7 +121,7 @@ put_all() {
     done < <(cd "$top" && ls README.md CHANGELOG.md SECURITY.md docs/*.md samples/README.md)
     while IFS= read -r name; do
         put 644 "$top/$name" "$pages/$name"
-    done < <(cd "$top" && find samples docs/figures docs/alerts.yml docs/Containerfile -type f ! -name README.md | sort)
+    done < <(cd "$top" && find samples docs/figures docs/alerts.yml docs/grafana.json docs/Containerfile -type f ! -name README.md | sort)
 }
 
 # The program that ./run starts: the one that was built here, or the delivered one.
