@@ -14,8 +14,8 @@ use std::marker::Model;
 
 /// Reads the elements of an enclosing one, in order.
 ///
-/// What it hands out lies in the bytes that it was made over. No call allocates memory. A read that
-/// answers a fault leaves the cursor at its place. The faults of a read are judged in this order:
+/// Results are slices of the bytes given to `new`. No call allocates memory. If a read fails, the
+/// cursor does not move. The faults of a read are judged in this order:
 /// `Truncated`, `WrongTag`, `BadLength`, `BadContent`.
 #[derive(Debug, Drop)]
 pub struct Cursor<'a> {

@@ -7,7 +7,8 @@ use crate::walk::skip_value;
 use json::{Reader, Scratch};
 use std::alloc::{AllocError, Global};
 
-/// The first name that is repeated in an entry whose members come next. `None`: they cannot be read.
+/// Reads the members of an entry. `Some(Some(name))`: this is the first of `asn`, `prefix`, `maxLength` and `expires` that is repeated.
+/// `Some(None)`: none of them is. `None`: a member cannot be read. Other names may be repeated.
 fn in_members<'a>(reader: &mut Reader<'a>) -> Option<Option<&'a str>>
     ensures { IfSome result (λ found. IfNone found (length reader.new < length reader.old)) }
 {
@@ -24,7 +25,7 @@ fn in_members<'a>(reader: &mut Reader<'a>) -> Option<Option<&'a str>>
     }
 }
 
-/// The first name that is repeated in the item that comes next. `None`: it cannot be read.
+/// Reads an item of `roas`, and returns the same of its members. An item that is no object has none.
 fn in_item<'a>(reader: &mut Reader<'a>) -> Option<Option<&'a str>>
     ensures { IfSome result (λ found. IfNone found (length reader.new < length reader.old)) }
 {
@@ -63,7 +64,8 @@ fn in_roas(alloc: Global, reader: &mut Reader<'_>) -> Result<Option<Option<Strin
     Ok(Some(None))
 }
 
-/// The first name that is repeated in the metadata, which come next. `None`: they cannot be read.
+/// Reads the metadata. `Some(Some(name))`: this is the first of `generated` and `buildtime` that is repeated. `Some(None)`: neither is.
+/// `None`: they cannot be read.
 fn in_metadata<'a>(reader: &mut Reader<'a>) -> Option<Option<&'a str>>
     ensures { IfSome result (λ found. IfNone found (length reader.new < length reader.old)) }
 {

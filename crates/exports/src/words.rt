@@ -53,7 +53,7 @@ pub(crate) fn shown(alloc: Global, value: &Tree<'_>) -> Result<String, AllocErro
     shown_token(alloc, &token)
 }
 
-/// The member of an entry that a fault is of, and what is wrong with it.
+/// The name of the faulty member, and the message for it. `None` if the entry is not an object.
 fn member_of(what: EntryFault) -> Option<(&'static str, &'static str)> {
     match what {
         EntryFault::NoObject => None,
@@ -64,7 +64,7 @@ fn member_of(what: EntryFault) -> Option<(&'static str, &'static str)> {
     }
 }
 
-/// What is wrong with a member of an entry.
+/// The message for a faulty member: its name, its value and the reason, or that it is missing.
 pub(crate) fn member_text(
     alloc: Global,
     entry: &Tree<'_>,

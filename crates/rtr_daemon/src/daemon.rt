@@ -164,7 +164,7 @@ impl<S: VersionStore + Drop, T: Stream + Drop> Daemon<S, T> {
     ) -> io::Result<Option<StopReason>>
         ensures { GoesOn S.holds T.remaining T.contents self.old.service self.new.service }
     {
-        let wait = self.wait(env.millis());
+        let wait = self.longest_wait(env.millis());
         env.wait(wait)?;
         self.take_ready(env);
         self.accept_pending(env);
@@ -173,18 +173,18 @@ impl<S: VersionStore + Drop, T: Stream + Drop> Daemon<S, T> {
         Ok(self.end())
     }
 
-    /// How long the next turn may wait, in milliseconds.
-    fn wait(&self, now: u64) -> u64 {
+    /// The longest wait of the next turn, in milliseconds: 0 if a client is queued, otherwise until something is due.
+    fn longest_wait(&self, millis: u64) -> u64 {
         if !self.clients.is_idle() {
             return 0;
         }
-        self.next_moment(now).saturating_sub(now)
+        self.next_moment(millis).saturating_sub(millis)
     }
 
     /// When something is due next, in milliseconds of the monotonic clock.
-    fn next_moment(&self, now: u64) -> u64 {
+    fn next_moment(&self, millis: u64) -> u64 {
         let mut next = self.next_check;
-        if self.clients.has_blocked() || (self.service.is_pending() && self.held_until <= now) {
+        if self.clients.has_blocked() || (self.service.is_pending() && self.held_until <= millis) {
             next = next.min(self.next_round);
         }
         if let Some(deadline) = self.clients.first_deadline(FIRST_QUERY) {

@@ -115,7 +115,7 @@ impl StartFault {
         }
     }
 
-    /// The refusal of a file.
+    /// The daemon cannot start, because this file is refused. If memory runs out here, the path is omitted.
     pub(crate) fn of(path: &str, alloc: Global, refusal: Refusal) -> StartFault {
         StartFault {
             path: String::from_str(alloc, path).ok(),

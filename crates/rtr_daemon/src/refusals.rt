@@ -65,8 +65,8 @@ impl Refusals {
         }
     }
 
-    /// Whether the source would be refused again with this stamp. After a lack of memory it is tried again.
-    pub(crate) fn stays(&self, stamp: Stamp) -> bool {
+    /// Whether the file need not be read: it was refused with this stamp. If memory ran out then, it is read again.
+    pub(crate) fn is_known(&self, stamp: Stamp) -> bool {
         match &self.last {
             Some(refused) => refused.stamp == Some(stamp) && !refused.why.is_memory(),
             None => false,

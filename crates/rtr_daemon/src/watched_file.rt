@@ -69,7 +69,7 @@ impl WatchedFile {
         if self.was_loaded(before) && !anew {
             return Look::Unchanged;
         }
-        if self.refusals.stays(before) {
+        if self.refusals.is_known(before) {
             return Look::RefusedBefore;
         }
         self.read(env, before)

@@ -374,7 +374,7 @@ impl Machine {
         }
     }
 
-    /// How many records the base of the answer to this question has.
+    /// The number of records in the table to which the answer applies: 0 after a Reset Query, those of the router's table after a Serial Query.
     fn base_len(&self, question: Question) -> usize
         ensures count { result ≡ size (base_of (seen_question question) self.now.table) }
         ensures fits { result ≤ 16777215 }

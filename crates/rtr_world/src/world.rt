@@ -48,17 +48,17 @@ pub struct World {
     keep: Keep,
     /// The sessions of all instances of the cache.
     sessions: Vec<Sessions>,
-    /// Those of the present one.
+    /// The sessions of the present instance.
     present: Sessions,
-    /// The serial of its first version.
+    /// The serial of the first version of the present instance.
     start: u32,
     cache: Cache<VersionLog>,
     sides: Vec<Side>,
 }
 
 impl World {
-    /// A world of one cache, with this session, and `session0` in version 0 of the protocol, which keeps `keep` versions before the current
-    /// one, and this many routers. Nothing is published, and no router has a connection.
+    /// A world of one cache and this many routers. The cache has this session, and `session0` in version 0 of the protocol. Its first version
+    /// gets the serial `start`. It keeps `keep` versions before the current one. Nothing is published, and no router has a connection.
     pub fn new(
         alloc: Global,
         routers: u16,

@@ -119,7 +119,7 @@ fn members_text(alloc: Global, value: &Value, names: &[&str]) -> Result<String, 
     }
 }
 
-/// The member of an entry that a fault is of, and what is wrong with it.
+/// The name of the faulty member, and the message for it. `None` if the fault is of the whole entry.
 fn member_of(why: SlurmEntryFault) -> Option<(&'static str, &'static str)> {
     match why {
         SlurmEntryFault::Asn => Some(("asn", NO_ASN)),
@@ -132,7 +132,7 @@ fn member_of(why: SlurmEntryFault) -> Option<(&'static str, &'static str)> {
     }
 }
 
-/// What is wrong with a member of an entry.
+/// The message for a faulty member: its name, its value and the reason, or that it is missing.
 fn member_text(
     alloc: Global,
     entry: &Value,

@@ -24,7 +24,7 @@ pub const CONNECTION_MILLIS: u64 = 30_000;
 #[derive(Clone, Copy, Debug, Drop, PartialEq, Eq, Error)]
 pub enum HttpAdmitFault {
     /// The limit of connections is reached.
-    #[error("there are 64 visitors")]
+    #[error("64 connections are open")]
     TooManyConnections,
     /// Out of memory.
     #[error("out of memory")]
