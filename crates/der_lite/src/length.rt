@@ -31,7 +31,7 @@ pub(crate) fn number(bytes: &[u8]) -> u32
     }
 }
 
-/// The length that a first length byte and those that it announces give.
+/// The length that a first length byte and the bytes that it announces encode.
 pub(crate) fn told(first: u8, more: &[u8]) -> usize
     requires { length more.now ≤ 4 }
     ensures value { result ≡ told_length (first ∷ more.now) }
@@ -44,7 +44,7 @@ pub(crate) fn told(first: u8, more: &[u8]) -> usize
     }
 }
 
-/// Whether a first length byte and those that it announces are a length in the fewest bytes.
+/// Whether a first length byte and the bytes that it announces are the shortest form of a length, as DER requires.
 pub(crate) fn is_length(first: u8, more: &[u8]) -> bool
     requires { announced_by first ≡ length more.now }
     ensures { result ≡ is_length_of (first ∷ more.now) }

@@ -150,7 +150,7 @@ impl Moment {
     }
 }
 
-/// As `parse`: the moment of which this is the text.
+/// As `parse`, with an error in place of `None`.
 impl FromStr for Moment {
     type Err = MomentFault;
 

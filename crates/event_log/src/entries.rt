@@ -41,6 +41,7 @@ pub(crate) fn number<'a>(key: &'static str, value: u64) -> Pair<'a>
     }
 }
 
+/// An address, under the key `address`.
 pub(crate) fn address<'a>(value: &SocketAddr) -> Pair<'a>
     ensures { log_pair result ≡ at value.now }
 {

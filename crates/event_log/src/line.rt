@@ -91,14 +91,14 @@ fn write_quoted<W: Write>(out: &mut W, text: &str) -> io::Result<()>
     out.write_all(b"\"")
 }
 
-/// Whether a byte may occur in a text without quotes.
+/// Whether a byte may occur in an unquoted value.
 fn is_plain_byte(byte: u8) -> bool
     ensures { result ≡ is_plain_byte byte }
 {
     33 <= byte && byte <= 126 && !(byte == b'"' || byte == b'=' || byte == b'\\')
 }
 
-/// Whether all bytes may occur in a text without quotes.
+/// Whether each byte may occur in an unquoted value.
 fn are_plain(bytes: &[u8]) -> bool
     ensures { result ≡ list_all is_plain_byte bytes.now }
 {

@@ -31,7 +31,7 @@ impl Open {
         self.objects.last().copied()
     }
 
-    /// Notes that a value begins. Whether one may.
+    /// Notes that a value begins, and returns whether that was allowed there.
     fn begin_value(&mut self) -> bool {
         let may = match self.innermost() {
             Some(true) => self.is_named,
@@ -43,26 +43,26 @@ impl Open {
         may
     }
 
-    /// Notes that an array or an object begins. Whether one may.
+    /// Notes that an array or an object begins, and returns whether that was allowed there.
     fn open(&mut self, is_object: bool) -> Result<bool, AllocError> {
         let may = self.begin_value() && self.objects.len() < NESTING;
         self.objects.push(is_object)?;
         Ok(may)
     }
 
-    /// Notes that an array or an object ends. Whether it may.
+    /// Notes that an array or an object ends, and returns whether that was allowed there.
     fn close(&mut self, is_object: bool) -> bool {
         !self.is_named && self.objects.pop() == Some(is_object)
     }
 
-    /// Notes a name. Whether one may come.
+    /// Notes a name, and returns whether one was allowed there.
     fn name(&mut self) -> bool {
         let may = self.innermost() == Some(true) && !self.is_named;
         self.is_named = true;
         may
     }
 
-    /// Notes a token. Whether it may come.
+    /// Notes a token, and returns whether it was allowed there.
     fn note(&mut self, token: &Token<'_>) -> Result<bool, AllocError> {
         match token {
             Token::BeginArray => self.open(false),

@@ -2,7 +2,7 @@
 
 ghost use Rattle.payloads.specs.PayloadLaws.{OneFault, OneSpelling, OnePayload, RoaRefusesExactly, ManifestRefusesExactly};
 
-/// At most one fault fits bytes, and one fits exactly if they spell no value.
+/// Bytes have at most one fault. They have one if and only if they encode no value.
 pub fn one_fault()
     ensures { OneFault }
 {}
@@ -17,12 +17,12 @@ pub fn one_payload()
     ensures { OnePayload }
 {}
 
-/// The values of a ROA that are refused are exactly those that no bytes spell.
+/// The value of a ROA is refused if and only if no bytes encode it.
 pub fn roa_refuses_exactly()
     ensures { RoaRefusesExactly }
 {}
 
-/// The values of a manifest that are refused are exactly those that no bytes spell.
+/// The value of a manifest is refused if and only if no bytes encode it.
 pub fn manifest_refuses_exactly()
     ensures { ManifestRefusesExactly }
 {}

@@ -207,7 +207,7 @@ fn second_family(
     Ok(())
 }
 
-/// ipAddrBlocks SEQUENCE (SIZE(1..2)) OF ROAIPAddressFamily (4.3).
+/// Reads ipAddrBlocks, a SEQUENCE (SIZE(1..2)) OF ROAIPAddressFamily (4.3). Its addresses go to `entries`.
 #[tactic(auto, unfolding(crate::specs::RoaReading::blocks_at))]
 fn ip_addr_blocks(cursor: &mut Cursor, entries: &mut Entries) -> Result<(), GrammarFault>
     requires { entries.old.count ≡ 0 }

@@ -30,7 +30,7 @@ This is a cache for the routers of a network, beside rpki-client:
 /// The program's version.
 pub const VERSION: &str = "1.0.0";
 
-/// The text of `--version`.
+/// What `--version` prints: the name of the program and its version.
 pub(crate) fn version(alloc: Global) -> Result<String, AllocError> {
     let mut text = String::from_str(alloc, "rpkirtrd ")?;
     text.push_str(VERSION)?;

@@ -195,7 +195,7 @@ pub(crate) fn addresses(
     Ok(all)
 }
 
-/// The log format of an option, or text if there is no such option.
+/// The log format that an option gives. If the option is absent, it is text.
 pub(crate) fn log_format(
     alloc: Global,
     found: &ArgMatches<'_>,

@@ -45,7 +45,7 @@ impl WatchedPoint {
         }
     }
 
-    /// It was accepted, or is what its point holds. It answers whether a refusal was reported before.
+    /// It was accepted, or is what its point holds. It returns whether a refusal was reported before.
     pub(crate) fn set_accepted(&mut self, held: Option<PointState>, now: u64) -> bool {
         self.loaded_at = Some(now);
         self.held = held;
@@ -73,7 +73,7 @@ pub(crate) enum PollResult {
     Loaded { again: bool, expired: u64 },
 }
 
-/// Loads the content of a file, and answers how many of its entries had expired.
+/// Loads the content of a file, and returns how many of its entries had expired. If it is refused, it returns why.
 pub(crate) fn take<S: VersionStore, T: Stream + Drop>(
     service: &mut Service<S, T>,
     source: Source,
@@ -106,7 +106,7 @@ fn point_state(alloc: Global, manifest: &[u8]) -> Option<PointState> {
     })
 }
 
-/// Offers the content of a directory to the publication point of its name, and answers what the point holds then.
+/// Offers the content of a directory to the publication point of its name, and returns what the point then holds.
 pub(crate) fn offer<S: VersionStore, T: Stream + Drop, W: Disk>(
     service: &mut Service<S, T>,
     path: &str,

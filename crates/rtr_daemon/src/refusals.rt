@@ -31,7 +31,7 @@ impl Refusals {
         }
     }
 
-    /// The source was loaded. It answers whether a refusal was reported before.
+    /// The source was loaded. It returns whether a refusal was reported before.
     pub(crate) fn clear(&mut self) -> bool {
         let was_reported = self.is_reported;
         self.last = None;
@@ -40,7 +40,7 @@ impl Refusals {
         was_reported
     }
 
-    /// The source is refused, with this stamp. It answers whether that is reported: if the last refusal had the same stamp, or too many polls in
+    /// The source is refused, with this stamp. It returns whether that is reported: if the last refusal had the same stamp, or too many polls in
     /// a row refused it. Only one refusal is reported until the source is loaded.
     pub(crate) fn add(&mut self, stamp: Option<Stamp>, why: Refusal) -> bool {
         let is_same = self.is_of(stamp);
@@ -50,7 +50,7 @@ impl Refusals {
         is_due && self.mark_reported()
     }
 
-    /// Marks a refusal as reported. It answers true if none was reported since the source was last loaded.
+    /// Marks a refusal as reported. It returns true if none was reported since the source was last loaded.
     pub(crate) fn mark_reported(&mut self) -> bool {
         let is_news = !self.is_reported;
         self.is_reported = true;
@@ -81,7 +81,7 @@ impl Refusals {
         }
     }
 
-    /// Why the source was refused last, if a refusal was reported.
+    /// Why the source was refused last, if a refusal was reported since the source was last loaded.
     pub(crate) fn reported(&self) -> Option<&Refusal> {
         if self.is_reported {
             return self.last();

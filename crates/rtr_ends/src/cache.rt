@@ -146,7 +146,7 @@ impl<S: VersionStore> Cache<S> {
         }
     }
 
-    /// Whether bytes of a PDU came that has not come whole.
+    /// Whether a PDU from the router has arrived in part. If there is no connection, it returns false.
     pub fn is_within_unit(&self, conn: Conn) -> bool
         ensures { (m : CacheState) → ShowsCache S.holds m self.now → result ≡ is_within (m.at conn.0) }
     {

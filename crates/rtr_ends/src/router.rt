@@ -93,7 +93,7 @@ impl Router {
         }
     }
 
-    /// Hands out the bytes to be pulled, as many as there are, or as fit, and answers how many. It allocates no memory.
+    /// Moves the bytes to be sent into `room`, as many as fit, and returns how many. It allocates no memory.
     pub fn pull(&mut self, room: &mut [u8]) -> usize
         ensures calls { Calls (λ r. (called (model.Pulls (length room.old)) r).router) self.old self.new }
         ensures leads { LeadsOn (model.Pulls (length room.old)) self.old self.new }

@@ -76,7 +76,7 @@ impl Timing {
         })
     }
 
-    /// How long a router waits after a commit before it asks again, in seconds.
+    /// How long a router waits after a commit before it sends the next query, in seconds.
     pub fn refresh(&self) -> u32
         ensures value { result ≡ self.now.refresh }
         ensures timing { IsTiming self.now }
@@ -84,7 +84,7 @@ impl Timing {
         self.refresh
     }
 
-    /// How long a router waits before it tries again, in seconds.
+    /// How long a router waits after a failed query before it sends a query again, in seconds.
     pub fn retry(&self) -> u32
         ensures value { result ≡ self.now.retry }
         ensures timing { IsTiming self.now }

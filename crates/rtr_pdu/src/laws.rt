@@ -31,7 +31,8 @@ pub fn judges_exactly()
     ensures whole { WholeExactly }
 {}
 
-/// What `read_unit` answers is the first PDU or fault of the split of what the reader had left.
+/// If `read_unit_of` returns a PDU or a fault, that is the first in the split of the remaining bytes of the reader. If it returns `None`, no
+/// bytes remained.
 pub fn tells_first()
     ensures { TellsFirst }
 {}

@@ -93,7 +93,8 @@ impl Side {
         *self = Side::new(alloc);
     }
 
-    /// The cache's side is closed; this many of the bytes towards the router still arrive.
+    /// Closes the connection at the cache. The bytes on their way to the cache are lost. Of those on their way to the router, at most this many
+    /// still arrive.
     fn cut(&mut self, cache: &mut Cache<VersionLog>, left: u64)
         ensures { Goes (λ w s. model.cut left s) cache.old self.old cache.new self.new }
     {

@@ -49,7 +49,7 @@ impl Wire {
         self.arrived = 0;
     }
 
-    /// All but the first of the bytes on their way are gone: this many are kept.
+    /// Keeps the first of the bytes on their way, at most this many, and drops the rest.
     pub fn keep(&mut self, most: u64)
         ensures { self.new ≡ take most self.old }
     {

@@ -44,14 +44,14 @@ impl SlurmArray {
     }
 }
 
-/// The key of an object.
+/// Writes the key of the array.
 impl Display for SlurmArray {
     fn fmt<W: fmt::Write>(&self, f: &mut fmt::Formatter<W>) -> fmt::Result {
         write!(f, "{}", self.key())
     }
 }
 
-/// The objects of a file that are no entries (RFC 8416 section 3.2).
+/// The outermost object of a file, and the two objects in it that hold the arrays (RFC 8416 section 3.2).
 #[derive(Clone, Copy, Debug, PartialEq, Eq)]
 pub enum SlurmObject {
     /// The file itself, of three members.
@@ -65,7 +65,7 @@ pub enum SlurmObject {
 impl SlurmObject {
     ghost use Rattle.slurm.specs.Telling.{object_name};
 
-    /// Its key, or that it is the file.
+    /// The key of the object, or "the file".
     pub fn name(self) -> &'static str
         ensures { result.now ≡ object_name self }
     {
@@ -77,7 +77,7 @@ impl SlurmObject {
     }
 }
 
-/// Its key, or that it is the file.
+/// Writes the key of the object, or "the file".
 impl Display for SlurmObject {
     fn fmt<W: fmt::Write>(&self, f: &mut fmt::Formatter<W>) -> fmt::Result {
         write!(f, "{}", self.name())
@@ -125,7 +125,7 @@ pub enum SlurmFault {
     /// The bytes are no JSON text.
     #[error("not JSON (fault 1)")]
     NotJson,
-    /// This object is none, or does not have exactly its members.
+    /// This is no JSON object, or its members are not exactly the required ones.
     #[error("{0} is no object of exactly its members (fault 2)")]
     Members(SlurmObject),
     /// `slurmVersion` is not 1.

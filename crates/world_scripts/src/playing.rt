@@ -82,7 +82,7 @@ fn unreadable<O: Write>(number: u64, out: &mut O) -> Result<u8, ProgramFault>
     Ok(1)
 }
 
-/// Plays a line, and answers whether it could be read.
+/// Plays a line, and returns whether it could be read.
 fn play_line<O: Write>(
     alloc: Global,
     world: &mut World,
@@ -124,7 +124,8 @@ fn tell_refused<O: Write>(number: u64, fault: WorldFault, out: &mut O) -> Result
     Ok(())
 }
 
-/// Shows what a router has committed: `v0` if that is of version 0 of the protocol, its session, its serial, and the size of its table.
+/// Prints what a router has committed: `v0` if the protocol version is 0, the session, the serial and the size of its table. If nothing is
+/// committed, it prints `empty`. If there is no such router, the line `number` is refused.
 fn show<O: Write>(
     world: &World,
     number: u64,
