@@ -2,7 +2,8 @@
 use Rattle.std.proofs.Common.{◌≡◌, ◌⊎◌, inl, inr, ℕ, List, [], ◌∷◌, map, Result, Ok, Err, sym, subst, ap, ◌∙◌, refl}
 use Rattle.prefixes.specs.declared.route.Route.{Route}
 use Rattle.form_urlencoded.specs.Form.{raw_pairs}
-use Rattle.status_pages.specs.Query.{FindsIn, FindsRoute, HasValues, text_of}
+use Rattle.std.specs.List.{before_first, after_first}
+use Rattle.status_pages.specs.Query.{FindsIn, FindsInPath, FindsRoute, HasValues, is_slash, text_of}
 use Rattle.status_pages.specs.declared.query_fault.QueryFault.{QueryFault}
 use Rattle.status_pages.specs.declared.query_fault.QueryFault.TheVariants as fault
 
@@ -12,7 +13,22 @@ found_in pairs asn prefix (Ok r) has h = record { asn = asn; prefix = prefix; va
 found_in pairs asn prefix (Err fault.Keys) has h = absurd h
 found_in pairs asn prefix (Err fault.Asn) has h = record { asn = asn; prefix = prefix; values = has; route = h }
 found_in pairs asn prefix (Err (fault.Prefix why)) has h = record { asn = asn; prefix = prefix; values = has; route = h }
+found_in pairs asn prefix (Err fault.Path) has h = absurd h
 found_in pairs asn prefix (Err fault.Memory) has h = absurd h
+
+-- the result for the two parts of a path is the result for the path
+pub found_parts : (path : List ℕ) (r : Result Route QueryFault) → FindsRoute (text_of (before_first is_slash path)) (text_of (after_first is_slash path)) r → FindsInPath path r
+found_parts path (Ok r) h = h
+found_parts path (Err fault.Keys) h = absurd h
+found_parts path (Err fault.Asn) h = h
+found_parts path (Err (fault.Prefix why)) h = h
+found_parts path (Err fault.Path) h = absurd h
+found_parts path (Err fault.Memory) h = absurd h
+
+pub found_in_path : (path asn prefix : List ℕ) (r : Result Route QueryFault) → asn ≡ text_of (before_first is_slash path) → prefix ≡ text_of (after_first is_slash path)
+    → FindsRoute asn prefix r → FindsInPath path r
+found_in_path path asn prefix r ea ep h =
+    found_parts path r (subst (λ p. FindsRoute (text_of (before_first is_slash path)) p r) ep (subst (λ a. FindsRoute a prefix r) ea h))
 
 abbrev pub told : List ℕ × List ℕ → List ℕ × List ℕ
 told (name, value) = (text_of name, text_of value)

@@ -3,3 +3,7 @@ pub mod Query
 pub mod Validity
 pub mod ValidityText
 pub mod Escapes
+pub mod Csv
+pub mod Export
+pub mod Health
+pub mod Made

@@ -1,5 +1,6 @@
--- The query of a request for the validity of a route: `asn=NUMBER&prefix=PREFIX`.
-use Rattle.std.specs.Prelude.{◌≡◌, ◌⊎◌, ℕ, ◌^◌, ◌<◌, List, [], ◌∷◌, map, Option, Some, Result, Ok, Err, codes, ⊤}
+-- Requests for the validity of a route: the query `asn=NUMBER&prefix=PREFIX`, and the path `NUMBER/PREFIX`.
+use Rattle.std.specs.Prelude.{◌≡◌, ◌⊎◌, ℕ, ◌^◌, ◌<◌, ◌==◌, Bool, List, [], ◌∷◌, ◌++◌, length, map, Option, Some, Result, Ok, Err, codes, ⊤}
+use Rattle.std.specs.List.{before_first, after_first, position_or_len}
 use Rattle.std.specs.Str.Lossy.{utf8_lossy}
 use Rattle.form_urlencoded.specs.Form.{decode, raw_pairs}
 use Rattle.prefix_texts.specs.AsnText.{AsnText, IsNoAsn}
@@ -27,6 +28,7 @@ FindsRoute asn prefix (Ok r) = ((n : ℕ) × (n < 2 ^ 32) × AsnText n asn × (r
 FindsRoute asn prefix (Err fault.Asn) = IsNoAsn asn
 FindsRoute asn prefix (Err (fault.Prefix why)) = ((n : ℕ) × (n < 2 ^ 32) × AsnText n asn) × ReadsAs prefix (Err why)
 FindsRoute asn prefix (Err fault.Keys) = ⊥
+FindsRoute asn prefix (Err fault.Path) = ⊥
 FindsRoute asn prefix (Err fault.Memory) = ⊥
 
 -- The route of pairs, or their first fault. The keys are judged first.
@@ -41,8 +43,22 @@ FindsIn pairs (Ok r) = FindsByValues pairs (Ok r)
 FindsIn pairs (Err fault.Keys) = (asn prefix : List ℕ) → ¬ (HasValues pairs asn prefix)
 FindsIn pairs (Err fault.Asn) = FindsByValues pairs (Err fault.Asn)
 FindsIn pairs (Err (fault.Prefix why)) = FindsByValues pairs (Err (fault.Prefix why))
+FindsIn pairs (Err fault.Path) = ⊥
 FindsIn pairs (Err fault.Memory) = ⊤
 
 -- the result for a query
 abbrev pub Finds : List ℕ → Result Route QueryFault → Type 0
 Finds query found = FindsIn (pairs_of query) found
+
+-- the byte of a slash
+abbrev pub is_slash : ℕ → Bool
+is_slash b = b == 47
+
+-- the result for the end of a path: the AS number is before its first slash, and the prefix is after it
+abbrev pub FindsInPath : List ℕ → Result Route QueryFault → Type 0
+FindsInPath path (Ok r) = FindsRoute (text_of (before_first is_slash path)) (text_of (after_first is_slash path)) (Ok r)
+FindsInPath path (Err fault.Keys) = ⊥
+FindsInPath path (Err fault.Asn) = FindsRoute (text_of (before_first is_slash path)) (text_of (after_first is_slash path)) (Err fault.Asn)
+FindsInPath path (Err (fault.Prefix why)) = FindsRoute (text_of (before_first is_slash path)) (text_of (after_first is_slash path)) (Err (fault.Prefix why))
+FindsInPath path (Err fault.Path) = position_or_len is_slash path ≡ length path
+FindsInPath path (Err fault.Memory) = ⊤

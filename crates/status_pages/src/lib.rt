@@ -18,9 +18,16 @@
 //! ```
 #![tactic(auto)]
 
+mod csv;
+mod export;
+mod health;
 pub mod laws;
+mod made;
 mod metrics;
 mod page;
+mod page_figures;
+mod page_routers;
+mod page_state;
 mod page_style;
 mod page_tables;
 mod picture;
@@ -29,14 +36,20 @@ mod query_fault;
 mod status;
 mod text;
 mod validity;
+mod validity_page;
 mod validity_text;
 
+pub use csv::write_csv;
+pub use export::write_export_head;
+pub use health::{is_healthy, write_health};
+pub use made::oldest_built;
 pub use metrics::write_metrics;
 pub use page::write_page;
-pub use query::read_query;
+pub use query::{read_path, read_query};
 pub use query_fault::QueryFault;
 pub use status::{
     ChangeStatus, ClientStatus, ClientTraffic, FileStatus, PdusByType, Status, TotalTraffic,
 };
 pub use validity::Validity;
+pub use validity_page::write_validity_page;
 pub use validity_text::write_validity;

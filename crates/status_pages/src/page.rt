@@ -1,104 +1,70 @@
 //! The status of a cache as a page of HTML and CSS, without scripts or external resources.
 
+use crate::page_figures::write_figures;
+use crate::page_routers::write_routers;
+use crate::page_state::{is_well, write_state};
 use crate::page_style::STYLE;
-use crate::page_tables::{write_changes, write_clients, write_files};
+use crate::page_tables::{write_changes, write_files};
 use crate::picture::write_picture;
 use crate::status::Status;
-use crate::text::{write_decimal, write_grouped, write_html, write_since, write_texts, write_time};
+use crate::text::{write_html, write_span, write_texts, write_time};
+use crate::validity_page::write_form;
 use std::io::{self, Write};
 
-/// Writes the head of the document.
-fn write_head<W: Write>(out: &mut W) -> io::Result<()> {
+/// Writes the name of the program, and of its host if that is known.
+fn write_name<W: Write>(out: &mut W, status: &Status) -> io::Result<()> {
+    out.write_all(b"rpkirtrd")?;
+    if let Some(host) = &status.host {
+        out.write_all(b" on ")?;
+        write_html(out, host)?;
+    }
+    Ok(())
+}
+
+/// Writes the head of the document. Its title begins with the state. A browser loads the page anew each minute.
+fn write_head<W: Write>(out: &mut W, status: &Status) -> io::Result<()> {
     out.write_all(b"<!doctype html>\n<html lang=\"en\">\n<head>\n<meta charset=\"utf-8\">\n")?;
     out.write_all(b"<meta name=\"viewport\" content=\"width=device-width, initial-scale=1\">\n")?;
-    out.write_all(b"<title>rpkirtrd: status</title>\n<style>\n")?;
-    out.write_all(STYLE.as_bytes())?;
-    out.write_all(b"</style>\n</head>\n<body>\n")
+    out.write_all(b"<meta http-equiv=\"refresh\" content=\"60\">\n<title>")?;
+    write_state(out, status)?;
+    out.write_all(b" ")?;
+    write_name(out, status)?;
+    write_texts(
+        out,
+        &["</title>\n<style>\n", STYLE, "</style>\n</head>\n<body>\n"],
+    )
 }
 
-/// Writes the title, with the program's version and the time.
-fn write_title<W: Write>(out: &mut W, status: &Status) -> io::Result<()> {
-    out.write_all(b"<header>\n<h1>rpkirtrd</h1>\n<p class=\"dim\">Version ")?;
+/// Writes the addresses at which routers connect.
+fn write_addresses<W: Write>(out: &mut W, status: &Status) -> io::Result<()> {
+    for (index, address) in status.addresses.iter().enumerate() {
+        let comma = if index == 0 { " <small>" } else { ", " };
+        write!(out, "{comma}{address}")?;
+    }
+    if !status.addresses.is_empty() {
+        out.write_all(b"</small>")?;
+    }
+    Ok(())
+}
+
+/// Writes the name, the addresses, the time, the links, and the state as a banner.
+fn write_header<W: Write>(out: &mut W, status: &Status) -> io::Result<()> {
+    out.write_all(b"<header>\n<div class=\"top\">\n<h1>")?;
+    write_name(out, status)?;
+    write_addresses(out, status)?;
+    out.write_all(b"</h1>\n<p class=\"dim\">")?;
     write_html(out, status.version)?;
-    out.write_all(b". Started ")?;
-    write_since(out, status.now, status.started)?;
-    out.write_all(b". All times are UTC; this is how it was at ")?;
+    out.write_all(b", up ")?;
+    write_span(out, status.now.saturating_sub(status.started))?;
+    out.write_all(b", at ")?;
     write_time(out, status.now)?;
-    out.write_all(b".</p>\n")?;
-    write_clock(out, status.clock_behind)?;
-    out.write_all(b"</header>\n")
-}
-
-/// Writes how far the clock was set back, if it was.
-fn write_clock<W: Write>(out: &mut W, behind: u64) -> io::Result<()> {
-    if behind == 0 {
-        return Ok(());
-    }
-    out.write_all(b"<p class=\"warn\">The clock was set back by ")?;
-    write_grouped(out, behind)?;
-    out.write_all(b" s since the start.</p>\n")
-}
-
-/// Writes the name of a fact.
-fn write_name<W: Write>(out: &mut W, name: &str) -> io::Result<()> {
-    write_texts(out, &["<div><dt>", name, "</dt><dd>"])
-}
-
-/// Writes a fact that is a number without digit groups, as sessions and serials are.
-fn write_plain<W: Write>(out: &mut W, name: &str, number: u32) -> io::Result<()> {
-    write_name(out, name)?;
-    write_decimal(out, u64::from(number))?;
-    out.write_all(b"</dd></div>\n")
-}
-
-/// Writes a fact that is a count.
-fn write_count<W: Write>(out: &mut W, name: &str, count: u64) -> io::Result<()> {
-    write_name(out, name)?;
-    write_grouped(out, count)?;
-    out.write_all(b"</dd></div>\n")
-}
-
-/// Writes the served version.
-fn write_version<W: Write>(out: &mut W, status: &Status) -> io::Result<()> {
-    match status.serial {
-        Some(serial) => write_plain(out, "Serial", serial)?,
-        None => {
-            write_name(out, "Serial")?;
-            out.write_all(b"<span class=\"warn\">nothing is served yet</span></dd></div>\n")?;
-        }
-    }
-    write_plain(out, "Session", u32::from(status.session))?;
-    write_plain(out, "Session in version 0", u32::from(status.session0))
-}
-
-/// Writes when the served version was published.
-fn write_change_time<W: Write>(out: &mut W, status: &Status) -> io::Result<()> {
-    let Some(change) = status.changes.last() else {
-        return Ok(());
-    };
-    write_name(out, "Published")?;
-    write_since(out, status.now, change.at)?;
-    out.write_all(b"</dd></div>\n")
-}
-
-/// Writes the facts of the served version.
-fn write_served<W: Write>(out: &mut W, status: &Status) -> io::Result<()> {
-    out.write_all(b"<dl>\n")?;
-    write_version(out, status)?;
-    write_change_time(out, status)?;
-    write_count(out, "Records", status.ipv4.saturating_add(status.ipv6))?;
-    write_count(out, "IPv4 records", status.ipv4)?;
-    write_count(out, "IPv6 records", status.ipv6)?;
-    if 0 < status.left_out {
-        write_count(out, "Records of length 0, left out", status.left_out)?;
-    }
-    write_name(out, "Routers")?;
-    write_grouped(out, status.clients.len() as u64)?;
-    out.write_all(b" of ")?;
-    write_grouped(out, status.client_limit)?;
-    out.write_all(b"</dd></div>\n")?;
-    write_count(out, "Routers since the start", status.clients_ever)?;
-    out.write_all(b"</dl>\n")
+    out.write_all(
+        b" UTC &middot; <a href=\"/metrics\">metrics</a> &middot; <a href=\"/vrps.json\">list</a> &middot; <a href=\"/vrps.csv\">csv</a></p>\n</div>\n<p class=\"state ",
+    )?;
+    out.write_all(if is_well(status) { b"ok" } else { b"bad" })?;
+    out.write_all(b"\">")?;
+    write_state(out, status)?;
+    out.write_all(b"</p>\n</header>\n")
 }
 
 /// Writes the start of a section.
@@ -113,28 +79,31 @@ fn write_part_end<W: Write>(out: &mut W) -> io::Result<()> {
 
 /// Writes the sections of the page.
 fn write_parts<W: Write>(out: &mut W, status: &Status) -> io::Result<()> {
+    write_part(out, "Route")?;
+    write_form(out, None)?;
+    write_part_end(out)?;
     write_part(out, "Files")?;
     write_files(out, status)?;
     write_part_end(out)?;
     out.write_all(b"<div class=\"pair\">\n")?;
-    write_part(out, "Size of the table")?;
-    write_picture(out, &status.changes)?;
+    write_part(out, "VRPs over time")?;
+    write_picture(out, &status.changes, status.now)?;
     write_part_end(out)?;
     write_part(out, "Last changes")?;
     write_changes(out, status)?;
     write_part_end(out)?;
     out.write_all(b"</div>\n")?;
     write_part(out, "Routers")?;
-    write_clients(out, status)?;
+    write_routers(out, status)?;
     write_part_end(out)
 }
 
 /// Writes the status of a cache as one page of HTML.
 pub fn write_page<W: Write>(out: &mut W, status: &Status) -> io::Result<()> {
-    write_head(out)?;
-    write_title(out, status)?;
+    write_head(out, status)?;
+    write_header(out, status)?;
     out.write_all(b"<main>\n")?;
-    write_served(out, status)?;
+    write_figures(out, status)?;
     write_parts(out, status)?;
     out.write_all(b"</main>\n</body>\n</html>\n")
 }

@@ -1,8 +1,9 @@
-//! Reads the query of a request for the validity of a route.
-ghost use Rattle.std.specs.Prelude.{◌≡◌, ◌∷◌, [], ℕ, List, IfOk, IfSome, IfNone};
+//! Reads which route a request asks about.
+ghost use Rattle.std.specs.Prelude.{◌≡◌, ◌∷◌, [], ℕ, List, IfOk, IfSome, IfNone, length};
+ghost use Rattle.std.specs.List.{before_first, after_first, position_or_len};
 ghost use Rattle.std.specs.Cow.{cow_str_bytes};
 ghost use Rattle.form_urlencoded.specs.Form.{raw_pairs};
-ghost use Rattle.status_pages.specs.Query.{Finds, FindsIn, FindsRoute, text_of};
+ghost use Rattle.status_pages.specs.Query.{Finds, FindsIn, FindsInPath, FindsRoute, is_slash, text_of};
 
 use crate::query_fault::QueryFault;
 use form_urlencoded::{decode, raw_pairs};
@@ -91,4 +92,30 @@ pub fn read_query(alloc: Global, query: &str) -> Result<Route, QueryFault>
     let one = decoded(alloc, &one)?;
     let other = decoded(alloc, &other)?;
     route_of_pairs(&one, &other)
+}
+
+/// The two parts of a path: before its first slash, and after it.
+fn path_parts(path: &str) -> Option<RawPair<'_>>
+    ensures asn { IfSome result (λ p. p.name.now ≡ before_first is_slash path.now) }
+    ensures prefix { IfSome result (λ p. p.value.now ≡ after_first is_slash path.now) }
+    ensures none { IfNone result (position_or_len is_slash path.now ≡ length path.now) }
+{
+    let (asn, prefix) = path.split_once('/')?;
+    Some(RawPair {
+        name: asn.as_bytes(),
+        value: prefix.as_bytes(),
+    })
+}
+
+/// The route of the end of a path: `NUMBER/PREFIX`. The AS number is in decimal, with or without `AS` before it. Both are decoded as those of web
+/// forms, so the slash of the prefix may be `%2F`. The first fault is given: `Path` if there is no slash, then `Asn` for a bad AS number, then
+/// `Prefix` for a bad prefix. `Memory` is out of memory.
+pub fn read_path(alloc: Global, path: &str) -> Result<Route, QueryFault>
+    ensures { FindsInPath path.now result }
+{
+    let Some(parts) = path_parts(path) else {
+        return Err(QueryFault::Path);
+    };
+    let texts = decoded(alloc, &parts)?;
+    route_of(texts.name.as_str(), texts.value.as_str())
 }

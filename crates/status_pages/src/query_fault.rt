@@ -17,6 +17,9 @@ pub enum QueryFault {
     /// The value of `prefix` is not a prefix.
     #[error("write an IPv4 or IPv6 prefix under prefix, as 192.0.2.0/24 or 2001:db8::/32: {0}")]
     Prefix(PrefixFault),
+    /// The path has no slash between the AS number and the prefix.
+    #[error("write /api/v1/validity/NUMBER/PREFIX, as in /api/v1/validity/AS64496/192.0.2.0/24")]
+    Path,
     /// Out of memory.
     #[error("out of memory: try again later")]
     Memory,

@@ -7,6 +7,10 @@ use std::net::SocketAddr;
 pub struct Status {
     /// The program's version, as `--version` prints it.
     pub version: &'static str,
+    /// The name of the host, or `None` if it is not known.
+    pub host: Option<String>,
+    /// The addresses at which routers connect.
+    pub addresses: Vec<SocketAddr>,
     /// The time of the status.
     pub now: u64,
     /// When the program started.
@@ -29,6 +33,8 @@ pub struct Status {
     pub changes: Vec<ChangeStatus>,
     /// The watched files and publication points.
     pub files: Vec<FileStatus>,
+    /// The age above which data are old, in seconds, or `None` if they never are.
+    pub max_age: Option<u64>,
     /// The connected clients.
     pub clients: Vec<ClientStatus>,
     /// How many clients there may be at once.
@@ -73,6 +79,8 @@ pub struct FileStatus {
     pub taken: Option<u64>,
     /// Why it was refused last, if it was not loaded since.
     pub refusal: Option<String>,
+    /// Since when it is refused, if it is.
+    pub refused_at: Option<u64>,
     /// Whether the loaded data are older than the maximum age.
     pub is_old: bool,
     /// How many of its entries have expired.

@@ -100,9 +100,8 @@ fn write_group<W: Write>(out: &mut W, group: u64) -> io::Result<()> {
     write!(out, "\u{202f}{group:03}")
 }
 
-/// Writes how long ago a time was, in full seconds, minutes, hours or days.
-pub(crate) fn write_ago<W: Write>(out: &mut W, now: u64, moment: u64) -> io::Result<()> {
-    let seconds = now.saturating_sub(moment);
+/// Writes a number of seconds in full seconds, minutes, hours or days.
+pub(crate) fn write_span<W: Write>(out: &mut W, seconds: u64) -> io::Result<()> {
     let (number, unit) = match seconds {
         0..=119 => (seconds, "s"),
         120..=7199 => (seconds / 60, "min"),
@@ -110,25 +109,44 @@ pub(crate) fn write_ago<W: Write>(out: &mut W, now: u64, moment: u64) -> io::Res
         _ => (seconds / 86_400, "d"),
     };
     write_grouped(out, number)?;
-    write_texts(out, &["\u{202f}", unit, " ago"])
+    write_texts(out, &["\u{202f}", unit])
 }
 
-/// Writes a time in UTC for people, and in the element's attribute for machines.
-pub(crate) fn write_time<W: Write>(out: &mut W, moment: u64) -> io::Result<()> {
-    let time = time_at(moment);
+/// Writes a part of a time in UTC for people, and the time in the element's attribute for machines.
+fn write_time_part<W: Write>(out: &mut W, time: &[u8; 20], part: &[u8]) -> io::Result<()> {
     out.write_all(b"<time datetime=\"")?;
-    out.write_all(&time)?;
+    out.write_all(time)?;
     out.write_all(b"\">")?;
-    out.write_all(&time[..10])?;
-    out.write_all(b" ")?;
-    out.write_all(&time[11..19])?;
+    out.write_all(part)?;
     out.write_all(b"</time>")
 }
 
-/// Writes a time, and how long ago it was.
+/// Writes a time in UTC.
+pub(crate) fn write_time<W: Write>(out: &mut W, moment: u64) -> io::Result<()> {
+    let time = time_at(moment);
+    let mut part = [b' '; 19];
+    part[..10].copy_from_slice(&time[..10]);
+    part[11..].copy_from_slice(&time[11..19]);
+    write_time_part(out, &time, &part)
+}
+
+/// Writes a time in UTC that is one of a span of this many seconds: its time of day, or its date if the span is longer than two days.
+pub(crate) fn write_clock_time<W: Write>(out: &mut W, span: u64, moment: u64) -> io::Result<()> {
+    let time = time_at(moment);
+    if span > 172_800 {
+        return write_time_part(out, &time, &time[..10]);
+    }
+    write_time_part(out, &time, &time[11..19])
+}
+
+/// Writes how long ago a time was, with the time as a hint.
 pub(crate) fn write_since<W: Write>(out: &mut W, now: u64, moment: u64) -> io::Result<()> {
-    write_time(out, moment)?;
-    out.write_all(b" <span class=\"dim\">")?;
-    write_ago(out, now, moment)?;
-    out.write_all(b"</span>")
+    let time = time_at(moment);
+    out.write_all(b"<time datetime=\"")?;
+    out.write_all(&time)?;
+    out.write_all(b"\" title=\"")?;
+    out.write_all(&time)?;
+    out.write_all(b"\">")?;
+    write_span(out, now.saturating_sub(moment))?;
+    out.write_all(b" ago</time>")
 }

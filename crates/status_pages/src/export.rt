@@ -1,0 +1,26 @@
+//! The start of an export.
+ghost use Rattle.std.specs.Prelude.{◌≡◌, OnOk};
+ghost use Rattle.std.specs.Io.KnownBytes.{Appends};
+ghost use Rattle.status_pages.specs.Export.{BeginsExport, export_head};
+
+use event_log::time_at;
+use std::io::{self, Write};
+
+/// Writes the start, with the time as a text.
+#[tactic(auto, unfolding(crate::specs::Export::export_head))]
+fn write_export_head_at<W: Write>(out: &mut W, time: &[u8], made: u64, vrps: u64) -> io::Result<()>
+    ensures { OnOk result (Appends (W.contents out.old) (W.contents out.new) (export_head time.now made vrps)) }
+{
+    out.write_all(b"{\"metadata\":{\"buildtime\":\"")?;
+    out.write_all(time)?;
+    write!(out, "\",\"generated\":{made},\"vrps\":{vrps}}},\"roas\":")
+}
+
+/// Writes the start of an export in the format of rpki-client: its metadata, and the key of its records. The records, as a payload list, and `}`
+/// follow. `made` is when the records were made, in seconds since 1970, and `vrps` is their number.
+pub fn write_export_head<W: Write>(out: &mut W, made: u64, vrps: u64) -> io::Result<()>
+    ensures { OnOk result (BeginsExport (W.contents out.old) (W.contents out.new) made vrps) }
+{
+    let time = time_at(made);
+    write_export_head_at(out, &time, made, vrps)
+}
