@@ -38,10 +38,12 @@
 #![tactic(auto)]
 
 mod answers;
+mod conditions;
 mod http_connection;
 mod http_connections;
 mod http_endpoint;
 mod http_sockets;
+mod resources;
 mod status_source;
 
 pub use http_connection::HttpProgress;

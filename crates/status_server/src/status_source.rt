@@ -16,6 +16,11 @@ pub trait StatusSource {
     /// The payload list of the served set as text, or `None` before the first version is published. All requests for one version share it.
     fn list(&mut self) -> Result<Option<Bytes>, AllocError>;
 
+    /// The records of the served set as CSV, or `None` if there is none. All requests for one version share it.
+    fn csv(&mut self) -> Result<Option<Bytes>, AllocError> {
+        Ok(None)
+    }
+
     /// The validity of a route under the served set, or `None` before the first version is published.
     fn validity(&mut self, route: &Route) -> Result<Option<Validity>, AllocError>;
 }

@@ -1,0 +1,50 @@
+//! The resources, and their paths.
+ghost use Rattle.std.specs.Prelude.{◌≡◌, IfSome, IfNone};
+ghost use Rattle.status_server.specs.Resources.{path_of, route_path};
+
+/// The resources that have a path of their own.
+#[derive(Clone, Copy, Debug, PartialEq, Eq)]
+pub(crate) enum Resource {
+    /// The status page.
+    Status,
+    /// The metrics.
+    Metrics,
+    /// Whether the cache is healthy.
+    Health,
+    /// The export.
+    Export,
+    /// The payload list.
+    List,
+    /// The records as CSV.
+    Csv,
+    /// The validity of the route of the query.
+    Validity,
+}
+
+/// The paths, for those who ask for another.
+pub(crate) const PATHS: &str =
+    "there are /, /metrics, /health, /vrps.json, /list.json, /vrps.csv, /validity and /api/v1/validity/NUMBER/PREFIX\n";
+
+/// The resource of a path.
+pub(crate) fn resource_at(path: &str) -> Option<Resource>
+    ensures some { IfSome result (λ r. path.now ≡ path_of r) }
+    ensures none { IfNone result ((r : Resource) → ¬ (path.now ≡ path_of r)) }
+{
+    match path {
+        "/" => Some(Resource::Status),
+        "/metrics" => Some(Resource::Metrics),
+        "/health" => Some(Resource::Health),
+        "/vrps.json" => Some(Resource::Export),
+        "/list.json" => Some(Resource::List),
+        "/vrps.csv" => Some(Resource::Csv),
+        "/validity" => Some(Resource::Validity),
+        _ => None,
+    }
+}
+
+/// The end of the path of a route's validity: the AS number and the prefix.
+pub(crate) fn route_in(path: &str) -> Option<&str>
+    ensures { IfSome result (λ rest. path.now ≡ route_path rest.now) }
+{
+    path.strip_prefix("/api/v1/validity/")
+}
