@@ -1,11 +1,10 @@
 -- Requests for the validity of a route: the query `asn=NUMBER&prefix=PREFIX`, and the path `NUMBER/PREFIX`.
-use Rattle.std.specs.Prelude.{◌≡◌, ◌⊎◌, ℕ, ◌^◌, ◌<◌, ◌==◌, Bool, List, [], ◌∷◌, ◌++◌, length, map, Option, Some, Result, Ok, Err, codes, ⊤}
+use Rattle.std.specs.Prelude.{◌≡◌, ◌⊎◌, ℕ, ◌^◌, ◌<◌, ◌==◌, Bool, List, [], ◌∷◌, length, map, Some, Result, Ok, Err, codes, ⊤}
 use Rattle.std.specs.List.{before_first, after_first, position_or_len}
 use Rattle.std.specs.Str.Lossy.{utf8_lossy}
 use Rattle.form_urlencoded.specs.Form.{decode, raw_pairs}
 use Rattle.prefix_texts.specs.AsnText.{AsnText, IsNoAsn}
 use Rattle.prefixes.specs.Text.{PrefixText, ReadsAs}
-use Rattle.prefixes.specs.declared.fault.PrefixFault.{PrefixFault}
 use Rattle.prefixes.specs.declared.route.Route.{Route}
 use Rattle.status_pages.specs.declared.query_fault.QueryFault.{QueryFault}
 use Rattle.status_pages.specs.declared.query_fault.QueryFault.TheVariants as fault
