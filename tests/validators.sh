@@ -113,7 +113,7 @@ for file in written/*.json; do
         grep -q ' ready' daemon.log && break
         sleep 0.1
     done
-    python3 - "http://127.0.0.1:$pages/vrps.json" "$top/samples/list.json" <<'END' || { echo "validators: $file is served otherwise" >&2; cat daemon.log >&2; exit 1; }
+    python3 - "http://127.0.0.1:$pages/list.json" "$top/samples/list.json" <<'END' || { echo "validators: $file is served otherwise" >&2; cat daemon.log >&2; exit 1; }
 import json, sys, urllib.request
 found = json.load(urllib.request.urlopen(sys.argv[1], timeout=10))
 with open(sys.argv[2]) as it:

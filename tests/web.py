@@ -8,10 +8,10 @@ import subprocess
 from common import PATIENCE
 
 
-def got(port, target, method="GET"):
+def got(port, target, method="GET", given=None):
     """The status, the headers and the body of an answer."""
     with contextlib.closing(http.client.HTTPConnection("127.0.0.1", port, timeout=PATIENCE)) as it:
-        it.request(method, target)
+        it.request(method, target, headers=given or {})
         answer = it.getresponse()
         return answer.status, {name.lower(): value for name, value in answer.getheaders()}, answer.read().decode()
 

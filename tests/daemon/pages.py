@@ -50,8 +50,9 @@ def pages(given):
         daemon.wait("client-gone")
         metrics = metrics_of(port)
         expect("the metrics after a client", (metrics["rpkirtrd_clients"], metrics['rpkirtrd_pdus_total{type="ipv4_prefix",direction="sent"}']), (1, 20))
-        listed = json.loads(got(port, "/vrps.json")[2])
+        listed = json.loads(got(port, "/list.json")[2])
         expect("the payload list", {(it["prefix"], it["maxLength"], it["asn"]) for it in listed}, set(near))
+        lists(port, listed)
         choice = random.Random(7)
         for _ in range(200):
             length = choice.randrange(16, 29)
@@ -67,8 +68,20 @@ def pages(given):
         crowded(at, port, daemon)
         put("list.json", text_of(near[:5]))
         daemon.wait("published", serial=6)
-        expect("the next payload list", len(json.loads(got(port, "/vrps.json")[2])), 5)
+        expect("the next payload list", len(json.loads(got(port, "/list.json")[2])), 5)
         expect("the metrics of the next version", metrics_of(port)["rpkirtrd_serial"], 6)
+
+
+def lists(port, listed):
+    """The other forms of a payload list, and the answers to one that has it already."""
+    status, headers, body = got(port, "/vrps.json")
+    export = json.loads(body)
+    expect("the export", (status, export["roas"], export["metadata"]["vrps"]), (200, listed, len(listed)))
+    expect("the time of the export", abs(export["metadata"]["generated"] - time.time()) < 600, True)
+    expect("the export again", got(port, "/vrps.json", given={"If-None-Match": headers["etag"]})[::2], (304, ""))
+    expect("the state of health", got(port, "/health")[::2], (200, "ok\n"))
+    expect("a route as a page", got(port, "/validity?asn=1&prefix=10.0.0.0/8", given={"Accept": "text/html"})[1]["content-type"], "text/html; charset=utf-8")
+    expect("a route by its path", json.loads(got(port, "/api/v1/validity/AS1/10.0.0.0/8")[2])["validated_route"]["validity"]["state"], "not-found")
 
 
 def strange_visitors(port):
@@ -146,7 +159,7 @@ def early_visitors(given):
     for _ in range(20):
         with running(given.program, "--vrps", "list.json", "--listen", "127.0.0.1:0", "--status", "127.0.0.1:0") as daemon:
             port = daemon.port("status")
-            status, headers, body = got(port, "/vrps.json")
+            status, headers, body = got(port, "/list.json")
             if status == 503:
                 early += 1
                 expect("how long to wait", headers.get("retry-after"), "1")
@@ -155,7 +168,7 @@ def early_visitors(given):
             else:
                 expect("the list", (status, len(json.loads(body))), (200, len(FIRST)))
             daemon.wait("ready")
-            expect("the list then", len(json.loads(got(port, "/vrps.json")[2])), len(FIRST))
+            expect("the list then", len(json.loads(got(port, "/list.json")[2])), len(FIRST))
             if early == 3:
                 return
     expect("answers before the first version", early, 3)
@@ -218,7 +231,7 @@ def routes(given):
     with running(given.program, "--vrps", "routes.json", "--listen", "127.0.0.1:0", "--status", "127.0.0.1:0") as daemon:
         port = daemon.port("status")
         daemon.wait("ready")
-        put("list", got(port, "/vrps.json")[2])
+        put("list", got(port, "/list.json")[2])
         asked = [(network(*drawn()), choice.choice([0, 64496, 64497, 64498])) for _ in range(given.routes)]
         with concurrent.futures.ThreadPoolExecutor(4) as pool:
             found = list(pool.map(lambda it: validity(port, *it)[0], asked))

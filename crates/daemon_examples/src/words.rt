@@ -402,8 +402,8 @@ fn lines_are_refused(rt: HostRuntime) -> Result<(), Fail> {
 
 /// The options with their values, and what the help says of their ranges and defaults.
 const OPTIONS: &[(&str, &str)] = &[
-    ("--vrps FILE", "may stand several times."),
-    ("--points DIR", "may stand several times."),
+    ("--vrps FILE", "may be given several times."),
+    ("--points DIR", "may be given several times."),
     ("--slurm FILE", "RFC 8416"),
     (
         "--check SECONDS",
@@ -413,10 +413,10 @@ const OPTIONS: &[(&str, &str)] = &[
         "--max-age SECONDS",
         "from 1 to 4294967295; by default no file is old.",
     ),
-    ("--stop-when-old", "It needs --max-age beside it."),
+    ("--stop-when-old", "It needs --max-age."),
     (
         "--listen ADDRESS:PORT",
-        "the default is 127.0.0.1:3323. Port 0 is one that is free. [::]:PORT takes IPv4 too, so 0.0.0.0:PORT beside it is refused as in use.",
+        "the default is 127.0.0.1:3323. Port 0 chooses a free port. [::]:PORT accepts IPv4 too, so 0.0.0.0:PORT beside it is refused as in use.",
     ),
     (
         "--clients NUMBER",
@@ -438,10 +438,10 @@ const OPTIONS: &[(&str, &str)] = &[
     ),
     ("--status ADDRESS:PORT", "option there are none."),
     ("--log FORM", "text or json. The default is text."),
-    ("--once", "when the first router has gone."),
+    ("--once", "when the first router has disconnected."),
     ("--test", "and 1 if one is refused. No address is opened."),
-    ("-h, --help", "printed."),
-    ("-V, --version", "printed."),
+    ("-h, --help", "Print this text."),
+    ("-V, --version", "Print the name and the version"),
 ];
 
 /// Whether each line of a text has at most 80 columns, and none ends in a blank.

@@ -1,7 +1,7 @@
 //! Running the daemon.
 use crate::connection::Connection;
-use crate::session_choice::{SessionChoice, choose_session};
-use crate::status_endpoint::StatusEndpoint;
+use crate::session_choice::{SessionChoice, choose_session, host_name};
+use crate::status_endpoint::{Place, StatusEndpoint};
 use crate::system::{SocketFault, System};
 use event_log::LogEvent;
 use rpkirtrd_cli::{Command, OptionFault, Settings, read_words};
@@ -86,7 +86,7 @@ fn serve<R: Files + Net + Clock + RandomSource + AllocGlobal + Clone + Drop, E: 
     let addresses = settings.listen.as_slice();
     match System::open(rt, err, settings.log, settings.max_size, addresses) {
         Err(fault) => refuse_sockets(&fault, err),
-        Ok(mut system) => match endpoint_of(rt, settings.status, &mut system) {
+        Ok(mut system) => match endpoint_of(rt, &settings, &mut system) {
             Err(fault) => system.refuse_sockets(&fault),
             Ok(endpoint) => begin(rt, settings, endpoint, &mut system),
         },
@@ -131,24 +131,34 @@ fn wait_for_clock<W: Time + EventLog + Sockets<Connection>>(env: &mut W) -> io::
 /// The status endpoint, if an address is given for it.
 fn endpoint_of<R: Files + Net + Clock + RandomSource + AllocGlobal + Clone + Drop, E: Write>(
     rt: &R,
-    address: Option<SocketAddr>,
+    settings: &Settings,
     system: &mut System<'_, R, E>,
 ) -> Result<Option<StatusEndpoint>, SocketFault> {
-    match address {
-        Some(address) => Ok(Some(endpoint_at(rt, address, system)?)),
-        None => Ok(None),
-    }
+    let Some(address) = settings.status else {
+        return Ok(None);
+    };
+    let place = place_of(rt, settings)?;
+    Ok(Some(endpoint_at(rt, address, place, system)?))
+}
+
+/// The host, and the addresses at which routers connect.
+fn place_of<R: Files + AllocGlobal>(rt: &R, settings: &Settings) -> io::Result<Place> {
+    Ok(Place {
+        host: host_name(rt)?,
+        addresses: settings.listen.as_slice().to_vec(rt.alloc())?,
+    })
 }
 
 /// The status endpoint at an address.
 fn endpoint_at<R: Files + Net + Clock + RandomSource + AllocGlobal + Clone + Drop, E: Write>(
     rt: &R,
     address: SocketAddr,
+    place: Place,
     system: &mut System<'_, R, E>,
 ) -> Result<StatusEndpoint, SocketFault> {
     let keys = RandomState::new(rt)?;
     match system.listen_for_http(address) {
-        Ok(()) => Ok(StatusEndpoint::new(rt.alloc(), keys)),
+        Ok(()) => Ok(StatusEndpoint::new(rt.alloc(), keys, place)),
         Err(error) => Err(SocketFault {
             address: Some(address),
             error,

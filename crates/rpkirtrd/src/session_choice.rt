@@ -2,11 +2,11 @@
 use rpkirtrd_cli::Settings;
 use session_names::{SessionIds, first_serial, is_machine_id, session_of, session0_of};
 use std::alloc::{AllocError, Global};
-use std::fs;
 use std::io::{self, ErrorKind};
 use std::net::SocketAddr;
 use std::random::RandomSource;
 use std::rt::Files;
+use std::{fs, str};
 
 /// The file of the machine id.
 const MACHINE_ID: &str = "/etc/machine-id";
@@ -84,6 +84,15 @@ fn random_session<R: RandomSource>(rt: &R) -> io::Result<Session> {
         number: u16::from_be_bytes(bytes),
         is_random: true,
     })
+}
+
+/// The name of the host. `None` if it is not known, or no text.
+pub fn host_name<R: Files + AllocGlobal>(rt: &R) -> io::Result<Option<String>> {
+    let bytes = content_of(rt, HOST_NAME)?;
+    match str::from_utf8(bytes.as_slice()) {
+        Ok(text) if !text.trim().is_empty() => Ok(Some(String::from_str(rt.alloc(), text.trim())?)),
+        _ => Ok(None),
+    }
 }
 
 /// The content of a system file, or nothing if it cannot be read.

@@ -14,14 +14,37 @@ use std::fmt::{self, Debug};
 use std::hash::RandomState;
 use std::io::Write;
 use std::mem;
+use std::net::SocketAddr;
 use std::rt::Files;
 use std::time::Clock;
 use vrps::VersionLog;
+
+/// Where the daemon runs, as the page shows it.
+#[derive(Debug, Drop)]
+pub struct Place {
+    /// The name of the host, if it is known.
+    pub host: Option<String>,
+    /// The addresses at which routers connect.
+    pub addresses: Vec<SocketAddr>,
+}
+
+impl Place {
+    /// Writes the place into a status.
+    fn write_to(&self, alloc: Global, status: &mut Status) -> Result<(), AllocError> {
+        status.host = match &self.host {
+            Some(host) => Some(String::from_str(alloc, host.as_str())?),
+            None => None,
+        };
+        status.addresses = self.addresses.as_slice().to_vec(alloc)?;
+        Ok(())
+    }
+}
 
 /// The HTTP endpoint, and what its responses share.
 #[derive(Drop)]
 pub struct StatusEndpoint {
     alloc: Global,
+    place: Place,
     http: HttpEndpoint<TcpStream>,
     version_cache: VersionCache,
 }
@@ -36,6 +59,8 @@ impl Debug for StatusEndpoint {
 /// A view of the daemon at one time.
 #[derive(Drop)]
 struct Snapshot<'a> {
+    alloc: Global,
+    place: &'a Place,
     daemon: &'a Daemon<VersionLog, Connection>,
     version_cache: VersionCache,
     now: u64,
@@ -48,11 +73,17 @@ impl StatusSource for Snapshot<'_> {
     }
 
     fn status(&mut self) -> Result<Status, AllocError> {
-        self.daemon.status(VERSION, self.now, self.millis)
+        let mut status = self.daemon.status(VERSION, self.now, self.millis)?;
+        self.place.write_to(self.alloc, &mut status)?;
+        Ok(status)
     }
 
     fn list(&mut self) -> Result<Option<Bytes>, AllocError> {
         self.version_cache.list(self.daemon.server().current())
+    }
+
+    fn csv(&mut self) -> Result<Option<Bytes>, AllocError> {
+        self.version_cache.csv(self.daemon.server().current())
     }
 
     fn validity(&mut self, route: &Route) -> Result<Option<Validity>, AllocError> {
@@ -62,10 +93,11 @@ impl StatusSource for Snapshot<'_> {
 }
 
 impl StatusEndpoint {
-    /// An endpoint without connections.
-    pub fn new(alloc: Global, keys: RandomState) -> StatusEndpoint {
+    /// An endpoint without connections, of a daemon at this place.
+    pub fn new(alloc: Global, keys: RandomState, place: Place) -> StatusEndpoint {
         StatusEndpoint {
             alloc,
+            place,
             http: HttpEndpoint::new(alloc, keys),
             version_cache: VersionCache::new(alloc),
         }
@@ -81,6 +113,8 @@ impl StatusEndpoint {
         self.version_cache.drop_old(daemon.server().current());
         let version_cache = mem::replace(&mut self.version_cache, VersionCache::new(self.alloc));
         let mut snapshot = Snapshot {
+            alloc: self.alloc,
+            place: &self.place,
             daemon,
             version_cache,
             now,

@@ -2,7 +2,7 @@
 use bytes::Bytes;
 use payload_lists::write_list;
 use prefixes::Route;
-use status_pages::Validity;
+use status_pages::{Validity, write_csv};
 use std::alloc::{AllocError, Global};
 use std::fmt::{self, Debug};
 use vrps::{OriginIndex, Serial, VrpSet};
@@ -10,13 +10,14 @@ use vrps::{OriginIndex, Serial, VrpSet};
 /// The current version, if there is one: its serial, and its set.
 type CurrentVersion<'a> = Option<(Serial, &'a VrpSet)>;
 
-/// The payload list and the route index of a version, each made at the first request.
+/// The payload list, the records as CSV and the route index of a version, each made at the first request.
 #[derive(Drop)]
 pub struct VersionCache {
     alloc: Global,
     /// The serial of the version.
     serial: Option<u32>,
     list: Option<Bytes>,
+    csv: Option<Bytes>,
     index: Option<OriginIndex>,
 }
 
@@ -34,6 +35,7 @@ impl VersionCache {
             alloc,
             serial: None,
             list: None,
+            csv: None,
             index: None,
         }
     }
@@ -47,6 +49,7 @@ impl VersionCache {
         if self.serial != serial {
             self.serial = serial;
             self.list = None;
+            self.csv = None;
             self.index = None;
         }
     }
@@ -63,6 +66,26 @@ impl VersionCache {
         let list = Bytes::from_string(write_list(self.alloc, set.as_slice())?)?;
         self.list = Some(list.clone()?);
         Ok(Some(list))
+    }
+
+    /// The records of the version as CSV, if there is a version.
+    pub fn csv(&mut self, version: CurrentVersion<'_>) -> Result<Option<Bytes>, AllocError> {
+        self.drop_old(version);
+        let Some((_serial, set)) = version else {
+            return Ok(None);
+        };
+        if let Some(csv) = &self.csv {
+            return Ok(Some(csv.clone()?));
+        }
+        let mut text = Vec::new(self.alloc);
+        if write_csv(&mut text, set.as_slice()).is_err() {
+            return Err(AllocError);
+        }
+        let Ok(csv) = Bytes::from_vec(text) else {
+            return Err(AllocError);
+        };
+        self.csv = Some(csv.clone()?);
+        Ok(Some(csv))
     }
 
     /// The validity of a route under the version, if there is one.

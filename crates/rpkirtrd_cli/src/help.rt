@@ -3,26 +3,26 @@ use crate::options::{GROUPS, OptionKind, OptionSpec};
 use std::alloc::{AllocError, Global};
 
 const HEAD: &str = "\
-rpkirtrd serves validated RPKI payloads to routers over the RTR protocol
-(RFC 8210, and version 0 of it, RFC 6810), from the files that a validator
-writes. It follows these files: a changed one is read again, and routers are
-notified.
+rpkirtrd serves validated RPKI payloads to routers over the RTR protocol (RFC
+8210, and version 0, RFC 6810), from the files that a validator writes. It polls
+these files: if one changes, it is read again, and routers are notified.
 
 Usage: rpkirtrd (--vrps FILE | --points DIR).. [OPTION]..
 ";
 
 const TAIL: &str = "
-At least one of --vrps and --points is required. A file that cannot be taken at
-the start ends the daemon; later it is reported, and what is served stays.
+At least one of --vrps and --points is required. If a file is refused at the
+start, the daemon exits. Later the refusal is reported, and the last good data
+are served.
 
-The daemon keeps nothing on disk. SIGTERM and SIGINT end it, and so does SIGHUP:
-no signal reloads, as the files are followed.
+The daemon keeps nothing on disk. SIGTERM, SIGINT and SIGHUP end it. No signal
+reloads, as the files are polled.
 
-The status is 0 where the run has ended well, 1 where a file was refused or is
-too old, 2 where the words are wrong, 3 where a file or a socket failed, and 4
-where memory was wanting.
+The exit status is 0 if the run ended well, 1 if a file was refused or is too
+old, 2 if the command line is wrong, 3 if a file or a socket failed, and 4 if
+memory ran out.
 
-This is a cache for the routers of a network, beside rpki-client:
+A cache for the routers of a network, on the host of rpki-client:
 
   rpkirtrd --vrps /var/lib/rpki-client/json --listen [::]:3323 --max-age 86400
 ";

@@ -39,8 +39,9 @@ pub(crate) static GROUPS: [OptionGroup; 7] = [
                 kind: OptionKind::Often,
                 value: "FILE",
                 help: &[
-                    "FILE is what a validator writes: the JSON of rpki-client, Routinator,",
-                    "FORT, StayRTR or rtrdump, or a payload list. It may stand several times.",
+                    "FILE is the output of a validator: the JSON of rpki-client, Routinator,",
+                    "FORT, StayRTR or rtrdump, or a payload list. The option may be given",
+                    "several times.",
                 ],
             },
             OptionSpec {
@@ -49,8 +50,9 @@ pub(crate) static GROUPS: [OptionGroup; 7] = [
                 kind: OptionKind::Often,
                 value: "DIR",
                 help: &[
-                    "DIR is a publication point: it holds manifest.der, the published objects",
-                    "in objects/, and what they hold in contents/. It may stand several times.",
+                    "DIR is a publication point. It has manifest.der, the published objects in",
+                    "objects/, and their contents in contents/. The option may be given several",
+                    "times.",
                 ],
             },
             OptionSpec {
@@ -58,7 +60,10 @@ pub(crate) static GROUPS: [OptionGroup; 7] = [
                 letter: None,
                 kind: OptionKind::Once,
                 value: "FILE",
-                help: &["FILE has local exceptions (RFC 8416), which are applied to all records."],
+                help: &[
+                    "FILE has local exceptions (SLURM, RFC 8416). They are applied to all",
+                    "records.",
+                ],
             },
             OptionSpec {
                 name: "check",
@@ -66,11 +71,11 @@ pub(crate) static GROUPS: [OptionGroup; 7] = [
                 kind: OptionKind::Number,
                 value: "SECONDS",
                 help: &[
-                    "The files are looked at every so many seconds. A file that has changed is",
-                    "read again, and records that have expired leave. Routers are notified no",
-                    "more often. RFC 8210 section 8.2: a cache MUST NOT notify more than once",
-                    "a minute, so less than 60 breaks it. The number is from 1 to 4294967295;",
-                    "the default is 60.",
+                    "The interval at which the files are polled. A file that has changed is",
+                    "read again, and expired records are dropped. Routers are notified no more",
+                    "often. RFC 8210 section 8.2: a cache MUST NOT notify more than once a",
+                    "minute, so less than 60 breaks it. The number is from 1 to 4294967295; the",
+                    "default is 60.",
                 ],
             },
             OptionSpec {
@@ -79,11 +84,11 @@ pub(crate) static GROUPS: [OptionGroup; 7] = [
                 kind: OptionKind::Number,
                 value: "SECONDS",
                 help: &[
-                    "A file of --vrps whose data were made longer ago is reported as old, and",
-                    "what is served stays. If a file does not say when it was made, or says a",
-                    "time more than an hour ahead, its modification time counts. DIR of",
-                    "--points and the file of --slurm have no age. The number is from 1 to",
-                    "4294967295; by default no file is old.",
+                    "A file of --vrps whose data are older is reported as old. Its data are",
+                    "still served. If a file does not say when it was made, or says a time more",
+                    "than an hour ahead, its modification time counts. DIR of --points and the",
+                    "file of --slurm have no age. The number is from 1 to 4294967295; by",
+                    "default no file is old.",
                 ],
             },
             OptionSpec {
@@ -92,8 +97,8 @@ pub(crate) static GROUPS: [OptionGroup; 7] = [
                 kind: OptionKind::Number,
                 value: "BYTES",
                 help: &[
-                    "A larger file of --vrps or --slurm is refused, and so is one that is not",
-                    "a regular file. The number is from 1 to 1099511627776; the default is",
+                    "A larger file of --vrps or --slurm is refused, and so is one that is not a",
+                    "regular file. The number is from 1 to 1099511627776; the default is",
                     "2147483648.",
                 ],
             },
@@ -103,8 +108,8 @@ pub(crate) static GROUPS: [OptionGroup; 7] = [
                 kind: OptionKind::Flag,
                 value: "",
                 help: &[
-                    "Records for 0.0.0.0/0 and ::/0 are left out, as StayRTR leaves them out:",
-                    "FRR 8.4 and other users of librtr end at them. The log says how many.",
+                    "Records for 0.0.0.0/0 and ::/0 are left out, as in StayRTR: FRR 8.4 and",
+                    "other users of librtr abort at them. The log says how many.",
                 ],
             },
             OptionSpec {
@@ -113,8 +118,8 @@ pub(crate) static GROUPS: [OptionGroup; 7] = [
                 kind: OptionKind::Flag,
                 value: "",
                 help: &[
-                    "The daemon ends as soon as a file is older than --max-age allows, so that",
-                    "routers let the records expire. It needs --max-age beside it.",
+                    "The daemon exits as soon as a file is older than --max-age allows, so that",
+                    "the records expire on the routers. It needs --max-age.",
                 ],
             },
         ],
@@ -128,10 +133,10 @@ pub(crate) static GROUPS: [OptionGroup; 7] = [
                 kind: OptionKind::Often,
                 value: "ADDRESS:PORT",
                 help: &[
-                    "The daemon listens at this address, as 192.0.2.1:3323 or [::1]:3323. It",
-                    "may stand several times; the default is 127.0.0.1:3323. Port 0 is one that",
-                    "is free. [::]:PORT takes IPv4 too, so 0.0.0.0:PORT beside it is refused as",
-                    "in use.",
+                    "The daemon listens at this address, for example 192.0.2.1:3323 or",
+                    "[::1]:3323. The option may be given several times; the default is",
+                    "127.0.0.1:3323. Port 0 chooses a free port. [::]:PORT accepts IPv4 too, so",
+                    "0.0.0.0:PORT beside it is refused as in use.",
                 ],
             },
             OptionSpec {
@@ -140,9 +145,10 @@ pub(crate) static GROUPS: [OptionGroup; 7] = [
                 kind: OptionKind::Number,
                 value: "NUMBER",
                 help: &[
-                    "So many routers may be connected at once, and one more is closed at once.",
-                    "The system's limit of descriptors, less 16, or less 80 with --status, may",
-                    "allow fewer. The number is from 1 to 4294967295; the default is 256.",
+                    "How many routers may be connected at a time. A further connection is",
+                    "closed at once. The system's limit of descriptors, less 16, or less 80",
+                    "with --status, may allow fewer. The number is from 1 to 4294967295; the",
+                    "default is 256.",
                 ],
             },
             OptionSpec {
@@ -151,9 +157,10 @@ pub(crate) static GROUPS: [OptionGroup; 7] = [
                 kind: OptionKind::Number,
                 value: "NUMBER",
                 help: &[
-                    "So many routers may be connected from one address at once, and one more is",
-                    "closed at once. The number is from 1 to 4294967295; by default there is no",
-                    "such limit. A router that sends no query within 60 seconds is closed.",
+                    "How many routers may be connected from one address at a time. A further",
+                    "connection is closed at once. The number is from 1 to 4294967295; by",
+                    "default there is no such limit. A router that sends no query within 60",
+                    "seconds is disconnected.",
                 ],
             },
             OptionSpec {
@@ -162,14 +169,15 @@ pub(crate) static GROUPS: [OptionGroup; 7] = [
                 kind: OptionKind::Number,
                 value: "SECONDS",
                 help: &[
-                    "A router that took no byte for so long, while something was to be sent to",
-                    "it, is closed. The number is from 1 to 4294967295; the default is 120.",
+                    "A router that has accepted no byte for this long, although data are",
+                    "pending for it, is disconnected. The number is from 1 to 4294967295; the",
+                    "default is 120.",
                 ],
             },
         ],
     },
     OptionGroup {
-        title: "What the versions are called, and how many are kept:",
+        title: "Session IDs, serials and versions:",
         options: &[
             OptionSpec {
                 name: "session",
@@ -177,11 +185,11 @@ pub(crate) static GROUPS: [OptionGroup; 7] = [
                 kind: OptionKind::Number,
                 value: "NUMBER",
                 help: &[
-                    "This is the session in version 1 of the protocol, from 0 to 65535. By",
-                    "default it is made of /etc/machine-id, the host name, the addresses and",
-                    "the sources, so a restart keeps it. If there is no machine id, it is",
-                    "random at each start. If several caches stand behind one address, give",
-                    "each its own session.",
+                    "The session ID in version 1 of the protocol, from 0 to 65535. By default",
+                    "it is made of /etc/machine-id, the host name, the addresses and the",
+                    "sources, so a restart keeps it. If there is no machine id, it is random at",
+                    "each start. If several caches share one address, give each its own session",
+                    "ID.",
                 ],
             },
             OptionSpec {
@@ -190,9 +198,8 @@ pub(crate) static GROUPS: [OptionGroup; 7] = [
                 kind: OptionKind::Number,
                 value: "NUMBER",
                 help: &[
-                    "This is the session in version 0, from 0 to 65535. By default it is made",
-                    "of the time of the start. It changes every second, and comes again after",
-                    "18 hours.",
+                    "The session ID in version 0, from 0 to 65535. By default it is made of the",
+                    "time of the start. It changes every second, and repeats after 18 hours.",
                 ],
             },
             OptionSpec {
@@ -201,9 +208,9 @@ pub(crate) static GROUPS: [OptionGroup; 7] = [
                 kind: OptionKind::Number,
                 value: "NUMBER",
                 help: &[
-                    "This is the serial of the first version, from 0 to 4294967295. By default",
-                    "it is the time of the start in seconds since 1970, so serials go on after",
-                    "a restart, and no router drops what it has.",
+                    "The serial of the first version, from 0 to 4294967295. By default it is",
+                    "the time of the start in seconds since 1970. So serials continue to rise",
+                    "after a restart, and routers keep their data.",
                 ],
             },
             OptionSpec {
@@ -212,8 +219,8 @@ pub(crate) static GROUPS: [OptionGroup; 7] = [
                 kind: OptionKind::Number,
                 value: "NUMBER",
                 help: &[
-                    "So many versions are kept, and a router that has one of them is sent the",
-                    "changes alone. The number is from 1 to 65536; the default is 16.",
+                    "How many versions are kept. A router that has one of them is sent only the",
+                    "changes. The number is from 1 to 65536; the default is 16.",
                 ],
             },
         ],
@@ -227,8 +234,8 @@ pub(crate) static GROUPS: [OptionGroup; 7] = [
                 kind: OptionKind::Number,
                 value: "SECONDS",
                 help: &[
-                    "A router asks again after so long. The number is from 1 to 86400; the",
-                    "default is 3600.",
+                    "How long a router waits after a commit before its next query. The number",
+                    "is from 1 to 86400; the default is 3600.",
                 ],
             },
             OptionSpec {
@@ -237,7 +244,7 @@ pub(crate) static GROUPS: [OptionGroup; 7] = [
                 kind: OptionKind::Number,
                 value: "SECONDS",
                 help: &[
-                    "A router tries again so long after a failure. The number is from 1 to",
+                    "How long a router waits after a failed query. The number is from 1 to",
                     "7200; the default is 600.",
                 ],
             },
@@ -247,8 +254,8 @@ pub(crate) static GROUPS: [OptionGroup; 7] = [
                 kind: OptionKind::Number,
                 value: "SECONDS",
                 help: &[
-                    "A router drops what it has after so long without news. The number is from",
-                    "600 to 172800, and more than both others; the default is 7200.",
+                    "How long a router keeps its data without an update. The number is from 600",
+                    "to 172800, and more than both others; the default is 7200.",
                 ],
             },
         ],
@@ -262,11 +269,11 @@ pub(crate) static GROUPS: [OptionGroup; 7] = [
                 kind: OptionKind::Once,
                 value: "ADDRESS:PORT",
                 help: &[
-                    "Pages on the daemon's state are at this address, over HTTP: / for people,",
-                    "/metrics for Prometheus, /vrps.json for the payload list, and",
-                    "/validity?asn=64496&prefix=192.0.2.0/24 for the state of a route. Nothing",
-                    "can be changed by them; keep them on a management network. Without this",
-                    "option there are none.",
+                    "Serve status pages at this address, over HTTP: / for people, /metrics for",
+                    "Prometheus, /health, /vrps.json as rpki-client writes it, /list.json as a",
+                    "payload list, /vrps.csv, and /validity?asn=64496&prefix=192.0.2.0/24 for",
+                    "the state of a route. The pages change nothing. Use a management network.",
+                    "Without this option there are none.",
                 ],
             },
             OptionSpec {
@@ -275,8 +282,7 @@ pub(crate) static GROUPS: [OptionGroup; 7] = [
                 kind: OptionKind::Once,
                 value: "FORM",
                 help: &[
-                    "FORM is how the lines on standard error are written: text or json. The",
-                    "default is text.",
+                    "The form of the log on standard error: text or json. The default is text.",
                 ],
             },
         ],
@@ -288,7 +294,7 @@ pub(crate) static GROUPS: [OptionGroup; 7] = [
             letter: None,
             kind: OptionKind::Flag,
             value: "",
-            help: &["The daemon ends when the first router has gone."],
+            help: &["The daemon exits when the first router has disconnected."],
         }],
     },
     OptionGroup {
@@ -300,8 +306,8 @@ pub(crate) static GROUPS: [OptionGroup; 7] = [
                 kind: OptionKind::Flag,
                 value: "",
                 help: &[
-                    "All files are read and judged, and the daemon ends. The status is 0 if it",
-                    "could start with them, and 1 if one is refused. No address is opened.",
+                    "Read and judge all files, and exit. The status is 0 if the daemon could",
+                    "start with them, and 1 if one is refused. No address is opened.",
                 ],
             },
             OptionSpec {
@@ -309,14 +315,14 @@ pub(crate) static GROUPS: [OptionGroup; 7] = [
                 letter: Some('h'),
                 kind: OptionKind::Flag,
                 value: "",
-                help: &["This text is printed."],
+                help: &["Print this text."],
             },
             OptionSpec {
                 name: "version",
                 letter: Some('V'),
                 kind: OptionKind::Flag,
                 value: "",
-                help: &["The program's name and version are printed."],
+                help: &["Print the name and the version of the program."],
             },
         ],
     },

@@ -168,7 +168,7 @@ fn note(file: &mut WatchedFile, stamp: Stamp, taken: Result<u64, Refusal>, now: 
             again: file.set_loaded(stamp, now, expired),
             expired,
         },
-        Err(refusal) => refused_if(file.refusals.add(Some(stamp), refusal)),
+        Err(refusal) => refused_if(file.refusals.add(Some(stamp), refusal, now)),
     }
 }
 
@@ -194,9 +194,9 @@ fn follow<S: VersionStore, T: Stream + Drop, W: Disk>(
 {
     match file.look(env, file.is_loaded_after(now)) {
         Look::Unchanged => PollResult::Unchanged,
-        Look::Unstable => refused_if(file.refusals.add(None, Refusal::Changing)),
-        Look::RefusedBefore => refused_if(file.refusals.mark_reported()),
-        Look::Failed(error) => refused_if(file.refusals.add(None, Refusal::Device(error))),
+        Look::Unstable => refused_if(file.refusals.add(None, Refusal::Changing, now)),
+        Look::RefusedBefore => refused_if(file.refusals.mark_reported(now)),
+        Look::Failed(error) => refused_if(file.refusals.add(None, Refusal::Device(error), now)),
         Look::Read(stamp, bytes) => {
             let taken = take(service, file.source, bytes.as_slice(), alloc, now);
             note(file, stamp, taken, now)
@@ -299,7 +299,7 @@ fn note_offer<W: EventLog>(
             }
         }
         Err(refusal) => {
-            if point.refusals.add(None, refusal) {
+            if point.refusals.add(None, refusal, now) {
                 statistics.count_refusal();
                 log_refused_point(alloc, point, now, env);
             }

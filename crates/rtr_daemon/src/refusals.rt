@@ -18,7 +18,8 @@ pub(crate) struct Refusals {
     last: Option<Refused>,
     /// How many polls in a row refused it. The count saturates.
     looks: u8,
-    is_reported: bool,
+    /// When a refusal was reported, in seconds since 1970.
+    reported_at: Option<u64>,
 }
 
 impl Refusals {
@@ -27,34 +28,36 @@ impl Refusals {
         Refusals {
             last: None,
             looks: 0,
-            is_reported: false,
+            reported_at: None,
         }
     }
 
     /// The source was loaded. It returns whether a refusal was reported before.
     pub(crate) fn clear(&mut self) -> bool {
-        let was_reported = self.is_reported;
+        let was_reported = self.reported_at.is_some();
         self.last = None;
         self.looks = 0;
-        self.is_reported = false;
+        self.reported_at = None;
         was_reported
     }
 
     /// The source is refused, with this stamp. It returns whether that is reported: if the last refusal had the same stamp, or too many polls in
     /// a row refused it. Only one refusal is reported until the source is loaded.
-    pub(crate) fn add(&mut self, stamp: Option<Stamp>, why: Refusal) -> bool {
+    pub(crate) fn add(&mut self, stamp: Option<Stamp>, why: Refusal, now: u64) -> bool {
         let is_same = self.is_of(stamp);
         let is_due = is_same || self.looks >= UNREPORTED;
         self.last = Some(Refused { stamp, why });
         self.looks = self.looks.saturating_add(1);
-        is_due && self.mark_reported()
+        is_due && self.mark_reported(now)
     }
 
     /// Marks a refusal as reported. It returns true if none was reported since the source was last loaded.
-    pub(crate) fn mark_reported(&mut self) -> bool {
-        let is_news = !self.is_reported;
-        self.is_reported = true;
-        is_news
+    pub(crate) fn mark_reported(&mut self, now: u64) -> bool {
+        if self.reported_at.is_some() {
+            return false;
+        }
+        self.reported_at = Some(now);
+        true
     }
 
     /// Whether the last refusal had this stamp.
@@ -83,9 +86,14 @@ impl Refusals {
 
     /// Why the source was refused last, if a refusal was reported since the source was last loaded.
     pub(crate) fn reported(&self) -> Option<&Refusal> {
-        if self.is_reported {
+        if self.reported_at.is_some() {
             return self.last();
         }
         None
+    }
+
+    /// When the refusal that lasts was reported, in seconds since 1970.
+    pub(crate) fn reported_at(&self) -> Option<u64> {
+        self.reported_at
     }
 }

@@ -12,7 +12,8 @@ use std::alloc::{AllocError, Global};
 use vrps::{Serial, VersionStore};
 
 impl<S: VersionStore, T: Stream + Drop> Daemon<S, T> {
-    /// The status of the daemon at a time: in seconds since 1970, and in milliseconds of the monotonic clock. The version is the program's.
+    /// The status of the daemon at a time: in seconds since 1970, and in milliseconds of the monotonic clock. The version is the program's. The host and
+    /// the addresses are the caller's to fill in.
     pub fn status(
         &self,
         version: &'static str,
@@ -22,6 +23,8 @@ impl<S: VersionStore, T: Stream + Drop> Daemon<S, T> {
         let traffic = self.traffic();
         Ok(Status {
             version,
+            host: None,
+            addresses: Vec::new(self.alloc),
             now,
             started: self.started,
             clock_behind: self.clock_behind,
@@ -33,6 +36,7 @@ impl<S: VersionStore, T: Stream + Drop> Daemon<S, T> {
             left_out: self.statistics.left_out,
             changes: self.statistics.changes(self.alloc)?,
             files: self.file_statuses(now)?,
+            max_age: self.plan.max_age,
             clients: self.client_statuses(now, millis)?,
             client_limit: self.plan.clients as u64,
             clients_ever: self.statistics.clients,
@@ -79,6 +83,7 @@ impl<S: VersionStore, T: Stream + Drop> Daemon<S, T> {
             built: built_of(file, self.service.sources(), now),
             taken: file.loaded_at,
             refusal: refusal_text(self.alloc, file.refusals.reported())?,
+            refused_at: file.refusals.reported_at(),
             is_old: file.is_old,
             expired: file.all_expired(),
         })
@@ -131,6 +136,7 @@ fn point_status(alloc: Global, point: &WatchedPoint) -> Result<FileStatus, Alloc
         built: None,
         taken: point.loaded_at,
         refusal: refusal_text(alloc, point.refusals.reported())?,
+        refused_at: point.refusals.reported_at(),
         is_old: false,
         expired: point.expired,
     })

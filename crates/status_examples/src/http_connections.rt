@@ -1,5 +1,5 @@
 //! HTTP connections over streams in memory.
-use crate::values::{NOW, small};
+use crate::values::{NOW, empty, small};
 use crate::wires::{Shared, Wire, has, is_list, shared};
 use bytes::Bytes;
 use prefixes::{Asn, IpPrefix, Route, Vrp};
@@ -19,20 +19,34 @@ pub(crate) struct Small {
     index: Option<OriginIndex>,
 }
 
+impl Small {
+    /// A text of the version, if there is one.
+    fn text(&self, text: &'static [u8]) -> Option<Bytes> {
+        match &self.index {
+            Some(_index) => Some(Bytes::from_static(text)),
+            None => None,
+        }
+    }
+}
+
 impl StatusSource for Small {
     fn now(&mut self) -> u64 {
         NOW
     }
 
     fn status(&mut self) -> Result<Status, AllocError> {
-        small(self.alloc)
+        match &self.index {
+            Some(_index) => small(self.alloc),
+            None => Ok(empty(self.alloc)),
+        }
     }
 
     fn list(&mut self) -> Result<Option<Bytes>, AllocError> {
-        Ok(match &self.index {
-            Some(_index) => Some(Bytes::from_static(b"[]")),
-            None => None,
-        })
+        Ok(self.text(b"[{\"asn\":64496,\"maxLength\":24,\"prefix\":\"192.0.2.0/24\"}]"))
+    }
+
+    fn csv(&mut self) -> Result<Option<Bytes>, AllocError> {
+        Ok(self.text(b"ASN,IP Prefix,Max Length,Trust Anchor\nAS64496,192.0.2.0/24,24,\n"))
     }
 
     fn validity(&mut self, route: &Route) -> Result<Option<Validity>, AllocError> {
@@ -65,7 +79,7 @@ fn progress(connections: &HttpConnections<Wire>) -> HttpProgress {
 }
 
 /// The progress of a connection that sends this, at this many bytes a call, and the response.
-fn answered(
+pub(crate) fn answered(
     rt: &HostRuntime,
     request: &[u8],
     piece: usize,
@@ -95,38 +109,38 @@ type Answer = (&'static str, &'static str, &'static str);
 const ANSWERS: &[Answer] = &[
     (
         "GET / HTTP/1.1\r\nHost: a\r\n\r\n",
-        "HTTP/1.1 200 OK\r\ndate: Thu, 26 Nov 2026 00:37:00 GMT\r\ncontent-type: text/html; charset=utf-8\r\ncache-control: no-store\r\nx-content-type-options: nosniff\r\ncontent-security-policy: default-src 'none'; style-src 'unsafe-inline'; base-uri 'none'; form-action 'none'; frame-ancestors 'none'\r\n",
+        "HTTP/1.1 200 OK\r\ndate: Thu, 26 Nov 2026 00:37:00 GMT\r\ncontent-type: text/html; charset=utf-8\r\ncache-control: no-cache\r\nx-content-type-options: nosniff\r\ncontent-security-policy: default-src 'none'; style-src 'unsafe-inline'; base-uri 'none'; form-action 'self'; frame-ancestors 'none'\r\n",
         "<!doctype html>",
     ),
     (
         "GET /metrics HTTP/1.1\r\nHost: a\r\n\r\n",
-        "HTTP/1.1 200 OK\r\ndate: Thu, 26 Nov 2026 00:37:00 GMT\r\ncontent-type: text/plain; version=0.0.4; charset=utf-8\r\ncache-control: no-store\r\nx-content-type-options: nosniff\r\n",
+        "HTTP/1.1 200 OK\r\ndate: Thu, 26 Nov 2026 00:37:00 GMT\r\ncontent-type: text/plain; version=0.0.4; charset=utf-8\r\ncache-control: no-cache\r\nx-content-type-options: nosniff\r\n",
         "\nrpkirtrd_serial 1795653120\n",
     ),
     (
         "GET /vrps.json HTTP/1.1\r\nHost: a\r\n\r\n",
-        "HTTP/1.1 200 OK\r\ndate: Thu, 26 Nov 2026 00:37:00 GMT\r\ncontent-type: application/json; charset=utf-8\r\n",
-        "\r\n\r\n[]",
+        "HTTP/1.1 200 OK\r\ndate: Thu, 26 Nov 2026 00:37:00 GMT\r\netag: \"4660-1795653120-1795652820\"\r\ncontent-type: application/json; charset=utf-8\r\n",
+        "\r\n\r\n{\"metadata\":{\"buildtime\":\"2026-11-26T00:27:00Z\",\"generated\":1795652820,\"vrps\":523456},\"roas\":[{\"asn\":64496,\"maxLength\":24,\"prefix\":\"192.0.2.0/24\"}]}",
     ),
     (
-        "HEAD /vrps.json HTTP/1.1\r\nHost: a\r\n\r\n",
-        "HTTP/1.1 200 OK\r\ndate: Thu, 26 Nov 2026 00:37:00 GMT\r\ncontent-type: application/json; charset=utf-8\r\n",
-        "content-length: 2\r\n\r\n",
+        "HEAD /list.json HTTP/1.1\r\nHost: a\r\n\r\n",
+        "HTTP/1.1 200 OK\r\ndate: Thu, 26 Nov 2026 00:37:00 GMT\r\netag: \"4660-1795653120\"\r\ncontent-type: application/json; charset=utf-8\r\n",
+        "content-length: 54\r\n\r\n",
     ),
     (
         "GET /validity?asn=64496&prefix=192.0.2.0/24 HTTP/1.1\r\nHost: a\r\n\r\n",
-        "HTTP/1.1 200 OK\r\ndate: Thu, 26 Nov 2026 00:37:00 GMT\r\ncontent-type: application/json; charset=utf-8\r\n",
+        "HTTP/1.1 200 OK\r\ndate: Thu, 26 Nov 2026 00:37:00 GMT\r\nvary: Accept\r\ncontent-type: application/json; charset=utf-8\r\n",
         "{\"validated_route\":{\"route\":{\"origin_asn\":\"AS64496\",\"prefix\":\"192.0.2.0/24\"},\"validity\":{\"state\":\"valid\",",
     ),
     (
         "GET /validity HTTP/1.1\r\nHost: a\r\n\r\n",
-        "HTTP/1.1 400 Bad Request\r\ndate: Thu, 26 Nov 2026 00:37:00 GMT\r\ncontent-type: text/plain; charset=utf-8\r\n",
+        "HTTP/1.1 400 Bad Request\r\ndate: Thu, 26 Nov 2026 00:37:00 GMT\r\nvary: Accept\r\ncontent-type: text/plain; charset=utf-8\r\n",
         "\r\n\r\nwrite ?asn=NUMBER&prefix=PREFIX, each of the two keys once and no other, as in ?asn=64496&prefix=192.0.2.0/24\n",
     ),
     (
         "GET /status HTTP/1.1\r\nHost: a\r\n\r\n",
         "HTTP/1.1 404 Not Found\r\ndate: Thu, 26 Nov 2026 00:37:00 GMT\r\ncontent-type: text/plain; charset=utf-8\r\n",
-        "\r\n\r\nthere are /, /metrics, /vrps.json and /validity\n",
+        "\r\n\r\nthere are /, /metrics, /health, /vrps.json, /list.json, /vrps.csv, /validity and /api/v1/validity/NUMBER/PREFIX\n",
     ),
     (
         "POST /metrics HTTP/1.1\r\nHost: a\r\ncontent-length: 0\r\n\r\n",
@@ -155,6 +169,18 @@ const EARLY: &[(&str, &str)] = &[
         "\r\n\r\nno version is published yet: ask again in a second\n",
     ),
     (
+        "GET /list.json HTTP/1.1\r\nHost: a\r\n\r\n",
+        "\r\n\r\nno version is published yet: ask again in a second\n",
+    ),
+    (
+        "GET /vrps.csv HTTP/1.1\r\nHost: a\r\n\r\n",
+        "\r\n\r\nno version is published yet: ask again in a second\n",
+    ),
+    (
+        "GET /api/v1/validity/64496/192.0.2.0/24 HTTP/1.1\r\nHost: a\r\n\r\n",
+        "\r\n\r\nno version is published yet: ask again in a second\n",
+    ),
+    (
         "GET /validity?asn=64496&prefix=192.0.2.0/24 HTTP/1.1\r\nHost: a\r\n\r\n",
         "\r\n\r\nno version is published yet: ask again in a second\n",
     ),
@@ -162,8 +188,9 @@ const EARLY: &[(&str, &str)] = &[
 
 #[test]
 fn nothing_is_said_of_records_before_a_version(rt: HostRuntime) -> Result<(), Fail> {
-    let begin =
-        "HTTP/1.1 503 Service Unavailable\r\ndate: Thu, 26 Nov 2026 00:37:00 GMT\r\nretry-after: 1\r\ncontent-type: text/plain; charset=utf-8\r\n";
+    let begin = "HTTP/1.1 503 Service Unavailable\r\ndate: Thu, 26 Nov 2026 00:37:00 GMT\r\n";
+    let early =
+        "retry-after: 1\r\ncontent-type: text/plain; charset=utf-8\r\ncache-control: no-cache\r\n";
     for &(request, part) in EARLY {
         let mut source = Small {
             alloc: rt.alloc(),
@@ -172,6 +199,7 @@ fn nothing_is_said_of_records_before_a_version(rt: HostRuntime) -> Result<(), Fa
         let (came, output) = answered_by(&rt, &mut source, request.as_bytes(), 4096)?;
         assert!(rt; came == HttpProgress::WouldBlock, "{request}");
         assert!(rt; has(rt.alloc(), &output, begin, part)?, "{request}");
+        assert!(rt; has(rt.alloc(), &output, begin, early)?, "{request}");
     }
     Ok(())
 }
@@ -209,7 +237,7 @@ fn visits_end(rt: HostRuntime) -> Result<(), Fail> {
 
 #[test]
 fn requests_behind_one_another(rt: HostRuntime) -> Result<(), Fail> {
-    let twice = b"GET /vrps.json HTTP/1.1\r\nHost: a\r\n\r\nHEAD /a HTTP/1.1\r\nHost: a\r\n\r\n";
+    let twice = b"GET /list.json HTTP/1.1\r\nHost: a\r\n\r\nHEAD /a HTTP/1.1\r\nHost: a\r\n\r\n";
     let (came, output) = answered(&rt, twice, 4096)?;
     assert!(rt; came == HttpProgress::WouldBlock);
     assert!(rt;
@@ -217,7 +245,7 @@ fn requests_behind_one_another(rt: HostRuntime) -> Result<(), Fail> {
             rt.alloc(),
             &output,
             "HTTP/1.1 200 OK\r\ndate: Thu, 26 Nov 2026 00:37:00 GMT\r\n",
-            "\r\n\r\n[]HTTP/1.1 404 Not Found\r\n"
+            "\r\n\r\n[{\"asn\":64496,\"maxLength\":24,\"prefix\":\"192.0.2.0/24\"}]HTTP/1.1 404 Not Found\r\n"
         )?
     );
     Ok(())

@@ -3,15 +3,20 @@
 #![tactic(auto)]
 
 #[cfg(test)]
+mod health;
+#[cfg(test)]
 mod http_connections;
 #[cfg(test)]
 mod http_endpoint;
+mod lists;
 #[cfg(test)]
 mod metrics;
 #[cfg(test)]
 mod pages;
 #[cfg(test)]
 mod queries;
+#[cfg(test)]
+mod resources;
 #[cfg(test)]
 mod validities;
 #[cfg(test)]

@@ -1,6 +1,6 @@
 //! Queries for the validity of a route.
 use prefixes::{IpPrefix, PrefixFault, Route};
-use status_pages::{QueryFault, read_query};
+use status_pages::{QueryFault, read_path, read_query};
 use std::test::Fail;
 
 #[test]
@@ -91,5 +91,52 @@ fn faults_say_what_to_write(rt: HostRuntime) -> Result<(), Fail> {
         text.as_str()
             == "write an IPv4 or IPv6 prefix under prefix, as 192.0.2.0/24 or 2001:db8::/32: a bit behind the prefix length is set (fault 2)"
     );
+    Ok(())
+}
+
+/// Ends of paths with a fault.
+const REFUSED_PATHS: &[(&str, QueryFault)] = &[
+    ("", QueryFault::Path),
+    ("AS64496", QueryFault::Path),
+    ("/192.0.2.0/24", QueryFault::Asn),
+    ("AS64496x/192.0.2.0/24", QueryFault::Asn),
+    (
+        "AS64496/192.0.2.0",
+        QueryFault::Prefix(PrefixFault::BadText),
+    ),
+    (
+        "64496/192.0.2.0/24/",
+        QueryFault::Prefix(PrefixFault::BadText),
+    ),
+    (
+        "64496/192.0.2.1/24",
+        QueryFault::Prefix(PrefixFault::HostBits),
+    ),
+];
+
+/// Ends of paths for the route 2001:db8::/32 of AS64496.
+const PATHS: &[&str] = &[
+    "AS64496/2001:db8::/32",
+    "64496/2001:db8::/32",
+    "64496/2001%3Adb8::%2f32",
+];
+
+#[test]
+fn paths_of_a_route(rt: HostRuntime) -> Result<(), Fail> {
+    let route = Route {
+        prefix: IpPrefix::parse("2001:db8::/32")?,
+        origin: Some(64496),
+    };
+    for &path in PATHS {
+        assert!(rt; read_path(rt.alloc(), path) == Ok(route), "{path}");
+    }
+    Ok(())
+}
+
+#[test]
+fn paths_of_no_route(rt: HostRuntime) -> Result<(), Fail> {
+    for &(path, fault) in REFUSED_PATHS {
+        assert!(rt; read_path(rt.alloc(), path) == Err(fault), "{path}");
+    }
     Ok(())
 }

@@ -2,9 +2,10 @@
 use crate::values::NOW;
 use prefixes::{Asn, IpPrefix, Route, Vrp};
 use status_pages::laws::{covering_is_parted, reason_is_by_origin};
-use status_pages::{Validity, write_validity};
+use status_pages::{Validity, write_validity, write_validity_page};
 use std::alloc::Global;
 use std::process::Abort;
+use std::str;
 use std::test::Fail;
 use vrps::{OriginIndex, OriginState, VrpSet};
 
@@ -79,6 +80,16 @@ fn tells<R: AllocGlobal + Abort>(rt: &R, text: &str, asn: u32, want: &str) -> Re
     let mut out = Vec::new(rt.alloc());
     write_validity(&mut out, &route, &validity, NOW)?;
     Ok(out.as_slice() == want.as_bytes())
+}
+
+/// The page of the validity of a route.
+pub(crate) fn page_of_route(alloc: Global, text: &str, asn: u32) -> Result<String, Fail> {
+    let index = index(alloc)?;
+    let route = route(text, Some(asn))?;
+    let validity = Validity::of_route(alloc, &index, &route)?;
+    let mut out = Vec::new(alloc);
+    write_validity_page(&mut out, &route, &validity, NOW)?;
+    Ok(String::from_str(alloc, str::from_utf8(&out)?)?)
 }
 
 /// A route with its AS, and the text of its validity.

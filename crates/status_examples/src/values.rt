@@ -25,6 +25,8 @@ const NO_PDUS: PdusByType = PdusByType {
 pub(crate) fn empty(alloc: Global) -> Status {
     Status {
         version: "0.1.0",
+        host: None,
+        addresses: Vec::new(alloc),
         now: NOW,
         started: NOW - 5,
         clock_behind: 0,
@@ -36,6 +38,7 @@ pub(crate) fn empty(alloc: Global) -> Status {
         left_out: 0,
         changes: Vec::new(alloc),
         files: Vec::new(alloc),
+        max_age: None,
         clients: Vec::new(alloc),
         client_limit: 256,
         clients_ever: 0,
@@ -71,6 +74,7 @@ fn put_files(alloc: Global, status: &mut Status) -> Result<(), AllocError> {
         built: Some(NOW - 600),
         taken: Some(NOW - 300),
         refusal: None,
+        refused_at: None,
         is_old: false,
         expired: 12,
     })?;
@@ -82,6 +86,7 @@ fn put_files(alloc: Global, status: &mut Status) -> Result<(), AllocError> {
             alloc,
             "entry 3 of roas cannot be read: <prefix> is no prefix (fault 3)",
         )?),
+        refused_at: Some(NOW - 200),
         is_old: false,
         expired: 0,
     })?;

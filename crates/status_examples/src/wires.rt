@@ -23,6 +23,14 @@ pub(crate) fn is_list(list: &Shared, other: &Shared) -> bool {
     }
 }
 
+/// Whether it is this text.
+pub(crate) fn is_text(list: &Shared, text: &str) -> bool {
+    match list.try_borrow() {
+        Ok(list) => list.as_slice() == text.as_bytes(),
+        Err(_) => false,
+    }
+}
+
 /// Whether it begins with one text, and contains another.
 pub(crate) fn has(alloc: Global, list: &Shared, begin: &str, part: &str) -> Result<bool, Fail> {
     match list.try_borrow() {

@@ -48,5 +48,5 @@ svg.broken{border-bottom:2px dashed var(--dim)}
 figcaption{margin-top:.3rem}
 @media (min-width:64rem){.pair{display:grid;grid-template-columns:1fr 1fr;gap:0 2rem}.pair>*{min-width:0}}
 @media (max-width:60rem){dl{grid-template-columns:1fr 1fr}dl>div:last-child{grid-column:1/-1}}
-@media (max-width:40rem){.wide{display:none}th,td{padding:.35rem .5rem}.files tr{display:block;border-top:1px solid var(--line);padding:.4rem 0}.files thead{display:none}.files td,.files th{display:block;border:0;white-space:normal;text-align:left;padding:.05rem .7rem}.files td:nth-child(3)::before{content:'data made '}.files td:nth-child(4)::before{content:'taken '}.files td:nth-child(5)::before{content:'expired entries: '}}
+@media (max-width:40rem){.wide{display:none}th,td{padding:.35rem .5rem}.warn{white-space:normal}.files tr{display:block;border-top:1px solid var(--line);padding:.4rem 0}.files thead{display:none}.files td,.files th{display:block;border:0;white-space:normal;text-align:left;padding:.05rem .7rem}.files td:nth-child(3)::before{content:'data made '}.files td:nth-child(4)::before{content:'taken '}.files td:nth-child(5)::before{content:'expired entries: '}}
 ";
