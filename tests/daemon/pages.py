@@ -12,7 +12,7 @@ import subprocess
 import time
 
 from checks import expect
-from common import PATIENCE, put
+from common import PATIENCE, free_port, put
 from daemon.shared import FIRST, Skipped, part, text_of
 from log import running
 from rtr import Router
@@ -82,6 +82,37 @@ def lists(port, listed):
     expect("the state of health", got(port, "/health")[::2], (200, "ok\n"))
     expect("a route as a page", got(port, "/validity?asn=1&prefix=10.0.0.0/8", given={"Accept": "text/html"})[1]["content-type"], "text/html; charset=utf-8")
     expect("a route by its path", json.loads(got(port, "/api/v1/validity/AS1/10.0.0.0/8")[2])["validated_route"]["validity"]["state"], "not-found")
+
+
+@part
+def chained(given):
+    """Another cache serves what this one answers at /vrps.json: rpkirtrd, and StayRTR if it is installed."""
+    put("list.json", text_of(FIRST))
+    with running(given.program, "--vrps", "list.json", "--listen", "127.0.0.1:0", "--status", "127.0.0.1:0") as daemon:
+        _, port = daemon.serves()
+        put("export.json", got(port, "/vrps.json")[2])
+        lines = got(port, "/vrps.csv")[2].splitlines()
+    expect("the CSV", (lines[0], sorted(lines[1:])), ("ASN,IP Prefix,Max Length,Trust Anchor", sorted(f"AS{asn},{prefix},{most}," for prefix, most, asn in FIRST)))
+    with running(given.program, "--vrps", "export.json", "--max-age", "3600", "--listen", "127.0.0.1:0") as daemon:
+        expect("the table from rpkirtrd", Router(daemon.listens()).catch_up(), set(FIRST))
+    if shutil.which("stayrtr"):
+        port = free_port()
+        words = ["-bind", f"127.0.0.1:{port}", "-cache", "export.json", "-metrics.addr", "", "-checktime=false"]
+        with subprocess.Popen(["stayrtr", *words], stdout=subprocess.DEVNULL, stderr=subprocess.DEVNULL) as ran:
+            expect("the table from StayRTR", table_at(port, len(FIRST)), set(FIRST))
+            ran.kill()
+
+
+def table_at(port, count):
+    """The table of a router at a cache that is starting, once it has this many records."""
+    end = time.time() + PATIENCE
+    while time.time() < end:
+        with contextlib.suppress(OSError, EOFError):
+            table = Router(port).catch_up()
+            if len(table) == count:
+                return table
+        time.sleep(0.1)
+    return set()
 
 
 def strange_visitors(port):
