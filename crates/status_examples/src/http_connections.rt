@@ -17,6 +17,8 @@ use vrps::{OriginIndex, VrpSet};
 pub(crate) struct Small {
     alloc: Global,
     index: Option<OriginIndex>,
+    /// How many times the status was asked for.
+    pub(crate) asked: u32,
 }
 
 impl Small {
@@ -35,6 +37,7 @@ impl StatusSource for Small {
     }
 
     fn status(&mut self) -> Result<Status, AllocError> {
+        self.asked = self.asked.saturating_add(1);
         match &self.index {
             Some(_index) => small(self.alloc),
             None => Ok(empty(self.alloc)),
@@ -64,6 +67,7 @@ pub(crate) fn source(alloc: Global) -> Result<Small, Fail> {
     Ok(Small {
         alloc,
         index: Some(index),
+        asked: 0,
     })
 }
 
@@ -195,6 +199,7 @@ fn nothing_is_said_of_records_before_a_version(rt: HostRuntime) -> Result<(), Fa
         let mut source = Small {
             alloc: rt.alloc(),
             index: None,
+            asked: 0,
         };
         let (came, output) = answered_by(&rt, &mut source, request.as_bytes(), 4096)?;
         assert!(rt; came == HttpProgress::WouldBlock, "{request}");

@@ -174,3 +174,56 @@ fn tokens_are_not_mixed(rt: HostRuntime) -> Result<(), Fail> {
     assert!(rt; has(rt.alloc(), &to_one, "HTTP/1.1 200 OK\r\n", "\r\n\r\n[")?);
     Ok(())
 }
+
+const HEAD: &[u8] = b"HEAD / HTTP/1.1\r\nHost: a\r\n\r\n";
+
+/// How many responses were written.
+fn responses(output: &Shared) -> usize {
+    match output.try_borrow() {
+        Err(_) => 0,
+        Ok(list) => list
+            .as_slice()
+            .windows(8)
+            .filter(|part| *part == b"HTTP/1.1".as_slice())
+            .count(),
+    }
+}
+
+#[test]
+fn pipelined_requests_take_turns(rt: HostRuntime) -> Result<(), Fail> {
+    let (input, output) = (shared(rt.alloc(), b"")?, shared(rt.alloc(), b"")?);
+    for _request in 0..40 {
+        send(&input, HEAD)?;
+    }
+    let mut script = nothing_ready(rt.alloc());
+    let mut endpoint = endpoint(&rt)?;
+    let mut source = source(rt.alloc())?;
+    script.add(7, Wire::of(&input, &output, 4096)?)?;
+    endpoint.turn(0, &mut script, &mut source);
+    let first = responses(&output);
+    assert!(rt; 1 <= first && first <= 8);
+    assert!(rt; endpoint.wait_limit() == 0);
+    for now in 1..40 {
+        endpoint.turn(now, &mut script, &mut source);
+    }
+    assert!(rt; responses(&output) == 40);
+    Ok(())
+}
+
+#[test]
+fn connections_of_a_turn_share_its_texts(rt: HostRuntime) -> Result<(), Fail> {
+    let (input, output) = (shared(rt.alloc(), b"")?, shared(rt.alloc(), b"")?);
+    let mut script = nothing_ready(rt.alloc());
+    let mut endpoint = endpoint(&rt)?;
+    let mut source = source(rt.alloc())?;
+    for token in 0..8 {
+        send(&input, HEAD)?;
+        script.add(token, Wire::of(&input, &output, HEAD.len())?)?;
+    }
+    endpoint.turn(0, &mut script, &mut source);
+    assert!(rt; 8 <= responses(&output));
+    assert!(rt; source.asked == 1);
+    endpoint.turn(1, &mut script, &mut source);
+    assert!(rt; source.asked <= 2);
+    Ok(())
+}

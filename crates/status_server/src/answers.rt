@@ -74,6 +74,14 @@ fn add_tag(headers: &HeaderMap, tag: String, response: &mut Response) -> Result<
     Ok(is_known)
 }
 
+/// A text that responses share.
+fn shared(text: Vec<u8>) -> Result<Bytes, AllocError> {
+    match Bytes::from_vec(text) {
+        Ok(bytes) => Ok(bytes),
+        Err(_) => Err(AllocError),
+    }
+}
+
 /// When the served data were made: at the earliest time of a source, or when the version was published if no source has a time.
 fn made_at(status: &Status) -> u64 {
     let published = status.changes.last().map(|change| change.at);
@@ -83,14 +91,36 @@ fn made_at(status: &Status) -> u64 {
     }
 }
 
-/// The HTTP service over a source of status.
+/// The HTTP service over a source of status, for one turn. The status, the page and the metrics are made once in a turn, and shared.
 #[derive(Drop)]
 pub(crate) struct Answers<'a, S> {
-    pub(crate) alloc: Global,
-    pub(crate) source: &'a mut S,
+    alloc: Global,
+    source: &'a mut S,
+    status: Option<Status>,
+    page: Option<Bytes>,
+    metrics: Option<Bytes>,
 }
 
-impl<S: StatusSource> Answers<'_, S> {
+impl<'a, S: StatusSource> Answers<'a, S> {
+    /// The service for a turn that begins.
+    pub(crate) fn new(alloc: Global, source: &'a mut S) -> Answers<'a, S> {
+        Answers {
+            alloc,
+            source,
+            status: None,
+            page: None,
+            metrics: None,
+        }
+    }
+
+    /// The status in this turn.
+    fn status(&mut self) -> Result<&Status, AllocError> {
+        if self.status.is_none() {
+            self.status = Some(self.source.status()?);
+        }
+        self.status.as_ref().ok_or(AllocError)
+    }
+
     /// Adds the time of the response (RFC 9110 section 6.6.1), if it is within the years 1970 to 9999.
     fn add_date(&mut self, response: &mut Response) -> Result<(), AllocError> {
         let Ok(date) = HttpDate::from_unix_secs(self.source.now()) else {
@@ -102,36 +132,56 @@ impl<S: StatusSource> Answers<'_, S> {
         }
     }
 
-    /// The status page.
-    fn page(&mut self, response: &mut Response) -> Result<(), AllocError> {
-        let status = self.source.status()?;
+    /// The text of the status page in this turn.
+    fn page_text(&mut self) -> Result<Bytes, AllocError> {
+        if let Some(page) = &self.page {
+            return page.clone();
+        }
         let mut text = Vec::new(self.alloc);
-        if write_page(&mut text, &status).is_err() {
+        if write_page(&mut text, self.status()?).is_err() {
             return Err(AllocError);
         }
+        let page = shared(text)?;
+        self.page = Some(page.clone()?);
+        Ok(page)
+    }
+
+    /// The status page.
+    fn page(&mut self, response: &mut Response) -> Result<(), AllocError> {
+        let page = self.page_text()?;
         add_page_headers(response)?;
-        response.body.put_slice(&text)
+        response.body.push(page)
+    }
+
+    /// The text of the metrics in this turn.
+    fn metrics_text(&mut self) -> Result<Bytes, AllocError> {
+        if let Some(metrics) = &self.metrics {
+            return metrics.clone();
+        }
+        let mut text = Vec::new(self.alloc);
+        if write_metrics(&mut text, self.status()?).is_err() {
+            return Err(AllocError);
+        }
+        let metrics = shared(text)?;
+        self.metrics = Some(metrics.clone()?);
+        Ok(metrics)
     }
 
     /// The metrics.
     fn metrics(&mut self, response: &mut Response) -> Result<(), AllocError> {
-        let status = self.source.status()?;
-        let mut text = Vec::new(self.alloc);
-        if write_metrics(&mut text, &status).is_err() {
-            return Err(AllocError);
-        }
+        let metrics = self.metrics_text()?;
         add_headers(response, "text/plain; version=0.0.4; charset=utf-8")?;
-        response.body.put_slice(&text)
+        response.body.push(metrics)
     }
 
     /// Whether the cache is healthy: 200 if it is, and otherwise 503 with the reasons.
     fn health(&mut self, response: &mut Response) -> Result<(), AllocError> {
-        let status = self.source.status()?;
         let mut text = Vec::new(self.alloc);
-        if write_health(&mut text, &status).is_err() {
+        let status = self.status()?;
+        if write_health(&mut text, status).is_err() {
             return Err(AllocError);
         }
-        if !is_healthy(&status) {
+        if !is_healthy(status) {
             response.status = StatusCode::SERVICE_UNAVAILABLE;
         }
         add_headers(response, TEXT)?;
@@ -140,17 +190,18 @@ impl<S: StatusSource> Answers<'_, S> {
 
     /// The export: the payload list as the records of an object with metadata.
     fn export(&mut self, headers: &HeaderMap, response: &mut Response) -> Result<(), AllocError> {
-        let status = self.source.status()?;
-        let (Some(serial), Some(list)) = (status.serial, self.source.list()?) else {
+        let list = self.source.list()?;
+        let status = self.status()?;
+        let (session, made) = (status.session, made_at(status));
+        let vrps = status.ipv4.saturating_add(status.ipv6);
+        let (Some(serial), Some(list)) = (status.serial, list) else {
             return refuse_early(response);
         };
-        let made = made_at(&status);
-        let tag = format!(in self.alloc; "\"{}-{serial}-{made}\"", status.session)?;
+        let tag = format!(in self.alloc; "\"{session}-{serial}-{made}\"")?;
         if add_tag(headers, tag, response)? {
             return Ok(());
         }
         let mut head = Vec::new(self.alloc);
-        let vrps = status.ipv4.saturating_add(status.ipv6);
         if write_export_head(&mut head, made, vrps).is_err() {
             return Err(AllocError);
         }
@@ -170,11 +221,12 @@ impl<S: StatusSource> Answers<'_, S> {
     ) -> Result<(), AllocError>
         requires { IsTrue (is_visible_text kind.now) }
     {
-        let status = self.source.status()?;
-        let (Some(serial), Some(list)) = (status.serial, list) else {
+        let status = self.status()?;
+        let (session, serial) = (status.session, status.serial);
+        let (Some(serial), Some(list)) = (serial, list) else {
             return refuse_early(response);
         };
-        let tag = format!(in self.alloc; "\"{}-{serial}\"", status.session)?;
+        let tag = format!(in self.alloc; "\"{session}-{serial}\"")?;
         if add_tag(headers, tag, response)? {
             return Ok(());
         }

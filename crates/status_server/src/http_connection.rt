@@ -34,13 +34,15 @@ impl HttpProgress {
     }
 }
 
-/// The limits of a request: 8,192 bytes of target and headers, 1,024 bytes of body, and few trailers and extensions.
+/// The limits of a request: 8,192 bytes of target and headers, 1,024 bytes of body, and few trailers and extensions. The next request is
+/// answered once all of a response is sent, so a call of the stream makes one response at most.
 fn bounds() -> Config {
     let mut config = Config::default();
     config.limits.max_head_len = 8192;
     config.limits.max_extensions_len = 256;
     config.limits.max_trailers_len = 256;
     config.max_body_len = 1024;
+    config.max_pending = 0;
     config.read_size = 2048;
     config
 }

@@ -197,10 +197,7 @@ impl<T: Read + Write + Drop> HttpConnections<T> {
     fn serve_busy<S: StatusSource>(&mut self, source: &mut S, budget: u32)
         ensures { Each IsServed self.old self.new }
     {
-        let mut answers = Answers {
-            alloc: self.alloc,
-            source,
-        };
+        let mut answers = Answers::new(self.alloc, source);
         serve_in(&mut self.entries, &mut answers, budget);
     }
 
