@@ -8,6 +8,7 @@ mod health;
 mod http_connections;
 #[cfg(test)]
 mod http_endpoint;
+#[cfg(test)]
 mod lists;
 #[cfg(test)]
 mod metrics;
