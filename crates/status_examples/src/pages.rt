@@ -176,8 +176,8 @@ const NOT_FOUND: (&str, &str) = (
 #[test]
 fn routes(rt: HostRuntime) -> Result<(), Fail> {
     let page = page_of_route(rt.alloc(), "192.0.2.0/25", 64496)?;
-    assert!(rt; is_page(page.as_str(), VALID.0, VALID.1));
+    assert!(rt; is_page(str::from_utf8(&page)?, VALID.0, VALID.1));
     let page = page_of_route(rt.alloc(), "2001:db8::/32", 64496)?;
-    assert!(rt; is_page(page.as_str(), NOT_FOUND.0, NOT_FOUND.1));
+    assert!(rt; is_page(str::from_utf8(&page)?, NOT_FOUND.0, NOT_FOUND.1));
     Ok(())
 }

@@ -5,7 +5,6 @@ use status_pages::laws::{covering_is_parted, reason_is_by_origin};
 use status_pages::{Validity, write_validity, write_validity_page};
 use std::alloc::Global;
 use std::process::Abort;
-use std::str;
 use std::test::Fail;
 use vrps::{OriginIndex, OriginState, VrpSet};
 
@@ -82,14 +81,19 @@ fn tells<R: AllocGlobal + Abort>(rt: &R, text: &str, asn: u32, want: &str) -> Re
     Ok(out.as_slice() == want.as_bytes())
 }
 
-/// The page of the validity of a route.
-pub(crate) fn page_of_route(alloc: Global, text: &str, asn: u32) -> Result<String, Fail> {
+/// The validity of a route.
+fn validity_of(alloc: Global, route: &Route) -> Result<Validity, Fail> {
     let index = index(alloc)?;
+    Ok(Validity::of_route(alloc, &index, route)?)
+}
+
+/// The page of the validity of a route.
+pub(crate) fn page_of_route(alloc: Global, text: &str, asn: u32) -> Result<Vec<u8>, Fail> {
     let route = route(text, Some(asn))?;
-    let validity = Validity::of_route(alloc, &index, &route)?;
+    let validity = validity_of(alloc, &route)?;
     let mut out = Vec::new(alloc);
     write_validity_page(&mut out, &route, &validity, NOW)?;
-    Ok(String::from_str(alloc, str::from_utf8(&out)?)?)
+    Ok(out)
 }
 
 /// A route with its AS, and the text of its validity.
