@@ -1,5 +1,5 @@
 //! The pages, but for their style.
-use crate::validities::page_of_route;
+use crate::validities::has_page;
 use crate::values::{empty, small};
 use status_pages::{ChangeStatus, Status, write_page};
 use std::alloc::Global;
@@ -14,7 +14,7 @@ fn page_of(alloc: Global, status: &Status) -> Result<String, Fail> {
 }
 
 /// Whether a page has these texts before and after its style, and nothing else.
-fn is_page(page: &str, before: &str, after: &str) -> bool {
+pub(crate) fn is_page(page: &str, before: &str, after: &str) -> bool {
     match (page.split_once("<style>\n"), page.split_once("</style>\n")) {
         (Some((begin, _)), Some((_, end))) => begin == before && end == after,
         _ => false,
@@ -175,9 +175,7 @@ const NOT_FOUND: (&str, &str) = (
 
 #[test]
 fn routes(rt: HostRuntime) -> Result<(), Fail> {
-    let page = page_of_route(rt.alloc(), "192.0.2.0/25", 64496)?;
-    assert!(rt; is_page(str::from_utf8(&page)?, VALID.0, VALID.1));
-    let page = page_of_route(rt.alloc(), "2001:db8::/32", 64496)?;
-    assert!(rt; is_page(str::from_utf8(&page)?, NOT_FOUND.0, NOT_FOUND.1));
+    assert!(rt; has_page(&rt, "192.0.2.0/25", 64496, VALID)?);
+    assert!(rt; has_page(&rt, "2001:db8::/32", 64496, NOT_FOUND)?);
     Ok(())
 }

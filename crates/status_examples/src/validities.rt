@@ -1,10 +1,12 @@
 //! The validity of routes, and its JSON.
+use crate::pages::is_page;
 use crate::values::NOW;
 use prefixes::{Asn, IpPrefix, Route, Vrp};
 use status_pages::laws::{covering_is_parted, reason_is_by_origin};
 use status_pages::{Validity, write_validity, write_validity_page};
 use std::alloc::Global;
 use std::process::Abort;
+use std::str;
 use std::test::Fail;
 use vrps::{OriginIndex, OriginState, VrpSet};
 
@@ -81,19 +83,19 @@ fn tells<R: AllocGlobal + Abort>(rt: &R, text: &str, asn: u32, want: &str) -> Re
     Ok(out.as_slice() == want.as_bytes())
 }
 
-/// The validity of a route.
-fn validity_of(alloc: Global, route: &Route) -> Result<Validity, Fail> {
-    let index = index(alloc)?;
-    Ok(Validity::of_route(alloc, &index, route)?)
-}
-
-/// The page of the validity of a route.
-pub(crate) fn page_of_route(alloc: Global, text: &str, asn: u32) -> Result<Vec<u8>, Fail> {
+/// Whether the page of the validity of a route has these texts before and after its style.
+pub(crate) fn has_page<R: AllocGlobal + Abort>(
+    rt: &R,
+    text: &str,
+    asn: u32,
+    parts: (&str, &str),
+) -> Result<bool, Fail> {
+    let index = index(rt.alloc())?;
     let route = route(text, Some(asn))?;
-    let validity = validity_of(alloc, &route)?;
-    let mut out = Vec::new(alloc);
+    let validity = Validity::of_route(rt.alloc(), &index, &route)?;
+    let mut out = Vec::new(rt.alloc());
     write_validity_page(&mut out, &route, &validity, NOW)?;
-    Ok(out)
+    Ok(is_page(str::from_utf8(out.as_slice())?, parts.0, parts.1))
 }
 
 /// A route with its AS, and the text of its validity.
