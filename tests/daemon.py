@@ -17,29 +17,21 @@ import multiprocessing.connection
 import os
 import random
 import sys
-import tempfile
 import time
 
 import checks
 import daemon
-from common import clashes, load_modules, put
-from daemon.shared import FIRST, Part, Skipped, text_of
+from common import clashes, load_modules
+from daemon.shared import Part, Skipped, playing
 
 
 def play(part, given):
     """Runs a part in a folder of its own. It returns how many comparisons failed, or why the part was skipped."""
-    checks.begin(part.label)
-    with tempfile.TemporaryDirectory() as folder:
-        os.chdir(folder)
-        put("list.json", text_of(FIRST))
+    with playing(part.label):
         try:
             part.play(given)
         except Skipped as why:
             return str(why)
-        except Exception as fault:
-            checks.raised(fault)
-        finally:
-            os.chdir("/")
     if not checks.compared and not checks.failures:
         checks.fail("nothing was compared", part.place)
     return len(checks.failures)

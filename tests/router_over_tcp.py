@@ -15,13 +15,12 @@ import shutil
 import socket
 import subprocess
 import sys
-import tempfile
 import threading
 
 import checks
 from checks import expect
 from common import PATIENCE, free_port, put, received
-from daemon.shared import FIRST, SECOND, entry_of, text_of
+from daemon.shared import FIRST, SECOND, entry_of, playing, text_of
 from log import running
 from rtr import END, HEADER, cache_response, error_report, pdu, prefix_pdu
 
@@ -201,16 +200,8 @@ def put_export(records):
 
 def play(part, words):
     """Runs a part in a folder of its own, and returns whether it failed."""
-    checks.begin(part.__name__)
-    with tempfile.TemporaryDirectory() as folder:
-        os.chdir(folder)
-        put("list.json", text_of(FIRST))
-        try:
-            part(*words)
-        except Exception as fault:
-            checks.raised(fault)
-        finally:
-            os.chdir("/")
+    with playing(part.__name__):
+        part(*words)
     return bool(checks.failures)
 
 

@@ -1,10 +1,14 @@
 """What the parts share: the mark of a part, and the files that the daemon reads."""
+import contextlib
 import json
 import os
+import tempfile
 from dataclasses import dataclass
 from typing import Callable, ClassVar
 
+import checks
 from checks import place_of
+from common import put
 
 FIRST = [("192.0.2.0/24", 24, 64496), ("198.51.100.0/24", 26, 64497), ("2001:db8::/32", 48, 64498)]
 SECOND = [("192.0.2.0/24", 25, 64496), ("2001:db8::/32", 48, 64498)]
@@ -43,6 +47,21 @@ def part(play=None, *, needs=None):
         return lambda it: part(it, needs=needs)
     Part(play, needs)
     return play
+
+
+@contextlib.contextmanager
+def playing(name):
+    """A part of this name, in a folder of its own that has list.json. An exception that ends it is a failure."""
+    checks.begin(name)
+    with tempfile.TemporaryDirectory() as folder:
+        os.chdir(folder)
+        put("list.json", text_of(FIRST))
+        try:
+            yield
+        except Exception as fault:
+            checks.raised(fault)
+        finally:
+            os.chdir("/")
 
 
 def text_of(records):
