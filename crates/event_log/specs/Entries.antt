@@ -71,11 +71,16 @@ report_entries r =
     at r.address ∷ of_text (codes "direction") (direction r.is_received) ∷ of_number (codes "code") r.code
     ∷ of_text (codes "name") (report_name r.code) ∷ of_text (codes "text") r.text.now ∷ []
 
--- and of a published version
+-- of a published version,
 abbrev pub publication_entries : Publication → List Entry
 publication_entries p =
     of_number (codes "session") p.session ∷ of_number (codes "serial") p.serial ∷ of_number (codes "announced") p.announced
     ∷ of_number (codes "withdrawn") p.withdrawn ∷ of_number (codes "records") p.records ∷ of_number (codes "ms") p.milliseconds ∷ []
+
+-- and of a checked configuration
+abbrev pub checked_entries : ℕ → ℕ → ℕ → ℕ → List Entry
+checked_entries files ipv4 ipv6 left_out =
+    of_number (codes "files") files ∷ of_number (codes "ipv4") ipv4 ∷ of_number (codes "ipv6") ipv6 ∷ of_number (codes "left-out") left_out ∷ []
 
 -- the word of an event,
 abbrev pub word_of : LogEvent → List ℕ
@@ -90,6 +95,7 @@ word_of (event.ErrorReport report) = codes "error-report"
 word_of (event.Stalled address) = codes "stalled"
 word_of (event.Full address clients) = codes "full"
 word_of (event.AddressFull address clients) = codes "address-full"
+word_of (event.Suppressed lines seconds) = codes "suppressed"
 word_of event.NoDescriptor = codes "no-descriptor"
 word_of (event.Published publication) = codes "published"
 word_of (event.LeftOut records) = codes "left-out"
@@ -102,6 +108,8 @@ word_of (event.Clock behind) = codes "clock"
 word_of (event.Warning reason) = codes "warning"
 word_of (event.Memory what) = codes "memory"
 word_of (event.Failed what reason) = codes "failed"
+word_of (event.Dropped lines) = codes "dropped"
+word_of (event.Checked files ipv4 ipv6 left_out) = codes "checked"
 word_of (event.Stopped reason) = codes "stopped"
 
 -- and its values
@@ -117,6 +125,7 @@ entries_of (event.ErrorReport report) = report_entries report
 entries_of (event.Stalled address) = at address ∷ []
 entries_of (event.Full address clients) = at address ∷ of_number (codes "clients") clients ∷ []
 entries_of (event.AddressFull address clients) = at address ∷ of_number (codes "clients") clients ∷ []
+entries_of (event.Suppressed lines seconds) = of_number (codes "lines") lines ∷ of_number (codes "seconds") seconds ∷ []
 entries_of event.NoDescriptor = []
 entries_of (event.Published publication) = publication_entries publication
 entries_of (event.LeftOut records) = of_number (codes "records") records ∷ []
@@ -129,4 +138,6 @@ entries_of (event.Clock behind) = of_number (codes "behind") behind ∷ []
 entries_of (event.Warning reason) = of_text (codes "reason") reason.now ∷ []
 entries_of (event.Memory what) = of_text (codes "what") what.now ∷ []
 entries_of (event.Failed what reason) = of_text (codes "what") what.now ∷ of_text (codes "reason") reason.now ∷ []
+entries_of (event.Dropped lines) = of_number (codes "lines") lines ∷ []
+entries_of (event.Checked files ipv4 ipv6 left_out) = checked_entries files ipv4 ipv6 left_out
 entries_of (event.Stopped reason) = of_text (codes "reason") reason.now ∷ []

@@ -4,3 +4,5 @@ pub mod ReportNames
 pub mod Entries
 pub mod Lines
 pub mod LineRows
+pub mod Levels
+pub mod LevelRows

@@ -1,6 +1,6 @@
 //! The log entry of an event: a word, and values under keys.
 ghost use Rattle.std.specs.Prelude.{◌≡◌, codes, map};
-ghost use Rattle.event_log.specs.Entries.{at, client_closed_entries, direction, entry, session_entries, of_number, of_text, publication_entries, report_entries, spoken, log_pair, log_value, word_of};
+ghost use Rattle.event_log.specs.Entries.{at, checked_entries, client_closed_entries, direction, entry, session_entries, of_number, of_text, publication_entries, report_entries, spoken, log_pair, log_value, word_of};
 
 use crate::event::{ClientClosed, LogEvent, PeerReport, Publication};
 use crate::report::report_name;
@@ -124,6 +124,17 @@ pub(crate) fn publication_pairs<'a>(publication: &Publication) -> [Pair<'a>; 6]
     ]
 }
 
+pub(crate) fn checked_pairs<'a>(files: u64, ipv4: u64, ipv6: u64, left_out: u64) -> [Pair<'a>; 4]
+    ensures { map log_pair result ≡ checked_entries files ipv4 ipv6 left_out }
+{
+    [
+        number("files", files),
+        number("ipv4", ipv4),
+        number("ipv6", ipv6),
+        number("left-out", left_out),
+    ]
+}
+
 /// The word of an event.
 pub(crate) fn word_of(event: &LogEvent<'_>) -> &'static str
     ensures { result.now ≡ word_of event.now }
@@ -140,6 +151,7 @@ pub(crate) fn word_of(event: &LogEvent<'_>) -> &'static str
         LogEvent::Stalled { .. } => "stalled",
         LogEvent::Full { .. } => "full",
         LogEvent::AddressFull { .. } => "address-full",
+        LogEvent::Suppressed { .. } => "suppressed",
         LogEvent::NoDescriptor => "no-descriptor",
         LogEvent::Published(_) => "published",
         LogEvent::LeftOut { .. } => "left-out",
@@ -152,6 +164,8 @@ pub(crate) fn word_of(event: &LogEvent<'_>) -> &'static str
         LogEvent::Warning { .. } => "warning",
         LogEvent::Memory { .. } => "memory",
         LogEvent::Failed { .. } => "failed",
+        LogEvent::Dropped { .. } => "dropped",
+        LogEvent::Checked { .. } => "checked",
         LogEvent::Stopped { .. } => "stopped",
     }
 }

@@ -99,6 +99,13 @@ pub enum LogEvent<'a> {
         /// How many clients the address has.
         clients: u64,
     },
+    /// `suppressed`: lines about clients were left out, as too many came at once.
+    Suppressed {
+        /// How many lines.
+        lines: u64,
+        /// Within how many seconds.
+        seconds: u64,
+    },
     /// `no-descriptor`: the system has no descriptor for a pending connection.
     NoDescriptor,
     /// `published`: a version was published.
@@ -162,6 +169,22 @@ pub enum LogEvent<'a> {
         what: &'a str,
         /// Why, in words.
         reason: &'a str,
+    },
+    /// `dropped`: lines of the log were lost, as standard error accepted none.
+    Dropped {
+        /// How many lines.
+        lines: u64,
+    },
+    /// `checked`: the configuration was checked. These values are what would be served.
+    Checked {
+        /// How many files were read.
+        files: u64,
+        /// How many records have an IPv4 prefix.
+        ipv4: u64,
+        /// How many records have an IPv6 prefix.
+        ipv6: u64,
+        /// How many records of length 0 are left out.
+        left_out: u64,
     },
     /// `stopped`: the daemon stops.
     Stopped {

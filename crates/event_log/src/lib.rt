@@ -1,5 +1,5 @@
 //! The event log of the daemon `rpkirtrd`: an event ([`LogEvent`]) is one line, as text or as JSON ([`write_event`]). The times of its
-//! lines are those of a clock that counts seconds ([`moment_at`], [`time_at`]).
+//! lines are those of a clock that counts seconds ([`moment_at`], [`time_at`]). [`LogEvent::level`] is how severe an event is.
 //!
 //! For example, where `rt` is the runtime that `main` is handed:
 //!
@@ -16,10 +16,12 @@
 mod clock;
 mod entries;
 mod event;
+mod level;
 mod line;
 mod report;
 
 pub use clock::{moment_at, time_at};
 pub use event::{ClientClosed, LogEvent, PeerReport, Publication};
+pub use level::LogLevel;
 pub use line::{LogFormat, write_event};
 pub use report::report_name;

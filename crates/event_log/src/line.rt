@@ -9,8 +9,8 @@ ghost use Rattle.event_log.specs.Lines.{LogsEvent, end_text, entry_text, escaped
 
 use crate::clock::{civil_at, time_text};
 use crate::entries::{
-    Pair, Value, address, client_closed_pairs, number, publication_pairs, report_pairs,
-    session_pairs, text, word_of,
+    Pair, Value, address, checked_pairs, client_closed_pairs, number, publication_pairs,
+    report_pairs, session_pairs, text, word_of,
 };
 use crate::event::LogEvent;
 use std::io::{self, Write};
@@ -235,6 +235,20 @@ fn write_values<W: Write>(out: &mut W, form: LogFormat, event: &LogEvent<'_>) ->
             address: at,
             clients,
         } => { write_pairs(out, form, &[address(at), number("clients", *clients)]) }
+        LogEvent::Suppressed { lines, seconds } => {
+            write_pairs(
+                out,
+                form,
+                &[number("lines", *lines), number("seconds", *seconds)],
+            )
+        }
+        LogEvent::Dropped { lines } => write_pairs(out, form, &[number("lines", *lines)]),
+        LogEvent::Checked {
+            files,
+            ipv4,
+            ipv6,
+            left_out,
+        } => { write_pairs(out, form, &checked_pairs(*files, *ipv4, *ipv6, *left_out)) }
         LogEvent::LeftOut { records } => write_pairs(out, form, &[number("records", *records)]),
         LogEvent::Taken { file } => write_pairs(out, form, &[text("file", file)]),
         LogEvent::Refused { file, reason } => {
