@@ -1,0 +1,5 @@
+pub mod Chunks
+pub mod Counts
+pub mod OneLine
+pub mod Reports
+pub mod Writes

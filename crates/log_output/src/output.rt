@@ -1,0 +1,205 @@
+//! The log: levels, the limit of lines about clients, and lines that wait for room.
+ghost use Rattle.std.specs.Prelude.{◌≡◌, ◌+◌, ◌≤◌, ◌<◌, ◌==◌, ◌&&◌, [], true, None, IfOk, length};
+ghost use Rattle.event_log.specs.Levels.{level_of, severity};
+ghost use Rattle.log_output.specs.Buffers.{buffered, saturated};
+ghost use Rattle.log_output.specs.Limits.{limited};
+ghost use Rattle.log_output.specs.Logs.{AddsEvent, AddsOwn, CountsLines, Grows, IsLine, OffersEvent, ReportsDrops, ReportsDue, ReportsSuppressed, WritesCounted, is_empty, log_state, with_buffer};
+ghost use Rattle.log_output.specs.Sinks.{WritesOut};
+
+use crate::buffer::LogBuffer;
+use crate::limit::{ClientLineLimit, LIMIT_MILLIS};
+use crate::sink::LogSink;
+use event_log::{LogEvent, LogFormat, LogLevel, write_event};
+use std::alloc::{AllocError, Global};
+use std::fmt::{self, Debug};
+use std::marker::Model;
+
+/// The initial capacity for one line, in bytes. A longer line needs more.
+const LINE_BYTES: usize = 4096;
+
+/// A log of events. What is less severe than its level is left out, lines about clients are limited, and the other lines wait until they are
+/// written.
+#[derive(Drop)]
+pub struct Log {
+    format: LogFormat,
+    level: LogLevel,
+    limit: ClientLineLimit,
+    buffer: LogBuffer,
+    line: Vec<u8>,
+    reported_drops: u64,
+    reported_suppressed: u64,
+    memory_failures: u64,
+}
+
+impl Model for Log {
+    ghost use Rattle.log_output.specs.Logs.{LogState, log_state};
+
+    ghost Value = { LogState };
+
+    ghost view = { λ l. log_state l.format l.level l.limit l.buffer l.reported_drops l.reported_suppressed l.memory_failures };
+}
+
+/// Formats the line of an event. Answers whether there was memory for it.
+fn format_line(line: &mut Vec<u8>, format: LogFormat, seconds: u64, event: &LogEvent<'_>) -> bool
+    ensures { result ≡ true → IsLine format seconds event.now line.new.items }
+{
+    line.clear();
+    write_event(line, format, seconds, event).is_ok()
+}
+
+impl Log {
+    /// A log in this format, of the events that are at least as severe as the level.
+    pub fn new(alloc: Global, format: LogFormat, level: LogLevel) -> Result<Log, AllocError>
+        ensures { IfOk result (λ l. l ≡ log_state format level (limited None 0 0) (buffered [] 0) 0 0 0) }
+    {
+        Ok(Log {
+            format,
+            level,
+            limit: ClientLineLimit::new(),
+            buffer: LogBuffer::new(alloc)?,
+            line: Vec::with_capacity(alloc, LINE_BYTES)?,
+            reported_drops: 0,
+            reported_suppressed: 0,
+            memory_failures: 0,
+        })
+    }
+
+    /// Offers the line of an event to the buffer.
+    fn offer(&mut self, seconds: u64, event: &LogEvent<'_>)
+        ensures { OffersEvent self.old self.new seconds event.now }
+    {
+        if format_line(&mut self.line, self.format, seconds, event) {
+            self.buffer.add_line(self.line.as_slice());
+        } else {
+            self.memory_failures = self.memory_failures.saturating_add(1);
+            self.buffer.lose_line();
+        }
+    }
+
+    /// Reports the dropped lines, if any was dropped and there is room.
+    fn report_drops(&mut self, seconds: u64)
+        ensures { ReportsDrops self.old self.new seconds }
+    {
+        let lines = self.buffer.dropped();
+        if lines == 0 {
+            return;
+        }
+        let event = LogEvent::Dropped { lines };
+        if !format_line(&mut self.line, self.format, seconds, &event) {
+            self.memory_failures = self.memory_failures.saturating_add(1);
+            return;
+        }
+        if self.buffer.add_report(self.line.as_slice()) {
+            self.reported_drops = self.reported_drops.saturating_add(lines);
+        }
+    }
+
+    /// Reports the suppressed lines, if there are any and their window has ended.
+    fn report_suppressed(&mut self, seconds: u64, millis: u64)
+        ensures { ReportsSuppressed self.old self.new seconds millis }
+    {
+        let lines = self.limit.take_suppressed(millis);
+        self.reported_suppressed = self.reported_suppressed.saturating_add(lines);
+        if lines > 0 {
+            let event = LogEvent::Suppressed {
+                lines,
+                seconds: LIMIT_MILLIS / 1000,
+            };
+            self.offer(seconds, &event);
+        }
+    }
+
+    /// Makes the reports that are due: of dropped lines, if there is room, and of suppressed lines, if their window has ended.
+    pub fn tick(&mut self, seconds: u64, millis: u64)
+        ensures reports { ReportsDue self.old self.new seconds millis }
+        ensures counts { CountsLines 0 self.old self.new }
+        ensures grows { Grows self.old self.new }
+    {
+        self.report_drops(seconds);
+        self.report_suppressed(seconds, millis);
+    }
+
+    /// Adds an event whose level the log has.
+    fn add_own(&mut self, seconds: u64, millis: u64, event: &LogEvent<'_>)
+        ensures { AddsOwn self.old self.new seconds millis event.now }
+    {
+        if !event.is_of_client() || self.limit.admit(millis) {
+            self.offer(seconds, event);
+        }
+    }
+
+    /// Adds the line of an event at these seconds since 1970. `millis` is the time of a clock that is never set. An event that is less severe
+    /// than the level changes nothing. For another, the reports that are due come first. Then its line is added, if the limit of lines about
+    /// clients lets it through and it fits.
+    pub fn add(&mut self, seconds: u64, millis: u64, event: &LogEvent<'_>)
+        ensures below { severity self.old.level < severity (level_of event.now) → self.new ≡ self.old }
+        ensures adds { severity (level_of event.now) ≤ severity self.old.level → AddsEvent self.old self.new seconds millis event.now }
+        ensures counts { severity (level_of event.now) ≤ severity self.old.level → CountsLines 1 self.old self.new }
+        ensures grows { Grows self.old self.new }
+    {
+        if !event.is_logged_at(self.level) {
+            return;
+        }
+        self.tick(seconds, millis);
+        self.add_own(seconds, millis, event);
+    }
+
+    /// Writes the lines that wait, as long as the sink has room: at most 4,096 bytes a write, and at most 64 writes. A write that would block or
+    /// is interrupted, or that accepts nothing, ends the call, and the bytes still wait. If a write fails otherwise, all bytes that wait are given
+    /// up, and their lines are counted as dropped.
+    pub fn write_to<S: LogSink>(&mut self, sink: &mut S)
+        ensures writes { WritesOut 64 self.old.buffer self.new.buffer (S.contents sink.old) (S.contents sink.new) (S.last_answer sink.new) }
+        ensures keeps { self.new ≡ with_buffer self.new.buffer self.old }
+        ensures counts { WritesCounted self.old self.new (S.contents sink.old) (S.contents sink.new) }
+    {
+        self.buffer.write_to(sink);
+    }
+
+    /// Whether no line waits to be written. Lines that were dropped or suppressed may still have to be reported.
+    pub fn is_written(&self) -> bool
+        ensures { result ≡ (length self.now.buffer.bytes == 0) }
+    {
+        self.buffer.is_empty()
+    }
+
+    /// Whether nothing waits to be written, and no report is missing.
+    pub fn is_empty(&self) -> bool
+        ensures { result ≡ is_empty self.now }
+    {
+        self.is_written() && self.buffer.dropped() == 0 && self.limit.suppressed() == 0
+    }
+
+    /// How many lines were dropped since the start. It stays at the largest number.
+    pub fn dropped_lines(&self) -> u64
+        ensures { result ≡ saturated (self.now.reported_drops + self.now.buffer.dropped) }
+    {
+        self.reported_drops.saturating_add(self.buffer.dropped())
+    }
+
+    /// How many lines about clients were suppressed since the start. It stays at the largest number.
+    pub fn suppressed_lines(&self) -> u64
+        ensures { result ≡ saturated (self.now.reported_suppressed + self.now.limit.suppressed) }
+    {
+        self.reported_suppressed
+            .saturating_add(self.limit.suppressed())
+    }
+
+    /// How often there was no memory for a line. An event's line is then dropped. A report of dropped lines is made later.
+    pub fn memory_failures(&self) -> u64
+        ensures { result ≡ self.now.memory_failures }
+    {
+        self.memory_failures
+    }
+}
+
+/// How many lines were dropped and suppressed.
+impl Debug for Log {
+    fn fmt<W: fmt::Write>(&self, f: &mut fmt::Formatter<W>) -> fmt::Result {
+        write!(
+            f,
+            "Log({} dropped, {} suppressed)",
+            self.buffer.dropped(),
+            self.limit.suppressed()
+        )
+    }
+}

@@ -1,0 +1,4 @@
+pub mod Addresses
+pub mod AddressRows
+pub mod Watchdogs
+pub mod WatchdogRows
