@@ -1,30 +1,33 @@
 -- Exceptions are read of bytes exactly where these are a file of them.
-use Rattle.std.proofs.Common.{◌≡◌, ℕ, ◌+◌, ◌<◌, ◌≤◌, ◌==◌, ◌&&◌, ◌⊎◌, Bool, true, false, nat_lt, if◌then◌else◌, List, [], ◌∷◌, Option, Some, None, is_some, option_and_then, Result, Ok, Err, IsOk, IfOk, IfErr, codes, inl, inr, refl, sym, ap, ◌∙◌, subst, arith}
+use Rattle.std.proofs.Common.{◌≡◌, ℕ, ◌+◌, ◌≤◌, ◌==◌, Bool, true, false, nat_lt, if◌then◌else◌, List, [], ◌∷◌, Option, Some, None, option_and_then, Result, Ok, Err, IsOk, IfOk, codes, inl, inr, refl, sym, ap, ◌∙◌, subst, arith}
 use Rattle.std.specs.Prelude.{⊤}
 use Rattle.std.proofs.lemmas.Bool.Decides.{nat_tests}
 use Rattle.serde_json.specs.Data.{Data, object, Items, Members}
 use Rattle.serde_json.specs.Find.{get, as_array}
 use Rattle.prefixes.specs.Payload.{Payload}
+use Rattle.prefixes.specs.declared.asn.Asn.{Asn}
 use Rattle.payload_lists.specs.PayloadList.{member_count, whole_at}
 use Rattle.vrps.specs.VrpSet.{VrpSet, set_of, size}
 use Rattle.slurm.specs.Chains.{UnlessMemory, ◌>>=◌, given, seen, unless}
 use Rattle.slurm.specs.Entries.{AreRead, ReadsAssertion, ReadsFilter, ReadsKeyAssertion, ReadsKeyFilter, listed}
-use Rattle.slurm.specs.Exceptions.{Exceptions, exceptions_of}
-use Rattle.slurm.specs.Members.{one_for, total}
-use Rattle.slurm.specs.Relations.{AreAssertions, AreFilters, HasExactly, IsAssertion, IsFile, IsFilter, IsKeyAssertion, IsKeyFilter, IsSlurmFile, ReadsExactly}
-use Rattle.slurm.specs.SlurmFile.{Arrays, NamesOnce, ReadsArrays, ReadsOnce, ReadsSlurm, ReadsValue, array_at, arrays_of, is_file, is_pair, is_version_1, limited, pair_of}
+use Rattle.slurm.specs.Exceptions.{Exceptions}
+use Rattle.slurm.specs.Members.{one_for}
+use Rattle.slurm.specs.Relations.{HasExactly, IsAssertion, IsFilter, IsKeyAssertion, IsKeyFilter, IsSlurmFile, ReadsExactly}
+use Rattle.slurm.specs.Scoped.{IsScopedFile, IsScopedValue, ReadsScoped, ReadsScopedArrays, ReadsScopedExactly, ReadsScopedOnce, ReadsScopedValue, Scoped, scoped_by, scoped_of}
+use Rattle.slurm.specs.SlurmFile.{Arrays, NamesOnce, ReadsSlurm, array_at, arrays_of, is_file, is_pair, is_version_1, limited, pair_of}
 use Rattle.slurm.specs.declared.fault.SlurmArray.TheVariants as array
 use Rattle.slurm.specs.declared.fault.SlurmFault.{SlurmFault}
 use Rattle.slurm.specs.declared.fault.SlurmFault.TheVariants as fault
 use Rattle.slurm.specs.declared.fault.SlurmObject.{SlurmObject}
 use Rattle.slurm.specs.declared.fault.SlurmObject.TheVariants as objects
 use Rattle.slurm.specs.declared.filter.PrefixFilter.{PrefixFilter}
-use Rattle.slurm.specs.declared.filter.Slurm.{Slurm}
+use Rattle.slurm.specs.declared.scoped.ScopedSlurm.{ScopedSlurm}
 use Rattle.slurm.proofs.Ascending.{Ascends, array_ascends, get_ascends, read_ascends}
 use Rattle.slurm.proofs.Chained.{after_ok, both_true, given_ok, is_number, number_is, ok_after, ok_is, ok_unless, true_both, unless_ok}
 use Rattle.slurm.proofs.Counted.{Apart, count_by_exactly, exactly_by_count}
 use Rattle.slurm.proofs.EntryRelations.{assertion_says, each_read, each_says, filter_says, key_assertion_says, key_filter_says, says_assertion, says_filter, says_key_assertion, says_key_filter}
-use Rattle.slurm.proofs.Readings.{says_one}
+use Rattle.slurm.proofs.Readings.{says_one, says_one_scoped}
+use Rattle.slurm.proofs.Scopes.{drop_scope, lift_scope, unscoped}
 
 -- ---- objects of exactly some members
 
@@ -160,9 +163,9 @@ the_arrays fs ss =
 
 -- ---- not too many
 
-limit_says : (b : Bool) (e x : Exceptions) → Ok e ≡ (if b then Err fault.TooMany else Ok x) → (b ≡ false) × (e ≡ x)
-limit_says true e x h = absurd (cc)
-limit_says false e x h = (refl, ok_is {E = SlurmFault} e x h)
+limit_says : (b : Bool) (xs : List (Option Asn)) (ys : List Asn) (t : Scoped) (x : Exceptions) → Ok t ≡ seen (scoped_by xs ys) (if b then Err fault.TooMany else Ok x) → (b ≡ false) × (t ≡ scoped_by xs ys x)
+limit_says true xs ys t x h = absurd (cc)
+limit_says false xs ys t x h = (refl, ok_is {E = SlurmFault} t (scoped_by xs ys x) h)
 
 within : (n : ℕ) → nat_lt 16777215 n ≡ false → n ≤ 16777215
 within n h = grind (arith, nat_tests)
@@ -187,9 +190,10 @@ filters_apart = ((refl, tt), (tt, tt))
 abbrev assertions_apart : Apart (codes "prefixAssertions" ∷ codes "bgpsecAssertions" ∷ [])
 assertions_apart = ((refl, tt), (tt, tt))
 
-value_says : (d : Data) (e : Exceptions) → Ascends d → ReadsValue d (Ok e) → IsFile d e
-value_says d e up h =
-    let a = after_ok (arrays_of d) ReadsArrays e h in
+value_says : (d : Data) (t : Scoped) → Ascends d → ReadsScopedValue d (Ok t) → IsScopedValue d t
+value_says d t up h =
+    let e = t.exceptions in
+    let a = after_ok (arrays_of d) ReadsScopedArrays t h in
     let s = steps_say (the_file d) (the_version d) (the_filters d) (the_assertions d) the_arrays a.0 a.1 in
     let fs = pair_found objects.Filters (codes "prefixFilters") (codes "bgpsecFilters") (get (codes "validationOutputFilters") d) s.filters s.filters_are in
     let ss = pair_found objects.Assertions (codes "prefixAssertions") (codes "bgpsecAssertions") (get (codes "locallyAddedAssertions") d) s.assertions s.assertions_are in
@@ -203,51 +207,60 @@ value_says d e up h =
     let up_ss = get_ascends (codes "locallyAddedAssertions") d s.assertions up ss.0 in
     let r = a.2 in
     let vs = r.2.2.0 in
-    let limit = limit_says (nat_lt 16777215 (size (set_of vs))) e (these r.0 vs) r.2.2.2.2 in
-    let filters_is : r.0 ≡ e.filters = ap (λ x. x.filters) (sym limit.1) in
-    record {
-      members = members_say d up (unless_ok (fault.Members objects.File) (is_file d) s.first);
-      version = version_says (whole_at (codes "slurmVersion") d) (unless_ok fault.Version (is_version_1 (whole_at (codes "slurmVersion") d)) s.second);
-      filters = s.filters;
-      filters_stand = fs.0;
-      are_filters = record {
-        members = pair_says (codes "prefixFilters") (codes "bgpsecFilters") filters_apart s.filters up_fs fs.1;
-        of_prefixes = (
-          a.0.prefix_filters,
-          has_1,
-          each_says ReadsFilter IsFilter filter_says (listed a.0.prefix_filters) e.filters (array_ascends (codes "prefixFilters") s.filters a.0.prefix_filters up_fs has_1)
-              (subst (λ gs. AreRead ReadsFilter (listed a.0.prefix_filters) gs) filters_is r.1),
-        );
-        ases = r.2.0;
-        of_keys = (
-          a.0.bgpsec_filters,
-          has_2,
-          each_says ReadsKeyFilter IsKeyFilter key_filter_says (listed a.0.bgpsec_filters) r.2.0 (array_ascends (codes "bgpsecFilters") s.filters a.0.bgpsec_filters up_fs has_2) r.2.1,
-        );
-      };
-      assertions = s.assertions;
-      assertions_stand = ss.0;
-      payloads = vs;
-      are_assertions = record {
-        members = pair_says (codes "prefixAssertions") (codes "bgpsecAssertions") assertions_apart s.assertions up_ss ss.1;
-        of_prefixes = (
-          a.0.prefix_assertions,
-          has_3,
-          each_says ReadsAssertion IsAssertion assertion_says (listed a.0.prefix_assertions) vs (array_ascends (codes "prefixAssertions") s.assertions a.0.prefix_assertions up_ss has_3) r.2.2.1,
-        );
-        ases = r.2.2.2.0;
-        of_keys = (
-          a.0.bgpsec_assertions,
-          has_4,
-          each_says ReadsKeyAssertion IsKeyAssertion key_assertion_says (listed a.0.bgpsec_assertions) r.2.2.2.0 (array_ascends (codes "bgpsecAssertions") s.assertions a.0.bgpsec_assertions up_ss has_4) r.2.2.2.1,
-        );
-      };
-      set_is = ap (λ x. x.assertions) limit.1;
-      within_limit = within (size (set_of vs)) limit.0;
-    }
+    let limit = limit_says (nat_lt 16777215 (size (set_of vs))) r.2.0 r.2.2.2.0 t (these r.0 vs) r.2.2.2.2 in
+    let filters_is : r.0 ≡ e.filters = ap (λ x. x.exceptions.filters) (sym limit.1) in
+    let key_filters_are : r.2.0 ≡ t.bgpsec_filters = ap (λ x. x.bgpsec_filters) (sym limit.1) in
+    let keys_are : r.2.2.2.0 ≡ t.bgpsec_assertions = ap (λ x. x.bgpsec_assertions) (sym limit.1) in (
+      record {
+        members = members_say d up (unless_ok (fault.Members objects.File) (is_file d) s.first);
+        version = version_says (whole_at (codes "slurmVersion") d) (unless_ok fault.Version (is_version_1 (whole_at (codes "slurmVersion") d)) s.second);
+        filters = s.filters;
+        filters_stand = fs.0;
+        are_filters = record {
+          members = pair_says (codes "prefixFilters") (codes "bgpsecFilters") filters_apart s.filters up_fs fs.1;
+          of_prefixes = (
+            a.0.prefix_filters,
+            has_1,
+            each_says ReadsFilter IsFilter filter_says (listed a.0.prefix_filters) e.filters (array_ascends (codes "prefixFilters") s.filters a.0.prefix_filters up_fs has_1)
+                (subst (λ gs. AreRead ReadsFilter (listed a.0.prefix_filters) gs) filters_is r.1),
+          );
+          ases = t.bgpsec_filters;
+          of_keys = (
+            a.0.bgpsec_filters,
+            has_2,
+            each_says ReadsKeyFilter IsKeyFilter key_filter_says (listed a.0.bgpsec_filters) t.bgpsec_filters (array_ascends (codes "bgpsecFilters") s.filters a.0.bgpsec_filters up_fs has_2)
+                (subst (λ xs. AreRead ReadsKeyFilter (listed a.0.bgpsec_filters) xs) key_filters_are r.2.1),
+          );
+        };
+        assertions = s.assertions;
+        assertions_stand = ss.0;
+        payloads = vs;
+        are_assertions = record {
+          members = pair_says (codes "prefixAssertions") (codes "bgpsecAssertions") assertions_apart s.assertions up_ss ss.1;
+          of_prefixes = (
+            a.0.prefix_assertions,
+            has_3,
+            each_says ReadsAssertion IsAssertion assertion_says (listed a.0.prefix_assertions) vs (array_ascends (codes "prefixAssertions") s.assertions a.0.prefix_assertions up_ss has_3) r.2.2.1,
+          );
+          ases = t.bgpsec_assertions;
+          of_keys = (
+            a.0.bgpsec_assertions,
+            has_4,
+            each_says ReadsKeyAssertion IsKeyAssertion key_assertion_says (listed a.0.bgpsec_assertions) t.bgpsec_assertions (array_ascends (codes "bgpsecAssertions") s.assertions a.0.bgpsec_assertions up_ss has_4)
+                (subst (λ ys. AreRead ReadsKeyAssertion (listed a.0.bgpsec_assertions) ys) keys_are r.2.2.2.1),
+          );
+        };
+        set_is = ap (λ x. x.exceptions.assertions) limit.1;
+        within_limit = within (size (set_of vs)) limit.0;
+      },
+      refl,
+      refl,
+    )
 
-says_value : (d : Data) (e : Exceptions) → Ascends d → IsFile d e → ReadsValue d (Ok e)
-says_value d e up h =
+says_value : (d : Data) (t : Scoped) → Ascends d → IsScopedValue d t → ReadsScopedValue d (Ok t)
+says_value d t up scoped =
+    let e = t.exceptions in
+    let h = scoped.0 in
     let fs = h.are_filters in
     let ss = h.are_assertions in
     let up_fs = get_ascends (codes "validationOutputFilters") d h.filters up h.filters_stand in
@@ -277,31 +290,63 @@ says_value d e up h =
     each_read ReadsKeyAssertion IsKeyAssertion says_key_assertion (listed ss.of_keys.0) ss.ases (array_ascends (codes "bgpsecAssertions") h.assertions ss.of_keys.0 up_ss ss.of_keys.1) ss.of_keys.2 in
     let limit : Ok e ≡ limited e.filters h.payloads =
     ap (read_as e.filters) h.set_is ∙ sym (ap (λ b. limited_by b e.filters h.payloads) (not_over (size (set_of h.payloads)) h.within_limit)) in
-    ok_after (arrays_of d) ReadsArrays x e all (
+    let whole : Ok t ≡ seen (scoped_by fs.ases ss.ases) (limited e.filters h.payloads) =
+    (λ i. Ok (scoped_by (sym scoped.1 i) (sym scoped.2 i) e)) ∙ ap (seen (scoped_by fs.ases ss.ases)) limit in
+    ok_after (arrays_of d) ReadsScopedArrays x t all (
       e.filters,
       filters_read,
-      (fs.ases, key_filters_read, (h.payloads, assertions_read, (ss.ases, keys_read, limit))),
+      (fs.ases, key_filters_read, (h.payloads, assertions_read, (ss.ases, keys_read, whole))),
     )
 
-once_says : (bytes : List ℕ) (d : Data) (e : Exceptions) → ReadsOnce bytes d (Ok e) → NamesOnce bytes × ReadsValue d (Ok e)
-once_says bytes d e (inl h) = (h.0, h.1)
-once_says bytes d e (inr h) = let no : ◌≡◌ {A = Result Exceptions SlurmFault} (Ok e) (Err fault.Repeated) = h.1 in absurd (cc)
+-- ---- the file with its scope
+
+once_says : (bytes : List ℕ) (d : Data) (t : Scoped) → ReadsScopedOnce bytes d (Ok t) → NamesOnce bytes × ReadsScopedValue d (Ok t)
+once_says bytes d t (inl h) = (h.0, h.1)
+once_says bytes d t (inr h) = let no : ◌≡◌ {A = Result Scoped SlurmFault} (Ok t) (Err fault.Repeated) = h.1 in absurd (cc)
+
+pub reads_scoped_exactly : ReadsScopedExactly
+reads_scoped_exactly bytes t = (
+  (λ h.
+      let once = once_says bytes h.0 t h.2 in
+      let is = value_says h.0 t (read_ascends bytes h.0 h.1.1) once.1 in
+      (record { value = h.0; is_json = h.1; names_once = once.0; is_file = is.0 }, is.1, is.2)),
+  (λ h. let file = h.0 in (file.value, file.is_json, inl (file.names_once, says_value file.value t (read_ascends bytes file.value file.is_json.1) (file.is_file, h.1, h.2)))),
+)
+
+-- ---- the file without it
+
+said_by : (e : Exceptions) (r : Result Scoped SlurmFault) → unscoped r ≡ Ok e → (t : Scoped) × (r ≡ Ok t) × (t.exceptions ≡ e)
+said_by e (Ok t) is = (t, refl, ok_is {E = SlurmFault} t.exceptions e is)
+said_by e (Err f) is = absurd (cc)
 
 pub reads_exactly : ReadsExactly
 reads_exactly bytes e = (
-  (λ h. let once = once_says bytes h.0 e h.2 in record { value = h.0; is_json = h.1; names_once = once.0; is_file = value_says h.0 e (read_ascends bytes h.0 h.1.1) once.1 }),
-  (λ h. (h.value, h.is_json, inl (h.names_once, says_value h.value e (read_ascends bytes h.value h.is_json.1) h.is_file))),
+  (λ h.
+      let lifted = lift_scope bytes (Ok e) h in
+      let said = said_by e lifted.0 lifted.2 in
+      subst (λ x. IsSlurmFile bytes x) said.2 ((reads_scoped_exactly bytes said.0).0 (subst (λ r. ReadsScoped bytes r) said.1 lifted.1)).0),
+  (λ h.
+      let t = scoped_by h.is_file.are_filters.ases h.is_file.are_assertions.ases e in
+      drop_scope bytes (Ok t) ((reads_scoped_exactly bytes t).1 (h, refl, refl))),
 )
 
--- ---- the contract
+-- ---- the contracts
 
--- Exceptions that are read are those of the file.
-pub file_read : (bytes : List ℕ) (r : Result Slurm SlurmFault) → UnlessMemory (ReadsSlurm bytes) (seen exceptions_of r) → IfOk r (λ s. IsSlurmFile bytes (exceptions_of s))
-file_read bytes (Ok s) (inl h) = (reads_exactly bytes (exceptions_of s)).0 h
-file_read bytes (Ok s) (inr h) = absurd (cc)
-file_read bytes (Err e) h = tt
+-- What is read is the file.
+pub scoped_read : (bytes : List ℕ) (r : Result ScopedSlurm SlurmFault) → UnlessMemory (ReadsScoped bytes) (seen scoped_of r) → IfOk r (λ s. IsScopedFile bytes (scoped_of s))
+scoped_read bytes (Ok s) (inl h) = (reads_scoped_exactly bytes (scoped_of s)).0 h
+scoped_read bytes (Ok s) (inr h) = absurd (cc)
+scoped_read bytes (Err e) h = tt
+
+pub file_read : (bytes : List ℕ) (e : Exceptions) → UnlessMemory (ReadsSlurm bytes) (Ok e) → IsSlurmFile bytes e
+file_read bytes e (inl h) = (reads_exactly bytes e).0 h
+file_read bytes e (inr h) = absurd (cc)
 
 -- Bytes that are a file are read, unless memory runs out.
-pub read_file : (bytes : List ℕ) (r : Result Slurm SlurmFault) (e : Exceptions) → UnlessMemory (ReadsSlurm bytes) (seen exceptions_of r) → IsSlurmFile bytes e → UnlessMemory (λ q. q ≡ Ok e) (seen exceptions_of r)
-read_file bytes r e (inl h) is = inl (says_one bytes (seen exceptions_of r) (Ok e) h ((reads_exactly bytes e).1 is))
+pub read_scoped : (bytes : List ℕ) (r : Result Scoped SlurmFault) (t : Scoped) → UnlessMemory (ReadsScoped bytes) r → IsScopedFile bytes t → UnlessMemory (λ q. q ≡ Ok t) r
+read_scoped bytes r t (inl h) is = inl (says_one_scoped bytes r (Ok t) h ((reads_scoped_exactly bytes t).1 is))
+read_scoped bytes r t (inr h) is = inr h
+
+pub read_file : (bytes : List ℕ) (r : Result Exceptions SlurmFault) (e : Exceptions) → UnlessMemory (ReadsSlurm bytes) r → IsSlurmFile bytes e → UnlessMemory (λ q. q ≡ Ok e) r
+read_file bytes r e (inl h) is = inl (says_one bytes r (Ok e) h ((reads_exactly bytes e).1 is))
 read_file bytes r e (inr h) is = inr h

@@ -9,6 +9,12 @@ pub mod Chained
 pub mod NamesOnce
 pub mod Counted
 pub mod EntryRelations
+pub mod Scopes
 pub mod Exactly
 pub mod SlurmRows
 pub mod ExampleRows
+pub mod Sweeping
+pub mod Gathering
+pub mod Overlapping
+pub mod United
+pub mod Addresses

@@ -11,8 +11,9 @@ use Rattle.prefix_texts.specs.MixedText.{SaysText}
 use Rattle.prefix_texts.proofs.Sayings.{one_saying}
 use Rattle.payload_lists.specs.PayloadList.{text_at}
 use Rattle.payload_lists.proofs.Entries.{one_some}
-use Rattle.slurm.specs.Chains.{After, Then}
+use Rattle.slurm.specs.Chains.{After, Then, seen}
 use Rattle.slurm.specs.Entries.{AreRead, IsMaximum, ReadsAssertion, ReadsAssertionOf, ReadsEntries, ReadsFilter, ReadsFilterOf, ReadsKeyAssertion, ReadsKeyFilter, ReadsPrefix, SpellsPrefix, listed, max_len_of}
+use Rattle.slurm.specs.Scoped.{OneScopedReading, ReadsScopedArrays, ReadsScopedOnce, scoped_by}
 use Rattle.slurm.specs.SlurmFile.{Arrays, OneReading, ReadsArrays, ReadsJson, ReadsOnce, arrays_of, limited}
 use Rattle.slurm.specs.declared.fault.SlurmEntryFault.{SlurmEntryFault}
 use Rattle.slurm.specs.declared.fault.SlurmEntryFault.TheVariants as why
@@ -208,3 +209,21 @@ once_one bytes d r q (inr h) (inr k) = h.1 ∙ sym k.1
 
 pub says_one : OneReading
 says_one bytes r q h k = then_one (ReadsJson bytes) (ReadsOnce bytes) (json_one bytes) (once_one bytes) r q h k
+
+-- ---- the file with its scope
+
+scoped_arrays_one : (a : Arrays) → IsOne (ReadsScopedArrays a)
+scoped_arrays_one a =
+    then_one _ _ (entries_one ReadsFilter (λ d. after_one _ _ (filter_of_one d)) array.PrefixFilters a.prefix_filters) (λ fs.
+    then_one _ _ (entries_one ReadsKeyFilter (λ d r q h k. h ∙ sym k) array.BgpsecFilters a.bgpsec_filters) (λ xs.
+    then_one _ _ (entries_one ReadsAssertion (λ d. after_one _ _ (assertion_of_one d)) array.PrefixAssertions a.prefix_assertions) (λ vs.
+    then_one _ (λ ys s. s ≡ seen (scoped_by xs ys) (limited fs vs)) (entries_one ReadsKeyAssertion (λ d r q h k. h ∙ sym k) array.BgpsecAssertions a.bgpsec_assertions) (λ _ r q h k. h ∙ sym k))))
+
+scoped_once_one : (bytes : List ℕ) (d : Data) → IsOne (ReadsScopedOnce bytes d)
+scoped_once_one bytes d r q (inl h) (inl k) = after_one (arrays_of d) ReadsScopedArrays scoped_arrays_one r q h.1 k.1
+scoped_once_one bytes d r q (inl h) (inr k) = absurd (k.0 h.0)
+scoped_once_one bytes d r q (inr h) (inl k) = absurd (h.0 k.0)
+scoped_once_one bytes d r q (inr h) (inr k) = h.1 ∙ sym k.1
+
+pub says_one_scoped : OneScopedReading
+says_one_scoped bytes r q h k = then_one (ReadsJson bytes) (ReadsScopedOnce bytes) (json_one bytes) (scoped_once_one bytes) r q h k

@@ -1,10 +1,13 @@
 pub mod Arranged
 pub mod Chains
+pub mod Claims
 pub mod Entries
 pub mod Exceptions
 pub mod Faults
 pub mod Members
 pub mod Relations
+pub mod Scoped
 pub mod SlurmFile
 pub mod Steps
 pub mod Telling
+pub mod Uniting

@@ -1,7 +1,9 @@
 //! Laws of local exceptions. The functions do nothing: each states a law, which is proved.
 ghost use Rattle.slurm.specs.Exceptions.{AppliedTwice, AssertionsStay};
 ghost use Rattle.slurm.specs.Relations.{ReadsExactly};
+ghost use Rattle.slurm.specs.Scoped.{OneScopedReading, ReadsScopedExactly, ScopesAreKept};
 ghost use Rattle.slurm.specs.SlurmFile.{OneReading};
+ghost use Rattle.slurm.specs.Uniting.{AnyOrder, OneIsApart, SharesAddress, UnitedApplied};
 
 /// Applying exceptions twice gives what applying them once gives.
 pub fn applied_twice()
@@ -21,4 +23,39 @@ pub fn one_reading()
 /// Exceptions are read of bytes if and only if these are a SLURM file of them.
 pub fn reads_exactly()
     ensures { ReadsExactly }
+{}
+
+/// A file with its scope is read of bytes if and only if these are such a file.
+pub fn reads_scoped_exactly()
+    ensures { ReadsScopedExactly }
+{}
+
+/// Bytes say one file with its scope, or its first fault.
+pub fn one_scoped_reading()
+    ensures { OneScopedReading }
+{}
+
+/// The readings with the scope and without it say the same, faults included.
+pub fn scopes_are_kept()
+    ensures { ScopesAreKept }
+{}
+
+/// United files leave out of a set what a filter of any file matches, and add what any file asserts.
+pub fn united_applied()
+    ensures { UnitedApplied }
+{}
+
+/// The order of the files changes nothing of what they make of a set.
+pub fn any_order()
+    ensures { AnyOrder }
+{}
+
+/// One file overlaps with nothing.
+pub fn one_is_apart()
+    ensures { OneIsApart }
+{}
+
+/// One prefix covers the other exactly if they share an address.
+pub fn shares_an_address()
+    ensures { SharesAddress }
 {}

@@ -1,5 +1,6 @@
 //! Local exceptions to a set of validated ROA payloads (SLURM, RFC 8416): records that are filtered out, and records that are added.
-//! [`read_slurm`] reads a file of them, [`fault_text`] says why it is none, and [`apply`] applies them to a set.
+//! [`read_slurm`] reads a file of them, [`fault_text`] says why it is none, and [`apply`] applies them to a set. [`unite`] makes one of several
+//! files that [`read_slurm_scoped`] read, if no two overlap (RFC 8416 section 4.2).
 //!
 //! For example, where `rt` is the runtime that `main` is handed:
 //!
@@ -18,6 +19,7 @@
 
 mod applying;
 mod arrays;
+mod claims;
 mod entries;
 mod fault;
 mod filter;
@@ -26,10 +28,16 @@ pub mod laws;
 mod members;
 mod reading;
 mod repeated;
+mod scoped;
 mod telling;
+mod unite_fault;
+mod uniting;
 
 pub use applying::apply;
 pub use fault::{SlurmArray, SlurmEntryFault, SlurmFault, SlurmObject};
 pub use filter::{PrefixFilter, Slurm};
-pub use reading::read_slurm;
+pub use reading::{read_slurm, read_slurm_scoped};
+pub use scoped::ScopedSlurm;
 pub use telling::fault_text;
+pub use unite_fault::{Overlap, UniteFault};
+pub use uniting::unite;

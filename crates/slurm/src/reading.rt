@@ -4,7 +4,8 @@ ghost use Rattle.std.specs.Bool.{MatchBool};
 ghost use Rattle.std.specs.Str.{IsUtf8};
 ghost use Rattle.serde_json.specs.Data.{Data};
 ghost use Rattle.serde_json.specs.View.{view};
-ghost use Rattle.slurm.specs.SlurmFile.{NamesOnce, ReadsArrays, ReadsJson, ReadsSlurm, ReadsValue, limited};
+ghost use Rattle.slurm.specs.Scoped.{IsScopedFile, ReadsScoped, ReadsScopedArrays, ReadsScopedValue, Scoped, scoped_of};
+ghost use Rattle.slurm.specs.SlurmFile.{NamesOnce, ReadsJson, ReadsSlurm, limited};
 ghost use Rattle.slurm.specs.Chains.{UnlessMemory, seen};
 ghost use Rattle.slurm.specs.Exceptions.{Exceptions, exceptions_of};
 ghost use Rattle.slurm.specs.Relations.{IsSlurmFile};
@@ -14,6 +15,7 @@ use crate::arrays::{Arrays, arrays_of};
 use crate::entries::entries;
 use crate::fault::{SlurmArray, SlurmFault};
 use crate::filter::{PrefixFilter, Slurm};
+use crate::scoped::ScopedSlurm;
 use json::{Error, Scratch, Value as Tree};
 use prefixes::{Asn, Vrp};
 use serde_json::Value;
@@ -61,36 +63,45 @@ fn exceptions_from(filters: Vec<PrefixFilter>, records: Vec<Vrp>) -> Result<Slur
     }
 }
 
-/// The exceptions that the entries of the arrays say.
-fn exceptions(alloc: Global, arrays: &Arrays<'_>) -> Result<Slurm, SlurmFault>
-    ensures { UnlessMemory (ReadsArrays (arrays_view arrays.now)) (seen exceptions_of result) }
+/// The file that the entries of the arrays say.
+fn entries_said(alloc: Global, arrays: &Arrays<'_>) -> Result<ScopedSlurm, SlurmFault>
+    ensures { UnlessMemory (ReadsScopedArrays (arrays_view arrays.now)) (seen scoped_of result) }
 {
     let filters = entries::<PrefixFilter>(alloc, arrays.prefix_filters, SlurmArray::PrefixFilters)?;
-    let _bgpsec = entries::<Option<Asn>>(alloc, arrays.bgpsec_filters, SlurmArray::BgpsecFilters)?;
+    let bgpsec_filters = entries::<Option<Asn>>(
+        alloc,
+        arrays.bgpsec_filters,
+        SlurmArray::BgpsecFilters,
+    )?;
     let records = entries::<Vrp>(
         alloc,
         arrays.prefix_assertions,
         SlurmArray::PrefixAssertions,
     )?;
-    let _keys = entries::<Asn>(
+    let bgpsec_assertions = entries::<Asn>(
         alloc,
         arrays.bgpsec_assertions,
         SlurmArray::BgpsecAssertions,
     )?;
-    exceptions_from(filters, records)
+    let slurm = exceptions_from(filters, records)?;
+    Ok(ScopedSlurm {
+        slurm,
+        bgpsec_filters,
+        bgpsec_assertions,
+    })
 }
 
-/// The exceptions that a value says, or its first fault.
-fn said(alloc: Global, value: &Value) -> Result<Slurm, SlurmFault>
-    ensures { UnlessMemory (ReadsValue (view value.now)) (seen exceptions_of result) }
+/// The file that a value says, or its first fault.
+fn said(alloc: Global, value: &Value) -> Result<ScopedSlurm, SlurmFault>
+    ensures { UnlessMemory (ReadsScopedValue (view value.now)) (seen scoped_of result) }
 {
     let arrays = arrays_of(value)?;
-    exceptions(alloc, &arrays)
+    entries_said(alloc, &arrays)
 }
 
-/// The exceptions that a text says, or its first fault.
-fn read_text(alloc: Global, text: &str) -> Result<Slurm, SlurmFault>
-    ensures { UnlessMemory (ReadsSlurm text.now) (seen exceptions_of result) }
+/// The file that a text says, or its first fault.
+fn read_text(alloc: Global, text: &str) -> Result<ScopedSlurm, SlurmFault>
+    ensures { UnlessMemory (ReadsScoped text.now) (seen scoped_of result) }
 {
     let names_once = has_names_once(alloc, text)?;
     let value = value_of(alloc, text)?;
@@ -100,14 +111,24 @@ fn read_text(alloc: Global, text: &str) -> Result<Slurm, SlurmFault>
     said(alloc, &value)
 }
 
-/// The exceptions that bytes say, or their first fault.
-fn read(alloc: Global, bytes: &[u8]) -> Result<Slurm, SlurmFault>
-    ensures { UnlessMemory (ReadsSlurm bytes.now) (seen exceptions_of result) }
+/// The file that bytes say, or their first fault.
+fn read(alloc: Global, bytes: &[u8]) -> Result<ScopedSlurm, SlurmFault>
+    ensures { UnlessMemory (ReadsScoped bytes.now) (seen scoped_of result) }
 {
     match str::from_utf8(bytes) {
         Ok(text) => read_text(alloc, text),
         Err(_error) => Err(SlurmFault::NotJson),
     }
+}
+
+/// A SLURM file with its scope: the exceptions that [`read_slurm`] reads, with the ASes of the entries on BGPsec. The faults are those of
+/// [`read_slurm`], in the same order.
+pub fn read_slurm_scoped(alloc: Global, bytes: &[u8]) -> Result<ScopedSlurm, SlurmFault>
+    ensures reads { UnlessMemory (ReadsScoped bytes.now) (seen scoped_of result) }
+    ensures file { IfOk result (λ s. IsScopedFile bytes.now (scoped_of s)) }
+    ensures only { (s : Scoped) → IsScopedFile bytes.now s → UnlessMemory (λ r. r ≡ Ok s) (seen scoped_of result) }
+{
+    read(alloc, bytes)
 }
 
 /// The exceptions that a SLURM file says: an object with exactly the members `slurmVersion`, which is 1, `validationOutputFilters` and
@@ -124,5 +145,6 @@ pub fn read_slurm(alloc: Global, bytes: &[u8]) -> Result<Slurm, SlurmFault>
     ensures file { IfOk result (λ s. IsSlurmFile bytes.now (exceptions_of s)) }
     ensures only { (e : Exceptions) → IsSlurmFile bytes.now e → UnlessMemory (λ r. r ≡ Ok e) (seen exceptions_of result) }
 {
-    read(alloc, bytes)
+    let scoped = read(alloc, bytes)?;
+    Ok(scoped.into_exceptions())
 }

@@ -1,0 +1,8 @@
+use Rattle.std.proofs.Common.{◌≡◌, ◌++◌, map, take}
+use Rattle.std.specs.List.{filter_map}
+use Rattle.slurm.specs.Claims.{asn_claim}
+use Rattle.slurm.proofs.claims.add_key_filters.Given as goal
+
+-- the claims of the filters so far are added
+abbrev pub invariant-loop-filter : goal.invariant-loop-filter
+invariant-loop-filter l = l.claims.items ≡ l.fn.claims.items ++ map (asn_claim l.file) (filter_map (λ a. a) (take l.filter-index l.filters))
