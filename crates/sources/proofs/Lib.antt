@@ -1,3 +1,4 @@
 pub mod Together
 pub mod Counts
 pub mod Stays
+pub mod Files

@@ -1,6 +1,6 @@
 -- What is served: what all sources have together, with local exceptions.
-use Rattle.std.specs.Prelude.{◌≡◌, ◌⊎◌, ◌<◌, ◌≤◌, ℕ, nat_lt, length, count_by, filter, slice_set, Bool, true, false, not, ◌&&◌, ◌||◌, ◌==◌, List, [], ◌∷◌, Option, Some, None, Result, Ok, Err}
-use Rattle.std.specs.List.{All, list_any}
+use Rattle.std.specs.Prelude.{◌≡◌, ◌⊎◌, ◌<◌, ◌≤◌, ℕ, nat_lt, length, take, count_by, filter, slice_set, Bool, true, false, not, ◌&&◌, ◌||◌, ◌==◌, List, [], ◌∷◌, Option, Some, None, Result, Ok, Err, ⊤}
+use Rattle.std.specs.List.{All, list_any, slice_get}
 use Rattle.der_lite.specs.Moments.{CivilMoment}
 use Rattle.der_lite.specs.Seconds.{seconds_of}
 use Rattle.prefixes.specs.Payload.{Payload, block_of}
@@ -10,10 +10,15 @@ use Rattle.exports.specs.Lasting.{IsExportLasting, counting}
 use Rattle.exports.specs.declared.export.ExportLasting.{ExportLasting}
 use Rattle.points.specs.InUse.{Points, Lists}
 use Rattle.slurm.specs.Exceptions.{excepted, exceptions_of, is_filtered}
+use Rattle.slurm.specs.Scoped.{ReadsScoped, Scoped}
 use Rattle.slurm.specs.SlurmFile.{ReadsSlurm}
+use Rattle.slurm.specs.Uniting.{Unites}
 use Rattle.slurm.specs.declared.fault.SlurmFault.{SlurmFault}
 use Rattle.slurm.specs.declared.fault.SlurmFault.TheVariants.{Memory}
 use Rattle.slurm.specs.declared.filter.Slurm.{Slurm}
+use Rattle.slurm.specs.declared.unite_fault.UniteFault.TheVariants as unite
+use Rattle.sources.specs.declared.fault.SlurmSetFault.{SlurmSetFault}
+use Rattle.sources.specs.declared.fault.SlurmSetFault.TheVariants.{File, Unite}
 use Rattle.sources.specs.declared.fault.TakeFault.{TakeFault}
 use Rattle.sources.specs.declared.fault.TakeFault.TheVariants.{NoSuchFile, Export}
 use Rattle.sources.specs.declared.listed.Listed.{Listed}
@@ -118,6 +123,36 @@ abbrev pub TakesSlurm : List ℕ → Result (Unit {0}) SlurmFault → Option Slu
 TakesSlurm bytes (Ok u) old new = (e : Slurm) × ReadsSlurm bytes (Ok (exceptions_of e)) × (new ≡ Some e)
 TakesSlurm bytes (Err fault) old new = (fault ≡ Memory ⊎ ReadsSlurm bytes (Err fault)) × (new ≡ old)
 
+-- Each of these files is read, and has this scope.
+abbrev pub AllRead : List (List ℕ) → List Scoped → Type 0
+AllRead [] [] = ⊤
+AllRead (b ∷ bs) (s ∷ ss) = ReadsScoped b (Ok s) × AllRead bs ss
+AllRead [] (s ∷ ss) = ⊥
+AllRead (b ∷ bs) [] = ⊥
+
+-- The file of this index cannot be read, and each before it is read.
+pub record FirstFault (files : List (List ℕ)) (index : ℕ) (fault : SlurmFault) : Type 0 where
+  pub scopes : List Scoped
+  pub before : AllRead (take index files) scopes
+  pub bytes : List ℕ
+  pub bytes_are : slice_get files index ≡ Some bytes
+  pub reason : fault ≡ Memory ⊎ ReadsSlurm bytes (Err fault)
+
+-- The files are all read, and what they are as one becomes the exceptions. Without a file there are none.
+abbrev pub AreUnited : List (List ℕ) → Option Slurm → Type 0
+AreUnited [] new = new ≡ None
+AreUnited (b ∷ bs) new = (e : Slurm) × (ss : List Scoped) × AllRead (b ∷ bs) ss × Unites ss (Ok (exceptions_of e)) × (new ≡ Some e)
+
+-- Why the files are refused: one of them cannot be read, or they are all read and cannot be united, or memory ran out.
+abbrev pub AreRefused : List (List ℕ) → SlurmSetFault → Type 0
+AreRefused files (File index fault) = FirstFault files index fault
+AreRefused files (Unite fault) = (fault ≡ unite.Memory) ⊎ ((ss : List Scoped) × AllRead files ss × Unites ss (Err fault))
+
+-- Local exceptions of several files are replaced as a whole, or nothing changes (RFC 8416 section 4.2).
+abbrev pub TakesSlurms : List (List ℕ) → Result (Unit {0}) SlurmSetFault → Option Slurm → Option Slurm → Type 0
+TakesSlurms files (Ok u) old new = AreUnited files new
+TakesSlurms files (Err fault) old new = AreRefused files fault × (new ≡ old)
+
 -- No export of a file was read yet ..
 pub record IsNothing (l : Listed) : Type 0 where
   pub set : l.set ≡ empty
@@ -150,3 +185,7 @@ ExportTaken bytes now i result old new =
 abbrev pub SlurmTaken : List ℕ → Result (Unit {0}) SlurmFault → Sources → Sources → Type 0
 SlurmTaken bytes result old new =
     TakesSlurm bytes result old.exceptions new.exceptions × (new.lists ≡ old.lists) × (new.repository ≡ old.repository) × (new.leaves_out ≡ old.leaves_out)
+
+abbrev pub SlurmsTaken : List (List ℕ) → Result (Unit {0}) SlurmSetFault → Sources → Sources → Type 0
+SlurmsTaken files result old new =
+    TakesSlurms files result old.exceptions new.exceptions × (new.lists ≡ old.lists) × (new.repository ≡ old.repository) × (new.leaves_out ≡ old.leaves_out)

@@ -1,9 +1,14 @@
 -- What is kept of a file says what it exports at later moments too.
-use Rattle.std.specs.Prelude.{◌≡◌, ℕ, ◌+◌, ◌^◌, ◌<◌, ◌≤◌, List, Some}
+use Rattle.std.specs.Prelude.{◌≡◌, ◌↔◌, ℕ, ◌+◌, ◌^◌, ◌<◌, ◌≤◌, List, [], ◌∷◌, Option, Some, Ok, Err}
 use Rattle.vrps.specs.VrpSet.{size}
 use Rattle.exports.specs.Export.{IsExport}
 use Rattle.exports.specs.declared.export.Export.{Export}
-use Rattle.sources.specs.Served.{IsTaken, counting_at, expired_of}
+use Rattle.slurm.specs.declared.fault.SlurmFault.{SlurmFault}
+use Rattle.slurm.specs.declared.filter.Slurm.{Slurm}
+use Rattle.slurm.specs.declared.unite_fault.UniteFault.{UniteFault}
+use Rattle.slurm.specs.declared.unite_fault.UniteFault.TheVariants as unite
+use Rattle.sources.specs.Served.{IsTaken, TakesSlurm, TakesSlurms, counting_at, expired_of}
+use Rattle.sources.specs.declared.fault.SlurmSetFault.TheVariants.{File, Unite}
 use Rattle.sources.specs.declared.listed.Listed.{Listed}
 
 -- The records of a file that count at a later second are exactly the set that its bytes export then.
@@ -17,3 +22,11 @@ abbrev pub CountsExpired : Type 0
 CountsExpired =
     (bytes : List ℕ) (now expired : ℕ) (l : Listed) → IsTaken bytes now expired l → (at : ℕ) → at < 2 ^ 64
     → size (counting_at at l) + expired_of at (Some l) ≡ size l.set
+
+-- One file is read alike by `TakesSlurm`, and by `TakesSlurms` as the only one.
+abbrev pub OneSlurm : Type 0
+OneSlurm =
+    (bytes : List ℕ) (old new : Option Slurm)
+    → (TakesSlurms (bytes ∷ []) (Ok tt) old new ↔ TakesSlurm bytes (Ok tt) old new)
+    × ((fault : SlurmFault) → TakesSlurms (bytes ∷ []) (Err (File 0 fault)) old new ↔ TakesSlurm bytes (Err fault) old new)
+    × ((fault : UniteFault) → TakesSlurms (bytes ∷ []) (Err (Unite fault)) old new → fault ≡ unite.Memory)

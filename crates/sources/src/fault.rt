@@ -1,7 +1,8 @@
-//! Why the export of a file is refused.
+//! Why the export of a file, or files of local exceptions, are refused.
 ghost use Rattle.std.specs.Prelude.{◌≡◌};
 
 use exports::ExportFault;
+use slurm::{SlurmFault, UniteFault};
 use thiserror::Error;
 
 /// Why the export of a file is refused.
@@ -22,5 +23,31 @@ impl From<ExportFault> for TakeFault {
 
     fn from(fault: ExportFault) -> TakeFault {
         TakeFault::Export(fault)
+    }
+}
+
+/// Why several files of local exceptions are refused.
+#[derive(Clone, Copy, Debug, PartialEq, Eq, Error)]
+pub enum SlurmSetFault {
+    /// A file cannot be read; it is the first one that cannot.
+    #[error("{fault}")]
+    File {
+        /// The index of the file, from 0 on.
+        index: usize,
+        /// Why it cannot be read.
+        fault: SlurmFault,
+    },
+    /// All files can be read, and they are not used together.
+    #[error("{0}")]
+    Unite(UniteFault),
+}
+
+impl From<UniteFault> for SlurmSetFault {
+    ghost use Rattle.sources.specs.declared.fault.SlurmSetFault.TheVariants.{Unite};
+
+    ghost from_gives = { λ fault e. e ≡ Unite fault };
+
+    fn from(fault: UniteFault) -> SlurmSetFault {
+        SlurmSetFault::Unite(fault)
     }
 }

@@ -1,5 +1,5 @@
 //! Laws of sources. The functions do nothing: each states a law, which is proved.
-ghost use Rattle.sources.specs.TakenLaws.{CountsExpired, StaysTaken};
+ghost use Rattle.sources.specs.TakenLaws.{CountsExpired, OneSlurm, StaysTaken};
 
 use exports::laws::later_exports;
 
@@ -13,4 +13,9 @@ pub fn stays_taken()
 /// At each second a record of a file counts or is among those that `expired` counts.
 pub fn counts_expired()
     ensures { CountsExpired }
+{}
+
+/// One file of local exceptions gives the same by itself, and as the only one of several.
+pub fn one_slurm()
+    ensures { OneSlurm }
 {}

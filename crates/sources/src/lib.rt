@@ -20,8 +20,9 @@
 mod fault;
 pub mod laws;
 mod listed;
+mod slurms;
 mod sources;
 
-pub use fault::TakeFault;
+pub use fault::{SlurmSetFault, TakeFault};
 pub use listed::Listed;
 pub use sources::{ServedSet, Sources};

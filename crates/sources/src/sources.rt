@@ -1,13 +1,14 @@
 //! Sources, and the set that is made of them.
-ghost use Rattle.std.specs.Prelude.{◌≡◌, ◌<◌, IfOk, IfSome, IsErrOf, None, false, length, slice_get, true};
+ghost use Rattle.std.specs.Prelude.{◌≡◌, ◌<◌, IfOk, IfSome, IsErrOf, None, false, length, map, slice_get, true};
 ghost use Rattle.vrps.specs.VrpSet.{empty, size, union};
 ghost use Rattle.points.specs.Answers.{told_by, NewExactly, BecomesAt};
 ghost use Rattle.points.specs.InUse.{accepted_at, no_points};
 ghost use Rattle.points.specs.Offers.{Acceptable, Judged};
-ghost use Rattle.sources.specs.Served.{HasServed, IsServed, LeavesOut, NoneTaken, PassesLimit, TakesExport, TakesSlurm, built_at, excepted_by, expired_of, has_length_0, left_out_of, narrowed, with_lists};
+ghost use Rattle.sources.specs.Served.{HasServed, IsServed, LeavesOut, NoneTaken, PassesLimit, TakesExport, TakesSlurm, TakesSlurms, built_at, excepted_by, expired_of, has_length_0, left_out_of, narrowed, with_lists};
 
-use crate::fault::TakeFault;
+use crate::fault::{SlurmSetFault, TakeFault};
 use crate::listed::Listed;
+use crate::slurms::read_united;
 use der_lite::Moment;
 use exports::{Export, ExportLasting, read_export_lasting};
 use points::{FileIn, Offered, PointFault, Repository};
@@ -111,6 +112,18 @@ impl Sources {
     {
         let slurm = read_slurm(self.alloc, bytes)?;
         self.exceptions = Some(slurm);
+        Ok(())
+    }
+
+    /// Replaces the local exceptions by those of several files together, of which no two may overlap (RFC 8416 section 4.2). Without a file there
+    /// are none from then on. `File`: a file is no SLURM file, the first one that is none. `Unite`: all are, and they are not used together. If it
+    /// fails, nothing changes.
+    pub fn take_slurms(&mut self, files: &[Vec<u8>]) -> Result<(), SlurmSetFault>
+        ensures exceptions { TakesSlurms (map (λ f. f.items) files.now) result self.old.exceptions self.new.exceptions }
+        ensures rest { (self.new.lists ≡ self.old.lists) × (self.new.repository ≡ self.old.repository) × (self.new.leaves_out ≡ self.old.leaves_out) }
+    {
+        let exceptions = read_united(self.alloc, files)?;
+        self.exceptions = exceptions;
         Ok(())
     }
 
