@@ -33,6 +33,7 @@ mod page_tables;
 mod picture;
 mod query;
 mod query_fault;
+mod router_metrics;
 mod status;
 mod text;
 mod validity;
@@ -48,7 +49,8 @@ pub use page::write_page;
 pub use query::{read_path, read_query};
 pub use query_fault::QueryFault;
 pub use status::{
-    ChangeStatus, ClientStatus, ClientTraffic, FileStatus, PdusByType, Status, TotalTraffic,
+    ChangeStatus, ClientStatus, ClientTraffic, FileStatus, LostLines, PdusByType,
+    PublicationFailure, Status, TotalTraffic,
 };
 pub use validity::Validity;
 pub use validity_page::write_validity_page;

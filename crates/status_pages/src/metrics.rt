@@ -1,11 +1,17 @@
 //! The status of a cache, in the text format of Prometheus.
 
+use crate::router_metrics::write_router_metrics;
 use crate::status::{FileStatus, PdusByType, Status, TotalTraffic};
 use crate::text::{write_decimal, write_label, write_texts};
 use std::io::{self, Write};
 
 /// Writes the help and the type of a metric.
-fn write_head<W: Write>(out: &mut W, name: &str, kind: &str, help: &str) -> io::Result<()> {
+pub(crate) fn write_head<W: Write>(
+    out: &mut W,
+    name: &str,
+    kind: &str,
+    help: &str,
+) -> io::Result<()> {
     let texts = [
         "# HELP ",
         name,
@@ -21,13 +27,13 @@ fn write_head<W: Write>(out: &mut W, name: &str, kind: &str, help: &str) -> io::
 }
 
 /// Writes a value and the end of its line.
-fn write_value<W: Write>(out: &mut W, value: u64) -> io::Result<()> {
+pub(crate) fn write_value<W: Write>(out: &mut W, value: u64) -> io::Result<()> {
     write_decimal(out, value)?;
     out.write_all(b"\n")
 }
 
 /// Writes a metric of one value.
-fn write_one<W: Write>(
+pub(crate) fn write_one<W: Write>(
     out: &mut W,
     name: &str,
     kind: &str,
@@ -269,6 +275,59 @@ fn write_files<W: Write>(out: &mut W, status: &Status) -> io::Result<()> {
     )
 }
 
+/// The publications that failed.
+fn write_failures<W: Write>(out: &mut W, status: &Status) -> io::Result<()> {
+    write_one(
+        out,
+        "rpkirtrd_publications_failed_total",
+        "counter",
+        "Publications of a version that failed since the start.",
+        status.publications_failed,
+    )?;
+    write_one(
+        out,
+        "rpkirtrd_publication_failing",
+        "gauge",
+        "Whether the last publication failed, 1, or not, 0.",
+        u64::from(status.publication_failure.is_some()),
+    )
+}
+
+/// The log lines that are missing.
+fn write_log<W: Write>(out: &mut W, status: &Status) -> io::Result<()> {
+    write_head(
+        out,
+        "rpkirtrd_log_lines_lost_total",
+        "counter",
+        "Log lines that were not written since the start, by reason.",
+    )?;
+    write_two(
+        out,
+        "rpkirtrd_log_lines_lost_total",
+        "reason",
+        ("dropped", status.log_lines_lost.dropped),
+        ("suppressed", status.log_lines_lost.suppressed),
+    )
+}
+
+/// How many clients were disconnected by the cache.
+fn write_disconnected<W: Write>(out: &mut W, status: &Status) -> io::Result<()> {
+    write_one(
+        out,
+        "rpkirtrd_connections_refused_total",
+        "counter",
+        "Routers that were disconnected on arrival at a limit since the start.",
+        status.clients_refused,
+    )?;
+    write_one(
+        out,
+        "rpkirtrd_connections_stalled_total",
+        "counter",
+        "Routers that were disconnected since the start, as they accepted no byte.",
+        status.clients_stalled,
+    )
+}
+
 /// How many clients there are.
 fn write_clients<W: Write>(out: &mut W, status: &Status) -> io::Result<()> {
     write_one(
@@ -367,6 +426,10 @@ pub fn write_metrics<W: Write>(out: &mut W, status: &Status) -> io::Result<()> {
     write_served(out, status)?;
     write_files(out, status)?;
     write_reloads(out, status)?;
+    write_failures(out, status)?;
     write_clients(out, status)?;
-    write_traffic(out, status)
+    write_disconnected(out, status)?;
+    write_router_metrics(out, status)?;
+    write_traffic(out, status)?;
+    write_log(out, status)
 }

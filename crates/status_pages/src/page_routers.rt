@@ -60,6 +60,18 @@ fn state_of(status: &Status, client: &ClientStatus) -> RouterState {
     }
 }
 
+/// Since when a router lacks a version: since the first one that it lacks was published, or since it connected if none was sent to it. `None` if
+/// it has the served version.
+pub(crate) fn lacking_since(status: &Status, client: &ClientStatus) -> Option<u64> {
+    let (Some(served), Some(sent)) = (status.serial, client.serial) else {
+        return Some(client.since);
+    };
+    match served.wrapping_sub(sent) {
+        0 => None,
+        versions => published_at(&status.changes, versions),
+    }
+}
+
 /// How many routers have been without the served version for a minute or longer.
 pub(crate) fn behind_count(status: &Status) -> u64 {
     let behind = status

@@ -2,7 +2,7 @@
 
 use crate::page_routers::behind_count;
 use crate::status::Status;
-use crate::text::{write_grouped, write_texts};
+use crate::text::{write_grouped, write_html, write_texts};
 use std::io::{self, Write};
 
 /// How many sources are refused.
@@ -16,9 +16,11 @@ pub(crate) fn old_count(status: &Status) -> u64 {
     status.files.iter().filter(|file| file.is_old).count() as u64
 }
 
-/// Whether all is well: a version is served, no source is refused or too old, no router is behind, and the clock was not set back.
+/// Whether all is well: a version is served, and the last publication succeeded. No source is refused or too old, no router is behind, and the
+/// clock was not set back.
 pub(crate) fn is_well(status: &Status) -> bool {
     status.serial.is_some()
+        && status.publication_failure.is_none()
         && refused_count(status) == 0
         && old_count(status) == 0
         && behind_count(status) == 0
@@ -54,6 +56,16 @@ fn write_clock<W: Write>(out: &mut W, behind: u64) -> io::Result<()> {
     out.write_all(b" s. ")
 }
 
+/// Writes why no version can be published, if the last publication failed.
+fn write_failure<W: Write>(out: &mut W, status: &Status) -> io::Result<()> {
+    let Some(failure) = &status.publication_failure else {
+        return Ok(());
+    };
+    out.write_all(b"No version can be published: ")?;
+    write_html(out, &failure.reason)?;
+    out.write_all(b". ")
+}
+
 /// Writes the state in sentences, each with a space after it but `All is well.`.
 pub(crate) fn write_state<W: Write>(out: &mut W, status: &Status) -> io::Result<()> {
     if is_well(status) {
@@ -62,6 +74,7 @@ pub(crate) fn write_state<W: Write>(out: &mut W, status: &Status) -> io::Result<
     if status.serial.is_none() {
         out.write_all(b"No version is published yet. ")?;
     }
+    write_failure(out, status)?;
     let files = status.files.len() as u64;
     write_part_of(out, refused_count(status), files, "file", "refused")?;
     write_part_of(out, old_count(status), files, "file", "too old")?;

@@ -41,6 +41,10 @@ pub struct Status {
     pub client_limit: u64,
     /// How many clients were admitted since the start, open and closed.
     pub clients_ever: u64,
+    /// How many clients were disconnected on arrival since the start, as a limit was reached.
+    pub clients_refused: u64,
+    /// How many clients were disconnected since the start, as they accepted no byte for too long.
+    pub clients_stalled: u64,
     /// The traffic from all clients since the start.
     pub received: TotalTraffic,
     /// The traffic to all clients since the start.
@@ -51,6 +55,30 @@ pub struct Status {
     pub reloads_refused: u64,
     /// How many milliseconds the last load took, or `None` before the first.
     pub reload_milliseconds: Option<u64>,
+    /// How many times the publication of a version failed since the start.
+    pub publications_failed: u64,
+    /// Why the last publication failed, if no version was published since.
+    pub publication_failure: Option<PublicationFailure>,
+    /// The lines that the log lacks.
+    pub log_lines_lost: LostLines,
+}
+
+/// A publication that failed.
+#[derive(Debug, Drop)]
+pub struct PublicationFailure {
+    /// Since when publications fail.
+    pub since: u64,
+    /// Why the last one failed.
+    pub reason: String,
+}
+
+/// How many lines the log lacks since the start.
+#[derive(Clone, Copy, Debug, PartialEq, Eq)]
+pub struct LostLines {
+    /// Lines for which standard error had no room.
+    pub dropped: u64,
+    /// Lines about clients beyond the limit of their rate.
+    pub suppressed: u64,
 }
 
 /// A published version.

@@ -1,0 +1,86 @@
+//! The metrics of each router.
+
+use crate::metrics::{write_head, write_one, write_value};
+use crate::page_routers::lacking_since;
+use crate::status::{ClientStatus, Status};
+use std::io::{self, Write};
+
+/// For how many routers there are metrics. A router that reconnects has another port, and so other time series.
+const ROUTERS: usize = 256;
+
+/// The metrics of a router.
+#[derive(Clone, Copy, PartialEq, Eq)]
+enum RouterMetric {
+    Serial,
+    Behind,
+}
+
+/// The value of a metric of a router, if it has one.
+fn router_metric(status: &Status, client: &ClientStatus, what: RouterMetric) -> Option<u64> {
+    match what {
+        RouterMetric::Serial => client.serial.map(u64::from),
+        RouterMetric::Behind => {
+            let behind = lacking_since(status, client).map(|since| status
+                .now
+                .saturating_sub(since));
+            Some(behind.unwrap_or_default())
+        }
+    }
+}
+
+/// Writes the value of a metric for a router: its address and its protocol version, which is empty before its first PDU.
+fn write_of_router<W: Write>(
+    out: &mut W,
+    name: &str,
+    client: &ClientStatus,
+    value: u64,
+) -> io::Result<()> {
+    write!(out, "{name}{{router=\"{}\",version=\"", client.address)?;
+    if let Some(version) = client.version {
+        write!(out, "{version}")?;
+    }
+    out.write_all(b"\"} ")?;
+    write_value(out, value)
+}
+
+/// Writes a metric with a value for each router that has one, up to the limit.
+fn write_of_routers<W: Write>(
+    out: &mut W,
+    status: &Status,
+    name: &str,
+    help: &str,
+    what: RouterMetric,
+) -> io::Result<()> {
+    write_head(out, name, "gauge", help)?;
+    for client in status.clients.iter().take(ROUTERS) {
+        if let Some(value) = router_metric(status, client, what) {
+            write_of_router(out, name, client, value)?;
+        }
+    }
+    Ok(())
+}
+
+/// Writes the metrics of the first 256 routers, and how many there are beyond them.
+pub(crate) fn write_router_metrics<W: Write>(out: &mut W, status: &Status) -> io::Result<()> {
+    write_of_routers(
+        out,
+        status,
+        "rpkirtrd_router_serial",
+        "The serial of the last End of Data that was sent to a router.",
+        RouterMetric::Serial,
+    )?;
+    write_of_routers(
+        out,
+        status,
+        "rpkirtrd_router_behind_seconds",
+        "For how long a router has lacked a version, 0 if it has the one that is served.",
+        RouterMetric::Behind,
+    )?;
+    write_one(
+        out,
+        "rpkirtrd_routers_without_metrics",
+        "gauge",
+        "Connected routers beyond the 256 that have metrics of their own.",
+        (status.clients.len() as u64).saturating_sub(ROUTERS as u64),
+    )
+}
