@@ -1,24 +1,11 @@
 -- The connections of a list of entries.
-use Rattle.std.proofs.Common.{◌≡◌, ◌⊎◌, ℕ, ◌+◌, ◌≤◌, zero, suc, Bool, true, false, ◌==◌, ◌||◌, cond, List, [], ◌∷◌, ◌++◌, length, inl, inr, arith, map, filter, get_or, refl, ap, sym, subst, ◌∙◌, Result, Ok, Err}
+use Rattle.std.proofs.Common.{◌≡◌, ℕ, ◌+◌, ◌≤◌, zero, suc, Bool, true, false, ◌==◌, cond, List, [], ◌∷◌, ◌++◌, length, inl, inr, arith, map, get_or, refl, ap, sym, subst, ◌∙◌, Result, Ok, Err}
 use Rattle.std.specs.Prelude.{OnOk, OnErr, ⊤}
-use Rattle.std.proofs.lemmas.List.{append-nil, append_assoc, map-set}
+use Rattle.std.proofs.lemmas.List.{append-nil, append_assoc}
 use Rattle.std.proofs.Math.ListN.{set}
-use Rattle.std.specs.List.{list_any}
-use Rattle.status_server.specs.Connections.{Accepts, AllNew, Connection, Connections, Each, IsServed, IsWoken, wake}
+use Rattle.status_server.specs.Connections.{Accepts, Admits, AllNew, Each, IsNew, IsWoken, wake}
 use Rattle.status_server.specs.declared.http_connection.HttpProgress.TheVariants.{Busy}
-
-module _ {A B : Type 0} (f : A → B) (q : B → Bool) where
-  step : (x : A) (xs : List A) (ys : List B) (b : Bool) → map f xs ≡ ys → map f (cond b (x ∷ xs) xs) ≡ cond b (f x ∷ ys) ys
-  step x xs ys true h = ap (λ l. f x ∷ l) h
-  step x xs ys false h = h
-
-  pub map-filter : (xs : List A) → map f (filter (λ a. q (f a)) xs) ≡ filter q (map f xs)
-  map-filter [] = refl
-  map-filter (x ∷ xs) = step x (filter (λ a. q (f a)) xs) (filter q (map f xs)) (q (f x)) (map-filter xs)
-
-  pub any-map : (xs : List A) → list_any q (map f xs) ≡ list_any (λ a. q (f a)) xs
-  any-map [] = refl
-  any-map (x ∷ xs) = ap (λ b. q (f x) || b) (any-map xs)
+use Rattle.status_server.specs.declared.http_connections.Entry.{Entry}
 
 -- The first n elements are changed.
 module _ {A : Type 0} (f : A → A) where
@@ -45,30 +32,60 @@ module _ {A : Type 0} (f : A → A) where
   upto-all zero (x ∷ xs) h = let none : ⊥ = omega arith in elim none [ ]
   upto-all (suc n) (x ∷ xs) h = ap (λ l. f x ∷ l) (upto-all n xs (omega arith))
 
-  module _ {E : Type 0} (g : E → A) where
-    at : (es : List E) (i : ℕ) (d : E) → g (get_or es i d) ≡ get_or (map g es) i (g d)
-    at [] i d = refl
-    at (e ∷ es) zero d = refl
-    at (e ∷ es) (suc i) d = at es i d
+  -- An element more is changed.
+  pub upto-more : (ys xs : List A) (i : ℕ) (e d : A) → ys ≡ upto i xs → e ≡ f (get_or ys i d) → set ys i e ≡ upto (i + 1) xs
+  upto-more ys xs i e d h k =
+      let one : suc i ≡ i + 1 = omega arith in
+      ap (set ys i) k ∙ ap (λ l. set l i (f (get_or l i d))) h ∙ next i xs d ∙ ap (λ n. upto n xs) one
 
-    -- An element more is changed.
-    pub upto-more : (es : List E) (xs : List A) (i : ℕ) (e d : E) → map g es ≡ upto i xs → g e ≡ f (g (get_or es i d)) → map g (set es i e) ≡ upto (i + 1) xs
-    upto-more es xs i e d h k =
-        let one : suc i ≡ i + 1 = omega arith in
-        map-set g es i e ∙ ap (set (map g es) i) (k ∙ ap f (at es i d)) ∙ ap (λ ys. set ys i (f (get_or ys i (g d)))) h ∙ next i xs (g d) ∙ ap (λ n. upto n xs) one
+-- The first n connections are related to those in their places, and the others are the same.
+module _ {T : Type 0} (r : Entry T → Entry T → Type 0) where
+  pub EachUpto : ℕ → List (Entry T) → List (Entry T) → Type 0
+  EachUpto zero vs ws = ws ≡ vs
+  EachUpto (suc n) [] [] = ⊤
+  EachUpto (suc n) [] (w ∷ ws) = ⊥
+  EachUpto (suc n) (v ∷ vs) [] = ⊥
+  EachUpto (suc n) (v ∷ vs) (w ∷ ws) = r v w × EachUpto n vs ws
 
--- One element is replaced by a related one.
-module _ (r : Connection → Connection → Type 0) (same : (v : Connection) → r v v) where
-  pub each_same : (vs : Connections) → Each r vs vs
-  each_same [] = tt
-  each_same (v ∷ vs) = (same v, each_same vs)
+  pub each_none : (vs : List (Entry T)) → EachUpto 0 vs vs
+  unfolding EachUpto
+  each_none vs = refl
 
-  pub each_set : {E : Type 0} (g : E → Connection) (es : List E) (i : ℕ) (e d : E) → r (g (get_or es i d)) (g e) → Each r (map g es) (map g (set es i e))
-  each_set g [] i e d h = tt
-  each_set g (a ∷ es) zero e d h = (h, each_same (map g es))
-  each_set g (a ∷ es) (suc i) e d h = (same (g a), each_set g es i e d h)
+  first : (vs : List (Entry T)) (e d : Entry T) → r (get_or vs 0 d) e → EachUpto 1 vs (set vs 0 e)
+  unfolding EachUpto
+  first [] e d h = tt
+  first (v ∷ vs) e d h = (h, refl)
 
-pub each_then : (r : Connection → Connection → Type 0) → ((u v w : Connection) → r u v → r v w → r u w) → (us vs ws : Connections) → Each r us vs → Each r vs ws → Each r us ws
+  next_one : (i : ℕ) (vs ws : List (Entry T)) (e d : Entry T) → EachUpto i vs ws → r (get_or ws i d) e → EachUpto (suc i) vs (set ws i e)
+  unfolding EachUpto
+  next_one zero vs ws e d h k = subst (λ l. EachUpto 1 vs (set l 0 e)) (sym h) (first vs e d (subst (λ l. r (get_or l 0 d) e) h k))
+  next_one (suc i) [] [] e d h k = tt
+  next_one (suc i) [] (w ∷ ws) e d h k = elim h [ ]
+  next_one (suc i) (v ∷ vs) [] e d h k = elim h [ ]
+  next_one (suc i) (v ∷ vs) (w ∷ ws) e d h k = (h.0, next_one i vs ws e d h.1 k)
+
+  -- A connection more is related to the one in its place.
+  pub each_more : (i : ℕ) (vs ws : List (Entry T)) (e d : Entry T) → EachUpto i vs ws → r (get_or ws i d) e → EachUpto (i + 1) vs (set ws i e)
+  each_more i vs ws e d h k =
+      let one : suc i ≡ i + 1 = omega arith in
+      subst (λ n. EachUpto n vs (set ws i e)) one (next_one i vs ws e d h k)
+
+  pub each_all : (n : ℕ) (vs ws : List (Entry T)) → length ws ≤ n → EachUpto n vs ws → Each r vs ws
+  unfolding EachUpto
+  each_all zero [] [] h k = tt
+  each_all zero [] (w ∷ ws) h k = let none : ⊥ = omega (arith, h) in elim none [ ]
+  each_all zero (v ∷ vs) [] h k = let none : ⊥ = cc k in elim none [ ]
+  each_all zero (v ∷ vs) (w ∷ ws) h k = let none : ⊥ = omega (arith, h) in elim none [ ]
+  each_all (suc n) [] [] h k = tt
+  each_all (suc n) [] (w ∷ ws) h k = elim k [ ]
+  each_all (suc n) (v ∷ vs) [] h k = elim k [ ]
+  each_all (suc n) (v ∷ vs) (w ∷ ws) h k = (k.0, each_all n vs ws (omega (arith, h)) k.1)
+
+pub each_same : {T : Type 0} (r : Entry T → Entry T → Type 0) → ((v : Entry T) → r v v) → (vs : List (Entry T)) → Each r vs vs
+each_same r same [] = tt
+each_same r same (v ∷ vs) = (same v, each_same r same vs)
+
+pub each_then : {T : Type 0} (r : Entry T → Entry T → Type 0) → ((u v w : Entry T) → r u v → r v w → r u w) → (us vs ws : List (Entry T)) → Each r us vs → Each r vs ws → Each r us ws
 each_then r t [] [] [] h k = tt
 each_then r t [] [] (w ∷ ws) h k = elim k [ ]
 each_then r t [] (v ∷ vs) ws h k = elim h [ ]
@@ -76,51 +93,50 @@ each_then r t (u ∷ us) [] ws h k = elim h [ ]
 each_then r t (u ∷ us) (v ∷ vs) [] h k = elim k [ ]
 each_then r t (u ∷ us) (v ∷ vs) (w ∷ ws) h k = (t u v w h.0 k.0, each_then r t us vs ws h.1 k.1)
 
-pub each_at : (r : Connection → Connection → Type 0) {us vs us' vs' : Connections} → us ≡ us' → vs ≡ vs' → Each r us vs → Each r us' vs'
+pub each_at : {T : Type 0} (r : Entry T → Entry T → Type 0) {us vs us' vs' : List (Entry T)} → us ≡ us' → vs ≡ vs' → Each r us vs → Each r us' vs'
 each_at r {us} {vs} {us'} {vs'} h k e = subst (λ l. Each r l vs') h (subst (λ l. Each r us l) k e)
 
-pub served_same : (v : Connection) → IsServed v v
-served_same v = (refl, refl, inl refl)
+pub woken_same : {T : Type 0} (v : Entry T) → IsWoken v v
+woken_same v = inl refl
 
-pub served_then : (u v w : Connection) → IsServed u v → IsServed v w → IsServed u w
-served_then u v w h k = (k.0 ∙ h.0, k.1 ∙ h.1, last h.2 k.2) where
-  last : ((v.2 ≡ u.2) ⊎ (u.2 ≡ Busy)) → ((w.2 ≡ v.2) ⊎ (v.2 ≡ Busy)) → (w.2 ≡ u.2) ⊎ (u.2 ≡ Busy)
-  last (inr b) k = inr b
-  last (inl a) (inl b) = inl (b ∙ a)
-  last (inl a) (inr b) = inr (sym a ∙ b)
+pub woken_then : {T : Type 0} (u v w : Entry T) → IsWoken u v → IsWoken v w → IsWoken u w
+woken_then {T} u v w (inl a) (inl b) = inl (b ∙ a)
+woken_then {T} u v w (inr a) (inl b) = inr (b ∙ a)
+woken_then {T} u v w (inl a) (inr b) = inr (b ∙ ap {A = Entry T} (λ x. record x { progress = Busy }) a)
+woken_then {T} u v w (inr a) (inr b) = inr (b ∙ ap {A = Entry T} (λ x. record x { progress = Busy }) a)
 
-pub woken_same : (v : Connection) → IsWoken v v
-woken_same v = (refl, refl, inl refl)
-
-pub woken_then : (u v w : Connection) → IsWoken u v → IsWoken v w → IsWoken u w
-woken_then u v w h k = (k.0 ∙ h.0, k.1 ∙ h.1, last h.2 k.2) where
-  last : ((v.2 ≡ u.2) ⊎ (v.2 ≡ Busy)) → ((w.2 ≡ v.2) ⊎ (w.2 ≡ Busy)) → (w.2 ≡ u.2) ⊎ (w.2 ≡ Busy)
-  last h (inr b) = inr b
-  last (inl a) (inl b) = inl (b ∙ a)
-  last (inr a) (inl b) = inr (b ∙ a)
-
-is_woken : (v : Connection) (b : Bool) → IsWoken v (cond b (v.0, v.1, Busy) v)
-is_woken v true = (refl, refl, inr refl)
-is_woken v false = woken_same v
+is_woken : {T : Type 0} (v : Entry T) (b : Bool) → IsWoken v (cond b (record v { progress = Busy }) v)
+is_woken v true = inr refl
+is_woken v false = inl refl
 
 -- A call of wake is one of the steps.
-pub each_woken : (token : ℕ) (vs : Connections) → Each IsWoken vs (wake token vs)
+pub each_woken : {T : Type 0} (token : ℕ) (vs : List (Entry T)) → Each IsWoken vs (wake token vs)
 each_woken token [] = tt
-each_woken token (v ∷ vs) = (is_woken v (v.0 == token), each_woken token vs)
+each_woken token (v ∷ vs) = (is_woken v (v.token == token), each_woken token vs)
 
-pub new_then : (now : ℕ) (us vs : Connections) → AllNew now us → AllNew now vs → AllNew now (us ++ vs)
+pub new_then : {T : Type 0} (now : ℕ) (us vs : List (Entry T)) → AllNew now us → AllNew now vs → AllNew now (us ++ vs)
 new_then now [] vs h k = k
-new_then now (u ∷ us) vs h k = (h.0, h.1, new_then now us vs h.2 k)
+new_then now (u ∷ us) vs h k = (h.0, new_then now us vs h.1 k)
 
-pub accepts_none : (now : ℕ) (vs : Connections) → Accepts now vs vs
+-- what is admitted under a token is admitted under its own
+its_own : {T : Type 0} (token now : ℕ) (stream : T) (v : Entry T) → IsNew token now stream v → IsNew v.token now v.connection.stream v
+its_own token now stream v n = record {
+  token_is = refl;
+  came = n.came;
+  moved = n.moved;
+  progress = n.progress;
+  connection = record { stream_is = refl; history_is = n.connection.history_is };
+}
+
+pub accepts_none : {T : Type 0} (now : ℕ) (vs : List (Entry T)) → Accepts now vs vs
 accepts_none now vs = record { added = []; new = tt; list = sym (append-nil vs) }
 
 -- An admission adds one connection, or none.
-pub accepts_one : {E : Type 0} (now token : ℕ) (vs ws : Connections) (r : Result ⊤ E) → OnOk r (ws ≡ vs ++ (token, now, Busy) ∷ []) → OnErr r (ws ≡ vs) → Accepts now vs ws
-accepts_one now token vs ws (Ok o) h k = record { added = (token, now, Busy) ∷ []; new = (refl, refl, tt); list = h }
-accepts_one now token vs ws (Err e) h k = record { added = []; new = tt; list = k ∙ sym (append-nil vs) }
+pub accepts_one : {T E : Type 0} (now token : ℕ) (stream : T) (vs ws : List (Entry T)) (r : Result ⊤ E) → OnOk r (Admits token now stream vs ws) → OnErr r (ws ≡ vs) → Accepts now vs ws
+accepts_one now token stream vs ws (Ok o) h k = record { added = h.added ∷ []; new = (its_own token now stream h.added h.is_new, tt); list = h.list }
+accepts_one now token stream vs ws (Err e) h k = record { added = []; new = tt; list = k ∙ sym (append-nil vs) }
 
-pub accepts_then : (now : ℕ) (us vs ws : Connections) → Accepts now us vs → Accepts now vs ws → Accepts now us ws
+pub accepts_then : {T : Type 0} (now : ℕ) (us vs ws : List (Entry T)) → Accepts now us vs → Accepts now vs ws → Accepts now us ws
 accepts_then now us vs ws h k = record {
   added = h.added ++ k.added;
   new = new_then now h.added k.added h.new k.new;

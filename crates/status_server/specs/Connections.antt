@@ -1,92 +1,103 @@
--- The HTTP connections: the poll token of each, when it was admitted, in milliseconds of a monotonic clock, and how its last turn ended.
-use Rattle.std.specs.Prelude.{◌≡◌, ◌⊎◌, ℕ, ◌+◌, ⊤, Bool, false, true, cond, not, ◌||◌, ◌==◌, nat_lt, List, [], ◌∷◌, ◌++◌, filter, length, map}
+-- The HTTP connections, each with its stream: the poll token, when it was admitted, when a byte last moved on it, in milliseconds of a
+-- monotonic clock, and how its last turn ended.
+use Rattle.std.specs.Prelude.{◌≡◌, ◌⊎◌, ℕ, ◌+◌, ⊤, Bool, false, true, cond, not, ◌||◌, ◌&&◌, ◌==◌, nat_lt, List, [], ◌∷◌, ◌++◌, filter, length, map, Option, if◌then◌else◌}
 use Rattle.std.specs.List.{list_any}
-use Rattle.status_server.specs.declared.http_connection.HttpProgress.{HttpProgress}
-use Rattle.status_server.specs.declared.http_connection.HttpProgress.TheVariants.{Busy, Closed, WouldBlock}
-
-abbrev pub Connection : Type 0
-Connection = ℕ × ℕ × HttpProgress
-
-abbrev pub Connections : Type 0
-Connections = List Connection
+use Rattle.status_server.specs.Calls.{IsFirst, MakesCalls, has_moved}
+use Rattle.status_server.specs.Progress.{is_busy, is_closed}
+use Rattle.status_server.specs.declared.http_connection.HttpProgress.TheVariants.{Busy}
+use Rattle.status_server.specs.declared.http_connections.Entry.{Entry}
 
 -- some connection has the token
-abbrev pub has_token : ℕ → Connections → Bool
-has_token token vs = list_any (λ v. v.0 == token) vs
+abbrev pub has_token : {T : Type 0} → ℕ → List (Entry T) → Bool
+has_token token vs = list_any (λ v. v.token == token) vs
 
--- A connection times out 30 seconds after it was admitted.
-abbrev pub in_time : ℕ → Connections → Connections
-in_time now vs = filter (λ v. nat_lt now (v.1 + 30000)) vs
+-- A connection times out if no byte moved on it for 30 seconds, or 10 minutes after it was admitted.
+abbrev pub is_in_time : {T : Type 0} → ℕ → Entry T → Bool
+is_in_time now v = nat_lt now (v.moved + 30000) && nat_lt now (v.came + 600000)
 
--- A busy connection is served in the next turn.
-abbrev pub is_busy : HttpProgress → Bool
-is_busy Busy = true
-is_busy WouldBlock = false
-is_busy Closed = false
+abbrev pub in_time : {T : Type 0} → ℕ → List (Entry T) → List (Entry T)
+in_time now vs = filter (is_in_time now) vs
 
-abbrev pub is_closed : HttpProgress → Bool
-is_closed Closed = true
-is_closed WouldBlock = false
-is_closed Busy = false
+abbrev pub has_busy : {T : Type 0} → List (Entry T) → Bool
+has_busy vs = list_any (λ v. is_busy v.progress) vs
 
-abbrev pub has_busy : Connections → Bool
-has_busy vs = list_any (λ v. is_busy v.2) vs
+-- A connection of this token becomes busy, and is otherwise as it was. One of another token is unchanged.
+abbrev pub woken : {T : Type 0} → ℕ → Entry T → Entry T
+woken token v = if v.token == token then record v { progress = Busy } else v
 
--- A connection of this token becomes busy.
-abbrev pub woken : ℕ → Connection → Connection
-woken token v = cond (v.0 == token) (v.0, v.1, Busy) v
-
-abbrev pub wake : ℕ → Connections → Connections
-wake token vs = map {B = Connection} (woken token) vs
+abbrev pub wake : {T : Type 0} → ℕ → List (Entry T) → List (Entry T)
+wake token vs = map (woken token) vs
 
 -- Two lists in which each connection and the one in its place are related
-abbrev pub Each : (Connection → Connection → Type 0) → Connections → Connections → Type 0
+abbrev pub Each : {T : Type 0} → (Entry T → Entry T → Type 0) → List (Entry T) → List (Entry T) → Type 0
 Each r [] [] = ⊤
 Each r [] (w ∷ ws) = ⊥
 Each r (v ∷ vs) [] = ⊥
 Each r (v ∷ vs) (w ∷ ws) = r v w × Each r vs ws
 
--- A connection keeps its token and its time. If it was not busy, it does not change.
-abbrev pub IsServed : Connection → Connection → Type 0
-IsServed v w = (w.0 ≡ v.0) × (w.1 ≡ v.1) × ((w.2 ≡ v.2) ⊎ (v.2 ≡ Busy))
+-- A busy connection had a turn at this time, of at most this many calls of its own stream. It keeps its token and its admission. If a byte was
+-- moved, this is the time of its last one.
+pub record Turned {T : Type 0} (remaining contents : T → Option (List ℕ)) (now budget : ℕ) (v w : Entry T) : Type 0 where
+  pub token : w.token ≡ v.token
+  pub came : w.came ≡ v.came
+  pub moved : w.moved ≡ (if has_moved v.connection w.connection then now else v.moved)
+  pub calls : MakesCalls remaining contents budget v.connection w.connection
 
--- A connection keeps its token and its time. It is unchanged, or busy.
-abbrev pub IsWoken : Connection → Connection → Type 0
-IsWoken v w = (w.0 ≡ v.0) × (w.1 ≡ v.1) × ((w.2 ≡ v.2) ⊎ (w.2 ≡ Busy))
+-- A connection that is busy has a turn. Another is unchanged.
+abbrev pub IsServed : {T : Type 0} → (T → Option (List ℕ)) → (T → Option (List ℕ)) → ℕ → ℕ → Entry T → Entry T → Type 0
+IsServed remaining contents now budget v w = (is_busy v.progress ≡ true → Turned remaining contents now budget v w) × (is_busy v.progress ≡ false → w ≡ v)
 
-abbrev pub unclosed : Connections → Connections
-unclosed vs = filter (λ v. not (is_closed v.2)) vs
+-- A connection is unchanged, or it is busy, and otherwise as it was.
+abbrev pub IsWoken : {T : Type 0} → Entry T → Entry T → Type 0
+IsWoken v w = (w ≡ v) ⊎ (w ≡ record v { progress = Busy })
 
--- Busy connections are served. Those that are closed then are removed.
-pub record Serves (vs ws : Connections) : Type 0 where
-  pub served : Connections
-  pub each : Each IsServed vs served
+abbrev pub unclosed : {T : Type 0} → List (Entry T) → List (Entry T)
+unclosed vs = filter (λ v. not (is_closed v.progress)) vs
+
+-- At this time busy connections are served, with at most this many calls of each stream. Those that are closed then are removed.
+pub record Serves {T : Type 0} (remaining contents : T → Option (List ℕ)) (now budget : ℕ) (vs ws : List (Entry T)) : Type 0 where
+  pub served : List (Entry T)
+  pub each : Each (IsServed remaining contents now budget) vs served
   pub rest : ws ≡ unclosed served
 
--- All were admitted at this time, and are busy.
-abbrev pub AllNew : ℕ → Connections → Type 0
+-- This stream is admitted under this token at this time: nothing was read or written, and it is served next.
+pub record IsNew {T : Type 0} (token now : ℕ) (stream : T) (v : Entry T) : Type 0 where
+  pub token_is : v.token ≡ token
+  pub came : v.came ≡ now
+  pub moved : v.moved ≡ now
+  pub progress : v.progress ≡ Busy
+  pub connection : IsFirst stream v.connection
+
+-- This stream is admitted, as the last of the connections.
+pub record Admits {T : Type 0} (token now : ℕ) (stream : T) (vs ws : List (Entry T)) : Type 0 where
+  pub added : Entry T
+  pub is_new : IsNew token now stream added
+  pub list : ws ≡ vs ++ added ∷ []
+
+-- All were admitted at this time.
+abbrev pub AllNew : {T : Type 0} → ℕ → List (Entry T) → Type 0
 AllNew now [] = ⊤
-AllNew now (v ∷ vs) = (v.1 ≡ now) × (v.2 ≡ Busy) × AllNew now vs
+AllNew now (v ∷ vs) = IsNew v.token now v.connection.stream v × AllNew now vs
 
 -- The second list is the first, and behind it connections that are admitted at this time.
-pub record Accepts (now : ℕ) (vs ws : Connections) : Type 0 where
-  pub added : Connections
+pub record Accepts {T : Type 0} (now : ℕ) (vs ws : List (Entry T)) : Type 0 where
+  pub added : List (Entry T)
   pub new : AllNew now added
   pub list : ws ≡ vs ++ added
 
 -- A turn at this time: some connections are woken, others admitted, the busy ones are served, and those that timed out are removed.
-pub record Turns (now : ℕ) (vs ws : Connections) : Type 0 where
-  pub woken_ones : Connections
+pub record Turns {T : Type 0} (remaining contents : T → Option (List ℕ)) (now budget : ℕ) (vs ws : List (Entry T)) : Type 0 where
+  pub woken_ones : List (Entry T)
   pub wakes : Each IsWoken vs woken_ones
-  pub accepted : Connections
+  pub accepted : List (Entry T)
   pub accepts : Accepts now woken_ones accepted
-  pub rest : Connections
-  pub serves : Serves accepted rest
+  pub rest : List (Entry T)
+  pub serves : Serves remaining contents now budget accepted rest
   pub list : ws ≡ in_time now rest
 
 -- How long the next turn may wait, in milliseconds: not at all if a connection is busy, and a second if one is open or may be pending.
 abbrev pub wait_for : Bool → Bool → Bool → ℕ
 wait_for busy pending none = cond busy 0 (cond (pending || not none) 1000 18446744073709551615)
 
-abbrev pub wait_of : Connections → Bool → ℕ
+abbrev pub wait_of : {T : Type 0} → List (Entry T) → Bool → ℕ
 wait_of vs pending = wait_for (has_busy vs) pending (length vs == 0)

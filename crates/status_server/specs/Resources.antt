@@ -1,5 +1,5 @@
 -- Which path has which resource.
-use Rattle.std.specs.Prelude.{◌≡◌, ℕ, List, ◌++◌, codes}
+use Rattle.std.specs.Prelude.{ℕ, List, ◌++◌, codes}
 use Rattle.status_server.specs.declared.resources.Resource.{Resource}
 use Rattle.status_server.specs.declared.resources.Resource.TheVariants as resource
 

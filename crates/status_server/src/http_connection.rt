@@ -1,11 +1,14 @@
 //! One HTTP connection, over a non-blocking stream.
-ghost use Rattle.std.specs.Prelude.{◌≡◌};
-ghost use Rattle.status_server.specs.Connections.{is_busy, is_closed};
+ghost use Rattle.std.specs.Prelude.{◌≡◌, false, IfOk, OnErr};
+ghost use Rattle.http_server.specs.Connection.{history};
+ghost use Rattle.http_server.specs.History.{IsQuiet};
+ghost use Rattle.status_server.specs.Progress.{is_busy, is_closed};
+ghost use Rattle.status_server.specs.Calls.{IsFirst, MakesCall, MakesCalls, TellsMoved, has_moved};
 
 use http_server::{Config, Connection, Service};
 use std::alloc::Global;
 use std::hash::RandomState;
-use std::io::{ErrorKind, Read, Write};
+use std::io::{self, ErrorKind, Read, Write};
 
 /// What a connection can do next.
 #[derive(Clone, Copy, Debug, PartialEq, Eq)]
@@ -54,8 +57,27 @@ pub(crate) struct HttpConnection<T> {
     connection: Connection,
 }
 
+/// What a call of the stream came to.
+#[derive(Clone, Copy, Debug, PartialEq, Eq)]
+enum Moved {
+    /// It moved this many bytes: none if it was interrupted, or at the end of the input.
+    Bytes(usize),
+    /// It moved none, and the turn of the connection ends so.
+    Ends(HttpProgress),
+}
+
+/// How the turn of a connection ended, and whether it moved a byte.
+#[derive(Clone, Copy, Debug, PartialEq, Eq)]
+pub(crate) struct Served {
+    pub(crate) progress: HttpProgress,
+    pub(crate) has_moved: bool,
+}
+
 impl<T: Read + Write> HttpConnection<T> {
-    pub(crate) fn new(alloc: Global, keys: RandomState, stream: T) -> HttpConnection<T> {
+    /// A connection over this stream. Nothing was read or written.
+    pub(crate) fn new(alloc: Global, keys: RandomState, stream: T) -> HttpConnection<T>
+        ensures { IsFirst stream result }
+    {
         HttpConnection {
             stream,
             connection: Connection::new(alloc, keys, bounds()),
@@ -63,33 +85,58 @@ impl<T: Read + Write> HttpConnection<T> {
     }
 
     /// Serves the connection until its stream would block, or until this many calls were made.
-    pub(crate) fn serve<S: Service>(&mut self, service: &mut S, budget: u32) -> HttpProgress {
+    pub(crate) fn serve<S: Service>(&mut self, service: &mut S, budget: u32) -> Served
+        ensures calls { MakesCalls T.remaining T.contents budget self.old self.new }
+        ensures moved { result.has_moved ≡ has_moved self.old self.new }
+    {
+        let mut has_moved = false;
         for _call in 0..budget {
-            if let Some(visit) = self.step(service) {
-                return visit;
+            match self.call(service) {
+                Moved::Bytes(count) => has_moved |= count > 0,
+                Moved::Ends(progress) => return Served {
+                    progress,
+                    has_moved,
+                },
             }
         }
-        HttpProgress::Busy
+        Served {
+            progress: HttpProgress::Busy,
+            has_moved,
+        }
     }
 
     /// Makes one call of the stream: it writes if bytes are due, and reads otherwise.
-    fn step<S: Service>(&mut self, service: &mut S) -> Option<HttpProgress> {
-        let moved = if self.connection.wants_write() {
-            self.connection.write_to(&mut self.stream)
+    fn call<S: Service>(&mut self, service: &mut S) -> Moved
+        ensures call { MakesCall T.remaining T.contents self.old self.new }
+        ensures moved { TellsMoved result (has_moved self.old self.new) }
+    {
+        if self.connection.wants_write() {
+            let written = self.connection.write_to(&mut self.stream);
+            self.go_on(written, service)
         } else if self.connection.wants_read() {
-            self.connection.read_from(&mut self.stream)
+            let read = self.connection.read_from(&mut self.stream);
+            self.go_on(read, service)
         } else {
-            return Some(HttpProgress::Closed);
-        };
+            Moved::Ends(HttpProgress::Closed)
+        }
+    }
+
+    /// Answers what was received, after a call of the stream.
+    fn go_on<S: Service>(&mut self, moved: io::Result<usize>, service: &mut S) -> Moved
+        ensures quiet { IsQuiet (history self.old.connection) (history self.new.connection) }
+        ensures stream { self.new.stream ≡ self.old.stream }
+        ensures ok { IfOk moved (λ n. result ≡ Moved.Bytes n) }
+        ensures err { OnErr moved (TellsMoved result false) }
+    {
         match moved {
-            Ok(_count) => {
+            Ok(count) => {
                 self.connection.advance(service);
-                None
+                Moved::Bytes(count)
             }
             Err(error) => match error.kind() {
-                ErrorKind::WouldBlock => Some(HttpProgress::WouldBlock),
-                ErrorKind::Interrupted => None,
-                _ => Some(HttpProgress::Closed),
+                ErrorKind::WouldBlock => Moved::Ends(HttpProgress::WouldBlock),
+                ErrorKind::Interrupted => Moved::Bytes(0),
+                _ => Moved::Ends(HttpProgress::Closed),
             },
         }
     }

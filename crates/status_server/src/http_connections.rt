@@ -1,8 +1,8 @@
 //! All HTTP connections.
-ghost use Rattle.std.specs.Prelude.{◌≡◌, ◌==◌, ◌++◌, ◌∷◌, ◌↔◌, ◌≤◌, [], length, Err, OnOk, OnErr, map};
+ghost use Rattle.std.specs.Prelude.{◌≡◌, ◌==◌, ◌++◌, ◌∷◌, ◌↔◌, ◌≤◌, [], length, Err, OnOk, OnErr};
 ghost use Rattle.std.specs.List.{list_any};
-ghost use Rattle.status_server.specs.Connections.{Connection, Each, IsServed, Serves, has_busy, has_token, in_time, is_busy, unclosed, wake, woken};
-ghost use Rattle.status_server.specs.declared.http_connection.HttpProgress.TheVariants.{Busy};
+ghost use Rattle.status_server.specs.Connections.{Admits, Each, IsServed, Serves, has_busy, has_token, in_time, is_in_time, unclosed, wake, woken};
+ghost use Rattle.status_server.specs.Progress.{is_busy};
 
 use crate::answers::Answers;
 use crate::http_connection::{HttpConnection, HttpProgress};
@@ -17,8 +17,11 @@ use thiserror::Error;
 /// How many connections there may be at once.
 pub const MAX_CONNECTIONS: usize = 64;
 
-/// The timeout of a connection, in milliseconds.
-pub const CONNECTION_MILLIS: u64 = 30_000;
+/// How long a connection stays open while no byte moves on it, in milliseconds.
+pub const IDLE_MILLIS: u64 = 30_000;
+
+/// How long a connection stays open, in milliseconds.
+pub const CONNECTION_MILLIS: u64 = 600_000;
 
 /// Why a connection is not admitted. Its stream was dropped.
 #[derive(Clone, Copy, Debug, Drop, PartialEq, Eq, Error)]
@@ -31,11 +34,13 @@ pub enum HttpAdmitFault {
     Memory,
 }
 
-/// A connection, with its poll token, when it was admitted, and its progress. If it is busy, it is served in the next turn.
+/// A connection, with its poll token, when it was admitted, when a byte last moved on it, and its progress. If it is busy, it is served in the
+/// next turn.
 #[derive(Drop)]
 struct Entry<T> {
     token: usize,
     came: u64,
+    moved: u64,
     progress: HttpProgress,
     connection: HttpConnection<T>,
 }
@@ -45,16 +50,17 @@ struct Entry<T> {
 pub struct HttpConnections<T> {
     alloc: Global,
     keys: RandomState,
+    name: Option<String>,
     entries: Vec<Entry<T>>,
 }
 
 impl<T> Model for HttpConnections<T> {
-    ghost use Rattle.std.specs.Prelude.{◌≤◌, length, map};
-    ghost use Rattle.status_server.specs.Connections.{Connections};
+    ghost use Rattle.std.specs.Prelude.{List, ◌≤◌, length};
+    ghost use Rattle.status_server.specs.declared.http_connections.Entry.{Entry};
 
-    ghost Value = { Connections };
+    ghost Value = { List (Entry T) };
 
-    ghost view = { λ v. map (λ p. (p.token, p.came, p.progress)) v.entries.items };
+    ghost view = { λ v. v.entries.items };
 
     ghost invariant = { λ v. length v.entries.items ≤ 64 };
 }
@@ -62,21 +68,34 @@ impl<T> Model for HttpConnections<T> {
 impl<T> Entry<T> {
     /// Wakes the connection, if it has this token.
     fn wake(&mut self, token: usize)
-        ensures { (self.new.token, self.new.came, self.new.progress) ≡ woken token (self.old.token, self.old.came, self.old.progress) }
+        ensures { self.new ≡ woken token self.old }
     {
         if self.token == token {
             self.progress = HttpProgress::Busy;
         }
     }
+
+    /// Whether the connection did not time out.
+    fn is_in_time(&self, now: u64) -> bool
+        ensures { result ≡ is_in_time now self.now }
+    {
+        now.saturating_sub(self.moved) < IDLE_MILLIS
+            && now.saturating_sub(self.came) < CONNECTION_MILLIS
+    }
 }
 
 impl<T: Read + Write> Entry<T> {
-    /// Serves the connection, if it is busy.
-    fn serve<S: StatusSource>(&mut self, answers: &mut Answers<'_, S>, budget: u32)
-        ensures { IsServed (self.old.token, self.old.came, self.old.progress) (self.new.token, self.new.came, self.new.progress) }
+    /// Serves the connection at this time, if it is busy.
+    fn serve<S: StatusSource>(&mut self, now: u64, answers: &mut Answers<'_, S>, budget: u32)
+        ensures { IsServed T.remaining T.contents now budget self.old self.new }
     {
-        if self.progress.is_busy() {
-            self.progress = self.connection.serve(answers, budget);
+        if !self.progress.is_busy() {
+            return;
+        }
+        let served = self.connection.serve(answers, budget);
+        self.progress = served.progress;
+        if served.has_moved {
+            self.moved = now;
         }
     }
 }
@@ -104,34 +123,37 @@ fn any_busy<T>(entries: &[Entry<T>]) -> bool
 
 /// Wakes the entries of a token.
 fn wake_in<T>(entries: &mut [Entry<T>], token: usize)
-    ensures { map {B = Connection} (λ p. (p.token, p.came, p.progress)) entries.new ≡ wake token (map {B = Connection} (λ p. (p.token, p.came, p.progress)) entries.old) }
+    ensures { entries.new ≡ wake token entries.old }
 {
     for entry in entries.iter_mut() {
         entry.wake(token);
     }
 }
 
-/// Serves the busy entries.
+/// Serves the busy entries at this time.
 fn serve_in<T: Read + Write, S: StatusSource>(
     entries: &mut [Entry<T>],
+    now: u64,
     answers: &mut Answers<'_, S>,
     budget: u32,
 )
-    ensures { Each IsServed (map {B = Connection} (λ p. (p.token, p.came, p.progress)) entries.old) (map {B = Connection} (λ p. (p.token, p.came, p.progress)) entries.new) }
+    ensures { Each (IsServed T.remaining T.contents now budget) entries.old entries.new }
 {
     for entry in entries.iter_mut() {
-        entry.serve(answers, budget);
+        entry.serve(now, answers, budget);
     }
 }
 
 impl<T: Read + Write + Drop> HttpConnections<T> {
-    /// No connections. Clients choose the names of headers, so the keys must be random.
-    pub fn new(alloc: Global, keys: RandomState) -> HttpConnections<T>
+    /// No connections. Clients choose the names of headers, so the keys must be random. Requests are served that name an address, `localhost`,
+    /// or this name (`is_served_host`).
+    pub fn new(alloc: Global, keys: RandomState, name: Option<String>) -> HttpConnections<T>
         ensures { result ≡ [] }
     {
         HttpConnections {
             alloc,
             keys,
+            name,
             entries: Vec::new(alloc),
         }
     }
@@ -153,7 +175,7 @@ impl<T: Read + Write + Drop> HttpConnections<T> {
 
     /// Admits a connection with this poll token, which is busy: it is served next. On an error all others are unchanged.
     pub fn admit(&mut self, token: usize, stream: T, now: u64) -> Result<(), HttpAdmitFault>
-        ensures ok { OnOk result (self.new ≡ self.old ++ (token, now, Busy) ∷ []) }
+        ensures ok { OnOk result (Admits token now stream self.old self.new) }
         ensures full { result ≡ Err HttpAdmitFault.TooManyConnections ↔ (64 ≤ length self.old) }
         ensures err { OnErr result (self.new ≡ self.old) }
     {
@@ -163,6 +185,7 @@ impl<T: Read + Write + Drop> HttpConnections<T> {
         let entry = Entry {
             token,
             came: now,
+            moved: now,
             progress: HttpProgress::Busy,
             connection: HttpConnection::new(self.alloc, self.keys, stream),
         };
@@ -193,12 +216,12 @@ impl<T: Read + Write + Drop> HttpConnections<T> {
         wake_in(&mut self.entries, token);
     }
 
-    /// Serves the busy connections.
-    fn serve_busy<S: StatusSource>(&mut self, source: &mut S, budget: u32)
-        ensures { Each IsServed self.old self.new }
+    /// Serves the busy connections at this time.
+    fn serve_busy<S: StatusSource>(&mut self, now: u64, source: &mut S, budget: u32)
+        ensures { Each (IsServed T.remaining T.contents now budget) self.old self.new }
     {
-        let mut answers = Answers::new(self.alloc, source);
-        serve_in(&mut self.entries, &mut answers, budget);
+        let mut answers = Answers::new(self.alloc, source, self.name.as_deref());
+        serve_in(&mut self.entries, now, &mut answers, budget);
     }
 
     /// Removes the closed connections.
@@ -208,19 +231,19 @@ impl<T: Read + Write + Drop> HttpConnections<T> {
         self.entries.retain(|entry| !entry.progress.is_closed());
     }
 
-    /// Serves each busy connection until its stream would block, or until this many calls were made. Those that are closed then are removed.
-    pub fn serve<S: StatusSource>(&mut self, source: &mut S, budget: u32)
-        ensures { Serves self.old self.new }
+    /// Serves each busy connection at this time, until its stream would block, or until this many calls were made. Those that are closed then
+    /// are removed.
+    pub fn serve<S: StatusSource>(&mut self, now: u64, source: &mut S, budget: u32)
+        ensures { Serves T.remaining T.contents now budget self.old self.new }
     {
-        self.serve_busy(source, budget);
+        self.serve_busy(now, source, budget);
         self.remove_closed();
     }
 
-    /// Drops the connections that were admitted `CONNECTION_MILLIS` ago or earlier.
+    /// Drops the connections on which no byte moved for `IDLE_MILLIS`, and those that were admitted `CONNECTION_MILLIS` ago or earlier.
     pub fn expire(&mut self, now: u64)
         ensures { self.new ≡ in_time now self.old }
     {
-        self.entries
-            .retain(|entry| now.saturating_sub(entry.came) < CONNECTION_MILLIS);
+        self.entries.retain(|entry| entry.is_in_time(now));
     }
 }

@@ -1,6 +1,7 @@
 //! The HTTP endpoint: it accepts connections and serves them, turn by turn.
-ghost use Rattle.std.specs.Prelude.{◌≡◌, [], true};
-ghost use Rattle.status_server.specs.Connections.{Accepts, Connections, Each, IsWoken, Serves, Turns, in_time, wait_for, wait_of};
+ghost use Rattle.std.specs.Prelude.{◌≡◌, List, [], true};
+ghost use Rattle.status_server.specs.declared.http_connections.Entry.{Entry};
+ghost use Rattle.status_server.specs.Connections.{Accepts, Each, IsWoken, Serves, Turns, in_time, wait_for, wait_of};
 
 use crate::http_connections::HttpConnections;
 use crate::http_sockets::{HttpAccept, HttpReady, HttpSockets};
@@ -31,10 +32,10 @@ pub struct HttpEndpoint<T> {
 }
 
 impl<T> Model for HttpEndpoint<T> {
-    ghost use Rattle.std.specs.Prelude.{Bool};
-    ghost use Rattle.status_server.specs.Connections.{Connections};
+    ghost use Rattle.std.specs.Prelude.{Bool, List};
+    ghost use Rattle.status_server.specs.declared.http_connections.Entry.{Entry};
 
-    ghost Value = { Connections × Bool };
+    ghost Value = { List (Entry T) × Bool };
 
     ghost view = { λ v. (v.connections, v.pending) };
 }
@@ -47,12 +48,13 @@ impl<T> Debug for HttpEndpoint<T> {
 }
 
 impl<T: Read + Write + Drop> HttpEndpoint<T> {
-    /// An endpoint without connections. One may be pending. Clients choose the names of headers, so the keys must be random.
-    pub fn new(alloc: Global, keys: RandomState) -> HttpEndpoint<T>
+    /// An endpoint without connections. One may be pending. Clients choose the names of headers, so the keys must be random. Requests are
+    /// served that name an address, `localhost`, or this name (`is_served_host`).
+    pub fn new(alloc: Global, keys: RandomState, name: Option<String>) -> HttpEndpoint<T>
         ensures { result ≡ ([], true) }
     {
         HttpEndpoint {
-            connections: HttpConnections::new(alloc, keys),
+            connections: HttpConnections::new(alloc, keys, name),
             pending: true,
         }
     }
@@ -71,7 +73,7 @@ impl<T: Read + Write + Drop> HttpEndpoint<T> {
         sockets: &mut N,
         source: &mut S,
     )
-        ensures { Turns now self.old.0 self.new.0 }
+        ensures { Turns T.remaining T.contents now BUDGET self.old.0 self.new.0 }
     {
         self.note_all(sockets);
         self.accept_all(now, sockets);
@@ -153,9 +155,9 @@ impl<T: Read + Write + Drop> HttpEndpoint<T> {
 
     /// Serves the busy connections, and removes those that timed out.
     fn serve<S: StatusSource>(&mut self, now: u64, source: &mut S)
-        ensures { (rest : Connections) × Serves self.old.0 rest × (self.new.0 ≡ in_time now rest) }
+        ensures { (rest : List (Entry T)) × Serves T.remaining T.contents now BUDGET self.old.0 rest × (self.new.0 ≡ in_time now rest) }
     {
-        self.connections.serve(source, BUDGET);
+        self.connections.serve(now, source, BUDGET);
         self.connections.expire(now);
     }
 }

@@ -3,7 +3,7 @@
 //! For example, where `rt` is the runtime that `main` is handed:
 //!
 //! ```rust
-//! use status_server::{CONNECTION_MILLIS, HttpConnections};
+//! use status_server::{HttpConnections, IDLE_MILLIS};
 //! use std::hash::RandomState;
 //! use std::io;
 //! use std::io::{ErrorKind, Read, Write};
@@ -28,26 +28,31 @@
 //!     }
 //! }
 //!
-//! let mut connections = HttpConnections::new(rt.alloc(), RandomState::new(&rt)?);
+//! let mut connections = HttpConnections::new(rt.alloc(), RandomState::new(&rt)?, None);
 //! connections.admit(7, Silent, 0)?;
-//! connections.expire(CONNECTION_MILLIS - 1);
+//! connections.expire(IDLE_MILLIS - 1);
 //! assert!(rt; connections.has(7));
-//! connections.expire(CONNECTION_MILLIS);
+//! connections.expire(IDLE_MILLIS);
 //! assert!(rt; connections.is_empty());
 //! ```
 #![tactic(auto)]
 
 mod answers;
 mod conditions;
+mod host;
 mod http_connection;
 mod http_connections;
 mod http_endpoint;
 mod http_sockets;
+mod plan;
 mod resources;
 mod status_source;
 
+pub use host::is_served_host;
 pub use http_connection::HttpProgress;
-pub use http_connections::{CONNECTION_MILLIS, HttpAdmitFault, HttpConnections, MAX_CONNECTIONS};
+pub use http_connections::{
+    CONNECTION_MILLIS, HttpAdmitFault, HttpConnections, IDLE_MILLIS, MAX_CONNECTIONS,
+};
 pub use http_endpoint::HttpEndpoint;
 pub use http_sockets::{HttpAccept, HttpReady, HttpSockets};
 pub use status_source::StatusSource;

@@ -1,5 +1,5 @@
 //! The resources, and their paths.
-ghost use Rattle.std.specs.Prelude.{◌≡◌, IfSome, IfNone};
+ghost use Rattle.std.specs.Prelude.{◌≡◌, ℕ, List, IfSome, IfNone};
 ghost use Rattle.status_server.specs.Resources.{path_of, route_path};
 
 /// The resources that have a path of their own.
@@ -44,7 +44,8 @@ pub(crate) fn resource_at(path: &str) -> Option<Resource>
 
 /// The end of the path of a route's validity: the AS number and the prefix.
 pub(crate) fn route_in(path: &str) -> Option<&str>
-    ensures { IfSome result (λ rest. path.now ≡ route_path rest.now) }
+    ensures some { IfSome result (λ rest. path.now ≡ route_path rest.now) }
+    ensures none { IfNone result ((rest : List ℕ) → ¬ (path.now ≡ route_path rest)) }
 {
     path.strip_prefix("/api/v1/validity/")
 }

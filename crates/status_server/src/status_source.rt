@@ -1,4 +1,6 @@
 //! The source of the status pages.
+ghost use Rattle.std.specs.Prelude.{◌≡◌, IfOk};
+ghost use Rattle.status_server.specs.Answers.{IsShown, Shown, nothing_shown};
 
 use bytes::Bytes;
 use prefixes::Route;
@@ -7,20 +9,28 @@ use std::alloc::AllocError;
 
 /// What the pages ask of a cache. An error is for memory alone.
 pub trait StatusSource {
+    /// What it answers, if that is known.
+    ghost shows: { Self → Shown } = { λ _. nothing_shown };
+
     /// The current time, in seconds since 1970.
-    fn now(&mut self) -> u64;
+    fn now(&mut self) -> u64
+        ensures { shows self.new ≡ shows self.old };
 
     /// The current status of the cache.
-    fn status(&mut self) -> Result<Status, AllocError>;
+    fn status(&mut self) -> Result<Status, AllocError>
+        ensures { shows self.new ≡ shows self.old };
 
     /// The payload list of the served set as text, or `None` before the first version is published. All requests for one version share it.
-    fn list(&mut self) -> Result<Option<Bytes>, AllocError>;
+    fn list(&mut self) -> Result<Option<Bytes>, AllocError>
+        ensures shown { IfOk result (λ list. IsShown (shows self.old).list list) }
+        ensures keeps { shows self.new ≡ shows self.old };
 
     /// The records of the served set as CSV, or `None` if there is none. All requests for one version share it.
-    fn csv(&mut self) -> Result<Option<Bytes>, AllocError> {
-        Ok(None)
-    }
+    fn csv(&mut self) -> Result<Option<Bytes>, AllocError>
+        ensures shown { IfOk result (λ list. IsShown (shows self.old).csv list) }
+        ensures keeps { shows self.new ≡ shows self.old };
 
     /// The validity of a route under the served set, or `None` before the first version is published.
-    fn validity(&mut self, route: &Route) -> Result<Option<Validity>, AllocError>;
+    fn validity(&mut self, route: &Route) -> Result<Option<Validity>, AllocError>
+        ensures { shows self.new ≡ shows self.old };
 }

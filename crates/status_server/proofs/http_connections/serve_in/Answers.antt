@@ -1,13 +1,17 @@
-use Rattle.std.proofs.Common.{map}
-use Rattle.status_server.specs.Connections.{Connection, IsServed}
-use Rattle.status_server.proofs.ConnectionLaws.{each_same, each_set, each_then, served_same, served_then}
+use Rattle.std.proofs.Common.{arith}
+use Rattle.status_server.specs.Connections.{IsServed}
+use Rattle.status_server.proofs.ConnectionLaws.{each_all, each_more, each_none}
 use Rattle.status_server.proofs.http_connections.serve_in.Goals as goal
 
 pub loop-entry-init : goal.loop-entry-init
-loop-entry-init g c = each_same IsServed served_same (map {B = Connection} (λ p. (p.token, p.came, p.progress)) c.args.entries.now)
+loop-entry-init g c = each_none (IsServed g.T.Read.remaining g.T.Write.contents c.args.now c.args.budget) c.args.entries.now
 
 pub loop-entry-preserved : goal.loop-entry-preserved
 loop-entry-preserved g c =
-    each_then IsServed served_then (map {B = Connection} (λ p. (p.token, p.came, p.progress)) c.args.entries.now) (map {B = Connection} (λ p. (p.token, p.came, p.progress)) c.loop-entry.entries) _
-    c.loop-entry.invariant
-    (each_set IsServed served_same (λ p. (p.token, p.came, p.progress)) c.loop-entry.entries c.loop-entry.entry-index c.serve.new.self c.entry-item.result c.serve.ensures)
+    each_more (IsServed g.T.Read.remaining g.T.Write.contents c.args.now c.args.budget) c.loop-entry.entry-index c.args.entries.now c.loop-entry.entries c.serve.new.self c.entry-item.result
+    c.loop-entry.invariant c.serve.ensures
+
+pub returns : goal.returns
+returns g c =
+    each_all (IsServed g.T.Read.remaining g.T.Write.contents c.args.now c.args.budget) c.loop-entry.entry-index c.args.entries.now c.loop-entry.entries
+    (omega (arith, c.loop-entry-test.false, c.loop-entry.auto.entries)) c.loop-entry.invariant

@@ -1,7 +1,7 @@
--- The entries so far were served, or left as they were.
-use Rattle.std.proofs.Common.{map}
-use Rattle.status_server.specs.Connections.{Connection, Each, IsServed}
+-- The entries before the index were served.
+use Rattle.status_server.specs.Connections.{IsServed}
+use Rattle.status_server.proofs.ConnectionLaws.{EachUpto}
 use Rattle.status_server.proofs.http_connections.serve_in.Given as goal
 
 abbrev pub invariant-loop-entry : goal.invariant-loop-entry
-invariant-loop-entry g l = Each IsServed (map {B = Connection} (λ p. (p.token, p.came, p.progress)) l.initial.entries) (map {B = Connection} (λ p. (p.token, p.came, p.progress)) l.entries)
+invariant-loop-entry g l = EachUpto (IsServed g.T.Read.remaining g.T.Write.contents l.now l.budget) l.entry-index l.initial.entries l.entries

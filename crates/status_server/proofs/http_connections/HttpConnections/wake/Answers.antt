@@ -1,9 +1,9 @@
-use Rattle.std.proofs.Common.{map, ap, arith, ◌∙◌}
+use Rattle.std.proofs.Common.{ap, arith, ◌∙◌}
 use Rattle.std.proofs.lemmas.List.{with_items_is}
-use Rattle.status_server.specs.Connections.{Connection, wake}
+use Rattle.status_server.specs.Connections.{wake}
 use Rattle.status_server.proofs.http_connections.HttpConnections.wake.Goals as goal
 
 pub returns : goal.returns
 returns g c =
     let all = with_items_is c.self.inside.entries c.wake_in.new.entries (omega (arith, c.wake_in.auto.entries, c.deref_mut.ensures.len)) in
-    ap (map {B = Connection} (λ p. (p.token, p.came, p.progress))) all ∙ c.wake_in.ensures ∙ ap (λ l. wake c.args.token (map {B = Connection} (λ p. (p.token, p.came, p.progress)) l)) c.deref_mut.ensures.value ∙ ap (wake c.args.token) c.self.view_is
+    all ∙ c.wake_in.ensures ∙ ap (wake c.args.token) c.deref_mut.ensures.value ∙ ap (wake c.args.token) c.self.view_is
