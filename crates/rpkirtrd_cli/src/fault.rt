@@ -22,6 +22,12 @@ pub enum Wanted {
     /// A format of the log.
     #[error("text or json")]
     LogFormat,
+    /// A level of the log.
+    #[error("error, warning, notice or info")]
+    LogLevel,
+    /// The name of a host.
+    #[error("a host name, as cache.example.net,")]
+    HostName,
 }
 
 /// Why a command line is refused. The text names the option, quotes its value, and says what is required.
@@ -56,6 +62,9 @@ pub enum OptionFault {
     /// There is `--stop-when-old` without `--max-age`.
     #[error("--max-age is required beside --stop-when-old, as nothing is old without it")]
     NoAge,
+    /// There is `--status-name` without `--status`.
+    #[error("--status is required beside --status-name, as there are no pages without it")]
+    NoStatus,
     /// Out of memory.
     #[error("out of memory")]
     Memory,

@@ -58,11 +58,13 @@ pub(crate) static GROUPS: [OptionGroup; 7] = [
             OptionSpec {
                 name: "slurm",
                 letter: None,
-                kind: OptionKind::Once,
+                kind: OptionKind::Often,
                 value: "FILE",
                 help: &[
                     "FILE has local exceptions (SLURM, RFC 8416). They are applied to all",
-                    "records.",
+                    "records. The option may be given several times: the files are applied",
+                    "together, and all are refused if two of them overlap (RFC 8416 section",
+                    "4.2).",
                 ],
             },
             OptionSpec {
@@ -87,7 +89,7 @@ pub(crate) static GROUPS: [OptionGroup; 7] = [
                     "A file of --vrps whose data are older is reported as old. Its data are",
                     "still served. If a file does not say when it was made, or says a time more",
                     "than an hour ahead, its modification time counts. DIR of --points and the",
-                    "file of --slurm have no age. The number is from 1 to 4294967295; by",
+                    "files of --slurm have no age. The number is from 1 to 4294967295; by",
                     "default no file is old.",
                 ],
             },
@@ -277,12 +279,35 @@ pub(crate) static GROUPS: [OptionGroup; 7] = [
                 ],
             },
             OptionSpec {
+                name: "status-name",
+                letter: None,
+                kind: OptionKind::Once,
+                value: "NAME",
+                help: &[
+                    "The name by which browsers and other clients call the status pages, as",
+                    "cache.example.net. A request by another name is refused, so that no web",
+                    "page can read them by a name of its own. Addresses and localhost always",
+                    "work. It needs --status.",
+                ],
+            },
+            OptionSpec {
                 name: "log",
                 letter: None,
                 kind: OptionKind::Once,
                 value: "FORM",
                 help: &[
                     "The form of the log on standard error: text or json. The default is text.",
+                ],
+            },
+            OptionSpec {
+                name: "log-level",
+                letter: None,
+                kind: OptionKind::Once,
+                value: "LEVEL",
+                help: &[
+                    "Which events are logged: error, warning, notice or info, each with those",
+                    "before it. The default is info, which is all. At most 1000 lines about",
+                    "routers are written within 10 seconds; the log says how many it lacks.",
                 ],
             },
         ],
@@ -301,13 +326,14 @@ pub(crate) static GROUPS: [OptionGroup; 7] = [
         title: "Others:",
         options: &[
             OptionSpec {
-                name: "test",
+                name: "check-config",
                 letter: None,
                 kind: OptionKind::Flag,
                 value: "",
                 help: &[
-                    "Read and judge all files, and exit. The status is 0 if the daemon could",
-                    "start with them, and 1 if one is refused. No address is opened.",
+                    "Read and judge all files, say what would be served, and exit. The status",
+                    "is 0 if the daemon could start so, and 1 if a file is refused. No address",
+                    "is opened.",
                 ],
             },
             OptionSpec {

@@ -2,7 +2,7 @@
 ghost use Rattle.std.specs.Prelude.{◌≡◌, ◌≤◌, ◌+◌, true, IsSome, vec_len};
 ghost use Rattle.rpkirtrd_cli.specs.Bounds.{is_within};
 
-use event_log::LogFormat;
+use event_log::{LogFormat, LogLevel};
 use rtr_ends::Timing;
 use std::net::SocketAddr;
 
@@ -13,8 +13,8 @@ pub struct Settings {
     pub vrps: Vec<String>,
     /// The directories that are publication points.
     pub points: Vec<String>,
-    /// The file of local exceptions (RFC 8416).
-    pub slurm: Option<String>,
+    /// The files of local exceptions (RFC 8416), which are applied together.
+    pub slurm: Vec<String>,
     /// The listening addresses for routers, at least one.
     pub listen: Vec<SocketAddr>,
     /// The session in protocol version 1, or `None` for the daemon's own.
@@ -45,12 +45,16 @@ pub struct Settings {
     pub stall: u32,
     /// The address of the status pages, if there are any.
     pub status: Option<SocketAddr>,
+    /// The name by which clients call the status pages, if they may call them by one.
+    pub status_name: Option<String>,
     /// The format of the log.
     pub log: LogFormat,
+    /// The least severe level of the events that are logged.
+    pub log_level: LogLevel,
     /// Whether the daemon stops when the first client is closed.
     pub once: bool,
-    /// Whether the files are only checked: then nothing is served.
-    pub test: bool,
+    /// Whether the configuration is only checked: then nothing is served.
+    pub check_config: bool,
 
     // Every run has at least one source and at least one address, and its numbers are in range.
     ghost has_source: { 1 ≤ vec_len vrps + vec_len points },
@@ -63,6 +67,7 @@ pub struct Settings {
     ghost serves: { 1 ≤ clients },
     ghost serves_to: { clients ≤ 4294967295 },
     ghost waits: { 1 ≤ stall },
+    ghost names: { IsSome status_name → IsSome status },
     ghost ages: { stop_when_old ≡ true → IsSome max_age },
     ghost ages_within: { is_within 1 4294967295 max_age ≡ true },
     ghost shares_within: { is_within 1 4294967295 clients_per_address ≡ true },

@@ -5,7 +5,7 @@ ghost use Rattle.rpkirtrd_cli.specs.Bounds.{is_within};
 
 use crate::fault::{OptionFault, Wanted};
 use clap::ArgMatches;
-use event_log::LogFormat;
+use event_log::{LogFormat, LogLevel};
 use std::alloc::Global;
 use std::net::SocketAddr;
 
@@ -124,18 +124,6 @@ fn path_in(alloc: Global, option: &'static str, text: &str) -> Result<String, Op
     Ok(String::from_str(alloc, text)?)
 }
 
-/// The path of an option, if there is one.
-pub(crate) fn path(
-    alloc: Global,
-    found: &ArgMatches<'_>,
-    option: &'static str,
-) -> Result<Option<String>, OptionFault> {
-    match found.get_str(option) {
-        Some(text) => Ok(Some(path_in(alloc, option, text)?)),
-        None => Ok(None),
-    }
-}
-
 /// The paths of an option, in order.
 pub(crate) fn paths(
     alloc: Global,
@@ -206,5 +194,47 @@ pub(crate) fn log_format(
         Some("text") => Ok(LogFormat::Text),
         Some("json") => Ok(LogFormat::Json),
         Some(text) => Err(wrong(alloc, option, text, Wanted::LogFormat)),
+    }
+}
+
+/// The log level that an option gives. If the option is absent, it is the least severe one.
+pub(crate) fn log_level(
+    alloc: Global,
+    found: &ArgMatches<'_>,
+    option: &'static str,
+) -> Result<LogLevel, OptionFault> {
+    let Some(text) = found.get_str(option) else {
+        return Ok(LogLevel::Info);
+    };
+    match LogLevel::parse(text) {
+        Some(level) => Ok(level),
+        None => Err(wrong(alloc, option, text, Wanted::LogLevel)),
+    }
+}
+
+/// Whether a text is a host name: labels with dots between them, of at most 253 bytes.
+fn is_host_name(text: &str) -> bool {
+    text.len() <= 253 && text.split('.').all(is_label)
+}
+
+/// Whether a text is a label of a host name: letters, digits, hyphens and underscores.
+fn is_label(text: &str) -> bool {
+    !text.is_empty() && text.bytes().all(is_label_byte)
+}
+
+fn is_label_byte(byte: u8) -> bool {
+    byte.is_ascii_alphanumeric() || byte == b'-' || byte == b'_'
+}
+
+/// The host name of an option, if there is one.
+pub(crate) fn host_name(
+    alloc: Global,
+    found: &ArgMatches<'_>,
+    option: &'static str,
+) -> Result<Option<String>, OptionFault> {
+    match found.get_str(option) {
+        None => Ok(None),
+        Some(text) if is_host_name(text) => Ok(Some(String::from_str(alloc, text)?)),
+        Some(text) => Err(wrong(alloc, option, text, Wanted::HostName)),
     }
 }

@@ -7,7 +7,8 @@ use crate::help::{help, version};
 use crate::options::command_line;
 use crate::settings::Settings;
 use crate::values::{
-    address, addresses, log_format, number, number_16, number_32, number_or, path, paths,
+    address, addresses, host_name, log_format, log_level, number, number_16, number_32, number_or,
+    paths,
 };
 use clap::error::ErrorKind;
 use clap::{ArgMatches, Error};
@@ -132,6 +133,23 @@ fn age(alloc: Global, found: &ArgMatches<'_>) -> Result<MaxAge, OptionFault> {
     })
 }
 
+/// The address of the status pages, and their name.
+#[derive(Drop)]
+struct StatusAddress {
+    address: Option<SocketAddr>,
+    name: Option<String>,
+    ghost names: { IsSome name → IsSome address },
+}
+
+fn status(alloc: Global, found: &ArgMatches<'_>) -> Result<StatusAddress, OptionFault> {
+    let address = address(alloc, found, "status")?;
+    let name = host_name(alloc, found, "status-name")?;
+    if name.is_some() && address.is_none() {
+        return Err(OptionFault::NoStatus);
+    }
+    Ok(StatusAddress { address, name })
+}
+
 /// The largest file size in bytes.
 fn max_size(alloc: Global, found: &ArgMatches<'_>) -> Result<u64, OptionFault>
     ensures { IfOk result (λ size. (1 ≤ size) × (size ≤ 1099511627776)) }
@@ -149,10 +167,11 @@ fn settings(alloc: Global, found: &ArgMatches<'_>) -> Result<Settings, OptionFau
         max_age,
         stop_when_old,
     } = age(alloc, found)?;
+    let StatusAddress { address, name } = status(alloc, found)?;
     Ok(Settings {
         vrps,
         points,
-        slurm: path(alloc, found, "slurm")?,
+        slurm: paths(alloc, found, "slurm")?,
         listen: listen(alloc, found)?,
         session: number_16(alloc, found, "session")?,
         session0: number_16(alloc, found, "session0")?,
@@ -167,10 +186,12 @@ fn settings(alloc: Global, found: &ArgMatches<'_>) -> Result<Settings, OptionFau
         clients: number_or(alloc, found, "clients", 1, 4_294_967_295, 256)? as usize,
         clients_per_address: number(alloc, found, "clients-per-address", 1, 4_294_967_295)?,
         stall: number_or(alloc, found, "stall", 1, 4_294_967_295, 120)?,
-        status: address(alloc, found, "status")?,
+        status: address,
+        status_name: name,
         log: log_format(alloc, found, "log")?,
+        log_level: log_level(alloc, found, "log-level")?,
         once: found.get_flag("once"),
-        test: found.get_flag("test"),
+        check_config: found.get_flag("check-config"),
     })
 }
 
