@@ -7,10 +7,8 @@ use Rattle.vrps.specs.Stores.{newest}
 use Rattle.vrps.specs.VrpSet.{VrpSet}
 use Rattle.rtr_ends.specs.CacheState.{CacheCall, Open}
 use Rattle.rtr_server.specs.Clients.{Past, ShowsServer, present}
-use Rattle.sources.specs.Served.{ExportTaken, ServesAt, SlurmTaken}
+use Rattle.sources.specs.Served.{ExportTaken, ServesAt, SlurmsTaken}
 use Rattle.sources.specs.declared.sources.Sources.{Sources}
-use Rattle.rtr_daemon.specs.declared.watched_file.Source.{Source}
-use Rattle.rtr_daemon.specs.declared.watched_file.Source.TheVariants.{Export, Slurm}
 use Rattle.rtr_daemon.specs.declared.refusal.Refusal.{Refusal}
 use Rattle.rtr_daemon.specs.declared.service.Service.{Service}
 
@@ -82,12 +80,16 @@ pub record SameSources (old new : Sources) : Type 0 where
   pub repository : new.repository ≡ old.repository
   pub leaves_out : new.leaves_out ≡ old.leaves_out
 
--- A file was loaded as what it is, at a time. If it was refused, nothing changed.
-abbrev pub TakenAs : Source → List ℕ → ℕ → Result ℕ Refusal → Sources → Sources → Type 0
-TakenAs (Export file) bytes now (Ok expired) old new = ExportTaken bytes now file (Ok expired) old new
-TakenAs Slurm bytes now (Ok expired) old new = SlurmTaken bytes (Ok tt) old new
-TakenAs source bytes now (Err refusal) old new = SameSources old new
+-- An export was loaded at a time. If it was refused, nothing changed.
+abbrev pub LoadsExport : ℕ → List ℕ → ℕ → Result ℕ Refusal → Sources → Sources → Type 0
+LoadsExport file bytes now (Ok expired) old new = ExportTaken bytes now file (Ok expired) old new
+LoadsExport file bytes now (Err refusal) old new = SameSources old new
 
--- After a poll the sources are unchanged, or some bytes were loaded as what the file is.
-abbrev pub Follows : Source → ℕ → Sources → Sources → Type 0
-Follows source now old new = SameSources old new ⊎ ((bytes : List ℕ) × (expired : ℕ) × TakenAs source bytes now (Ok expired) old new)
+-- After a poll of an export the sources are unchanged, or some bytes were loaded as this export.
+abbrev pub Follows : ℕ → ℕ → Sources → Sources → Type 0
+Follows file now old new = SameSources old new ⊎ ((bytes : List ℕ) × (expired : ℕ) × LoadsExport file bytes now (Ok expired) old new)
+
+-- The files of local exceptions were loaded together. If they were refused, nothing changed.
+abbrev pub LoadsSlurms : {E : Type 0} → List (List ℕ) → Result (Unit {0}) E → Sources → Sources → Type 0
+LoadsSlurms files (Ok u) old new = SlurmsTaken files (Ok tt) old new
+LoadsSlurms files (Err refusal) old new = SameSources old new

@@ -163,6 +163,7 @@ impl<S: VersionStore, T: Stream + Drop> Daemon<S, T> {
         let clients = self.clients.of_address(address);
         match self.plan.clients_per_address {
             Some(most) if clients >= most => {
+                self.statistics.count_refused_client();
                 let now = env.seconds();
                 env.log(now, &LogEvent::AddressFull { address, clients });
             }
@@ -183,6 +184,7 @@ impl<S: VersionStore, T: Stream + Drop> Daemon<S, T> {
         let now = env.seconds();
         match self.service.admit(stream) {
             Err(AdmitFault::TooManyClients) => {
+                self.statistics.count_refused_client();
                 let clients = self.service.server().clients() as u64;
                 env.log(now, &LogEvent::Full { address, clients });
             }

@@ -203,6 +203,7 @@ impl<S: VersionStore, T: Stream + Drop> Daemon<S, T> {
         if let Some((_client, address)) = self.clients.at(token) {
             let now = env.seconds();
             env.log(now, &LogEvent::Stalled { address });
+            self.statistics.count_stalled_client();
         }
         self.drop_connection(token, "stalled", env);
     }

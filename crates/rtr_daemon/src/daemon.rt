@@ -10,12 +10,13 @@ use crate::environment::{Disk, EventLog, Sockets, Time};
 use crate::polling::{WatchedPoint, log_expired, offer, take};
 use crate::refusal::{Refusal, StartFault};
 use crate::service::{PublishReport, Service};
+use crate::slurm_polling::read_slurms;
 use crate::statistics::{Families, Statistics};
-use crate::watched_file::{Look, Source, WatchedFile};
+use crate::watched_file::{Look, WatchedExport, WatchedFile};
 use event_log::{LogEvent, Publication};
 use rtr_server::{Server, Stream};
 use session_names::{Pace, SessionIds};
-use sources::Sources;
+use sources::{ServedSet, Sources};
 use std::alloc::{AllocError, Global};
 use std::io;
 use vrps::{Published, Serial, VersionStore};
@@ -31,8 +32,8 @@ const AHEAD: u64 = 3600;
 pub struct Paths {
     /// Exports of validators.
     pub files: Vec<String>,
-    /// Local exceptions.
-    pub slurm: Option<String>,
+    /// Files of local exceptions, which are applied together (RFC 8416 section 4.2).
+    pub slurms: Vec<String>,
     /// Directories that are publication points.
     pub points: Vec<String>,
 }
@@ -60,6 +61,19 @@ pub struct Plan {
     pub clients: usize,
 }
 
+/// What a daemon would publish.
+#[derive(Clone, Copy, Debug, PartialEq, Eq)]
+pub struct CheckReport {
+    /// How many files and publication points were loaded.
+    pub files: u64,
+    /// How many IPv4 records would be served.
+    pub ipv4: u64,
+    /// How many IPv6 records would be served.
+    pub ipv6: u64,
+    /// How many records of length 0 would be left out.
+    pub left_out: u64,
+}
+
 /// Why a daemon stops.
 #[derive(Clone, Copy, Debug, PartialEq, Eq)]
 pub enum StopReason {
@@ -67,8 +81,8 @@ pub enum StopReason {
     Once,
     /// An export is older than the maximum age.
     Old,
-    /// The files were only to be checked, and are valid.
-    Test,
+    /// The configuration was only to be checked, and is valid.
+    Checked,
 }
 
 /// A running cache: its clients, its watched files, and what is due when.
@@ -80,7 +94,8 @@ pub struct Daemon<S, T> {
     pub(crate) service: Service<S, T>,
     pub(crate) clients: ClientTable,
     pub(crate) listeners: Listeners,
-    pub(crate) files: Vec<WatchedFile>,
+    pub(crate) exports: Vec<WatchedExport>,
+    pub(crate) slurms: Vec<WatchedFile>,
     pub(crate) points: Vec<WatchedPoint>,
     pub(crate) statistics: Statistics,
     /// When it was opened, in seconds since 1970.
@@ -121,14 +136,16 @@ impl<S: VersionStore + Drop, T: Stream + Drop> Daemon<S, T> {
         let millis = env.millis();
         let Paths {
             files,
-            slurm,
+            slurms,
             points,
         } = sources;
         let held = sources_of(alloc, files.len(), plan.leaves_out_length_0)?;
         let mut service = Service::new(server, held);
-        let mut followed = watched_files(alloc, files, slurm)?;
+        let mut exports = watched_exports(alloc, files)?;
+        let mut slurms = watched_slurms(alloc, slurms)?;
         let mut offered = watched_points(alloc, points)?;
-        read_all(&mut followed, &mut service, alloc, now, env)?;
+        read_all(&mut exports, &mut service, alloc, now, env)?;
+        read_slurms(&mut slurms, &mut service, alloc, now, env)?;
         read_points(&mut offered, &mut service, alloc, now, env)?;
         let listeners = Listeners::new(alloc, plan.listeners)?;
         let statistics = Statistics::new(alloc)?;
@@ -139,7 +156,8 @@ impl<S: VersionStore + Drop, T: Stream + Drop> Daemon<S, T> {
             service,
             clients: ClientTable::new(alloc),
             listeners,
-            files: followed,
+            exports,
+            slurms,
             points: offered,
             statistics,
             started: now,
@@ -218,6 +236,7 @@ impl<S: VersionStore + Drop, T: Stream + Drop> Daemon<S, T> {
         self.held_until = now;
         self.judge_clock(now, env);
         self.follow_all(env);
+        self.follow_slurms(env);
         self.offer_all(env);
         self.judge_ages(env);
     }
@@ -256,7 +275,7 @@ impl<S: VersionStore + Drop, T: Stream + Drop> Daemon<S, T> {
         }
         match self.service.publish(now) {
             Ok(report) => self.note_published(report, now, began, env),
-            Err(refusal) => self.note_failure(&refusal, now, env),
+            Err(refusal) => self.note_failure(refusal, now, env),
         }
     }
 
@@ -270,6 +289,7 @@ impl<S: VersionStore + Drop, T: Stream + Drop> Daemon<S, T> {
     )
         ensures { self.new.service ≡ self.old.service }
     {
+        self.statistics.end_failure();
         self.note_left_out(report.left_out, now, env);
         let Published::New(serial) = report.published else {
             return;
@@ -316,19 +336,12 @@ impl<S: VersionStore + Drop, T: Stream + Drop> Daemon<S, T> {
     }
 
     /// Reports that publication failed. It is tried again at the next poll of the files.
-    fn note_failure<W: EventLog>(&mut self, refusal: &Refusal, now: u64, env: &mut W)
+    fn note_failure<W: EventLog>(&mut self, refusal: Refusal, now: u64, env: &mut W)
         ensures { self.new.service ≡ self.old.service }
     {
         self.held_until = self.next_check;
-        if let Ok(reason) = refusal.to_string(self.alloc) {
-            env.log(
-                now,
-                &LogEvent::Failed {
-                    what: "publication",
-                    reason: reason.as_str(),
-                },
-            );
-        }
+        log_failure(self.alloc, &refusal, now, env);
+        self.statistics.note_failure(refusal, now);
     }
 
     /// Reports that the clock was set back, if it is further back than before.
@@ -354,14 +367,32 @@ impl<S: VersionStore + Drop, T: Stream + Drop> Daemon<S, T> {
             return;
         };
         let now = env.seconds();
-        if is_any_old(&mut self.files, self.service.sources(), most, now, env) {
+        if is_any_old(&mut self.exports, self.service.sources(), most, now, env) {
             self.is_old = true;
         }
     }
 
-    /// How a daemon ends that only checks its files.
-    pub fn judged(&self) -> StopReason {
-        self.end().unwrap_or(StopReason::Test)
+    /// What would be published at a time in seconds since 1970, or why nothing would be.
+    pub fn check_report(&self, now: u64) -> Result<CheckReport, Refusal> {
+        let ServedSet { set, left_out } = self.service.served(now)?;
+        let Families { ipv4, ipv6 } = Families::of(set.as_slice());
+        Ok(CheckReport {
+            files: self.source_count(),
+            ipv4,
+            ipv6,
+            left_out,
+        })
+    }
+
+    /// How many files and publication points are watched.
+    fn source_count(&self) -> u64 {
+        let files = self.exports.len().saturating_add(self.slurms.len());
+        files.saturating_add(self.points.len()) as u64
+    }
+
+    /// How a daemon ends that only checks its configuration.
+    pub fn end_of_check(&self) -> StopReason {
+        self.end().unwrap_or(StopReason::Checked)
     }
 
     /// Why the daemon stops, if it does.
@@ -375,26 +406,48 @@ impl<S: VersionStore + Drop, T: Stream + Drop> Daemon<S, T> {
         None
     }
 
+    /// Whether a version was published, so that routers are admitted.
+    pub fn is_ready(&self) -> bool
+        ensures { result ≡ self.now.is_ready }
+    {
+        self.is_ready
+    }
+
     /// The server.
     pub fn server(&self) -> &Server<S, T> {
         self.service.server()
     }
 }
 
+/// Reports why no version could be published.
+fn log_failure<W: EventLog>(alloc: Global, refusal: &Refusal, now: u64, env: &mut W) {
+    let what = "publication";
+    match refusal.to_string(alloc) {
+        Ok(reason) => env.log(
+            now,
+            &LogEvent::Failed {
+                what,
+                reason: reason.as_str(),
+            },
+        ),
+        Err(_) => env.log(now, &LogEvent::Memory { what }),
+    }
+}
+
 /// Whether an export is older than this many seconds. Each change is reported.
 fn is_any_old<W: EventLog>(
-    files: &mut Vec<WatchedFile>,
+    exports: &mut Vec<WatchedExport>,
     sources: &Sources,
     most: u64,
     now: u64,
     env: &mut W,
 ) -> bool {
     let mut is_old = false;
-    for file in files.iter_mut() {
-        if let Some(built) = built_of(file, sources, now) {
+    for export in exports.iter_mut() {
+        if let Some(built) = built_of(export, sources, now) {
             let age = now.saturating_sub(built);
-            if file.set_old(age > most) {
-                log_age(file.path.as_str(), age, most, now, env);
+            if export.set_old(age > most) {
+                log_age(export.path(), age, most, now, env);
             }
             is_old = is_old || age > most;
         }
@@ -403,13 +456,10 @@ fn is_any_old<W: EventLog>(
 }
 
 /// When the data of an export were made. If the export gives no time, or one too far ahead, the file's modification time counts.
-pub(crate) fn built_of(file: &WatchedFile, sources: &Sources, now: u64) -> Option<u64> {
-    let Source::Export(number) = file.source else {
-        return None;
-    };
-    match sources.built(number) {
+pub(crate) fn built_of(export: &WatchedExport, sources: &Sources, now: u64) -> Option<u64> {
+    match sources.built(export.number) {
         Some(built) if built <= now.saturating_add(AHEAD) => Some(built),
-        _ => file.modified(),
+        _ => export.file.modified(),
     }
 }
 
@@ -431,21 +481,21 @@ fn sources_of(alloc: Global, files: usize, leaves_out: bool) -> Result<Sources, 
     Ok(sources)
 }
 
-/// The watched files: exports, and then local exceptions, if there are any.
-fn watched_files(
-    alloc: Global,
-    files: Vec<String>,
-    slurm: Option<String>,
-) -> Result<Vec<WatchedFile>, AllocError> {
-    let mut followed = Vec::new(alloc);
-    for path in files {
-        let source = Source::Export(followed.len());
-        followed.push(WatchedFile::new(path, source))?;
+fn watched_exports(alloc: Global, paths: Vec<String>) -> Result<Vec<WatchedExport>, AllocError> {
+    let mut exports = Vec::new(alloc);
+    for path in paths {
+        let number = exports.len();
+        exports.push(WatchedExport::new(path, number))?;
     }
-    if let Some(path) = slurm {
-        followed.push(WatchedFile::new(path, Source::Slurm))?;
+    Ok(exports)
+}
+
+fn watched_slurms(alloc: Global, paths: Vec<String>) -> Result<Vec<WatchedFile>, AllocError> {
+    let mut slurms = Vec::new(alloc);
+    for path in paths {
+        slurms.push(WatchedFile::new(path))?;
     }
-    Ok(followed)
+    Ok(slurms)
 }
 
 fn watched_points(alloc: Global, points: Vec<String>) -> Result<Vec<WatchedPoint>, AllocError> {
@@ -456,9 +506,9 @@ fn watched_points(alloc: Global, points: Vec<String>) -> Result<Vec<WatchedPoint
     Ok(offered)
 }
 
-/// Reads and loads each file.
+/// Reads and loads each export.
 fn read_all<S: VersionStore, T: Stream + Drop, W: Disk + EventLog>(
-    files: &mut Vec<WatchedFile>,
+    exports: &mut Vec<WatchedExport>,
     service: &mut Service<S, T>,
     alloc: Global,
     now: u64,
@@ -466,33 +516,33 @@ fn read_all<S: VersionStore, T: Stream + Drop, W: Disk + EventLog>(
 ) -> Result<(), StartFault>
     ensures { GoesOn S.holds T.remaining T.contents service.old service.new }
 {
-    for file in files.iter_mut() {
-        match read_one(file, service, alloc, now, env) {
-            Ok(expired) => log_expired(file.path.as_str(), expired, now, env),
-            Err(refusal) => return Err(StartFault::of(file.path.as_str(), alloc, refusal)),
+    for export in exports.iter_mut() {
+        match read_one(export, service, alloc, now, env) {
+            Ok(expired) => log_expired(export.path(), expired, now, env),
+            Err(refusal) => return Err(StartFault::of(export.path(), alloc, refusal)),
         }
     }
     Ok(())
 }
 
-/// Reads and loads a file, and answers how many of its entries had expired. If it changes while it is read, it is read again, up to 16 times.
+/// Reads and loads an export, and answers how many of its entries had expired. If it changes while it is read, it is read again, up to 16 times.
 fn read_one<S: VersionStore, T: Stream + Drop, W: Disk>(
-    file: &mut WatchedFile,
+    export: &mut WatchedExport,
     service: &mut Service<S, T>,
     alloc: Global,
     now: u64,
     env: &mut W,
 ) -> Result<u64, Refusal>
     ensures goes { GoesOn S.holds T.remaining T.contents service.old service.new }
-    ensures follows { Follows file.old.source now service.old.sources service.new.sources }
+    ensures follows { Follows export.old.number now service.old.sources service.new.sources }
 {
     for _time in 0..16u8 {
-        match file.look(env, false) {
+        match export.file.look(env, false) {
             Look::Unchanged | Look::Unstable | Look::RefusedBefore => {}
             Look::Failed(error) => return Err(Refusal::Device(error)),
             Look::Read(stamp, bytes) => {
-                let expired = take(service, file.source, bytes.as_slice(), alloc, now)?;
-                let _ = file.set_loaded(stamp, now, expired);
+                let expired = take(service, export.number, bytes.as_slice(), alloc, now)?;
+                let _ = export.set_loaded(stamp, now, expired);
                 return Ok(expired);
             }
         }

@@ -33,11 +33,12 @@ mod refusal;
 mod refusals;
 mod service;
 mod set_changes;
+mod slurm_polling;
 mod statistics;
 mod status;
 mod watched_file;
 
-pub use daemon::{Daemon, Paths, Plan, StopReason};
+pub use daemon::{CheckReport, Daemon, Paths, Plan, StopReason};
 pub use environment::{AcceptResult, Disk, EventLog, Ready, Sockets, Stamp, Time};
 pub use refusal::{FileFault, Refusal, StartFault};
 pub use service::{PublishReport, Service};

@@ -1,6 +1,6 @@
 //! Polling the files, and loading those that have changed.
 ghost use Rattle.std.specs.Prelude.{◌≡◌, true};
-ghost use Rattle.rtr_daemon.specs.Serving.{Follows, GoesOn, TakenAs, TakesSo};
+ghost use Rattle.rtr_daemon.specs.Serving.{Follows, GoesOn, LoadsExport, TakesSo};
 
 use crate::daemon::Daemon;
 use crate::environment::{Disk, EventLog, Stamp, Time};
@@ -8,7 +8,7 @@ use crate::refusal::Refusal;
 use crate::refusals::Refusals;
 use crate::service::Service;
 use crate::statistics::Statistics;
-use crate::watched_file::{Look, Source, WatchedFile};
+use crate::watched_file::{Look, WatchedExport, WatchedFile};
 use event_log::LogEvent;
 use payloads::decode_manifest;
 use rtr_server::Stream;
@@ -73,27 +73,21 @@ pub(crate) enum PollResult {
     Loaded { again: bool, expired: u64 },
 }
 
-/// Loads the content of a file, and returns how many of its entries had expired. If it is refused, it returns why.
+/// Loads the content of an export, and returns how many of its entries had expired. If it is refused, it returns why.
 pub(crate) fn take<S: VersionStore, T: Stream + Drop>(
     service: &mut Service<S, T>,
-    source: Source,
+    number: usize,
     bytes: &[u8],
     alloc: Global,
     now: u64,
 ) -> Result<u64, Refusal>
     ensures goes { GoesOn S.holds T.remaining T.contents service.old service.new }
     ensures takes { TakesSo result service.old service.new }
-    ensures taken { TakenAs source bytes.now now result service.old.sources service.new.sources }
+    ensures loads { LoadsExport number bytes.now now result service.old.sources service.new.sources }
 {
-    match source {
-        Source::Export(file) => match service.take_export(file, bytes, now) {
-            Ok(expired) => Ok(expired),
-            Err(fault) => Err(Refusal::of_export(alloc, bytes, fault)),
-        },
-        Source::Slurm => match service.take_slurm(bytes) {
-            Ok(()) => Ok(0),
-            Err(fault) => Err(Refusal::of_slurm(alloc, bytes, fault)),
-        },
+    match service.take_export(number, bytes, now) {
+        Ok(expired) => Ok(expired),
+        Err(fault) => Err(Refusal::of_export(alloc, bytes, fault)),
     }
 }
 
@@ -129,32 +123,20 @@ pub(crate) fn offer<S: VersionStore, T: Stream + Drop, W: Disk>(
     }
 }
 
-/// How many records of a file have expired since it was loaded.
-fn expired_of<S: VersionStore, T: Stream + Drop>(
-    service: &Service<S, T>,
-    source: Source,
-    now: u64,
-) -> u64 {
-    match source {
-        Source::Export(file) => service.expired(file, now),
-        Source::Slurm => 0,
-    }
-}
-
 /// Notes how many records of a file have expired since it was loaded, and answers whether there are more than at the poll before. Expired records
 /// are not served, even if the file is refused. If the number has changed, a version is pending.
 fn note_expired<S: VersionStore, T: Stream + Drop>(
-    file: &mut WatchedFile,
+    export: &mut WatchedExport,
     service: &mut Service<S, T>,
     now: u64,
 ) -> bool
     ensures goes { GoesOn S.holds T.remaining T.contents service.old service.new }
     ensures server { service.new.server ≡ service.old.server }
-    ensures pending { ¬ (file.new.expired_since ≡ file.old.expired_since) → service.new.is_pending ≡ true }
+    ensures pending { ¬ (export.new.expired_since ≡ export.old.expired_since) → service.new.is_pending ≡ true }
 {
-    let expired = expired_of(service, file.source, now);
-    let before = file.expired_since;
-    file.expired_since = expired;
+    let expired = service.expired(export.number, now);
+    let before = export.expired_since;
+    export.expired_since = expired;
     if expired != before {
         service.set_pending();
     }
@@ -162,13 +144,18 @@ fn note_expired<S: VersionStore, T: Stream + Drop>(
 }
 
 /// Notes whether a file was loaded or refused, and answers what is reported.
-fn note(file: &mut WatchedFile, stamp: Stamp, taken: Result<u64, Refusal>, now: u64) -> PollResult {
+fn note(
+    export: &mut WatchedExport,
+    stamp: Stamp,
+    taken: Result<u64, Refusal>,
+    now: u64,
+) -> PollResult {
     match taken {
         Ok(expired) => PollResult::Loaded {
-            again: file.set_loaded(stamp, now, expired),
+            again: export.set_loaded(stamp, now, expired),
             expired,
         },
-        Err(refusal) => refused_if(file.refusals.add(Some(stamp), refusal, now)),
+        Err(refusal) => refused_if(export.file.refusals.add(Some(stamp), refusal, now)),
     }
 }
 
@@ -180,9 +167,9 @@ fn refused_if(is_news: bool) -> PollResult {
     }
 }
 
-/// Polls a file, and loads it if it has changed.
+/// Polls an export, and loads it if it has changed.
 fn follow<S: VersionStore, T: Stream + Drop, W: Disk>(
-    file: &mut WatchedFile,
+    export: &mut WatchedExport,
     service: &mut Service<S, T>,
     alloc: Global,
     now: u64,
@@ -190,28 +177,31 @@ fn follow<S: VersionStore, T: Stream + Drop, W: Disk>(
 ) -> PollResult
     ensures goes { GoesOn S.holds T.remaining T.contents service.old service.new }
     ensures server { service.new.server ≡ service.old.server }
-    ensures follows { Follows file.old.source now service.old.sources service.new.sources }
+    ensures follows { Follows export.old.number now service.old.sources service.new.sources }
 {
-    match file.look(env, file.is_loaded_after(now)) {
+    let anew = export.file.is_loaded_after(now);
+    match export.file.look(env, anew) {
         Look::Unchanged => PollResult::Unchanged,
-        Look::Unstable => refused_if(file.refusals.add(None, Refusal::Changing, now)),
-        Look::RefusedBefore => refused_if(file.refusals.mark_reported(now)),
-        Look::Failed(error) => refused_if(file.refusals.add(None, Refusal::Device(error), now)),
+        Look::Unstable => refused_if(export.file.refusals.add(None, Refusal::Changing, now)),
+        Look::RefusedBefore => refused_if(export.file.refusals.mark_reported(now)),
+        Look::Failed(error) => {
+            refused_if(export.file.refusals.add(None, Refusal::Device(error), now))
+        }
         Look::Read(stamp, bytes) => {
-            let taken = take(service, file.source, bytes.as_slice(), alloc, now);
-            note(file, stamp, taken, now)
+            let taken = take(service, export.number, bytes.as_slice(), alloc, now);
+            note(export, stamp, taken, now)
         }
     }
 }
 
 impl<S: VersionStore, T: Stream + Drop> Daemon<S, T> {
-    /// Polls all files.
+    /// Polls all exports.
     pub(crate) fn follow_all<W: Disk + Time + EventLog>(&mut self, env: &mut W)
         ensures goes { GoesOn S.holds T.remaining T.contents self.old.service self.new.service }
         ensures server { self.new.service.server ≡ self.old.service.server }
     {
         follow_each(
-            &mut self.files,
+            &mut self.exports,
             &mut self.service,
             &mut self.statistics,
             self.alloc,
@@ -234,9 +224,9 @@ impl<S: VersionStore, T: Stream + Drop> Daemon<S, T> {
     }
 }
 
-/// Polls each file, loads it if it has changed, and reports the result.
+/// Polls each export, loads it if it has changed, and reports the result.
 fn follow_each<S: VersionStore, T: Stream + Drop, W: Disk + Time + EventLog>(
-    files: &mut Vec<WatchedFile>,
+    exports: &mut Vec<WatchedExport>,
     service: &mut Service<S, T>,
     statistics: &mut Statistics,
     alloc: Global,
@@ -245,14 +235,14 @@ fn follow_each<S: VersionStore, T: Stream + Drop, W: Disk + Time + EventLog>(
     ensures goes { GoesOn S.holds T.remaining T.contents service.old service.new }
     ensures server { service.new.server ≡ service.old.server }
 {
-    for file in files.iter_mut() {
+    for export in exports.iter_mut() {
         let now = env.seconds();
         let began = env.millis();
-        let polled = follow(file, service, alloc, now, env);
+        let polled = follow(export, service, alloc, now, env);
         count_poll(statistics, &polled, env.millis().saturating_sub(began));
-        log_poll(alloc, file, polled, now, env);
-        if note_expired(file, service, now) {
-            log_expired(file.path.as_str(), file.all_expired(), now, env);
+        log_poll(alloc, export, polled, now, env);
+        if note_expired(export, service, now) {
+            log_expired(export.path(), export.all_expired(), now, env);
         }
     }
 }
@@ -319,15 +309,15 @@ fn count_poll(statistics: &mut Statistics, polled: &PollResult, milliseconds: u6
 /// Reports the result of a poll.
 fn log_poll<W: EventLog>(
     alloc: Global,
-    file: &WatchedFile,
+    export: &WatchedExport,
     polled: PollResult,
     now: u64,
     env: &mut W,
 ) {
-    let path = file.path.as_str();
+    let path = export.path();
     match polled {
         PollResult::Unchanged => {}
-        PollResult::Refused => log_refused_file(alloc, file, now, env),
+        PollResult::Refused => log_refused_file(alloc, &export.file, now, env),
         PollResult::Loaded { again, expired } => {
             if again {
                 env.log(now, &LogEvent::Taken { file: path });
@@ -352,7 +342,12 @@ fn log_refused_point<W: EventLog>(alloc: Global, point: &WatchedPoint, now: u64,
 }
 
 /// Reports why a file was refused last.
-fn log_refused_file<W: EventLog>(alloc: Global, file: &WatchedFile, now: u64, env: &mut W) {
+pub(crate) fn log_refused_file<W: EventLog>(
+    alloc: Global,
+    file: &WatchedFile,
+    now: u64,
+    env: &mut W,
+) {
     if let Some(refusal) = file.refusals.last() {
         log_refusal(alloc, file.path.as_str(), refusal, now, env);
     }

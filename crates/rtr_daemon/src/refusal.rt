@@ -1,7 +1,7 @@
 //! Why a source is refused.
 use exports::ExportFault;
 use points::PointFault;
-use slurm::SlurmFault;
+use slurm::{Overlap, SlurmFault, UniteFault};
 use sources::TakeFault;
 use std::alloc::{AllocError, Global};
 use std::{fmt, io};
@@ -38,6 +38,12 @@ pub enum Refusal {
     /// It is not a file of local exceptions.
     #[error("{0}")]
     Slurm(FileFault<SlurmFault>),
+    /// It overlaps with another file of local exceptions, or all of these have too many records.
+    #[error("{0}")]
+    SlurmUnion(FileFault<UniteFault>),
+    /// Another file of local exceptions is refused, and all are loaded together.
+    #[error("another file of local exceptions is refused, and all are loaded together")]
+    OtherSlurm,
     /// Its publication point refuses it.
     #[error("{0}")]
     Point(PointFault),
@@ -68,6 +74,20 @@ impl Refusal {
         Refusal::Slurm(FileFault { fault, words })
     }
 
+    /// The refusal of several files of local exceptions together. The text names the file with which this one overlaps.
+    pub(crate) fn of_union(alloc: Global, fault: UniteFault, other: Option<&str>) -> Refusal {
+        let words = match other {
+            Some(other) => overlap_text(alloc, &fault, other).ok(),
+            None => None,
+        };
+        Refusal::SlurmUnion(FileFault { fault, words })
+    }
+
+    /// Memory ran out.
+    pub(crate) fn memory() -> Refusal {
+        Refusal::Set(SetFault::Memory)
+    }
+
     /// Whether memory ran out.
     pub(crate) fn is_memory(&self) -> bool {
         self.status() == 4
@@ -90,10 +110,33 @@ impl Refusal {
                     ..
                 },
             )
+            | Refusal::SlurmUnion(
+                FileFault {
+                    fault: UniteFault::Memory,
+                    ..
+                },
+            )
             | Refusal::Point(PointFault::Memory)
             | Refusal::Set(SetFault::Memory) => 4,
             _ => 1,
         }
+    }
+}
+
+/// The text of a fault of several files of local exceptions, for the later one of two that overlap.
+fn overlap_text(alloc: Global, fault: &UniteFault, other: &str) -> Result<String, AllocError> {
+    match fault {
+        UniteFault::Overlap {
+            what: Overlap::Prefixes(first, second),
+            ..
+        } => format!(in alloc; "{second} overlaps with {first} of {other} (RFC 8416 section 4.2)"),
+        UniteFault::Overlap {
+            what: Overlap::Bgpsec(asn),
+            ..
+        } => {
+            format!(in alloc; "BGPsec entries of AS{asn} are in {other} too (RFC 8416 section 4.2)")
+        }
+        _ => fault.to_string(alloc),
     }
 }
 

@@ -1,7 +1,7 @@
 //! A server, its sources, and whether a version is pending.
-ghost use Rattle.std.specs.Prelude.{◌≡◌, false, true, IfErr, IfOk, Option};
+ghost use Rattle.std.specs.Prelude.{◌≡◌, false, true, IfErr, IfOk, Option, map};
 ghost use Rattle.rtr_server.specs.Clients.{AdmitsTo, KeepsOthers, Past, Serves, ShowsServer, is_gone, slot_at};
-ghost use Rattle.sources.specs.Served.{ExportTaken, SlurmTaken};
+ghost use Rattle.sources.specs.Served.{ExportTaken, SlurmTaken, SlurmsTaken};
 ghost use Rattle.rtr_daemon.specs.Serving.{GoesOn, IsServedAt, Issues, KeepsSources, ShowsService, TakesSo};
 
 use crate::refusal::Refusal;
@@ -11,7 +11,7 @@ use payload_commands::Directory;
 use points::{Offered, PointFault};
 use rtr_server::{AdmitFault, Client, Server, Stream, Turn};
 use slurm::SlurmFault;
-use sources::{ServedSet, Sources, TakeFault};
+use sources::{ServedSet, SlurmSetFault, Sources, TakeFault};
 use std::alloc::Global;
 use vrps::{Published, SetFault, VersionStore, VrpSet};
 
@@ -114,6 +114,17 @@ impl<S: VersionStore, T: Stream + Drop> Service<S, T> {
         Ok(())
     }
 
+    /// Loads the local exceptions of several files together (RFC 8416 section 4.2).
+    pub fn take_slurms(&mut self, files: &[Vec<u8>]) -> Result<(), SlurmSetFault>
+        ensures goes { GoesOn S.holds T.remaining T.contents self.old self.new }
+        ensures takes { TakesSo result self.old self.new }
+        ensures exceptions { SlurmsTaken (map (λ f. f.items) files.now) result self.old.sources self.new.sources }
+    {
+        self.sources.take_slurms(files)?;
+        self.is_pending = true;
+        Ok(())
+    }
+
     /// Makes a version pending: payloads of publication points expire by the clock, so the set may have changed.
     pub(crate) fn set_pending(&mut self)
         ensures goes { GoesOn S.holds T.remaining T.contents self.old self.new }
@@ -153,7 +164,7 @@ impl<S: VersionStore, T: Stream + Drop> Service<S, T> {
     }
 
     /// The set of the sources at a time in seconds since 1970.
-    fn served(&self, now: u64) -> Result<ServedSet, Refusal>
+    pub(crate) fn served(&self, now: u64) -> Result<ServedSet, Refusal>
         ensures { IfOk result (λ served. IsServedAt now self.now.sources served.set) }
     {
         let Some(moment) = moment_at(now) else {

@@ -1,4 +1,5 @@
 //! The statistics of a daemon since its start.
+use crate::refusal::Refusal;
 use crate::service::PublishReport;
 use prefixes::{IpPrefix, Vrp};
 use rtr_pdu::Kind;
@@ -148,6 +149,21 @@ pub(crate) struct Statistics {
     pub(crate) refused: u64,
     /// How many milliseconds the last load took.
     pub(crate) load_millis: Option<u64>,
+    /// How many clients were disconnected on arrival.
+    pub(crate) clients_refused: u64,
+    /// How many clients were disconnected as they accepted no byte.
+    pub(crate) clients_stalled: u64,
+    /// How many publications failed.
+    pub(crate) failures: u64,
+    /// The last publication, if it failed.
+    pub(crate) failure: Option<Failure>,
+}
+
+/// A publication that failed: since when publications fail, in seconds since 1970, and why the last one failed.
+#[derive(Debug, Drop)]
+pub(crate) struct Failure {
+    pub(crate) since: u64,
+    pub(crate) why: Refusal,
 }
 
 impl Statistics {
@@ -161,7 +177,36 @@ impl Statistics {
             loaded: 0,
             refused: 0,
             load_millis: None,
+            clients_refused: 0,
+            clients_stalled: 0,
+            failures: 0,
+            failure: None,
         })
+    }
+
+    /// A client was disconnected on arrival.
+    pub(crate) fn count_refused_client(&mut self) {
+        self.clients_refused = self.clients_refused.saturating_add(1);
+    }
+
+    /// A client was disconnected as it accepted no byte.
+    pub(crate) fn count_stalled_client(&mut self) {
+        self.clients_stalled = self.clients_stalled.saturating_add(1);
+    }
+
+    /// A publication failed at this time.
+    pub(crate) fn note_failure(&mut self, why: Refusal, now: u64) {
+        let since = match &self.failure {
+            Some(failure) => failure.since,
+            None => now,
+        };
+        self.failures = self.failures.saturating_add(1);
+        self.failure = Some(Failure { since, why });
+    }
+
+    /// A publication succeeded.
+    pub(crate) fn end_failure(&mut self) {
+        self.failure = None;
     }
 
     /// A client was admitted.

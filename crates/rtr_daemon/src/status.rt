@@ -4,16 +4,18 @@ use crate::clients::{ClientCounters, number_of};
 use crate::daemon::{Daemon, built_of};
 use crate::polling::WatchedPoint;
 use crate::refusal::Refusal;
-use crate::statistics::{TrafficTotals, total};
-use crate::watched_file::WatchedFile;
+use crate::statistics::{Failure, TrafficTotals, total};
+use crate::watched_file::{WatchedExport, WatchedFile};
 use rtr_server::Stream;
-use status_pages::{ClientStatus, ClientTraffic, FileStatus, Status};
+use status_pages::{
+    ClientStatus, ClientTraffic, FileStatus, LostLines, PublicationFailure, Status,
+};
 use std::alloc::{AllocError, Global};
 use vrps::{Serial, VersionStore};
 
 impl<S: VersionStore, T: Stream + Drop> Daemon<S, T> {
-    /// The status of the daemon at a time: in seconds since 1970, and in milliseconds of the monotonic clock. The version is the program's. The host and
-    /// the addresses are the caller's to fill in.
+    /// The status of the daemon at a time: in seconds since 1970, and in milliseconds of the monotonic clock. The version is the program's. The host, the
+    /// addresses and the lines that the log lacks are the caller's to fill in.
     pub fn status(
         &self,
         version: &'static str,
@@ -40,11 +42,19 @@ impl<S: VersionStore, T: Stream + Drop> Daemon<S, T> {
             clients: self.client_statuses(now, millis)?,
             client_limit: self.plan.clients as u64,
             clients_ever: self.statistics.clients,
+            clients_refused: self.statistics.clients_refused,
+            clients_stalled: self.statistics.clients_stalled,
             received: traffic.received.shown(),
             sent: traffic.sent.shown(),
             reloads_taken: self.statistics.loaded,
             reloads_refused: self.statistics.refused,
             reload_milliseconds: self.statistics.load_millis,
+            publications_failed: self.statistics.failures,
+            publication_failure: failure_status(self.alloc, &self.statistics.failure)?,
+            log_lines_lost: LostLines {
+                dropped: 0,
+                suppressed: 0,
+            },
         })
     }
 
@@ -68,8 +78,11 @@ impl<S: VersionStore, T: Stream + Drop> Daemon<S, T> {
     /// The status of all files and publication points.
     fn file_statuses(&self, now: u64) -> Result<Vec<FileStatus>, AllocError> {
         let mut found = Vec::new(self.alloc);
-        for file in self.files.iter() {
-            found.push(self.file_status(file, now)?)?;
+        for export in self.exports.iter() {
+            found.push(self.export_status(export, now)?)?;
+        }
+        for slurm in self.slurms.iter() {
+            found.push(slurm_status(self.alloc, slurm)?)?;
         }
         for point in self.points.iter() {
             found.push(point_status(self.alloc, point)?)?;
@@ -77,16 +90,12 @@ impl<S: VersionStore, T: Stream + Drop> Daemon<S, T> {
         Ok(found)
     }
 
-    fn file_status(&self, file: &WatchedFile, now: u64) -> Result<FileStatus, AllocError> {
-        Ok(FileStatus {
-            path: file.path.clone()?,
-            built: built_of(file, self.service.sources(), now),
-            taken: file.loaded_at,
-            refusal: refusal_text(self.alloc, file.refusals.reported())?,
-            refused_at: file.refusals.reported_at(),
-            is_old: file.is_old,
-            expired: file.all_expired(),
-        })
+    fn export_status(&self, export: &WatchedExport, now: u64) -> Result<FileStatus, AllocError> {
+        let mut status = slurm_status(self.alloc, &export.file)?;
+        status.built = built_of(export, self.service.sources(), now);
+        status.is_old = export.is_old;
+        status.expired = export.all_expired();
+        Ok(status)
     }
 
     /// The status of all clients.
@@ -127,6 +136,33 @@ pub(crate) fn with_counters(sum: TrafficTotals, counters: &ClientCounters) -> Tr
     match (counters.carried, counters.received, counters.sent) {
         (Some(carried), Some(received), Some(sent)) => sum.and(carried, received, sent),
         _ => sum,
+    }
+}
+
+/// The status of a file of local exceptions, which have no age, and do not expire.
+fn slurm_status(alloc: Global, file: &WatchedFile) -> Result<FileStatus, AllocError> {
+    Ok(FileStatus {
+        path: file.path.clone()?,
+        built: None,
+        taken: file.loaded_at,
+        refusal: refusal_text(alloc, file.refusals.reported())?,
+        refused_at: file.refusals.reported_at(),
+        is_old: false,
+        expired: 0,
+    })
+}
+
+/// The status of publications, if the last one failed.
+fn failure_status(
+    alloc: Global,
+    failure: &Option<Failure>,
+) -> Result<Option<PublicationFailure>, AllocError> {
+    match failure {
+        None => Ok(None),
+        Some(failure) => Ok(Some(PublicationFailure {
+            since: failure.since,
+            reason: failure.why.to_string(alloc)?,
+        })),
     }
 }
 

@@ -1,33 +1,29 @@
 //! Watched files.
 use crate::environment::{Disk, Stamp};
+use crate::refusal::Refusal;
 use crate::refusals::Refusals;
 use std::io;
-
-/// The kind of a watched file.
-#[derive(Clone, Copy, Debug, PartialEq, Eq)]
-pub enum Source {
-    /// The export of this index.
-    Export(usize),
-    /// The local exceptions.
-    Slurm,
-}
 
 /// A file, and what was last read of it.
 #[derive(Debug, Drop)]
 pub(crate) struct WatchedFile {
     pub(crate) path: String,
-    pub(crate) source: Source,
     /// Its stamp when it was last loaded.
     loaded: Option<Stamp>,
     /// When it was last loaded, in seconds since 1970.
     pub(crate) loaded_at: Option<u64>,
-    /// How many of its entries had expired then.
-    expired: u64,
-    /// How many of its records have expired since, as of the last poll.
-    pub(crate) expired_since: u64,
     pub(crate) refusals: Refusals,
-    /// Whether its data are old.
-    pub(crate) is_old: bool,
+}
+
+/// The state of a file, by its stamp.
+#[derive(Clone, Copy, Debug, PartialEq, Eq)]
+pub(crate) enum FileState {
+    /// It has not changed since it was loaded.
+    Unchanged,
+    /// Its stamp is that of the last refusal.
+    RefusedBefore,
+    /// It has changed, or it cannot be read.
+    New,
 }
 
 /// The result of a look at a file.
@@ -46,16 +42,12 @@ pub(crate) enum Look {
 }
 
 impl WatchedFile {
-    pub(crate) fn new(path: String, source: Source) -> WatchedFile {
+    pub(crate) fn new(path: String) -> WatchedFile {
         WatchedFile {
             path,
-            source,
             loaded: None,
             loaded_at: None,
-            expired: 0,
-            expired_since: 0,
             refusals: Refusals::none(),
-            is_old: false,
         }
     }
 
@@ -66,13 +58,11 @@ impl WatchedFile {
             Ok(stamp) => stamp,
             Err(error) => return Look::Failed(error),
         };
-        if self.was_loaded(before) && !anew {
-            return Look::Unchanged;
+        match self.state_of(before) {
+            FileState::Unchanged if !anew => Look::Unchanged,
+            FileState::RefusedBefore => Look::RefusedBefore,
+            _ => self.read(env, before),
         }
-        if self.refusals.is_known(before) {
-            return Look::RefusedBefore;
-        }
-        self.read(env, before)
     }
 
     fn read<W: Disk>(&self, env: &mut W, before: Stamp) -> Look {
@@ -87,22 +77,48 @@ impl WatchedFile {
         }
     }
 
-    fn was_loaded(&self, stamp: Stamp) -> bool {
+    /// Reads the file, even if it has not changed.
+    pub(crate) fn content<W: Disk>(&self, env: &mut W) -> Result<(Stamp, Vec<u8>), Refusal> {
+        let before = match env.stamp(self.path.as_str()) {
+            Ok(stamp) => stamp,
+            Err(error) => return Err(Refusal::Device(error)),
+        };
+        match self.read(env, before) {
+            Look::Read(stamp, bytes) => Ok((stamp, bytes)),
+            Look::Failed(error) => Err(Refusal::Device(error)),
+            _ => Err(Refusal::Changing),
+        }
+    }
+
+    /// The state of the file now.
+    pub(crate) fn state<W: Disk>(&self, env: &mut W) -> FileState {
+        match env.stamp(self.path.as_str()) {
+            Ok(stamp) => self.state_of(stamp),
+            Err(_) => FileState::New,
+        }
+    }
+
+    /// The state of the file, if it has this stamp.
+    fn state_of(&self, stamp: Stamp) -> FileState {
+        if self.was_loaded(stamp) {
+            FileState::Unchanged
+        } else if self.refusals.is_known(stamp) {
+            FileState::RefusedBefore
+        } else {
+            FileState::New
+        }
+    }
+
+    /// Whether it was last loaded with this stamp.
+    pub(crate) fn was_loaded(&self, stamp: Stamp) -> bool {
         self.loaded == Some(stamp)
     }
 
-    /// It was loaded with this stamp, and this many of its entries had expired. It answers whether a refusal was reported before.
-    pub(crate) fn set_loaded(&mut self, stamp: Stamp, now: u64, expired: u64) -> bool {
+    /// It was loaded with this stamp. It answers whether a refusal was reported before.
+    pub(crate) fn set_loaded(&mut self, stamp: Stamp, now: u64) -> bool {
         self.loaded = Some(stamp);
         self.loaded_at = Some(now);
-        self.expired = expired;
-        self.expired_since = 0;
         self.refusals.clear()
-    }
-
-    /// How many of its entries have expired, before it was loaded or since.
-    pub(crate) fn all_expired(&self) -> u64 {
-        self.expired.saturating_add(self.expired_since)
     }
 
     /// Its modification time when it was last loaded, in seconds since 1970.
@@ -116,6 +132,49 @@ impl WatchedFile {
     /// Whether it was loaded after this second since 1970: the clock was set back since.
     pub(crate) fn is_loaded_after(&self, now: u64) -> bool {
         self.loaded_at.is_some_and(|at| now < at)
+    }
+}
+
+/// The file of an export.
+#[derive(Debug, Drop)]
+pub(crate) struct WatchedExport {
+    pub(crate) file: WatchedFile,
+    /// Its index among the exports.
+    pub(crate) number: usize,
+    /// How many of its entries had expired when it was loaded.
+    expired: u64,
+    /// How many of its records have expired since, as of the last poll.
+    pub(crate) expired_since: u64,
+    /// Whether its data are old.
+    pub(crate) is_old: bool,
+}
+
+impl WatchedExport {
+    pub(crate) fn new(path: String, number: usize) -> WatchedExport {
+        WatchedExport {
+            file: WatchedFile::new(path),
+            number,
+            expired: 0,
+            expired_since: 0,
+            is_old: false,
+        }
+    }
+
+    /// Its path.
+    pub(crate) fn path(&self) -> &str {
+        self.file.path.as_str()
+    }
+
+    /// It was loaded with this stamp, and this many of its entries had expired. It answers whether a refusal was reported before.
+    pub(crate) fn set_loaded(&mut self, stamp: Stamp, now: u64, expired: u64) -> bool {
+        self.expired = expired;
+        self.expired_since = 0;
+        self.file.set_loaded(stamp, now)
+    }
+
+    /// How many of its entries have expired, before it was loaded or since.
+    pub(crate) fn all_expired(&self) -> u64 {
+        self.expired.saturating_add(self.expired_since)
     }
 
     /// Notes whether its data are old, and answers whether that has changed.

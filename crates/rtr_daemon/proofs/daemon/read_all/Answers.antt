@@ -3,8 +3,8 @@ use Rattle.rtr_daemon.proofs.daemon.read_all.Goals as goal
 
 pub returns-in-Err : goal.returns-in-Err
 returns-in-Err g c =
-    then_on g.S.VersionStore.holds g.T.Stream.remaining g.T.Stream.contents c.args.service.now c.loop-file.service c.read_one.new.service c.loop-file.invariant c.read_one.ensures.goes
+    then_on g.S.VersionStore.holds g.T.Stream.remaining g.T.Stream.contents c.args.service.now c.loop-export.service c.read_one.new.service c.loop-export.invariant c.read_one.ensures.goes
 
-pub loop-file-preserved : goal.loop-file-preserved
-loop-file-preserved g c =
-    then_on g.S.VersionStore.holds g.T.Stream.remaining g.T.Stream.contents c.args.service.now c.loop-file.service c.read_one.new.service c.loop-file.invariant c.read_one.ensures.goes
+pub loop-export-preserved : goal.loop-export-preserved
+loop-export-preserved g c =
+    then_on g.S.VersionStore.holds g.T.Stream.remaining g.T.Stream.contents c.args.service.now c.loop-export.service c.read_one.new.service c.loop-export.invariant c.read_one.ensures.goes

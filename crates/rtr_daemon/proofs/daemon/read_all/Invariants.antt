@@ -2,5 +2,5 @@
 use Rattle.rtr_daemon.specs.Serving.{GoesOn}
 use Rattle.rtr_daemon.proofs.daemon.read_all.Given as goal
 
-abbrev pub invariant-loop-file : goal.invariant-loop-file
-invariant-loop-file g l = GoesOn g.S.VersionStore.holds g.T.Stream.remaining g.T.Stream.contents l.initial.service l.service
+abbrev pub invariant-loop-export : goal.invariant-loop-export
+invariant-loop-export g l = GoesOn g.S.VersionStore.holds g.T.Stream.remaining g.T.Stream.contents l.initial.service l.service

@@ -1,9 +1,9 @@
--- The service is as it was, and the file is followed for what it was.
+-- The service is as it was, and the export has its number.
 use Rattle.std.proofs.Common.{◌≡◌}
 use Rattle.rtr_daemon.proofs.daemon.read_one.Given as goal
 
 abbrev pub invariant-loop-time : goal.invariant-loop-time
 invariant-loop-time g l = record {
   service : l.service ≡ l.initial.service;
-  source : l.file.source ≡ l.initial.file.source;
+  number : l.export.number ≡ l.initial.export.number;
 }

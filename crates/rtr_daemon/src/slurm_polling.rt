@@ -1,0 +1,334 @@
+//! Polling the files of local exceptions, which are loaded together (RFC 8416 section 4.2).
+ghost use Rattle.std.specs.Prelude.{◌≡◌, map};
+ghost use Rattle.rtr_daemon.specs.Serving.{GoesOn, LoadsSlurms, TakesSo};
+
+use crate::daemon::Daemon;
+use crate::environment::{Disk, EventLog, Stamp, Time};
+use crate::polling::log_refused_file;
+use crate::refusal::{Refusal, StartFault};
+use crate::service::Service;
+use crate::statistics::Statistics;
+use crate::watched_file::{FileState, WatchedFile};
+use event_log::LogEvent;
+use rtr_server::Stream;
+use slurm::UniteFault;
+use sources::SlurmSetFault;
+use std::alloc::{AllocError, Global};
+use vrps::VersionStore;
+
+/// How many times files are read at the start that change while they are read.
+const TRIES: u8 = 16;
+
+/// The stamp and the content of each file, in their order.
+#[derive(Drop)]
+struct Contents {
+    stamps: Vec<Stamp>,
+    bytes: Vec<Vec<u8>>,
+}
+
+impl Contents {
+    fn new(alloc: Global) -> Contents {
+        Contents {
+            stamps: Vec::new(alloc),
+            bytes: Vec::new(alloc),
+        }
+    }
+
+    fn add(&mut self, stamp: Stamp, bytes: Vec<u8>) -> Result<(), AllocError> {
+        self.stamps.push(stamp)?;
+        self.bytes.push(bytes)?;
+        Ok(())
+    }
+
+    /// The refusal of the file of this index.
+    fn refused(&self, index: usize, why: Refusal) -> SlurmRefusal {
+        SlurmRefusal {
+            index,
+            stamp: self.stamps.get(index).copied(),
+            why,
+        }
+    }
+}
+
+/// The refusal of the files: the index of the file at fault, its stamp if it was read, and the reason.
+#[derive(Drop)]
+struct SlurmRefusal {
+    index: usize,
+    stamp: Option<Stamp>,
+    why: Refusal,
+}
+
+/// Reads all files. The error is the first that cannot be read.
+fn contents_of<W: Disk>(
+    slurms: &[WatchedFile],
+    alloc: Global,
+    env: &mut W,
+) -> Result<Contents, SlurmRefusal> {
+    let mut contents = Contents::new(alloc);
+    for (index, file) in slurms.iter().enumerate() {
+        if let Err(why) = add_content(&mut contents, file, env) {
+            return Err(SlurmRefusal {
+                index,
+                stamp: None,
+                why,
+            });
+        }
+    }
+    Ok(contents)
+}
+
+/// Reads a file.
+fn add_content<W: Disk>(
+    contents: &mut Contents,
+    file: &WatchedFile,
+    env: &mut W,
+) -> Result<(), Refusal> {
+    let (stamp, bytes) = file.content(env)?;
+    if contents.add(stamp, bytes).is_err() {
+        return Err(Refusal::memory());
+    }
+    Ok(())
+}
+
+/// Reads all files, again if one changes while it is read, up to 16 times.
+fn settled_contents<W: Disk>(
+    slurms: &[WatchedFile],
+    alloc: Global,
+    env: &mut W,
+) -> Result<Contents, SlurmRefusal> {
+    let mut last = contents_of(slurms, alloc, env);
+    for _time in 1..TRIES {
+        if !is_changing(&last) {
+            return last;
+        }
+        last = contents_of(slurms, alloc, env);
+    }
+    last
+}
+
+/// Whether a file changed while it was read.
+fn is_changing(contents: &Result<Contents, SlurmRefusal>) -> bool {
+    match contents {
+        Ok(_) => false,
+        Err(refusal) => matches!(refusal.why, Refusal::Changing),
+    }
+}
+
+/// Loads the content of all files. If it is refused, nothing changes.
+fn take<S: VersionStore, T: Stream + Drop>(
+    service: &mut Service<S, T>,
+    slurms: &[WatchedFile],
+    contents: &Contents,
+    alloc: Global,
+) -> Result<(), SlurmRefusal>
+    ensures goes { GoesOn S.holds T.remaining T.contents service.old service.new }
+    ensures takes { TakesSo result service.old service.new }
+    ensures loads { LoadsSlurms (map (λ b. b.items) contents.now.bytes.items) result service.old.sources service.new.sources }
+{
+    match service.take_slurms(contents.bytes.as_slice()) {
+        Ok(()) => Ok(()),
+        Err(fault) => Err(refusal_of(slurms, contents, alloc, fault)),
+    }
+}
+
+/// The refusal for a fault: that of the file that does not read, or that of the later one of two that overlap.
+fn refusal_of(
+    slurms: &[WatchedFile],
+    contents: &Contents,
+    alloc: Global,
+    fault: SlurmSetFault,
+) -> SlurmRefusal {
+    match fault {
+        SlurmSetFault::File { index, fault } => {
+            let why = match contents.bytes.get(index) {
+                Some(bytes) => Refusal::of_slurm(alloc, bytes, fault),
+                None => Refusal::memory(),
+            };
+            contents.refused(index, why)
+        }
+        SlurmSetFault::Unite(fault) => match fault {
+            UniteFault::Overlap { first, second, .. } => {
+                let other = slurms.get(first).map(|file| file.path.as_str());
+                contents.refused(second, Refusal::of_union(alloc, fault, other))
+            }
+            _ => contents.refused(0, Refusal::of_union(alloc, fault, None)),
+        },
+    }
+}
+
+/// Reads and loads all files at the start.
+pub(crate) fn read_slurms<S: VersionStore, T: Stream + Drop, W: Disk>(
+    slurms: &mut Vec<WatchedFile>,
+    service: &mut Service<S, T>,
+    alloc: Global,
+    now: u64,
+    env: &mut W,
+) -> Result<(), StartFault>
+    ensures { GoesOn S.holds T.remaining T.contents service.old service.new }
+{
+    let contents = match settled_contents(slurms, alloc, env) {
+        Ok(contents) => contents,
+        Err(refusal) => return Err(start_fault(slurms, alloc, refusal)),
+    };
+    match take(service, slurms, &contents, alloc) {
+        Ok(()) => {
+            note_all_loaded(slurms, &contents, now);
+            Ok(())
+        }
+        Err(refusal) => Err(start_fault(slurms, alloc, refusal)),
+    }
+}
+
+/// Why the daemon cannot start with these files.
+fn start_fault(slurms: &[WatchedFile], alloc: Global, refusal: SlurmRefusal) -> StartFault {
+    let SlurmRefusal { index, why, .. } = refusal;
+    match slurms.get(index) {
+        Some(file) => StartFault::of(file.path.as_str(), alloc, why),
+        None => StartFault {
+            path: None,
+            refusal: why,
+        },
+    }
+}
+
+/// Notes that all files were loaded.
+fn note_all_loaded(slurms: &mut [WatchedFile], contents: &Contents, now: u64) {
+    for (file, stamp) in slurms.iter_mut().zip(contents.stamps.iter()) {
+        let _ = file.set_loaded(*stamp, now);
+    }
+}
+
+impl<S: VersionStore, T: Stream + Drop> Daemon<S, T> {
+    /// Polls the files of local exceptions, and loads all if one has changed.
+    pub(crate) fn follow_slurms<W: Disk + Time + EventLog>(&mut self, env: &mut W)
+        ensures goes { GoesOn S.holds T.remaining T.contents self.old.service self.new.service }
+        ensures server { self.new.service.server ≡ self.old.service.server }
+    {
+        follow(
+            &mut self.slurms,
+            &mut self.service,
+            &mut self.statistics,
+            self.alloc,
+            env,
+        );
+    }
+}
+
+/// Polls the files, loads all if one has changed, and reports the result.
+fn follow<S: VersionStore, T: Stream + Drop, W: Disk + Time + EventLog>(
+    slurms: &mut Vec<WatchedFile>,
+    service: &mut Service<S, T>,
+    statistics: &mut Statistics,
+    alloc: Global,
+    env: &mut W,
+)
+    ensures goes { GoesOn S.holds T.remaining T.contents service.old service.new }
+    ensures server { service.new.server ≡ service.old.server }
+{
+    let now = env.seconds();
+    if !is_any_new(slurms, env) {
+        return report_known(slurms, statistics, alloc, now, env);
+    }
+    let began = env.millis();
+    match load(slurms, service, alloc, env) {
+        Ok(contents) => {
+            statistics.count_load(env.millis().saturating_sub(began));
+            report_loaded(slurms, &contents, now, env);
+        }
+        Err(refusal) => report_refused(slurms, refusal, statistics, alloc, now, env),
+    }
+}
+
+/// Whether some file has changed, or cannot be read.
+fn is_any_new<W: Disk>(slurms: &[WatchedFile], env: &mut W) -> bool {
+    for file in slurms {
+        if file.state(env) == FileState::New {
+            return true;
+        }
+    }
+    false
+}
+
+/// Reads and loads all files, and answers what was read.
+fn load<S: VersionStore, T: Stream + Drop, W: Disk>(
+    slurms: &[WatchedFile],
+    service: &mut Service<S, T>,
+    alloc: Global,
+    env: &mut W,
+) -> Result<Contents, SlurmRefusal>
+    ensures goes { GoesOn S.holds T.remaining T.contents service.old service.new }
+    ensures server { service.new.server ≡ service.old.server }
+{
+    let contents = contents_of(slurms, alloc, env)?;
+    take(service, slurms, &contents, alloc)?;
+    Ok(contents)
+}
+
+/// Reports the files that were refused at the poll before.
+fn report_known<W: Disk + EventLog>(
+    slurms: &mut [WatchedFile],
+    statistics: &mut Statistics,
+    alloc: Global,
+    now: u64,
+    env: &mut W,
+) {
+    for file in slurms.iter_mut() {
+        let is_known = file.state(env) == FileState::RefusedBefore;
+        if is_known && file.refusals.mark_reported(now) {
+            statistics.count_refusal();
+            log_refused_file(alloc, file, now, env);
+        }
+    }
+}
+
+/// Notes that all files were loaded, and reports those that were refused before.
+fn report_loaded<W: EventLog>(
+    slurms: &mut [WatchedFile],
+    contents: &Contents,
+    now: u64,
+    env: &mut W,
+) {
+    for (file, stamp) in slurms.iter_mut().zip(contents.stamps.iter()) {
+        if file.set_loaded(*stamp, now) {
+            let file = file.path.as_str();
+            env.log(now, &LogEvent::Taken { file });
+        }
+    }
+}
+
+/// Notes the refusal at its file, and at each other file that has changed, and reports those that are due.
+fn report_refused<W: Disk + EventLog>(
+    slurms: &mut [WatchedFile],
+    refusal: SlurmRefusal,
+    statistics: &mut Statistics,
+    alloc: Global,
+    now: u64,
+    env: &mut W,
+) {
+    let SlurmRefusal { index, stamp, why } = refusal;
+    let mut why = Some(why);
+    for (at, file) in slurms.iter_mut().enumerate() {
+        let is_due = if at == index {
+            match why.take() {
+                Some(why) => file.refusals.add(stamp, why, now),
+                None => false,
+            }
+        } else {
+            is_due_for_other(file, now, env)
+        };
+        if is_due {
+            statistics.count_refusal();
+            log_refused_file(alloc, file, now, env);
+        }
+    }
+}
+
+/// Notes that a file is not loaded because of another one, if it has changed. It answers whether that is reported now.
+fn is_due_for_other<W: Disk>(file: &mut WatchedFile, now: u64, env: &mut W) -> bool {
+    match env.stamp(file.path.as_str()) {
+        Ok(stamp) if !file.was_loaded(stamp) => {
+            file.refusals.add(Some(stamp), Refusal::OtherSlurm, now)
+        }
+        _ => false,
+    }
+}
