@@ -3,7 +3,9 @@
 
 mod connection;
 mod running;
+mod service_manager;
 mod session_choice;
+mod standard_error;
 mod status_endpoint;
 mod system;
 mod version_cache;

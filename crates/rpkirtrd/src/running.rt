@@ -1,16 +1,20 @@
 //! Running the daemon.
 use crate::connection::Connection;
+use crate::service_manager::ServiceManager;
 use crate::session_choice::{SessionChoice, choose_session, host_name};
 use crate::status_endpoint::{Place, StatusEndpoint};
-use crate::system::{SocketFault, System};
+use crate::system::{LogSettings, SocketFault, System};
 use event_log::LogEvent;
 use rpkirtrd_cli::{Command, OptionFault, Settings, read_words};
-use rtr_daemon::{Daemon, EventLog, Paths, Plan, Refusal, Sockets, StartFault, StopReason, Time};
+use rtr_daemon::{
+    CheckReport, Daemon, EventLog, Paths, Plan, Refusal, Sockets, StartFault, StopReason, Time,
+};
 use rtr_ends::Cache;
 use rtr_server::Server;
 use session_names::SessionIds;
 use status_server::MAX_CONNECTIONS;
 use std::alloc::{AllocError, Global};
+use std::env::Env;
 use std::hash::RandomState;
 use std::io::{self, ErrorKind, Write};
 use std::net::{Net, SocketAddr};
@@ -37,13 +41,13 @@ pub fn out_of_memory<E: Write>(err: &mut E) -> u8 {
 /// Runs a command line, and answers the exit status. It is 0 if all is done, 1 for refused input, and 2 if the words do not parse. It is 3 if a
 /// file, a socket or an output failed, and 4 if memory ran out.
 pub fn run_words<
-    R: Files + Net + Clock + RandomSource + AllocGlobal + Clone + Drop,
+    R: Files + Env + Net + Clock + RandomSource + AllocGlobal + Clone + Drop,
     O: Write,
     E: Write,
 >(rt: &R, words: &[String], out: &mut O, err: &mut E) -> u8 {
     match read_words(rt.alloc(), words) {
         Ok(Command::Help(text)) | Ok(Command::Version(text)) => print(text.as_str(), out),
-        Ok(Command::Serve(settings)) if settings.test => judge(rt, settings, err),
+        Ok(Command::Serve(settings)) if settings.check_config => check_config(rt, settings, err),
         Ok(Command::Serve(settings)) => serve(rt, settings, err),
         Err(OptionFault::Memory) => out_of_memory(err),
         Err(fault) => {
@@ -62,34 +66,119 @@ fn print<O: Write>(text: &str, out: &mut O) -> u8 {
     0
 }
 
-/// Reads the files as at a start, and answers the exit status that the start would have. No socket is opened.
-fn judge<R: Files + Net + Clock + RandomSource + AllocGlobal + Clone + Drop, E: Write>(
-    rt: &R,
-    settings: Settings,
-    err: &mut E,
-) -> u8 {
-    match System::open(rt, err, settings.log, settings.max_size, &[]) {
-        Err(fault) => refuse_sockets(&fault, err),
-        Ok(mut system) => match open(rt, settings, &mut system) {
-            Err(fault) => refuse_start(&fault, &mut system),
-            Ok(daemon) => stop(daemon.judged(), &mut system),
-        },
+/// The form and the level of the log of these settings.
+fn log_settings(settings: &Settings) -> LogSettings {
+    LogSettings {
+        format: settings.log,
+        level: settings.log_level,
     }
 }
 
-/// Opens the sockets, reads the files, and serves.
-fn serve<R: Files + Net + Clock + RandomSource + AllocGlobal + Clone + Drop, E: Write>(
+/// Reads the files as at a start, reports what would be served, and answers the exit status that the start would have. No socket is opened.
+fn check_config<R: Files + Net + Clock + RandomSource + AllocGlobal + Clone + Drop, E: Write>(
     rt: &R,
     settings: Settings,
     err: &mut E,
 ) -> u8 {
-    let addresses = settings.listen.as_slice();
-    match System::open(rt, err, settings.log, settings.max_size, addresses) {
+    let log = log_settings(&settings);
+    match System::open(rt, err, log, settings.max_size, &[]) {
         Err(fault) => refuse_sockets(&fault, err),
-        Ok(mut system) => match endpoint_of(rt, &settings, &mut system) {
-            Err(fault) => system.refuse_sockets(&fault),
-            Ok(endpoint) => begin(rt, settings, endpoint, &mut system),
-        },
+        Ok(mut system) => {
+            let status = check_files(rt, settings, &mut system);
+            system.end_log();
+            status
+        }
+    }
+}
+
+/// Reads the files as at a start, and reports what would be served.
+fn check_files<R: Files + Net + Clock + RandomSource + AllocGlobal + Clone + Drop, E: Write>(
+    rt: &R,
+    settings: Settings,
+    system: &mut System<'_, R, E>,
+) -> u8 {
+    match open(rt, settings, system) {
+        Err(fault) => refuse_start(&fault, system),
+        Ok(daemon) => {
+            let now = system.seconds();
+            match daemon.check_report(now) {
+                Err(refusal) => refuse_start(
+                    &StartFault {
+                        path: None,
+                        refusal,
+                    },
+                    system,
+                ),
+                Ok(report) => {
+                    log_check(report, now, system);
+                    stop(daemon.end_of_check(), system)
+                }
+            }
+        }
+    }
+}
+
+/// Reports what would be served.
+fn log_check<J: EventLog>(report: CheckReport, now: u64, events: &mut J) {
+    let CheckReport {
+        files,
+        ipv4,
+        ipv6,
+        left_out,
+    } = report;
+    let event = LogEvent::Checked {
+        files,
+        ipv4,
+        ipv6,
+        left_out,
+    };
+    events.log(now, &event);
+}
+
+/// Opens the sockets, reads the files, and serves.
+fn serve<R: Files + Env + Net + Clock + RandomSource + AllocGlobal + Clone + Drop, E: Write>(
+    rt: &R,
+    settings: Settings,
+    err: &mut E,
+) -> u8 {
+    let log = log_settings(&settings);
+    let addresses = settings.listen.as_slice();
+    match System::open(rt, err, log, settings.max_size, addresses) {
+        Err(fault) => refuse_sockets(&fault, err),
+        Ok(mut system) => {
+            let status = serve_over(rt, settings, &mut system);
+            system.report_stop();
+            system.end_log();
+            status
+        }
+    }
+}
+
+/// Serves over a system whose listeners are open.
+fn serve_over<R: Files + Env + Net + Clock + RandomSource + AllocGlobal + Clone + Drop, E: Write>(
+    rt: &R,
+    settings: Settings,
+    system: &mut System<'_, R, E>,
+) -> u8 {
+    find_manager(rt, system);
+    match endpoint_of(rt, &settings, system) {
+        Err(fault) => system.refuse_sockets(&fault),
+        Ok(endpoint) => begin(rt, settings, endpoint, system),
+    }
+}
+
+/// Finds the service manager that started the daemon, and reports if it cannot be notified.
+fn find_manager<R: Files + Env + Clock + AllocGlobal, E: Write>(
+    rt: &R,
+    system: &mut System<'_, R, E>,
+) {
+    let (now, millis) = (system.seconds(), system.millis());
+    match ServiceManager::of(rt, millis) {
+        Ok(manager) => system.set_manager(manager),
+        Err(_) => {
+            let reason = "the service manager that NOTIFY_SOCKET names cannot be notified";
+            system.log(now, &LogEvent::Warning { reason });
+        }
     }
 }
 
@@ -138,7 +227,11 @@ fn endpoint_of<R: Files + Net + Clock + RandomSource + AllocGlobal + Clone + Dro
         return Ok(None);
     };
     let place = place_of(rt, settings)?;
-    Ok(Some(endpoint_at(rt, address, place, system)?))
+    let name = match &settings.status_name {
+        Some(name) => Some(String::from_str(rt.alloc(), name.as_str()).map_err(io::Error::from)?),
+        None => None,
+    };
+    Ok(Some(endpoint_at(rt, address, place, name, system)?))
 }
 
 /// The host, and the addresses at which routers connect.
@@ -154,11 +247,12 @@ fn endpoint_at<R: Files + Net + Clock + RandomSource + AllocGlobal + Clone + Dro
     rt: &R,
     address: SocketAddr,
     place: Place,
+    name: Option<String>,
     system: &mut System<'_, R, E>,
 ) -> Result<StatusEndpoint, SocketFault> {
     let keys = RandomState::new(rt)?;
     match system.listen_for_http(address) {
-        Ok(()) => Ok(StatusEndpoint::new(rt.alloc(), keys, place)),
+        Ok(()) => Ok(StatusEndpoint::new(rt.alloc(), keys, place, name)),
         Err(error) => Err(SocketFault {
             address: Some(address),
             error,
@@ -207,7 +301,7 @@ fn open<R: Files + Net + Clock + RandomSource + AllocGlobal + Clone + Drop, E: W
     } = settings;
     let paths = Paths {
         files: vrps,
-        slurm,
+        slurms: slurm,
         points,
     };
     Daemon::open(alloc, plan, ids, server, paths, system)
@@ -323,6 +417,9 @@ fn go_on<R: Files + Net + Clock + RandomSource + AllocGlobal + Clone + Drop, E: 
     for _turn in 0..u64::MAX {
         match daemon.turn(system) {
             Ok(None) => {
+                if daemon.is_ready() {
+                    system.report_ready();
+                }
                 if let Some(endpoint) = &mut endpoint {
                     endpoint.turn(&daemon, system);
                 }
@@ -340,7 +437,7 @@ fn stop<W: Time + EventLog>(end: StopReason, env: &mut W) -> u8 {
     let now = env.seconds();
     env.log(now, &LogEvent::Stopped { reason });
     match end {
-        StopReason::Once | StopReason::Test => 0,
+        StopReason::Once | StopReason::Checked => 0,
         StopReason::Old => 1,
     }
 }
@@ -348,7 +445,8 @@ fn stop<W: Time + EventLog>(end: StopReason, env: &mut W) -> u8 {
 fn reason_of(end: StopReason) -> &'static str {
     match end {
         StopReason::Once => "the client has gone",
-        StopReason::Test => "all files can be taken, and with --test nothing is served",
+        StopReason::Checked =>
+            "the configuration is valid, and with --check-config nothing is served",
         StopReason::Old => "an export is older than --max-age",
     }
 }

@@ -122,9 +122,7 @@ fn sources_text(alloc: Global, settings: &Settings) -> Result<String, AllocError
     let mut text = String::new(alloc);
     add_paths(&mut text, "--vrps", settings.vrps.as_slice())?;
     add_paths(&mut text, "--points", settings.points.as_slice())?;
-    if let Some(path) = &settings.slurm {
-        add_path(&mut text, "--slurm", path.as_str())?;
-    }
+    add_paths(&mut text, "--slurm", settings.slurm.as_slice())?;
     Ok(text)
 }
 

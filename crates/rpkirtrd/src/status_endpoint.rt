@@ -7,7 +7,7 @@ use mio::net::TcpStream;
 use prefixes::Route;
 use rpkirtrd_cli::VERSION;
 use rtr_daemon::{Daemon, Time};
-use status_pages::{Status, Validity};
+use status_pages::{LostLines, Status, Validity};
 use status_server::{HttpEndpoint, StatusSource};
 use std::alloc::{AllocError, Global};
 use std::fmt::{self, Debug};
@@ -63,6 +63,7 @@ struct Snapshot<'a> {
     place: &'a Place,
     daemon: &'a Daemon<VersionLog, Connection>,
     version_cache: VersionCache,
+    lost: LostLines,
     now: u64,
     millis: u64,
 }
@@ -75,6 +76,7 @@ impl StatusSource for Snapshot<'_> {
     fn status(&mut self) -> Result<Status, AllocError> {
         let mut status = self.daemon.status(VERSION, self.now, self.millis)?;
         self.place.write_to(self.alloc, &mut status)?;
+        status.log_lines_lost = self.lost;
         Ok(status)
     }
 
@@ -93,12 +95,17 @@ impl StatusSource for Snapshot<'_> {
 }
 
 impl StatusEndpoint {
-    /// An endpoint without connections, of a daemon at this place.
-    pub fn new(alloc: Global, keys: RandomState, place: Place) -> StatusEndpoint {
+    /// An endpoint without connections, of a daemon at this place. Clients call it by an address, or by this name.
+    pub fn new(
+        alloc: Global,
+        keys: RandomState,
+        place: Place,
+        name: Option<String>,
+    ) -> StatusEndpoint {
         StatusEndpoint {
             alloc,
             place,
-            http: HttpEndpoint::new(alloc, keys),
+            http: HttpEndpoint::new(alloc, keys, name),
             version_cache: VersionCache::new(alloc),
         }
     }
@@ -117,6 +124,7 @@ impl StatusEndpoint {
             place: &self.place,
             daemon,
             version_cache,
+            lost: system.lost_lines(),
             now,
             millis,
         };

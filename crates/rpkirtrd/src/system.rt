@@ -1,11 +1,15 @@
 //! The system: sockets over `mio`, files, clocks, and standard error.
 use crate::connection::{Connection, is_bounded};
 use crate::running::refuse_sockets;
-use event_log::{LogEvent, LogFormat, write_event};
+use crate::service_manager::ServiceManager;
+use crate::standard_error::{StandardError, is_ready};
+use event_log::{LogEvent, LogFormat, LogLevel};
+use log_output::Log;
 use mio::net::{TcpListener, TcpStream};
 use mio::{Events, Interest, Poll, Token};
 use payload_commands::{Directory, read_directories};
 use rtr_daemon::{AcceptResult, Disk, EventLog, Ready, Sockets, Stamp, StartFault, Time};
+use status_pages::LostLines;
 use status_server::{HttpAccept, HttpReady, HttpSockets};
 use std::alloc::Global;
 use std::collections::VecDeque;
@@ -20,8 +24,13 @@ use std::time::{Clock, Duration, Instant, SystemTime, UNIX_EPOCH};
 /// The largest number of events of one wait.
 const EVENTS: usize = 1024;
 
-/// The initial capacity of the buffer for a log line, in bytes.
-const LINE_ROOM: usize = 4096;
+/// The longest wait while log lines are buffered, in milliseconds.
+const LOG_WAIT: u64 = 1000;
+
+/// How often log lines are tried again before the program exits, and how long standard error is waited for each time, in milliseconds.
+const LAST_TRIES: u32 = 10;
+
+const LAST_WAIT: i32 = 100;
 
 /// The poll token of the first router connection. Listeners have the tokens below.
 const FIRST_CONNECTION: usize = 65_536;
@@ -40,7 +49,9 @@ const SHORTAGES: [i32; 4] = [12, 23, 24, 105];
 pub struct System<'a, R, E> {
     rt: &'a R,
     err: &'a mut E,
-    form: LogFormat,
+    format: LogFormat,
+    log: Log,
+    manager: Option<ServiceManager>,
     max_size: u64,
     poll: Poll,
     events: Events,
@@ -56,7 +67,6 @@ pub struct System<'a, R, E> {
     began: Instant,
     seconds: u64,
     millis: u64,
-    text: Vec<u8>,
 }
 
 /// How many listeners there are, and how much is ready.
@@ -89,12 +99,21 @@ impl From<io::Error> for SocketFault {
     }
 }
 
+/// The form and the level of the log.
+#[derive(Clone, Copy, Debug)]
+pub struct LogSettings {
+    /// The form.
+    pub format: LogFormat,
+    /// The least severe level of the events that are logged.
+    pub level: LogLevel,
+}
+
 impl<'a, R: Files + Net + Clock + AllocGlobal, E: Write> System<'a, R, E> {
     /// The system, with a listener at each of these addresses. Files of more than `max_size` bytes are refused.
     pub fn open(
         rt: &'a R,
         err: &'a mut E,
-        form: LogFormat,
+        log: LogSettings,
         max_size: u64,
         addresses: &[SocketAddr],
     ) -> Result<System<'a, R, E>, SocketFault> {
@@ -102,7 +121,9 @@ impl<'a, R: Files + Net + Clock + AllocGlobal, E: Write> System<'a, R, E> {
         let mut system: System<'a, R, E> = System {
             rt,
             err,
-            form,
+            format: log.format,
+            log: Log::new(rt.alloc(), log.format, log.level).map_err(io::Error::from)?,
+            manager: None,
             max_size,
             poll,
             events: Events::with_capacity(rt.alloc(), EVENTS).map_err(io::Error::from)?,
@@ -116,7 +137,6 @@ impl<'a, R: Files + Net + Clock + AllocGlobal, E: Write> System<'a, R, E> {
             began: Instant::now(rt)?,
             seconds: 0,
             millis: 0,
-            text: Vec::with_capacity(rt.alloc(), LINE_ROOM).map_err(io::Error::from)?,
         };
         for address in addresses {
             if let Err(error) = system.listen(*address) {
@@ -136,7 +156,7 @@ impl<'a, R: Files + Net + Clock + AllocGlobal, E: Write> System<'a, R, E> {
 
     /// Reports on standard error why the daemon does not start. A path with a control character is in quotes.
     pub fn refuse(&mut self, fault: &StartFault) {
-        if self.form == LogFormat::Json {
+        if self.format == LogFormat::Json {
             return self.log_refusal(fault);
         }
         let _ = match &fault.path {
@@ -217,9 +237,69 @@ impl<'a, R: Clock + AllocGlobal, E: Write> Time for System<'a, R, E> {
 
 impl<'a, R: Clock + AllocGlobal, E: Write> EventLog for System<'a, R, E> {
     fn log(&mut self, seconds: u64, event: &LogEvent<'_>) {
-        self.text.clear();
-        if write_event(&mut self.text, self.form, seconds, event).is_ok() {
-            let _ = self.err.write_all(self.text.as_slice());
+        let millis = self.millis();
+        self.log.add(seconds, millis, event);
+        self.write_log();
+    }
+}
+
+impl<'a, R: Clock + AllocGlobal, E: Write> System<'a, R, E> {
+    /// Writes the buffered log lines for which standard error has room.
+    fn write_log(&mut self) {
+        let mut output = StandardError::new(&mut *self.err);
+        self.log.write_to(&mut output);
+    }
+
+    /// Writes the buffered log lines before the program exits, and waits a second at most for standard error.
+    pub fn end_log(&mut self) {
+        for _try in 0..LAST_TRIES {
+            self.write_log();
+            if self.log.is_written() {
+                return;
+            }
+            let _ = is_ready(LAST_WAIT);
+        }
+    }
+
+    /// Reports what the log lacks, if that is due, and answers how long the next wait may be, in milliseconds.
+    fn log_wait(&mut self, millis: u64) -> u64 {
+        let seconds = self.seconds();
+        self.log.tick(seconds, millis);
+        self.write_log();
+        if self.log.is_empty() {
+            u64::MAX
+        } else {
+            LOG_WAIT
+        }
+    }
+
+    /// Signals the watchdog, if that is due, and answers how long the next wait may be, in milliseconds.
+    fn manager_wait(&mut self, millis: u64) -> u64 {
+        match &mut self.manager {
+            None => u64::MAX,
+            Some(manager) => {
+                manager.signal(millis);
+                manager.wait_limit(millis)
+            }
+        }
+    }
+
+    /// Reports to the service manager that the daemon serves.
+    pub fn report_ready(&mut self) {
+        let Some(manager) = &mut self.manager else {
+            return;
+        };
+        if manager.fails_to_report_ready() {
+            let reason = "the service manager could not be notified that the daemon is ready";
+            let now = self.seconds();
+            self.log(now, &LogEvent::Warning { reason });
+        }
+    }
+
+    /// Reports to the service manager that the daemon ends.
+    pub fn report_stop(&self) {
+        if let Some(manager) = &self.manager {
+            manager.report_stop();
         }
     }
 }
@@ -256,9 +336,11 @@ impl<'a, R: Files + AllocGlobal + Clone + Drop, E: Write> Disk for System<'a, R,
     }
 }
 
-impl<'a, R: AllocGlobal, E: Write> Sockets<Connection> for System<'a, R, E> {
+impl<'a, R: Clock + AllocGlobal, E: Write> Sockets<Connection> for System<'a, R, E> {
     fn wait(&mut self, millis: u64) -> io::Result<()> {
-        let wait = Duration::from_millis(millis.min(self.wait_limit));
+        let now = self.millis();
+        let limit = self.log_wait(now).min(self.manager_wait(now));
+        let wait = Duration::from_millis(millis.min(self.wait_limit).min(limit));
         self.poll.poll(&mut self.events, Some(wait))?;
         for event in self.events.iter() {
             let Token(token) = event.token();
@@ -311,6 +393,19 @@ impl<'a, R, E> HttpSockets<TcpStream> for System<'a, R, E> {
 }
 
 impl<'a, R, E> System<'a, R, E> {
+    /// Sets the service manager that is notified.
+    pub fn set_manager(&mut self, manager: Option<ServiceManager>) {
+        self.manager = manager;
+    }
+
+    /// How many lines the log lacks since the start.
+    pub fn lost_lines(&self) -> LostLines {
+        LostLines {
+            dropped: self.log.dropped_lines(),
+            suppressed: self.log.suppressed_lines(),
+        }
+    }
+
     /// Limits the next waits to this many milliseconds.
     pub fn wait_at_most(&mut self, millis: u64) {
         self.wait_limit = millis;
