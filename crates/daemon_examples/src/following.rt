@@ -70,7 +70,7 @@ fn paths(alloc: Global) -> Result<Paths, Fail> {
     files.push(String::from_str(alloc, LIST)?)?;
     Ok(Paths {
         files,
-        slurm: None,
+        slurms: Vec::new(alloc),
         points: Vec::new(alloc),
     })
 }

@@ -1,5 +1,7 @@
 //! Lines of the log, in both formats.
-use event_log::{ClientClosed, LogEvent, LogFormat, PeerReport, Publication, write_event};
+use event_log::{
+    ClientClosed, LogEvent, LogFormat, LogLevel, PeerReport, Publication, write_event,
+};
 use session_names::SessionIds;
 use std::alloc::Global;
 use std::net::{IpAddr, Ipv4Addr, Ipv6Addr, SocketAddr};
@@ -276,6 +278,40 @@ fn client_events() -> [Told; 10] {
     ]
 }
 
+/// The events of the log itself, and of a checked configuration.
+fn log_events() -> [Told; 3] {
+    [
+        (
+            LogEvent::Suppressed {
+                lines: 800,
+                seconds: 10,
+            },
+            "suppressed",
+            " lines=800 seconds=10",
+            ",\"lines\":800,\"seconds\":10",
+        ),
+        (
+            LogEvent::Dropped {
+                lines: 18_446_744_073_709_551_615,
+            },
+            "dropped",
+            " lines=18446744073709551615",
+            ",\"lines\":18446744073709551615",
+        ),
+        (
+            LogEvent::Checked {
+                files: 3,
+                ipv4: 2,
+                ipv6: 1,
+                left_out: 0,
+            },
+            "checked",
+            " files=3 ipv4=2 ipv6=1 left-out=0",
+            ",\"files\":3,\"ipv4\":2,\"ipv6\":1,\"left-out\":0",
+        ),
+    ]
+}
+
 /// Whether each of these events has its line, in both formats.
 fn all_are_told(alloc: Global, events: &[Told]) -> Result<bool, Fail> {
     for (event, word, plain, json) in events {
@@ -291,6 +327,7 @@ fn events_are_told(rt: HostRuntime) -> Result<(), Fail> {
     assert!(rt; all_are_told(rt.alloc(), &daemon_events())?);
     assert!(rt; all_are_told(rt.alloc(), &file_events())?);
     assert!(rt; all_are_told(rt.alloc(), &client_events())?);
+    assert!(rt; all_are_told(rt.alloc(), &log_events())?);
     Ok(())
 }
 
@@ -320,5 +357,46 @@ fn all_times_are_told(alloc: Global, times: &[(u64, &str)]) -> Result<bool, Fail
 #[test]
 fn times_are_told(rt: HostRuntime) -> Result<(), Fail> {
     assert!(rt; all_times_are_told(rt.alloc(), TIMES)?);
+    Ok(())
+}
+
+/// Words of levels with their severities (RFC 5424 section 6.2.1), and texts that are none.
+const LEVELS: &[(&str, Option<LogLevel>, u8)] = &[
+    ("error", Some(LogLevel::Error), 3),
+    ("warning", Some(LogLevel::Warning), 4),
+    ("notice", Some(LogLevel::Notice), 5),
+    ("info", Some(LogLevel::Info), 6),
+    ("", None, 0),
+    ("Error", None, 0),
+    ("errors", None, 0),
+    ("debug", None, 0),
+];
+
+/// Whether each word has its level, and each level its severity and word.
+fn all_levels_are_read(
+    alloc: Global,
+    levels: &[(&str, Option<LogLevel>, u8)],
+) -> Result<bool, Fail> {
+    for (word, level, severity) in levels {
+        let found = LogLevel::parse(word);
+        if found != *level {
+            return Ok(false);
+        }
+        if let Some(level) = found {
+            let printed = format!(in alloc; "{level}")?;
+            if level.severity() != *severity || printed.as_str() != *word {
+                return Ok(false);
+            }
+        }
+    }
+    Ok(true)
+}
+
+#[test]
+fn levels_are_read(rt: HostRuntime) -> Result<(), Fail> {
+    assert!(rt; all_levels_are_read(rt.alloc(), LEVELS)?);
+    assert!(rt; LogLevel::Error < LogLevel::Warning);
+    assert!(rt; LogLevel::Warning < LogLevel::Notice);
+    assert!(rt; LogLevel::Notice < LogLevel::Info);
     Ok(())
 }

@@ -32,12 +32,11 @@ fn answer_to(alloc: Global, line: &str) -> Result<String, Fail> {
     }
 }
 
-const DEFAULTS: &str =
-    "Settings { vrps: [\"a\"], points: [], slurm: None, listen: [127.0.0.1:3323], \
+const DEFAULTS: &str = "Settings { vrps: [\"a\"], points: [], slurm: [], listen: [127.0.0.1:3323], \
     session: None, session0: None, start: None, keep: 16, \
     timing: Timing { refresh: 3600, retry: 600, expire: 7200 }, check: 60, max_age: None, \
     stop_when_old: false, max_size: 2147483648, leave_out_length_0: false, clients: 256, clients_per_address: None, \
-    stall: 120, status: None, log: Text, once: false, test: false }";
+    stall: 120, status: None, status_name: None, log: Text, log_level: Info, once: false, check_config: false }";
 
 /// Lines, and a part of their parsed form.
 const LINES: &[(&str, &str)] = &[
@@ -45,7 +44,8 @@ const LINES: &[(&str, &str)] = &[
     ("--vrps=a", DEFAULTS),
     ("--vrps a --vrps b", "vrps: [\"a\", \"b\"], points: [],"),
     ("--points c --points d", "vrps: [], points: [\"c\", \"d\"],"),
-    ("--vrps a --slurm s", "slurm: Some(\"s\"),"),
+    ("--vrps a --slurm s", "slurm: [\"s\"],"),
+    ("--vrps a --slurm s --slurm t", "slurm: [\"s\", \"t\"],"),
     (
         "--vrps a --listen 192.0.2.1:323 --listen [::]:3323",
         "listen: [192.0.2.1:323, [::]:3323],",
@@ -96,8 +96,19 @@ const LINES: &[(&str, &str)] = &[
     ("--vrps a --status [::1]:9323", "status: Some([::1]:9323),"),
     ("--vrps a --log text", "log: Text,"),
     ("--vrps a --log json", "log: Json,"),
-    ("--vrps a --once", "once: true, test: false "),
-    ("--vrps a --test", "once: false, test: true "),
+    (
+        "--vrps a --status [::1]:9323 --status-name cache-1.Example.net",
+        "status: Some([::1]:9323), status_name: Some(\"cache-1.Example.net\"),",
+    ),
+    ("--vrps a --log-level error", "log_level: Error,"),
+    ("--vrps a --log-level warning", "log_level: Warning,"),
+    ("--vrps a --log-level notice", "log_level: Notice,"),
+    ("--vrps a --log-level info", "log_level: Info,"),
+    ("--vrps a --once", "once: true, check_config: false "),
+    (
+        "--vrps a --check-config",
+        "once: false, check_config: true ",
+    ),
     (
         "--help",
         "Usage: rpkirtrd (--vrps FILE | --points DIR).. [OPTION]..\n",
@@ -143,8 +154,20 @@ const REFUSED_WORDS: &[(&str, &str)] = &[
         "the argument '--once' cannot be used multiple times",
     ),
     (
-        "--vrps a --slurm s --slurm s",
-        "the argument '--slurm <FILE>' cannot be used multiple times",
+        "--vrps a --log-level info --log-level info",
+        "the argument '--log-level <LEVEL>' cannot be used multiple times",
+    ),
+    (
+        "--vrps a --log-level debug",
+        "--log-level \"debug\": error, warning, notice or info is required",
+    ),
+    (
+        "--vrps a --log-level Info",
+        "--log-level \"Info\": error, warning, notice or info is required",
+    ),
+    (
+        "--vrps a --status-name cache.example.net",
+        "--status is required beside --status-name, as there are no pages without it",
     ),
     ("--vrps=", "--vrps \"\": a path is required"),
     ("--vrps a --points=", "--points \"\": a path is required"),
@@ -383,6 +406,26 @@ const REFUSED_ADDRESSES: &[(&str, &str)] = &[
     ),
 ];
 
+/// The same for the name of the status pages.
+const REFUSED_NAMES: &[(&str, &str)] = &[
+    (
+        "--vrps a --status [::1]:9323 --status-name=",
+        "--status-name \"\": a host name, as cache.example.net, is required",
+    ),
+    (
+        "--vrps a --status [::1]:9323 --status-name cache.example.net:9323",
+        "--status-name \"cache.example.net:9323\": a host name, as cache.example.net, is required",
+    ),
+    (
+        "--vrps a --status [::1]:9323 --status-name cache..net",
+        "--status-name \"cache..net\": a host name, as cache.example.net, is required",
+    ),
+    (
+        "--vrps a --status [::1]:9323 --status-name cache.example.net.",
+        "--status-name \"cache.example.net.\": a host name, as cache.example.net, is required",
+    ),
+];
+
 /// Checks the fault of each line.
 fn expect_reasons<R: AllocGlobal + Abort>(rt: &R, lines: &[(&str, &str)]) -> Result<(), Fail> {
     for &(line, reason) in lines {
@@ -397,14 +440,18 @@ fn lines_are_refused(rt: HostRuntime) -> Result<(), Fail> {
     expect_reasons(&rt, REFUSED_WORDS)?;
     expect_reasons(&rt, REFUSED_NUMBERS)?;
     expect_reasons(&rt, REFUSED_BOUNDS)?;
-    expect_reasons(&rt, REFUSED_ADDRESSES)
+    expect_reasons(&rt, REFUSED_ADDRESSES)?;
+    expect_reasons(&rt, REFUSED_NAMES)
 }
 
 /// The options with their values, and what the help says of their ranges and defaults.
 const OPTIONS: &[(&str, &str)] = &[
     ("--vrps FILE", "may be given several times."),
     ("--points DIR", "may be given several times."),
-    ("--slurm FILE", "RFC 8416"),
+    (
+        "--slurm FILE",
+        "may be given several times: the files are applied together",
+    ),
     (
         "--check SECONDS",
         "from 1 to 4294967295; the default is 60.",
@@ -439,7 +486,12 @@ const OPTIONS: &[(&str, &str)] = &[
     ("--status ADDRESS:PORT", "option there are none."),
     ("--log FORM", "text or json. The default is text."),
     ("--once", "when the first router has disconnected."),
-    ("--test", "and 1 if one is refused. No address is opened."),
+    (
+        "--check-config",
+        "and 1 if a file is refused. No address is opened.",
+    ),
+    ("--status-name NAME", "It needs --status."),
+    ("--log-level LEVEL", "The default is info, which is all."),
     ("-h, --help", "Print this text."),
     ("-V, --version", "Print the name and the version"),
 ];

@@ -16,6 +16,8 @@ mod feed_example;
 #[cfg(test)]
 mod json_texts_example;
 #[cfg(test)]
+mod log_output_example;
+#[cfg(test)]
 mod payload_commands_example;
 #[cfg(test)]
 mod payload_lists_example;
@@ -45,6 +47,8 @@ mod rtr_pdu_example;
 mod rtr_server_example;
 #[cfg(test)]
 mod rtr_world_example;
+#[cfg(test)]
+mod sd_notify_example;
 #[cfg(test)]
 mod session_names_example;
 #[cfg(test)]

@@ -1,4 +1,4 @@
-use status_server::{CONNECTION_MILLIS, HttpConnections};
+use status_server::{HttpConnections, IDLE_MILLIS};
 use std::hash::RandomState;
 use std::io;
 use std::io::{ErrorKind, Read, Write};
@@ -25,12 +25,12 @@ impl Write for Silent {
 }
 
 #[test]
-fn a_visitor_has_30_seconds(rt: HostRuntime) -> Result<(), Fail> {
-    let mut connections = HttpConnections::new(rt.alloc(), RandomState::new(&rt)?);
+fn an_idle_connection_has_30_seconds(rt: HostRuntime) -> Result<(), Fail> {
+    let mut connections = HttpConnections::new(rt.alloc(), RandomState::new(&rt)?, None);
     connections.admit(7, Silent, 0)?;
-    connections.expire(CONNECTION_MILLIS - 1);
+    connections.expire(IDLE_MILLIS - 1);
     assert!(rt; connections.has(7));
-    connections.expire(CONNECTION_MILLIS);
+    connections.expire(IDLE_MILLIS);
     assert!(rt; connections.is_empty());
     Ok(())
 }

@@ -24,6 +24,8 @@ mod slurm_files;
 #[cfg(test)]
 mod slurm_outcomes;
 #[cfg(test)]
+mod slurm_sets;
+#[cfg(test)]
 mod slurm_texts;
 #[cfg(test)]
 mod source_files;

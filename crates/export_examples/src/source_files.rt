@@ -1,6 +1,9 @@
-//! What sources serve of files whose records expire.
+//! What sources serve of files whose records expire, and with several files of local exceptions.
+use crate::slurm_files::file;
 use der_lite::Moment;
-use sources::{Sources, TakeFault};
+use slurm::{SlurmFault, UniteFault};
+use sources::{SlurmSetFault, Sources, TakeFault};
+use std::alloc::Global;
 use std::test::Fail;
 
 /// 14 November 2023, 22:13:20 UTC.
@@ -47,5 +50,88 @@ fn another_file_keeps_its_record(rt: HostRuntime) -> Result<(), Fail> {
     assert!(rt; served(&sources, "20231114221322Z")? == 2);
     assert!(rt; sources.expired(1, NOW + 2) == 0);
     assert!(rt; sources.expired(2, NOW + 2) == 0);
+    Ok(())
+}
+
+/// A file of local exceptions with one prefix filter.
+fn filtering(alloc: Global, prefix: &str) -> Result<Vec<u8>, Fail> {
+    let filters = format!(in alloc; r#"[{{"prefix":"{prefix}"}}]"#)?;
+    let text = file(alloc, &[filters.as_str(), "[]", "[]", "[]"])?;
+    Ok(text.into_bytes())
+}
+
+/// Files of local exceptions with a prefix filter each.
+fn each_filtering(alloc: Global, prefixes: &[&str]) -> Result<Vec<Vec<u8>>, Fail> {
+    let mut files = Vec::new(alloc);
+    for prefix in prefixes {
+        files.push(filtering(alloc, prefix)?)?;
+    }
+    Ok(files)
+}
+
+/// Whether files with a prefix filter each replace the local exceptions.
+fn is_filtered(alloc: Global, sources: &mut Sources, prefixes: &[&str]) -> Result<bool, Fail> {
+    let files = each_filtering(alloc, prefixes)?;
+    Ok(sources.take_slurms(files.as_slice()).is_ok())
+}
+
+/// Two records, of 10.0.0.0/8 and of 11.0.0.0/8.
+const PAIR: &[u8] =
+    br#"[{"asn":1,"prefix":"10.0.0.0/8","maxLength":8},{"asn":1,"prefix":"11.0.0.0/8","maxLength":8}]"#;
+
+const THEN: &str = "20231114221321Z";
+
+#[test]
+fn exceptions_of_two_files(rt: HostRuntime) -> Result<(), Fail> {
+    let alloc = rt.alloc();
+    let mut sources = Sources::new(alloc, 1)?;
+    sources.take_export(0, PAIR, NOW)?;
+    assert!(rt; is_filtered(alloc, &mut sources, &["10.0.0.0/8", "11.0.0.0/8"])?);
+    assert!(rt; served(&sources, THEN)? == 0);
+    assert!(rt; is_filtered(alloc, &mut sources, &["10.0.0.0/8"])?);
+    assert!(rt; served(&sources, THEN)? == 1);
+    assert!(rt; is_filtered(alloc, &mut sources, &[])?);
+    assert!(rt; served(&sources, THEN)? == 2);
+    Ok(())
+}
+
+#[test]
+fn exceptions_that_overlap_change_nothing(rt: HostRuntime) -> Result<(), Fail> {
+    let alloc = rt.alloc();
+    let mut sources = Sources::new(alloc, 1)?;
+    sources.take_export(0, PAIR, NOW)?;
+    sources.take_slurms(each_filtering(alloc, &["10.0.0.0/8"])?.as_slice())?;
+    let bad = each_filtering(alloc, &["11.0.0.0/8", "12.0.0.0/8", "11.0.0.0/16"])?;
+    let refused = sources.take_slurms(bad.as_slice());
+    assert!(rt;
+        matches!(
+            &refused,
+            Err(SlurmSetFault::Unite(UniteFault::Overlap {
+                first: 0,
+                second: 2,
+                ..
+            }))
+        )
+    );
+    assert!(rt; served(&sources, THEN)? == 1);
+    Ok(())
+}
+
+#[test]
+fn a_file_that_cannot_be_read_is_told_first(rt: HostRuntime) -> Result<(), Fail> {
+    let alloc = rt.alloc();
+    let mut sources = Sources::new(alloc, 0)?;
+    let mut files = each_filtering(alloc, &["11.0.0.0/8"])?;
+    files.push(Vec::from_slice(alloc, b"{")?)?;
+    files.push(filtering(alloc, "11.0.0.0/8")?)?;
+    files.push(Vec::from_slice(alloc, b"{}")?)?;
+    let refused = sources.take_slurms(files.as_slice());
+    assert!(rt;
+        refused
+            == Err(SlurmSetFault::File {
+                index: 1,
+                fault: SlurmFault::NotJson
+            })
+    );
     Ok(())
 }

@@ -1,5 +1,8 @@
 use crate::telling::{V, begin, is_told, no_memory, set_of, tell, tell_payloads};
-use slurm::{SlurmFault, apply, read_slurm};
+use der_lite::Moment;
+use slurm::{SlurmFault, UniteFault, apply, read_slurm};
+use sources::{SlurmSetFault, Sources};
+use std::alloc::Global;
 use std::test::Fail;
 
 /// Filters of each kind, of which one matches the first payload, and an assertion of the second.
@@ -39,5 +42,77 @@ fn apply_exceptions(rt: HostRuntime) -> Result<(), Fail> {
     begin(alloc);
     let _done = is_told(&rt, apply(&slurm, alloc, &set))
         || is_told(&rt, apply(&slurm, alloc, &set));
+    Ok(())
+}
+
+/// A file that is about nothing that the first one is about.
+const OTHER: &str = r#"{
+    "slurmVersion": 1,
+    "validationOutputFilters": {
+        "prefixFilters": [{"prefix": "10.0.0.0/8"}],
+        "bgpsecFilters": [{"SKI": "Zm9v"}, {"asn": 2}]
+    },
+    "locallyAddedAssertions": {
+        "prefixAssertions": [{"asn": 64498, "prefix": "203.0.113.0/24"}],
+        "bgpsecAssertions": []
+    }
+}"#;
+
+/// An assertion that the sources have before, and that the two files replace.
+const BEFORE: &str = r#"{
+    "slurmVersion": 1,
+    "validationOutputFilters": {"prefixFilters": [], "bgpsecFilters": []},
+    "locallyAddedAssertions": {
+        "prefixAssertions": [{"asn": 64499, "prefix": "192.0.2.0/24"}],
+        "bgpsecAssertions": []
+    }
+}"#;
+
+fn files(alloc: Global, texts: &[&str]) -> Result<Vec<Vec<u8>>, Fail> {
+    let mut files = Vec::new(alloc);
+    for text in texts {
+        files.push(Vec::from_slice(alloc, text.as_bytes())?)?;
+    }
+    Ok(files)
+}
+
+/// Prints what is served, or that there was no memory for it.
+fn is_served(rt: &HostRuntime, sources: &Sources, now: Moment) -> bool {
+    match sources.served(now) {
+        Ok(served) => is_told(rt, Ok(served.set)),
+        Err(fault) => is_told(rt, Err(fault)),
+    }
+}
+
+/// Replaces the exceptions by those of the files, and prints the result.
+fn are_taken(rt: &HostRuntime, sources: &mut Sources, files: &[Vec<u8>]) -> bool {
+    match sources.take_slurms(files) {
+        Ok(()) => tell(rt, "taken"),
+        Err(
+            SlurmSetFault::File {
+                fault: SlurmFault::Memory,
+                ..
+            },
+        ) => return no_memory(rt),
+        Err(SlurmSetFault::Unite(UniteFault::Memory)) => return no_memory(rt),
+        Err(_) => tell(rt, "another fault"),
+    }
+    true
+}
+
+#[test]
+fn take_files_of_exceptions(rt: HostRuntime) -> Result<(), Fail> {
+    let alloc = rt.alloc();
+    let now = Moment::parse("20231114221320Z").ok_or("no moment")?;
+    let two = files(alloc, &[FILE, OTHER])?;
+    let mut sources = Sources::new(alloc, 0)?;
+    sources.take_slurm(BEFORE.as_bytes())?;
+    begin(alloc);
+    let taken = are_taken(&rt, &mut sources, two.as_slice());
+    let _told = is_served(&rt, &sources, now) || is_served(&rt, &sources, now);
+    if !taken {
+        let _again = are_taken(&rt, &mut sources, two.as_slice());
+        let _told = is_served(&rt, &sources, now);
+    }
     Ok(())
 }

@@ -5,7 +5,8 @@ use bytes::Bytes;
 use prefixes::{Asn, IpPrefix, Route, Vrp};
 use status_pages::{Status, Validity};
 use status_server::{
-    CONNECTION_MILLIS, HttpAdmitFault, HttpConnections, HttpProgress, MAX_CONNECTIONS, StatusSource,
+    CONNECTION_MILLIS, HttpAdmitFault, HttpConnections, HttpProgress, IDLE_MILLIS, MAX_CONNECTIONS,
+    StatusSource,
 };
 use std::alloc::{AllocError, Global};
 use std::hash::RandomState;
@@ -99,11 +100,31 @@ fn answered_by(
     request: &[u8],
     piece: usize,
 ) -> Result<(HttpProgress, Shared), Fail> {
+    let connections = HttpConnections::new(rt.alloc(), RandomState::new(rt)?, None);
+    served(rt, connections, source, request, piece)
+}
+
+/// The response under this name.
+pub(crate) fn named(rt: &HostRuntime, name: &str, request: &[u8]) -> Result<Shared, Fail> {
+    let mut source = source(rt.alloc())?;
+    let name = String::from_str(rt.alloc(), name)?;
+    let connections = HttpConnections::new(rt.alloc(), RandomState::new(rt)?, Some(name));
+    let (_came, output) = served(rt, connections, &mut source, request, 4096)?;
+    Ok(output)
+}
+
+/// The progress of one connection, and the response.
+fn served(
+    rt: &HostRuntime,
+    mut connections: HttpConnections<Wire>,
+    source: &mut Small,
+    request: &[u8],
+    piece: usize,
+) -> Result<(HttpProgress, Shared), Fail> {
     let output = shared(rt.alloc(), b"")?;
     let wire = Wire::of(&shared(rt.alloc(), request)?, &output, piece)?;
-    let mut connections = HttpConnections::new(rt.alloc(), RandomState::new(rt)?);
     connections.admit(7, wire, 0)?;
-    connections.serve(source, 100_000);
+    connections.serve(0, source, 100_000);
     Ok((progress(&connections), output))
 }
 
@@ -112,42 +133,42 @@ type Answer = (&'static str, &'static str, &'static str);
 
 const ANSWERS: &[Answer] = &[
     (
-        "GET / HTTP/1.1\r\nHost: a\r\n\r\n",
+        "GET / HTTP/1.1\r\nHost: 192.0.2.1\r\n\r\n",
         "HTTP/1.1 200 OK\r\ndate: Thu, 26 Nov 2026 00:37:00 GMT\r\ncontent-type: text/html; charset=utf-8\r\ncache-control: no-cache\r\nx-content-type-options: nosniff\r\ncontent-security-policy: default-src 'none'; style-src 'unsafe-inline'; base-uri 'none'; form-action 'self'; frame-ancestors 'none'\r\n",
         "<!doctype html>",
     ),
     (
-        "GET /metrics HTTP/1.1\r\nHost: a\r\n\r\n",
+        "GET /metrics HTTP/1.1\r\nHost: 192.0.2.1\r\n\r\n",
         "HTTP/1.1 200 OK\r\ndate: Thu, 26 Nov 2026 00:37:00 GMT\r\ncontent-type: text/plain; version=0.0.4; charset=utf-8\r\ncache-control: no-cache\r\nx-content-type-options: nosniff\r\n",
         "\nrpkirtrd_serial 1795653120\n",
     ),
     (
-        "GET /vrps.json HTTP/1.1\r\nHost: a\r\n\r\n",
+        "GET /vrps.json HTTP/1.1\r\nHost: 192.0.2.1\r\n\r\n",
         "HTTP/1.1 200 OK\r\ndate: Thu, 26 Nov 2026 00:37:00 GMT\r\netag: \"4660-1795653120-1795652820\"\r\ncontent-type: application/json; charset=utf-8\r\n",
         "\r\n\r\n{\"metadata\":{\"buildtime\":\"2026-11-26T00:27:00Z\",\"generated\":1795652820,\"vrps\":523456},\"roas\":[{\"asn\":64496,\"maxLength\":24,\"prefix\":\"192.0.2.0/24\"}]}",
     ),
     (
-        "HEAD /list.json HTTP/1.1\r\nHost: a\r\n\r\n",
+        "HEAD /list.json HTTP/1.1\r\nHost: 192.0.2.1\r\n\r\n",
         "HTTP/1.1 200 OK\r\ndate: Thu, 26 Nov 2026 00:37:00 GMT\r\netag: \"4660-1795653120\"\r\ncontent-type: application/json; charset=utf-8\r\n",
         "content-length: 54\r\n\r\n",
     ),
     (
-        "GET /validity?asn=64496&prefix=192.0.2.0/24 HTTP/1.1\r\nHost: a\r\n\r\n",
+        "GET /validity?asn=64496&prefix=192.0.2.0/24 HTTP/1.1\r\nHost: 192.0.2.1\r\n\r\n",
         "HTTP/1.1 200 OK\r\ndate: Thu, 26 Nov 2026 00:37:00 GMT\r\nvary: Accept\r\ncontent-type: application/json; charset=utf-8\r\n",
         "{\"validated_route\":{\"route\":{\"origin_asn\":\"AS64496\",\"prefix\":\"192.0.2.0/24\"},\"validity\":{\"state\":\"valid\",",
     ),
     (
-        "GET /validity HTTP/1.1\r\nHost: a\r\n\r\n",
+        "GET /validity HTTP/1.1\r\nHost: 192.0.2.1\r\n\r\n",
         "HTTP/1.1 400 Bad Request\r\ndate: Thu, 26 Nov 2026 00:37:00 GMT\r\nvary: Accept\r\ncontent-type: text/plain; charset=utf-8\r\n",
         "\r\n\r\nwrite ?asn=NUMBER&prefix=PREFIX, each of the two keys once and no other, as in ?asn=64496&prefix=192.0.2.0/24\n",
     ),
     (
-        "GET /status HTTP/1.1\r\nHost: a\r\n\r\n",
+        "GET /status HTTP/1.1\r\nHost: 192.0.2.1\r\n\r\n",
         "HTTP/1.1 404 Not Found\r\ndate: Thu, 26 Nov 2026 00:37:00 GMT\r\ncontent-type: text/plain; charset=utf-8\r\n",
         "\r\n\r\nthere are /, /metrics, /health, /vrps.json, /list.json, /vrps.csv, /validity and /api/v1/validity/NUMBER/PREFIX\n",
     ),
     (
-        "POST /metrics HTTP/1.1\r\nHost: a\r\ncontent-length: 0\r\n\r\n",
+        "POST /metrics HTTP/1.1\r\nHost: 192.0.2.1\r\ncontent-length: 0\r\n\r\n",
         "HTTP/1.1 405 Method Not Allowed\r\ndate: Thu, 26 Nov 2026 00:37:00 GMT\r\nallow: GET, HEAD\r\ncontent-type: text/plain; charset=utf-8\r\n",
         "\r\n\r\nonly GET and HEAD are answered\n",
     ),
@@ -169,23 +190,23 @@ fn requests_are_answered(rt: HostRuntime) -> Result<(), Fail> {
 /// Requests that need a version, and a part of their response before the first version.
 const EARLY: &[(&str, &str)] = &[
     (
-        "GET /vrps.json HTTP/1.1\r\nHost: a\r\n\r\n",
+        "GET /vrps.json HTTP/1.1\r\nHost: 192.0.2.1\r\n\r\n",
         "\r\n\r\nno version is published yet: ask again in a second\n",
     ),
     (
-        "GET /list.json HTTP/1.1\r\nHost: a\r\n\r\n",
+        "GET /list.json HTTP/1.1\r\nHost: 192.0.2.1\r\n\r\n",
         "\r\n\r\nno version is published yet: ask again in a second\n",
     ),
     (
-        "GET /vrps.csv HTTP/1.1\r\nHost: a\r\n\r\n",
+        "GET /vrps.csv HTTP/1.1\r\nHost: 192.0.2.1\r\n\r\n",
         "\r\n\r\nno version is published yet: ask again in a second\n",
     ),
     (
-        "GET /api/v1/validity/64496/192.0.2.0/24 HTTP/1.1\r\nHost: a\r\n\r\n",
+        "GET /api/v1/validity/64496/192.0.2.0/24 HTTP/1.1\r\nHost: 192.0.2.1\r\n\r\n",
         "\r\n\r\nno version is published yet: ask again in a second\n",
     ),
     (
-        "GET /validity?asn=64496&prefix=192.0.2.0/24 HTTP/1.1\r\nHost: a\r\n\r\n",
+        "GET /validity?asn=64496&prefix=192.0.2.0/24 HTTP/1.1\r\nHost: 192.0.2.1\r\n\r\n",
         "\r\n\r\nno version is published yet: ask again in a second\n",
     ),
 ];
@@ -212,12 +233,12 @@ fn nothing_is_said_of_records_before_a_version(rt: HostRuntime) -> Result<(), Fa
 /// Requests after which the connection is closed, and the start of their response.
 const ENDS: &[(&str, &str)] = &[
     (
-        "GET /vrps.json HTTP/1.1\r\nHost: a\r\nconnection: close\r\n\r\n",
+        "GET /vrps.json HTTP/1.1\r\nHost: 192.0.2.1\r\nconnection: close\r\n\r\n",
         "HTTP/1.1 200 OK\r\ndate: Thu, 26 Nov 2026 00:37:00 GMT\r\n",
     ),
     ("no request\r\n\r\n", "HTTP/1.1 400 Bad Request\r\n"),
     (
-        "POST /metrics HTTP/1.1\r\nHost: a\r\ncontent-length: 1025\r\n\r\n",
+        "POST /metrics HTTP/1.1\r\nHost: 192.0.2.1\r\ncontent-length: 1025\r\n\r\n",
         "HTTP/1.1 413 Payload Too Large\r\n",
     ),
 ];
@@ -242,7 +263,8 @@ fn visits_end(rt: HostRuntime) -> Result<(), Fail> {
 
 #[test]
 fn requests_behind_one_another(rt: HostRuntime) -> Result<(), Fail> {
-    let twice = b"GET /list.json HTTP/1.1\r\nHost: a\r\n\r\nHEAD /a HTTP/1.1\r\nHost: a\r\n\r\n";
+    let twice =
+        b"GET /list.json HTTP/1.1\r\nHost: 192.0.2.1\r\n\r\nHEAD /a HTTP/1.1\r\nHost: 192.0.2.1\r\n\r\n";
     let (came, output) = answered(&rt, twice, 4096)?;
     assert!(rt; came == HttpProgress::WouldBlock);
     assert!(rt;
@@ -258,21 +280,21 @@ fn requests_behind_one_another(rt: HostRuntime) -> Result<(), Fail> {
 
 #[test]
 fn a_turn_is_bounded(rt: HostRuntime) -> Result<(), Fail> {
-    let request = b"GET / HTTP/1.1\r\nHost: a\r\n\r\n";
+    let request = b"GET / HTTP/1.1\r\nHost: 192.0.2.1\r\n\r\n";
     let output = shared(rt.alloc(), b"")?;
     let wire = Wire::of(&shared(rt.alloc(), request)?, &output, 1)?;
-    let mut connections = HttpConnections::new(rt.alloc(), RandomState::new(&rt)?);
+    let mut connections = HttpConnections::new(rt.alloc(), RandomState::new(&rt)?, None);
     let mut source = source(rt.alloc())?;
     connections.wake(7);
-    connections.serve(&mut source, 8);
+    connections.serve(0, &mut source, 8);
     assert!(rt; connections.is_empty());
     connections.admit(7, wire, 0)?;
-    connections.serve(&mut source, 0);
+    connections.serve(0, &mut source, 0);
     assert!(rt; progress(&connections) == HttpProgress::Busy);
-    connections.serve(&mut source, 27);
+    connections.serve(0, &mut source, 35);
     assert!(rt; progress(&connections) == HttpProgress::Busy);
     assert!(rt; is_list(&output, &shared(rt.alloc(), b"")?));
-    connections.serve(&mut source, 1);
+    connections.serve(0, &mut source, 1);
     assert!(rt; progress(&connections) == HttpProgress::Busy);
     assert!(rt; is_list(&output, &shared(rt.alloc(), b"H")?));
     Ok(())
@@ -282,7 +304,7 @@ fn a_turn_is_bounded(rt: HostRuntime) -> Result<(), Fail> {
 fn so_many_visitors_and_so_long(rt: HostRuntime) -> Result<(), Fail> {
     let input = shared(rt.alloc(), b"")?;
     let output = shared(rt.alloc(), b"")?;
-    let mut connections = HttpConnections::new(rt.alloc(), RandomState::new(&rt)?);
+    let mut connections = HttpConnections::new(rt.alloc(), RandomState::new(&rt)?, None);
     assert!(rt; connections.is_empty());
     for token in 0..MAX_CONNECTIONS {
         connections.admit(token, Wire::of(&input, &output, 1)?, token as u64)?;
@@ -290,13 +312,20 @@ fn so_many_visitors_and_so_long(rt: HostRuntime) -> Result<(), Fail> {
     assert!(rt; connections.len() == MAX_CONNECTIONS);
     let late = connections.admit(MAX_CONNECTIONS, Wire::of(&input, &output, 1)?, 64);
     assert!(rt; late == Err(HttpAdmitFault::TooManyConnections));
-    connections.expire(CONNECTION_MILLIS - 1);
+    connections.expire(IDLE_MILLIS - 1);
     assert!(rt; connections.len() == MAX_CONNECTIONS);
-    connections.expire(CONNECTION_MILLIS);
+    connections.expire(IDLE_MILLIS);
     assert!(rt; !connections.has(0));
     assert!(rt; connections.has(1));
     assert!(rt; connections.len() == MAX_CONNECTIONS - 1);
-    connections.admit(0, Wire::of(&input, &output, 1)?, CONNECTION_MILLIS)?;
+    connections.admit(0, Wire::of(&input, &output, 1)?, IDLE_MILLIS)?;
     assert!(rt; connections.has(0));
+    Ok(())
+}
+
+#[test]
+fn the_timeouts_are_these(rt: HostRuntime) -> Result<(), Fail> {
+    assert!(rt; IDLE_MILLIS == 30_000);
+    assert!(rt; CONNECTION_MILLIS == 600_000);
     Ok(())
 }

@@ -2,7 +2,7 @@
 use crate::http_connections::source;
 use crate::wires::{Shared, Wire, has, is_list, shared};
 use status_server::{
-    CONNECTION_MILLIS, HttpAccept, HttpEndpoint, HttpReady, HttpSockets, MAX_CONNECTIONS,
+    HttpAccept, HttpEndpoint, HttpReady, HttpSockets, IDLE_MILLIS, MAX_CONNECTIONS,
 };
 use std::alloc::Global;
 use std::collections::VecDeque;
@@ -53,7 +53,7 @@ fn nothing_ready(alloc: Global) -> Script {
 }
 
 fn endpoint(rt: &HostRuntime) -> Result<HttpEndpoint<Wire>, Fail> {
-    Ok(HttpEndpoint::new(rt.alloc(), RandomState::new(rt)?))
+    Ok(HttpEndpoint::new(rt.alloc(), RandomState::new(rt)?, None))
 }
 
 /// Puts bytes behind those that a stream has.
@@ -64,9 +64,9 @@ fn send(input: &Shared, bytes: &[u8]) -> Result<(), Fail> {
     }
 }
 
-const LIST: &[u8] = b"GET /list.json HTTP/1.1\r\nHost: a\r\n\r\n";
+const LIST: &[u8] = b"GET /list.json HTTP/1.1\r\nHost: 192.0.2.1\r\n\r\n";
 
-const ELSEWHERE: &[u8] = b"GET /status HTTP/1.1\r\nHost: a\r\n\r\n";
+const ELSEWHERE: &[u8] = b"GET /status HTTP/1.1\r\nHost: 192.0.2.1\r\n\r\n";
 
 #[test]
 fn the_65th_is_closed_and_all_time_out(rt: HostRuntime) -> Result<(), Fail> {
@@ -82,11 +82,11 @@ fn the_65th_is_closed_and_all_time_out(rt: HostRuntime) -> Result<(), Fail> {
     assert!(rt; endpoint.connections().len() == MAX_CONNECTIONS);
     assert!(rt; endpoint.connections().has(MAX_CONNECTIONS - 1));
     assert!(rt; !endpoint.connections().has(MAX_CONNECTIONS));
-    endpoint.turn(CONNECTION_MILLIS + 4, &mut script, &mut source);
+    endpoint.turn(IDLE_MILLIS + 4, &mut script, &mut source);
     assert!(rt; endpoint.connections().len() == MAX_CONNECTIONS);
     assert!(rt; endpoint.wait_limit() == 1000);
     script.add(MAX_CONNECTIONS + 1, Wire::of(&input, &output, 1)?)?;
-    endpoint.turn(CONNECTION_MILLIS + 5, &mut script, &mut source);
+    endpoint.turn(IDLE_MILLIS + 5, &mut script, &mut source);
     assert!(rt; endpoint.connections().is_empty());
     assert!(rt; endpoint.wait_limit() == u64::MAX);
     Ok(())
@@ -136,12 +136,12 @@ fn a_request_in_pieces_takes_turns(rt: HostRuntime) -> Result<(), Fail> {
     let mut endpoint = endpoint(&rt)?;
     let mut source = source(rt.alloc())?;
     script.add(7, Wire::of(&input, &output, 1)?)?;
-    for now in 0..4 {
+    for now in 0..5 {
         endpoint.turn(now, &mut script, &mut source);
         assert!(rt; endpoint.wait_limit() == 0);
         assert!(rt; is_list(&output, &shared(rt.alloc(), b"")?));
     }
-    endpoint.turn(4, &mut script, &mut source);
+    endpoint.turn(5, &mut script, &mut source);
     assert!(rt; is_list(&output, &shared(rt.alloc(), b"HTTP")?));
     Ok(())
 }
@@ -175,7 +175,73 @@ fn tokens_are_not_mixed(rt: HostRuntime) -> Result<(), Fail> {
     Ok(())
 }
 
-const HEAD: &[u8] = b"HEAD / HTTP/1.1\r\nHost: a\r\n\r\n";
+#[test]
+fn an_idle_connection_times_out(rt: HostRuntime) -> Result<(), Fail> {
+    let (input, output) = (shared(rt.alloc(), b"")?, shared(rt.alloc(), b"")?);
+    let mut script = nothing_ready(rt.alloc());
+    let mut endpoint = endpoint(&rt)?;
+    let mut source = source(rt.alloc())?;
+    script.add(7, Wire::of(&input, &output, 1)?)?;
+    script.add(8, Wire::of(&shared(rt.alloc(), b"")?, &output, 1)?)?;
+    endpoint.turn(0, &mut script, &mut source);
+    send(&input, b"G")?;
+    script.wake(7)?;
+    endpoint.turn(20_000, &mut script, &mut source);
+    script.wake(8)?;
+    endpoint.turn(29_999, &mut script, &mut source);
+    assert!(rt; endpoint.connections().has(8));
+    script.wake(8)?;
+    endpoint.turn(30_000, &mut script, &mut source);
+    assert!(rt; !endpoint.connections().has(8));
+    endpoint.turn(49_999, &mut script, &mut source);
+    assert!(rt; endpoint.connections().has(7));
+    endpoint.turn(50_000, &mut script, &mut source);
+    assert!(rt; !endpoint.connections().has(7));
+    Ok(())
+}
+
+#[test]
+fn a_trickle_of_requests_has_ten_minutes(rt: HostRuntime) -> Result<(), Fail> {
+    let (input, output) = (shared(rt.alloc(), b"")?, shared(rt.alloc(), b"")?);
+    let mut script = nothing_ready(rt.alloc());
+    let mut endpoint = endpoint(&rt)?;
+    let mut source = source(rt.alloc())?;
+    script.add(7, Wire::of(&input, &output, 1)?)?;
+    endpoint.turn(0, &mut script, &mut source);
+    for count in 1..30 {
+        send(&input, b"G")?;
+        script.wake(7)?;
+        endpoint.turn(count * 20_000, &mut script, &mut source);
+        assert!(rt; endpoint.connections().has(7));
+    }
+    send(&input, b"G")?;
+    script.wake(7)?;
+    endpoint.turn(599_999, &mut script, &mut source);
+    assert!(rt; endpoint.connections().has(7));
+    endpoint.turn(600_000, &mut script, &mut source);
+    assert!(rt; endpoint.connections().is_empty());
+    Ok(())
+}
+
+#[test]
+fn a_slow_download_has_ten_minutes(rt: HostRuntime) -> Result<(), Fail> {
+    let (input, output) = (shared(rt.alloc(), LIST)?, shared(rt.alloc(), b"")?);
+    let mut script = nothing_ready(rt.alloc());
+    let mut endpoint = endpoint(&rt)?;
+    let mut source = source(rt.alloc())?;
+    script.add(7, Wire::of(&input, &output, 1)?)?;
+    for count in 0..30 {
+        endpoint.turn(count * 20_000, &mut script, &mut source);
+        assert!(rt; endpoint.wait_limit() == 0);
+    }
+    endpoint.turn(599_999, &mut script, &mut source);
+    assert!(rt; endpoint.connections().has(7));
+    endpoint.turn(600_000, &mut script, &mut source);
+    assert!(rt; endpoint.connections().is_empty());
+    Ok(())
+}
+
+const HEAD: &[u8] = b"HEAD / HTTP/1.1\r\nHost: 192.0.2.1\r\n\r\n";
 
 /// How many responses were written.
 fn responses(output: &Shared) -> usize {

@@ -5,6 +5,8 @@
 #[cfg(test)]
 mod health;
 #[cfg(test)]
+mod hosts;
+#[cfg(test)]
 mod http_connections;
 #[cfg(test)]
 mod http_endpoint;

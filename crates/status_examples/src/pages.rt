@@ -1,6 +1,6 @@
 //! The pages, but for their style.
 use crate::validities::has_page;
-use crate::values::{empty, small};
+use crate::values::{empty, put_failure, small};
 use status_pages::{ChangeStatus, Status, write_page};
 use std::alloc::Global;
 use std::net::{IpAddr, Ipv4Addr, SocketAddr};
@@ -72,6 +72,22 @@ fn all_is_well(rt: HostRuntime) -> Result<(), Fail> {
     assert!(rt;
         page.as_str()
             .contains("<p class=\"state ok\">All is well.</p>\n")
+    );
+    Ok(())
+}
+
+#[test]
+fn a_publication_that_failed(rt: HostRuntime) -> Result<(), Fail> {
+    let mut status = small(rt.alloc())?;
+    status.clock_behind = 0;
+    let _refused = status.files.pop();
+    status.clients.clear();
+    put_failure(rt.alloc(), &mut status)?;
+    let page = page_of(rt.alloc(), &status)?;
+    assert!(rt;
+        page.as_str().contains(
+            "<p class=\"state bad\">No version can be published: more than &lt;16777215&gt; records (fault 1). </p>\n"
+        )
     );
     Ok(())
 }

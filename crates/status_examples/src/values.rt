@@ -1,6 +1,7 @@
 //! The status of some caches.
 use status_pages::{
-    ChangeStatus, ClientStatus, ClientTraffic, FileStatus, PdusByType, Status, TotalTraffic,
+    ChangeStatus, ClientStatus, ClientTraffic, FileStatus, LostLines, PdusByType,
+    PublicationFailure, Status, TotalTraffic,
 };
 use std::alloc::{AllocError, Global};
 use std::net::{IpAddr, Ipv4Addr, Ipv6Addr, SocketAddr};
@@ -19,6 +20,33 @@ const NO_PDUS: PdusByType = PdusByType {
     cache_reset: 0,
     router_key: 0,
     error_report: 0,
+};
+
+/// PDUs of all types, each another number.
+const RECEIVED: PdusByType = PdusByType {
+    serial_notify: 101,
+    serial_query: 102,
+    reset_query: 103,
+    cache_response: 104,
+    ipv4_prefix: 105,
+    ipv6_prefix: 106,
+    end_of_data: 107,
+    cache_reset: 108,
+    router_key: 109,
+    error_report: 110,
+};
+
+const SENT: PdusByType = PdusByType {
+    serial_notify: 201,
+    serial_query: 202,
+    reset_query: 203,
+    cache_response: 204,
+    ipv4_prefix: 205,
+    ipv6_prefix: 206,
+    end_of_data: 207,
+    cache_reset: 208,
+    router_key: 209,
+    error_report: 210,
 };
 
 /// A cache without a version.
@@ -42,6 +70,8 @@ pub(crate) fn empty(alloc: Global) -> Status {
         clients: Vec::new(alloc),
         client_limit: 256,
         clients_ever: 0,
+        clients_refused: 0,
+        clients_stalled: 0,
         received: TotalTraffic {
             bytes: 0,
             pdus: NO_PDUS,
@@ -53,6 +83,12 @@ pub(crate) fn empty(alloc: Global) -> Status {
         reloads_taken: 0,
         reloads_refused: 0,
         reload_milliseconds: None,
+        publications_failed: 0,
+        publication_failure: None,
+        log_lines_lost: LostLines {
+            dropped: 0,
+            suppressed: 0,
+        },
     }
 }
 
@@ -134,12 +170,32 @@ pub(crate) fn small(alloc: Global) -> Result<Status, AllocError> {
         .push(client(v6, Some(0), Some(1_795_653_118), 7200))?;
     status.clients.push(client(v4, None, None, 0))?;
     status.clients_ever = 17;
-    status.received.bytes = 300;
-    status.received.pdus.serial_query = 7;
-    status.sent.bytes = 1_000_000;
-    status.sent.pdus.ipv4_prefix = 400_000;
+    status.clients_refused = 31;
+    status.clients_stalled = 37;
+    status.received = TotalTraffic {
+        bytes: 300,
+        pdus: RECEIVED,
+    };
+    status.sent = TotalTraffic {
+        bytes: 1_000_000,
+        pdus: SENT,
+    };
     status.reloads_taken = 41;
-    status.reloads_refused = 2;
+    status.reloads_refused = 5;
     status.reload_milliseconds = Some(1045);
+    status.publications_failed = 43;
+    status.log_lines_lost = LostLines {
+        dropped: 47,
+        suppressed: 53,
+    };
     Ok(status)
+}
+
+/// The last publication failed.
+pub(crate) fn put_failure(alloc: Global, status: &mut Status) -> Result<(), AllocError> {
+    status.publication_failure = Some(PublicationFailure {
+        since: NOW - 120,
+        reason: String::from_str(alloc, "more than <16777215> records (fault 1)")?,
+    });
+    Ok(())
 }
