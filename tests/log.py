@@ -47,7 +47,7 @@ class Daemon:
     def __init__(self, program, *words, limit=None, env=None, inherited=None):
         before = (lambda: resource.setrlimit(resource.RLIMIT_NOFILE, (limit, limit))) if limit else None
         streams = {"stdin": subprocess.DEVNULL, "stdout": subprocess.PIPE, "stderr": subprocess.PIPE}
-        more = {"env": {**os.environ, **env}, "pass_fds": [inherited]} if env else {}
+        more = {"env": {**os.environ, **env}, "pass_fds": [inherited] if inherited else []} if env else {}
         self.words = words
         self.ran = subprocess.Popen([program, *words], **streams, **more, preexec_fn=before)
         # all lines so far, how many of them find() has passed, and whether the log has ended

@@ -15,6 +15,7 @@ import tempfile
 
 BEGIN = 1_234_567
 V, W, IPV6 = "192.0.2.0/24 24 64496\n", "198.51.100.0/24 24 64497\n", "2001:db8::/32 48 64496\n"
+ASSERTED, ASSERTED_BEFORE = "203.0.113.0/24 24 64498\n", "192.0.2.0/24 24 64499\n"
 MANIFEST = "20250101000000Z 20250102000000Z\na.crl\n"
 WANT = "memory\n"
 
@@ -102,6 +103,10 @@ RUNS = {
     ),
     "slurm_runs::read_exceptions": once(W),
     "slurm_runs::apply_exceptions": once(W),
+    "slurm_runs::take_files_of_exceptions": (
+        "taken\n" + W + ASSERTED,
+        [WANT + ASSERTED_BEFORE + "taken\n" + W + ASSERTED, "taken\n" + WANT + W + ASSERTED],
+    ),
     "end_runs::answer_a_reset_query": once(units(ANSWER) + OPENED),
     "end_runs::answer_a_serial_query": queried(CHANGES, [2, 3]),
     "end_runs::answer_an_old_serial": queried(

@@ -72,6 +72,48 @@ def sources(given):
         expect("other exceptions", router.catch_up(), kept | set(FIRST))
 
 
+def exceptions(*, asserted=(), filtered=(), keys=()):
+    """A SLURM file with these assertions (prefix and AS), filters of prefixes, and BGPsec filters of ASes."""
+    return json.dumps({
+        "slurmVersion": 1,
+        "validationOutputFilters": {"prefixFilters": [{"prefix": it} for it in filtered], "bgpsecFilters": [{"asn": it} for it in keys]},
+        "locallyAddedAssertions": {"prefixAssertions": [{"prefix": prefix, "asn": asn} for prefix, asn in asserted], "bgpsecAssertions": []},
+    })
+
+
+@part
+def several_exceptions(given):
+    """Several SLURM files are applied together. If two overlap, all are refused, and the exceptions stay as they were."""
+    put("list.json", text_of(FIRST))
+    put("one.json", exceptions(asserted=[("10.0.0.0/8", 1)], filtered=["192.0.2.0/24"]))
+    put("two.json", exceptions(asserted=[("172.16.0.0/12", 2)], keys=[64500]))
+    base = set(FIRST[1:])
+    with running(given.program, "--vrps", "list.json", "--slurm", "one.json", "--slurm", "two.json", "--listen", "127.0.0.1:0", "--check", "1") as daemon:
+        port = daemon.listens()
+        both = base | {("10.0.0.0/8", 8, 1), ("172.16.0.0/12", 12, 2)}
+        expect("two files of exceptions", Router(port).catch_up(), both)
+        put("two.json", exceptions(asserted=[("10.1.0.0/16", 2)]))
+        refused = daemon.wait("refused", file="two.json")
+        expect("why two files overlap", refused["reason"], "10.1.0.0/16 overlaps with 10.0.0.0/8 of one.json (RFC 8416 section 4.2)")
+        expect("what is served while they overlap", Router(port).catch_up(), both)
+        put("one.json", exceptions(asserted=[("172.16.0.0/12", 1)]))
+        daemon.wait("taken", file="two.json")
+        daemon.wait("published")
+        expect("prefixes that moved to the other file", Router(port).catch_up(), set(FIRST) | {("172.16.0.0/12", 12, 1), ("10.1.0.0/16", 16, 2)})
+        put("one.json", "{")
+        put("two.json", exceptions())
+        expect("a file that cannot be read", "not JSON" in daemon.wait("refused", file="one.json")["reason"], True)
+        expect("the other file", daemon.wait("refused", file="two.json")["reason"], "another file of local exceptions is refused, and all are loaded together")
+        put("one.json", exceptions(keys=[64500]))
+        daemon.wait("taken", file="one.json")
+        daemon.wait("published")
+        expect("no exceptions", Router(port).catch_up(), set(FIRST))
+    put("two.json", exceptions(keys=[64500]))
+    words = [given.program, "--vrps", "list.json", "--slurm", "one.json", "--slurm", "two.json", "--listen", "127.0.0.1:0"]
+    ran = subprocess.run(words, stdin=subprocess.DEVNULL, capture_output=True, text=True, timeout=PATIENCE)
+    expect("a start with files that overlap", (ran.returncode, "two.json: BGPsec entries of AS64500 are in one.json too" in ran.stderr), (1, True))
+
+
 @part
 def pipe_for_a_file(given):
     """A pipe in the place of a file is refused. The daemon does not block on it."""
@@ -175,7 +217,7 @@ def refusals_in_words(given):
             expect(f"{file} with {text}", unescaped(daemon.wait("refused", file=file)["reason"]), reason)
             put(file, good if file == "export.json" else SLURM)
             daemon.wait("taken", file=file)
-    for text, words, status, said in [(spoiled[0][1], [], 1, spoiled[0][2]), (spoiled[0][1], ["--test"], 1, spoiled[0][2]), (good, ["--test"], 0, "stopped reason=")]:
+    for text, words, status, said in [(spoiled[0][1], [], 1, spoiled[0][2]), (spoiled[0][1], ["--check-config"], 1, spoiled[0][2]), (good, ["--check-config"], 0, " checked files=2 ipv4=1 ipv6=0 left-out=0\n")]:
         put("export.json", text)
         ran = subprocess.run([given.program, "--vrps", "export.json", "--slurm", "slurm.json", "--listen", "127.0.0.1:0", *words], stdin=subprocess.DEVNULL, capture_output=True, text=True, timeout=PATIENCE)
         expect(f"a start {words} with {text}", (ran.returncode, said in ran.stderr), (status, True))

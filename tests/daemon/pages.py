@@ -13,7 +13,7 @@ import time
 
 from checks import expect
 from common import PATIENCE, free_port, put
-from daemon.shared import FIRST, Skipped, part, text_of
+from daemon.shared import FIRST, SECOND, Skipped, part, text_of
 from log import running
 from rtr import Router
 from web import got, linted, metrics_of, raw_answer, validity
@@ -118,10 +118,10 @@ def table_at(port, count):
 def strange_visitors(port):
     """Requests that are cut, huge, slow or pipelined, and visitors that send none."""
     expect("a request that is cut", raw_answer(port, b"GET /metrics HT")[:12], b"HTTP/1.1 400")
-    huge = raw_answer(port, b"GET /" + b"x" * 20000 + b" HTTP/1.1\r\nHost: x\r\n\r\n")
+    huge = raw_answer(port, b"GET /" + b"x" * 20000 + b" HTTP/1.1\r\nHost: localhost\r\n\r\n")
     expect("a request that is huge", huge[:12] in (b"HTTP/1.1 414", b"HTTP/1.1 431", b"HTTP/1.1 400", b""), True)
     expect("rubbish", raw_answer(port, bytes(range(128, 256)))[:12] in (b"HTTP/1.1 400", b""), True)
-    request = b"GET /nothing HTTP/1.1\r\nHost: x\r\n\r\n"
+    request = b"GET /nothing HTTP/1.1\r\nHost: localhost\r\n\r\n"
     expect("three requests at once", raw_answer(port, request * 3).count(b"HTTP/1.1 404"), 3)
     expect("a request byte by byte", raw_answer(port, *(request[it : it + 1] for it in range(len(request)))).count(b"HTTP/1.1 404"), 1)
     silent = [socket.create_connection(("127.0.0.1", port), PATIENCE) for _ in range(80)]
@@ -180,6 +180,74 @@ def silent_visitor(given):
         with contextlib.closing(socket.create_connection(("127.0.0.1", port), 60)) as it, contextlib.suppress(OSError):
             it.recv(1)
         expect("how long a silent visitor stays", 29 < time.time() - began < 40, True)
+
+
+@part
+def slow_visitor(given):
+    """A visitor that reads slowly, for longer than half a minute, gets the whole list."""
+    many = [(f"10.{it // 256}.{it % 256}.0/24", 24, 64496) for it in range(60_000)]
+    put("slow.json", text_of(many))
+    with running(given.program, "--vrps", "slow.json", "--listen", "127.0.0.1:0", "--status", "127.0.0.1:0") as daemon:
+        _, port = daemon.serves()
+        wanted = len(got(port, "/list.json")[2])
+        with socket.socket() as it:
+            it.setsockopt(socket.SOL_SOCKET, socket.SO_RCVBUF, 4096)
+            it.settimeout(PATIENCE)
+            it.connect(("127.0.0.1", port))
+            it.sendall(b"GET /list.json HTTP/1.1\r\nHost: localhost\r\nConnection: close\r\n\r\n")
+            began, answer = time.time(), b""
+            while piece := it.recv(50_000):
+                answer += piece
+                if time.time() - began < 36:
+                    time.sleep(0.5)
+        body = answer.partition(b"\r\n\r\n")[2]
+        expect("what a slow visitor gets", (len(body), time.time() - began > 36), (wanted, True))
+
+
+@part
+def hosts(given):
+    """A request by an address, localhost or the given name is answered. Any other name is refused, for each path and method."""
+    put("list.json", text_of(FIRST))
+    words = ["--vrps", "list.json", "--listen", "127.0.0.1:0", "--status", "127.0.0.1:0"]
+    status = lambda port, host, path="/health", method="GET": got(port, path, method=method, given={"Host": host})[0]
+    for more, name in ([], 421), (["--status-name", "cache.example.net"], 200):
+        with running(given.program, *words, *more) as daemon:
+            _, port = daemon.serves()
+            for host in "127.0.0.1", f"127.0.0.1:{port}", "[::1]", "[::1]:80", "192.0.2.1:1", "localhost", "LocalHost:8":
+                expect(f"the host {host} with {more}", status(port, host), 200)
+            for host in "cache.example.net", "CACHE.example.NET:9323", "cache.example.net.":
+                expect(f"the host {host} with {more}", status(port, host), name)
+            for host in "evil.example", "cache.example.net.evil.example", "xcache.example.net", "127.0.0.1.evil.example", "localhost.evil.example":
+                expect(f"the host {host} with {more}", status(port, host), 421)
+            for path, method in ("/", "GET"), ("/metrics", "HEAD"), ("/nothing", "GET"), ("/list.json", "POST"):
+                expect(f"{method} {path} of another host", status(port, "evil.example", path, method), 421)
+            expect("a target that names another host", raw_answer(port, b"GET http://evil.example/health HTTP/1.1\r\nHost: localhost\r\n\r\n")[:12], b"HTTP/1.1 421")
+            expect("a request without a host", raw_answer(port, b"GET /health HTTP/1.0\r\n\r\n")[9:12], b"200")
+
+
+@part
+def router_metrics(given):
+    """The metrics of each router: its serial, its version, and for how long it has lacked a version."""
+    put("list.json", text_of(FIRST))
+    words = ["--vrps", "list.json", "--listen", "127.0.0.1:0", "--status", "127.0.0.1:0", "--check", "1", "--start", "5"]
+    with running(given.program, *words, "--clients", "2") as daemon:
+        at, port = daemon.serves()
+        current, behind = Router(at), Router(at, version=0)
+        names = [f'router="127.0.0.1:{it.socket.getsockname()[1]}",version="{version}"' for it, version in ((current, 1), (behind, 0))]
+        for router in current, behind:
+            router.catch_up()
+        put("list.json", text_of(SECOND))
+        daemon.wait("published", serial=6)
+        current.wait_notify()
+        current.catch_up()
+        time.sleep(2)
+        metrics = metrics_of(port)
+        expect("the serials of routers", [metrics.get(f"rpkirtrd_router_serial{{{it}}}") for it in names], [6, 5])
+        late = [metrics.get(f"rpkirtrd_router_behind_seconds{{{it}}}") for it in names]
+        expect("how late routers are", (late[0], 2 <= late[1] < PATIENCE), (0, True))
+        expect("one too many", Router(at).socket.recv(1), b"")
+        daemon.wait("full")
+        expect("routers that were disconnected at a limit", metrics_of(port)["rpkirtrd_connections_refused_total"], 1)
 
 
 @part
