@@ -176,7 +176,7 @@ const FAILING: &[&str] = &[
 fn a_failing_cache(rt: HostRuntime) -> Result<(), Fail> {
     let mut status = small(rt.alloc())?;
     put_failure(rt.alloc(), &mut status)?;
-    let client = status.clients[0];
+    let client = status.clients.first().copied().ok_or("no router")?;
     for _client in 3..300 {
         status.clients.push(client)?;
     }
