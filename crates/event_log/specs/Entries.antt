@@ -82,7 +82,7 @@ abbrev pub checked_entries : ℕ → ℕ → ℕ → ℕ → List Entry
 checked_entries files ipv4 ipv6 left_out =
     of_number (codes "files") files ∷ of_number (codes "ipv4") ipv4 ∷ of_number (codes "ipv6") ipv6 ∷ of_number (codes "left-out") left_out ∷ []
 
--- the word of an event,
+-- the word of an event
 abbrev pub word_of : LogEvent → List ℕ
 word_of (event.Started names) = codes "started"
 word_of (event.Limited clients) = codes "limited"
@@ -112,13 +112,34 @@ word_of (event.Dropped lines) = codes "dropped"
 word_of (event.Checked files ipv4 ipv6 left_out) = codes "checked"
 word_of (event.Stopped reason) = codes "stopped"
 
--- and its values
+-- The values of an event about the daemon. Another event has none here.
+abbrev pub daemon_entries : LogEvent → List Entry
+daemon_entries (event.Started names) = session_entries names
+daemon_entries (event.Published publication) = publication_entries publication
+daemon_entries (event.Listening address) = at address ∷ []
+daemon_entries (event.Status address) = at address ∷ []
+daemon_entries (event.Limited clients) = of_number (codes "clients") clients ∷ []
+daemon_entries (event.LeftOut records) = of_number (codes "records") records ∷ []
+daemon_entries (event.Dropped lines) = of_number (codes "lines") lines ∷ []
+daemon_entries (event.Clock behind) = of_number (codes "behind") behind ∷ []
+daemon_entries (event.Memory what) = of_text (codes "what") what.now ∷ []
+daemon_entries (event.Failed what reason) = of_text (codes "what") what.now ∷ of_text (codes "reason") reason.now ∷ []
+daemon_entries (event.Warning reason) = of_text (codes "reason") reason.now ∷ []
+daemon_entries (event.Stopped reason) = of_text (codes "reason") reason.now ∷ []
+daemon_entries e = []
+
+-- of an event about files, or else about the daemon
+abbrev pub file_entries : LogEvent → List Entry
+file_entries (event.Taken file) = of_text (codes "file") file.now ∷ []
+file_entries (event.Refused file reason) = of_text (codes "file") file.now ∷ of_text (codes "reason") reason.now ∷ []
+file_entries (event.Old file age) = of_text (codes "file") file.now ∷ of_number (codes "age") age ∷ []
+file_entries (event.Fresh file age) = of_text (codes "file") file.now ∷ of_number (codes "age") age ∷ []
+file_entries (event.Expired file entries) = of_text (codes "file") file.now ∷ of_number (codes "entries") entries ∷ []
+file_entries (event.Checked files ipv4 ipv6 left_out) = checked_entries files ipv4 ipv6 left_out
+file_entries e = daemon_entries e
+
+-- of an event: about clients, about files, or about the daemon
 abbrev pub entries_of : LogEvent → List Entry
-entries_of (event.Started names) = session_entries names
-entries_of (event.Limited clients) = of_number (codes "clients") clients ∷ []
-entries_of (event.Listening address) = at address ∷ []
-entries_of (event.Status address) = at address ∷ []
-entries_of event.Ready = []
 entries_of (event.ClientCame address) = at address ∷ []
 entries_of (event.ClientGone closed) = client_closed_entries closed
 entries_of (event.ErrorReport report) = report_entries report
@@ -126,18 +147,4 @@ entries_of (event.Stalled address) = at address ∷ []
 entries_of (event.Full address clients) = at address ∷ of_number (codes "clients") clients ∷ []
 entries_of (event.AddressFull address clients) = at address ∷ of_number (codes "clients") clients ∷ []
 entries_of (event.Suppressed lines seconds) = of_number (codes "lines") lines ∷ of_number (codes "seconds") seconds ∷ []
-entries_of event.NoDescriptor = []
-entries_of (event.Published publication) = publication_entries publication
-entries_of (event.LeftOut records) = of_number (codes "records") records ∷ []
-entries_of (event.Refused file reason) = of_text (codes "file") file.now ∷ of_text (codes "reason") reason.now ∷ []
-entries_of (event.Taken file) = of_text (codes "file") file.now ∷ []
-entries_of (event.Old file age) = of_text (codes "file") file.now ∷ of_number (codes "age") age ∷ []
-entries_of (event.Fresh file age) = of_text (codes "file") file.now ∷ of_number (codes "age") age ∷ []
-entries_of (event.Expired file entries) = of_text (codes "file") file.now ∷ of_number (codes "entries") entries ∷ []
-entries_of (event.Clock behind) = of_number (codes "behind") behind ∷ []
-entries_of (event.Warning reason) = of_text (codes "reason") reason.now ∷ []
-entries_of (event.Memory what) = of_text (codes "what") what.now ∷ []
-entries_of (event.Failed what reason) = of_text (codes "what") what.now ∷ of_text (codes "reason") reason.now ∷ []
-entries_of (event.Dropped lines) = of_number (codes "lines") lines ∷ []
-entries_of (event.Checked files ipv4 ipv6 left_out) = checked_entries files ipv4 ipv6 left_out
-entries_of (event.Stopped reason) = of_text (codes "reason") reason.now ∷ []
+entries_of e = file_entries e

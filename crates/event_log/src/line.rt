@@ -4,7 +4,7 @@ ghost use Rattle.std.specs.Char.{digit_char, is_control};
 ghost use Rattle.std.specs.Io.KnownBytes.{Appends};
 ghost use Rattle.std.specs.List.{flat_map, list_all};
 ghost use Rattle.std.specs.Str.{chars};
-ghost use Rattle.event_log.specs.Entries.{Text, entries_of, log_pair, log_value, word_of};
+ghost use Rattle.event_log.specs.Entries.{Text, daemon_entries, entries_of, file_entries, log_pair, log_value, word_of};
 ghost use Rattle.event_log.specs.Lines.{LogsEvent, end_text, entry_text, escaped, head_text, log_char, is_plain, is_plain_byte, json_entry, json_value, line_text, plain_entry, plain_value, quoted};
 
 use crate::clock::{civil_at, time_text};
@@ -212,21 +212,16 @@ fn write_end<W: Write>(out: &mut W, form: LogFormat) -> io::Result<()>
     }
 }
 
-/// Writes the values of an event under their keys.
+/// Writes the values of an event under their keys. First come the events about clients.
 fn write_values<W: Write>(out: &mut W, form: LogFormat, event: &LogEvent<'_>) -> io::Result<()>
     ensures { OnOk result (Appends (W.contents out.old) (W.contents out.new) (flat_map (entry_text form) (entries_of event.now))) }
 {
     match event {
-        LogEvent::Ready | LogEvent::NoDescriptor => Ok(()),
-        LogEvent::Started(names) => write_pairs(out, form, &session_pairs(names)),
+        LogEvent::ClientCame { address: at } | LogEvent::Stalled { address: at } => {
+            write_pairs(out, form, &[address(at)])
+        }
         LogEvent::ClientGone(closed) => write_pairs(out, form, &client_closed_pairs(closed)),
         LogEvent::ErrorReport(report) => write_pairs(out, form, &report_pairs(report)),
-        LogEvent::Published(publication) => write_pairs(out, form, &publication_pairs(publication)),
-        LogEvent::Listening { address: at }
-        | LogEvent::Status { address: at }
-        | LogEvent::ClientCame { address: at }
-        | LogEvent::Stalled { address: at } => write_pairs(out, form, &[address(at)]),
-        LogEvent::Limited { clients } => write_pairs(out, form, &[number("clients", *clients)]),
         LogEvent::Full {
             address: at,
             clients,
@@ -236,20 +231,18 @@ fn write_values<W: Write>(out: &mut W, form: LogFormat, event: &LogEvent<'_>) ->
             clients,
         } => { write_pairs(out, form, &[address(at), number("clients", *clients)]) }
         LogEvent::Suppressed { lines, seconds } => {
-            write_pairs(
-                out,
-                form,
-                &[number("lines", *lines), number("seconds", *seconds)],
-            )
+            let pairs = [number("lines", *lines), number("seconds", *seconds)];
+            write_pairs(out, form, &pairs)
         }
-        LogEvent::Dropped { lines } => write_pairs(out, form, &[number("lines", *lines)]),
-        LogEvent::Checked {
-            files,
-            ipv4,
-            ipv6,
-            left_out,
-        } => { write_pairs(out, form, &checked_pairs(*files, *ipv4, *ipv6, *left_out)) }
-        LogEvent::LeftOut { records } => write_pairs(out, form, &[number("records", *records)]),
+        _ => write_file_values(out, form, event),
+    }
+}
+
+/// Writes the values of an event that is not about clients. First come the events about files.
+fn write_file_values<W: Write>(out: &mut W, form: LogFormat, event: &LogEvent<'_>) -> io::Result<()>
+    ensures { OnOk result (Appends (W.contents out.old) (W.contents out.new) (flat_map (entry_text form) (file_entries event.now))) }
+{
+    match event {
         LogEvent::Taken { file } => write_pairs(out, form, &[text("file", file)]),
         LogEvent::Refused { file, reason } => {
             write_pairs(out, form, &[text("file", file), text("reason", reason)])
@@ -261,6 +254,33 @@ fn write_values<W: Write>(out: &mut W, form: LogFormat, event: &LogEvent<'_>) ->
             file,
             entries: count,
         } => { write_pairs(out, form, &[text("file", file), number("entries", *count)]) }
+        LogEvent::Checked {
+            files,
+            ipv4,
+            ipv6,
+            left_out,
+        } => { write_pairs(out, form, &checked_pairs(*files, *ipv4, *ipv6, *left_out)) }
+        _ => write_daemon_values(out, form, event),
+    }
+}
+
+/// Writes the values of an event about the daemon. Another event has none here.
+fn write_daemon_values<W: Write>(
+    out: &mut W,
+    form: LogFormat,
+    event: &LogEvent<'_>,
+) -> io::Result<()>
+    ensures { OnOk result (Appends (W.contents out.old) (W.contents out.new) (flat_map (entry_text form) (daemon_entries event.now))) }
+{
+    match event {
+        LogEvent::Started(names) => write_pairs(out, form, &session_pairs(names)),
+        LogEvent::Published(publication) => write_pairs(out, form, &publication_pairs(publication)),
+        LogEvent::Listening { address: at } | LogEvent::Status { address: at } => {
+            write_pairs(out, form, &[address(at)])
+        }
+        LogEvent::Limited { clients } => write_pairs(out, form, &[number("clients", *clients)]),
+        LogEvent::LeftOut { records } => write_pairs(out, form, &[number("records", *records)]),
+        LogEvent::Dropped { lines } => write_pairs(out, form, &[number("lines", *lines)]),
         LogEvent::Clock { behind } => write_pairs(out, form, &[number("behind", *behind)]),
         LogEvent::Memory { what } => write_pairs(out, form, &[text("what", what)]),
         LogEvent::Failed { what, reason } => {
@@ -269,6 +289,7 @@ fn write_values<W: Write>(out: &mut W, form: LogFormat, event: &LogEvent<'_>) ->
         LogEvent::Warning { reason } | LogEvent::Stopped { reason } => {
             write_pairs(out, form, &[text("reason", reason)])
         }
+        _ => Ok(()),
     }
 }
 
