@@ -1,5 +1,6 @@
 pub mod KindLaws
 pub mod ValidityRows
+pub mod HealthTexts
 pub mod Written
 pub mod Queries
 pub mod TextRows

@@ -9,3 +9,7 @@ two (Err e) x y z a b first second = tt
 
 pub three : {T E : Type 0} (r : Result T E) (w x y z : Option (List ℕ)) (a b c : List ℕ) → Appends w x a → Appends x y b → OnOk r (Appends y z c) → OnOk r (Appends w z (a ++ b ++ c))
 three r w x y z a b c first second third = two r w y z (a ++ b) c (Appends-trans w x y a b first second) third
+
+pub on_ok : {T E A B : Type 0} (r : Result T E) → OnOk r A → (A → B) → OnOk r B
+on_ok (Ok t) a f = f a
+on_ok (Err e) a f = tt
