@@ -1,2 +1,4 @@
+pub mod Sources
+pub mod Sending
 pub mod CallLaws
 pub mod ConnectionLaws

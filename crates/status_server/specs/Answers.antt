@@ -1,68 +1,177 @@
--- The responses: their status (RFC 9110 section 15) and their body, by what answers the request, and by what the source answered.
-use Rattle.std.specs.Prelude.{◌≡◌, ◌⊎◌, ℕ, List, [], ◌++◌, codes, Option, Some, None, IfSome, ⊤}
+-- The answers, by what the source answers.
+use Rattle.std.specs.Prelude.{◌≡◌, ◌⊎◌, ℕ, ◌+◌, min, Bool, true, false, if◌then◌else◌, List, [], ◌∷◌, ◌++◌, codes, Option, Some, None, IfSome, Result, Ok, Err, ⊤, option_map, slice_get, length, ◌-◌, unwrap_or}
+use Rattle.event_log.specs.Clock.{IsTimeOf}
 use Rattle.http.specs.declared.request.Parts.{Parts}
+use Rattle.http_header.specs.FieldValue.{FieldValue}
+use Rattle.http_header.specs.HeaderMap.{Entries}
+use Rattle.http_server.specs.Response.{IsBlank, IsResponse}
 use Rattle.http_server.specs.declared.response.Response.{Response}
-use Rattle.status_server.specs.Plans.{PlansSo}
+use Rattle.http_uri.specs.Uri.{uri_path, uri_query}
+use Rattle.prefixes.specs.declared.route.Route.{Route}
+use Rattle.status_pages.specs.Export.{export_head}
+use Rattle.status_pages.specs.Health.{IsHealthText, is_healthy, refusal_limit}
+use Rattle.status_pages.specs.Made.{oldest}
+use Rattle.status_pages.specs.Query.{Finds, FindsInPath}
+use Rattle.status_pages.specs.Validity.{IsValidity}
+use Rattle.status_pages.specs.ValidityText.{validity_text}
+use Rattle.status_pages.specs.declared.query_fault.QueryFault.{QueryFault}
+use Rattle.status_pages.specs.declared.query_fault.QueryFault.TheVariants as fault
+use Rattle.status_pages.specs.declared.status.Status.{Status}
+use Rattle.status_pages.specs.declared.validity.Validity.{Validity}
+use Rattle.vrps.specs.VrpSet.{VrpSet}
+use Rattle.status_server.specs.Plans.{IsRoute, PlansSo}
+use Rattle.status_server.specs.Resources.{route_path}
+use Rattle.status_server.specs.Responses.{IsDated, Refuses, Sends, SendsEarly, SendsText, SendsUnder, body_headers, csv_kind, export_tag, json_kind, list_tag, metrics_kind, page_headers}
 use Rattle.status_server.specs.declared.plan.Plan.{Plan}
 use Rattle.status_server.specs.declared.plan.Plan.TheVariants as plans
 use Rattle.status_server.specs.declared.resources.Resource.TheVariants as resources
 
--- What a source answers to each request for its payload list and for its CSV, if that is known
+-- What a source answers to each request, if that is known: its status, its payload list, its CSV, and the set whose validity it answers
 pub record Shown : Type 0 where
+  pub status : Option Status
   pub list : Option (Option (List ℕ))
   pub csv : Option (Option (List ℕ))
+  pub set : Option (Option VrpSet)
 
 -- nothing is known
 abbrev pub nothing_shown : Shown
-nothing_shown = record { list = None; csv = None }
+nothing_shown = record { status = None; list = None; csv = None; set = None }
 
 -- An answer is as it is known, if it is known.
 abbrev pub IsShown : {A : Type 0} → Option A → A → Type 0
 IsShown known answer = IfSome known (λ a. answer ≡ a)
 
--- The response has this status, and its body ends in this text.
-abbrev pub Says : ℕ → List ℕ → Response → Response → Type 0
-Says status text old new = (new.status ≡ status) × (new.body.items ≡ old.body.items ++ text)
+-- The validity of a route under a set, or none without a set
+abbrev pub IsValidityIn : Route → Option VrpSet → Option Validity → Type 0
+IsValidityIn route None None = ⊤
+IsValidityIn route (Some set) (Some v) = IsValidity set route v
+IsValidityIn route set answer = ⊥
 
-abbrev pub SaysEarly : Response → Response → Type 0
-SaysEarly = Says 503 (codes "no version is published yet: ask again in a second\n")
+-- Of a known set it is the validity under that set.
+abbrev pub IsShownValidity : Option (Option VrpSet) → Route → Option Validity → Type 0
+IsShownValidity known route answer = IfSome known (λ set. IsValidityIn route set answer)
 
--- A list is the body of a 200. It is not sent to a client that has it (304), nor before the first version (503).
-abbrev pub SendsList : Option (List ℕ) → Response → Response → Type 0
-SendsList list old new =
-    SaysEarly old new ⊎ (((new.status ≡ 304) × (new.body.items ≡ old.body.items)) ⊎ ((text : List ℕ) × (list ≡ Some text) × Says old.status text old new))
+-- What is sent of a version that has this serial and this list. Before the first one there is none.
+abbrev pub SendsVersion : Option ℕ → Option (List ℕ) → (ℕ → List ℕ → Response → Response → Type 0) → Response → Response → Type 0
+SendsVersion (Some serial) (Some list) sends = sends serial list
+SendsVersion (Some serial) None sends = SendsEarly
+SendsVersion None list sends = SendsEarly
 
--- the list that a source answers
-abbrev pub SendsKnown : Option (Option (List ℕ)) → Response → Response → Type 0
-SendsKnown known old new = (list : Option (List ℕ)) × IsShown known list × SendsList list old new
+-- A list of the served set: the payload list, or the CSV
+abbrev pub SendsList : Entries FieldValue → List ℕ → Status → Option (List ℕ) → Response → Response → Type 0
+SendsList headers kind s list = SendsVersion s.serial list (λ serial list. SendsUnder headers (list_tag s.session serial) kind (λ text. text ≡ list))
 
-abbrev pub Refuses : Plan → Response → Response → Type 0
-Refuses plans.InvalidHost = Says 400 (codes "a request has one Host\n")
-Refuses plans.NotServed = Says 421 (codes "this name is not served here: use an address, or start rpkirtrd with --status-name NAME\n")
-Refuses plans.NotFound = Says 404 (codes "there are /, /metrics, /health, /vrps.json, /list.json, /vrps.csv, /validity and /api/v1/validity/NUMBER/PREFIX\n")
-Refuses plans.NotAllowed = Says 405 (codes "only GET and HEAD are answered\n")
-Refuses plan = λ old new. ⊤
+-- When the served data were made: at the earliest time of a source, or when the version was published if no source has a time
+abbrev pub published_at : Status → Option ℕ
+published_at s = option_map (λ c. c.at) (slice_get s.changes.items (length s.changes.items - 1))
 
--- What was planned is carried out: refusals have their status and text, and the lists are those of the source.
-abbrev pub CarriesOut : Shown → Plan → Response → Response → Type 0
-CarriesOut shown (plans.Resource resources.List) old new = SendsKnown shown.list old new
-CarriesOut shown (plans.Resource resources.Csv) old new = SendsKnown shown.csv old new
-CarriesOut shown (plans.Resource resource) old new = ⊤
-CarriesOut shown plan old new = Refuses plan old new
+abbrev pub made_at : Status → ℕ
+made_at s = unwrap_or (oldest s.files.items) (unwrap_or (published_at s) s.now)
 
--- Memory ran out.
-pub record IsOutOfMemory (r : Response) : Type 0 where
-  pub status : r.status ≡ 503
-  pub body : r.body.items ≡ []
+-- how many records are served, of which 2^64 - 1 can be told
+abbrev pub vrp_count : Status → ℕ
+vrp_count s = min (s.ipv4 + s.ipv6) 18446744073709551615
 
--- The answer is what was planned for the request, carried out.
+-- The start of an export, with the time at which its data were made
+abbrev pub IsExportHead : ℕ → ℕ → List ℕ → Type 0
+IsExportHead made vrps text = (time : List ℕ) × IsTimeOf made time × (text ≡ export_head time made vrps)
+
+-- The export: the metadata, and the payload list as its records
+abbrev pub IsExport : Status → List ℕ → List ℕ → Type 0
+IsExport s list text = (head : List ℕ) × IsExportHead (made_at s) (vrp_count s) head × (text ≡ head ++ list ++ codes "}")
+
+abbrev pub SendsExport : Entries FieldValue → Status → Option (List ℕ) → Response → Response → Type 0
+SendsExport headers s list =
+    SendsVersion s.serial list (λ serial records. SendsUnder headers (export_tag s.session serial (made_at s)) json_kind (IsExport s records))
+
+-- 200 if the cache is healthy, and 503 with the reasons if it is not
+abbrev pub SendsHealth : Status → Response → Response → Type 0
+SendsHealth s old new =
+    (text : List ℕ) × IsHealthText s text
+    × SendsText (if is_healthy s.now (refusal_limit s.max_age) s.serial s.files.items then old.status else 503) text old new
+
+-- The validity of a route as JSON, with the current time
+abbrev pub SendsValidityText : Route → Validity → Response → Response → Type 0
+SendsValidityText route v old new =
+    (now : ℕ) × (time : List ℕ) × IsTimeOf now time × Sends old.status (body_headers json_kind) (validity_text route v time) old new
+
+-- or as a page of HTML
+abbrev pub SendsValidity : Bool → Route → Option Validity → Response → Response → Type 0
+SendsValidity is_html route None old new = SendsEarly old new
+SendsValidity true route (Some v) old new = (text : List ℕ) × Sends old.status page_headers text old new
+SendsValidity false route (Some v) old new = SendsValidityText route v old new
+
+-- Each of these is of what the source answers, if that is known.
+abbrev pub SendsKnownHealth : Shown → Response → Response → Type 0
+SendsKnownHealth shown old new = (s : Status) × IsShown shown.status s × SendsHealth s old new
+
+abbrev pub SendsKnownExport : Shown → Entries FieldValue → Response → Response → Type 0
+SendsKnownExport shown headers old new =
+    (s : Status) × IsShown shown.status s × ((list : Option (List ℕ)) × IsShown shown.list list × SendsExport headers s list old new)
+
+abbrev pub SendsKnownList : Option Status → Option (Option (List ℕ)) → List ℕ → Entries FieldValue → Response → Response → Type 0
+SendsKnownList status known kind headers old new =
+    (s : Status) × IsShown status s × ((list : Option (List ℕ)) × IsShown known list × SendsList headers kind s list old new)
+
+abbrev pub SendsKnownValidity : Shown → Bool → Route → Response → Response → Type 0
+SendsKnownValidity shown is_html route old new =
+    (answer : Option Validity) × IsShownValidity shown.set route answer × SendsValidity is_html route answer old new
+
+-- The validity of the route that a request asks about, or why it names none
+abbrev pub SendsJudged : Shown → Bool → Result Route QueryFault → Response → Response → Type 0
+SendsJudged shown is_html (Ok route) old new = SendsKnownValidity shown is_html route old new
+SendsJudged shown is_html (Err fault.Memory) old new = ⊥
+SendsJudged shown is_html (Err why) old new = (text : List ℕ) × SendsText 400 text old new
+
+-- The form depends on what the client accepts, which the response says (RFC 9110 section 12.5.5).
+pub record SendsQuery (shown : Shown) (p : Parts) (old new : Response) : Type 0 where
+  pub varied : Response
+  pub varies : Sends old.status ((codes "vary", codes "Accept") ∷ []) [] old varied
+  pub is_html : Bool
+  pub found : Result Route QueryFault
+  pub finds : Finds (unwrap_or (uri_query p.uri) []) found
+  pub judged : SendsJudged shown is_html found varied new
+
+-- The route is the one that the end of a path names.
+pub record SendsRoute (shown : Shown) (path : List ℕ) (old new : Response) : Type 0 where
+  pub rest : List ℕ
+  pub ends : IsRoute path → path ≡ route_path rest
+  pub found : Result Route QueryFault
+  pub finds : FindsInPath rest found
+  pub judged : SendsJudged shown false found old new
+
+-- A plan is carried out: a resource is sent as the source has it, and a refusal has its status and its text.
+abbrev pub CarriesOut : Shown → Parts → Plan → Response → Response → Type 0
+CarriesOut shown p (plans.Resource resources.Status) old new = (text : List ℕ) × Sends old.status page_headers text old new
+CarriesOut shown p (plans.Resource resources.Metrics) old new = (text : List ℕ) × Sends old.status (body_headers metrics_kind) text old new
+CarriesOut shown p (plans.Resource resources.Health) old new = SendsKnownHealth shown old new
+CarriesOut shown p (plans.Resource resources.Export) old new = SendsKnownExport shown p.headers old new
+CarriesOut shown p (plans.Resource resources.List) old new = SendsKnownList shown.status shown.list json_kind p.headers old new
+CarriesOut shown p (plans.Resource resources.Csv) old new = SendsKnownList shown.status shown.csv csv_kind p.headers old new
+CarriesOut shown p (plans.Resource resources.Validity) old new = SendsQuery shown p old new
+CarriesOut shown p plans.Route old new = SendsRoute shown (uri_path p.uri) old new
+CarriesOut shown p plan old new = Refuses plan old new
+
+-- The answer is what was planned for the request, carried out. It has its date.
 pub record IsPlanned (shown : Shown) (name : Option (List ℕ)) (p : Parts) (r : Response) : Type 0 where
   pub plan : Plan
   pub plans : PlansSo name p plan
-  pub first : Response
-  pub status : first.status ≡ 200
-  pub body : first.body.items ≡ []
-  pub carries : CarriesOut shown plan first r
+  pub blank : Response
+  pub is_blank : IsBlank blank
+  pub now : ℕ
+  pub dated : Response
+  pub is_dated : IsDated now blank dated
+  pub carries : CarriesOut shown p plan dated r
 
+-- That is the answer, or a 503 with no body, if memory ran out.
 abbrev pub AnswersSo : Shown → Option (List ℕ) → Parts → Response → Type 0
-AnswersSo shown name p r = IsPlanned shown name p r ⊎ IsOutOfMemory r
+AnswersSo shown name p r = IsPlanned shown name p r ⊎ IsResponse 503 [] [] r
+
+-- what answers: a source, and the name that is served
+pub record Answering (S : Type 0) : Type 0 where
+  pub source : S
+  pub name : Option (List ℕ)
+
+-- It answers as before, and serves the same name.
+abbrev pub AnswersOn : {S : Type 0} → (S → Shown) → Answering S → Answering S → Type 0
+AnswersOn shows a b = (shows b.source ≡ shows a.source) × (b.name ≡ a.name)

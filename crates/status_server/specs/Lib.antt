@@ -1,7 +1,9 @@
 pub mod Answers
 pub mod Calls
+pub mod Conditions
 pub mod Connections
 pub mod Hosts
 pub mod Plans
 pub mod Progress
 pub mod Resources
+pub mod Responses

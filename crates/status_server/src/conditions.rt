@@ -1,7 +1,10 @@
 //! What the headers of a request ask for: another form, or nothing if the client has it already.
+ghost use Rattle.std.specs.Prelude.{◌↔◌, IsTrue};
+ghost use Rattle.status_server.specs.Conditions.{HasTag, NamesTag, Occurs};
 
 use http::HeaderMap;
 use http::header::{ACCEPT, IF_NONE_MATCH};
+use memchr::memmem;
 
 /// Whether HTML is preferred to JSON (RFC 9110 section 12.5.1): `text/html` is listed in `Accept`, and `application/json` is not listed before it.
 /// Weights are not read.
@@ -35,21 +38,28 @@ fn media_type(range: &[u8]) -> &[u8] {
 }
 
 /// Whether the client has the representation of this entity tag (RFC 9110 section 13.1.2). The comparison is the weak one.
-pub(crate) fn has_tag(headers: &HeaderMap, tag: &[u8]) -> bool {
+pub(crate) fn has_tag(headers: &HeaderMap, tag: &[u8]) -> bool
+    ensures { IsTrue result ↔ HasTag headers.now tag.now }
+{
     match headers.get(IF_NONE_MATCH) {
-        Some(value) => lists_tag(value.as_bytes(), tag),
+        Some(value) => names_tag(value.as_bytes(), tag),
         None => false,
     }
 }
 
-/// Whether a list of entity tags has this one, or is `*`. No tag of ours has a comma.
-fn lists_tag(value: &[u8], tag: &[u8]) -> bool {
-    value
-        .split(|byte| *byte == b',')
-        .any(|listed| is_tag(listed.trim_ascii(), tag))
+/// Whether a value of `If-None-Match` is `*`, or names this tag. No tag of ours has a comma or a blank.
+fn names_tag(value: &[u8], tag: &[u8]) -> bool
+    ensures { IsTrue result ↔ NamesTag tag.now value.now }
+{
+    value == b"*".as_slice() || occurs(tag, value)
 }
 
-/// Whether a listed entity tag is this one. `*` is each.
-fn is_tag(listed: &[u8], tag: &[u8]) -> bool {
-    listed == b"*".as_slice() || listed.strip_prefix(b"W/").unwrap_or(listed) == tag
+/// Whether a text occurs in another.
+fn occurs(part: &[u8], whole: &[u8]) -> bool
+    ensures { IsTrue result ↔ Occurs part.now whole.now }
+{
+    match memmem::find(whole, part) {
+        Some(_) => true,
+        None => false,
+    }
 }

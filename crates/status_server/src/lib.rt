@@ -45,7 +45,9 @@ mod http_connections;
 mod http_endpoint;
 mod http_sockets;
 mod plan;
+mod representations;
 mod resources;
+mod responses;
 mod status_source;
 
 pub use host::is_served_host;

@@ -1,6 +1,6 @@
 //! The source of the status pages.
 ghost use Rattle.std.specs.Prelude.{◌≡◌, IfOk};
-ghost use Rattle.status_server.specs.Answers.{IsShown, Shown, nothing_shown};
+ghost use Rattle.status_server.specs.Answers.{IsShown, IsShownValidity, Shown, nothing_shown};
 
 use bytes::Bytes;
 use prefixes::Route;
@@ -18,7 +18,8 @@ pub trait StatusSource {
 
     /// The current status of the cache.
     fn status(&mut self) -> Result<Status, AllocError>
-        ensures { shows self.new ≡ shows self.old };
+        ensures shown { IfOk result (λ status. IsShown (shows self.old).status status) }
+        ensures keeps { shows self.new ≡ shows self.old };
 
     /// The payload list of the served set as text, or `None` before the first version is published. All requests for one version share it.
     fn list(&mut self) -> Result<Option<Bytes>, AllocError>
@@ -32,5 +33,6 @@ pub trait StatusSource {
 
     /// The validity of a route under the served set, or `None` before the first version is published.
     fn validity(&mut self, route: &Route) -> Result<Option<Validity>, AllocError>
-        ensures { shows self.new ≡ shows self.old };
+        ensures shown { IfOk result (λ validity. IsShownValidity (shows self.old).set route.now validity) }
+        ensures keeps { shows self.new ≡ shows self.old };
 }

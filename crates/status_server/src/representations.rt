@@ -1,0 +1,156 @@
+//! The bodies that are made of a status, of a list, or of a validity.
+ghost use Rattle.std.specs.Prelude.{◌≡◌, ℕ, List, IsTrue, IfOk, OnOk};
+ghost use Rattle.http_header.specs.FieldValue.{is_visible_text};
+ghost use Rattle.status_server.specs.Answers.{IsExportHead, SendsExport, SendsHealth, SendsList, SendsValidityText, made_at, vrp_count};
+ghost use Rattle.status_server.specs.Responses.{Sends, page_headers};
+
+use crate::responses::{JSON, add_tag, refuse_early, send, send_page, send_text};
+use bytes::{BufMut, Bytes};
+use http::{HeaderMap, StatusCode};
+use http_server::Response;
+use prefixes::Route;
+use status_pages::{
+    Status, Validity, is_healthy, oldest_built, write_export_head, write_health, write_validity,
+    write_validity_page,
+};
+use std::alloc::{AllocError, Global};
+
+/// A text that responses share.
+pub(crate) fn shared(text: Vec<u8>) -> Result<Bytes, AllocError>
+    ensures { IfOk result (λ bytes. bytes ≡ text.items) }
+{
+    match Bytes::from_vec(text) {
+        Ok(bytes) => Ok(bytes),
+        Err(_) => Err(AllocError),
+    }
+}
+
+/// Sends the health of a cache: 200 if it is healthy, and otherwise 503 with the reasons.
+pub(crate) fn send_health(
+    alloc: Global,
+    status: &Status,
+    response: &mut Response,
+) -> Result<(), AllocError>
+    ensures { OnOk result (SendsHealth status.entry.now response.old response.new) }
+{
+    let mut text = Vec::new(alloc);
+    if write_health(&mut text, status).is_err() {
+        return Err(AllocError);
+    }
+    let code = if is_healthy(status) {
+        response.status
+    } else {
+        StatusCode::SERVICE_UNAVAILABLE
+    };
+    send_text(response, code, &text)
+}
+
+/// When the served data were made: at the earliest time of a source, or when the version was published if no source has a time.
+fn made_at(status: &Status) -> u64
+    ensures { result ≡ made_at status.entry.now }
+{
+    let published = status.changes.last().map(|change| change.at);
+    match oldest_built(&status.files) {
+        Some(made) => made,
+        None => published.unwrap_or(status.now),
+    }
+}
+
+/// How many records are served, of which 2^64 - 1 can be told.
+fn vrp_count(status: &Status) -> u64
+    ensures { result ≡ vrp_count status.entry.now }
+{
+    status.ipv4.saturating_add(status.ipv6)
+}
+
+/// The start of an export whose data were made at this time, in seconds since 1970.
+fn export_head(alloc: Global, made: u64, vrps: u64) -> Result<Vec<u8>, AllocError>
+    ensures { IfOk result (λ head. IsExportHead made vrps head.items) }
+{
+    let mut head = Vec::new(alloc);
+    if write_export_head(&mut head, made, vrps).is_err() {
+        return Err(AllocError);
+    }
+    Ok(head)
+}
+
+/// Sends the export: the payload list as the records of an object with metadata.
+pub(crate) fn send_export(
+    alloc: Global,
+    status: &Status,
+    list: Option<Bytes>,
+    headers: &HeaderMap,
+    response: &mut Response,
+) -> Result<(), AllocError>
+    ensures { OnOk result (SendsExport headers.now status.entry.now list response.old response.new) }
+{
+    let (Some(serial), Some(list)) = (status.serial, list) else {
+        return refuse_early(response);
+    };
+    let (session, made) = (status.session, made_at(status));
+    let tag = format!(in alloc; "\"{session}-{serial}-{made}\"")?;
+    if add_tag(headers, tag, JSON, response)? {
+        return Ok(());
+    }
+    let head = export_head(alloc, made, vrp_count(status))?;
+    response.body.put_slice(&head)?;
+    response.body.push(list)?;
+    response.body.put_slice(b"}")
+}
+
+/// Sends a list that is made once a version: the payload list, or the records as CSV.
+pub(crate) fn send_list(
+    alloc: Global,
+    status: &Status,
+    list: Option<Bytes>,
+    kind: &'static str,
+    headers: &HeaderMap,
+    response: &mut Response,
+) -> Result<(), AllocError>
+    requires { IsTrue (is_visible_text kind.now) }
+    ensures { OnOk result (SendsList headers.now kind.now status.entry.now list response.old response.new) }
+{
+    let (Some(serial), Some(list)) = (status.serial, list) else {
+        return refuse_early(response);
+    };
+    let session = status.session;
+    let tag = format!(in alloc; "\"{session}-{serial}\"")?;
+    if add_tag(headers, tag, kind, response)? {
+        return Ok(());
+    }
+    response.body.push(list)
+}
+
+/// Sends the validity of a route as a page of HTML. `now` is in seconds since 1970.
+pub(crate) fn send_validity_page(
+    alloc: Global,
+    route: &Route,
+    validity: &Validity,
+    now: u64,
+    response: &mut Response,
+) -> Result<(), AllocError>
+    ensures { OnOk result ((text : List ℕ) × Sends response.old.status page_headers text response.old response.new) }
+{
+    let mut text = Vec::new(alloc);
+    if write_validity_page(&mut text, route, validity, now).is_err() {
+        return Err(AllocError);
+    }
+    send_page(response, shared(text)?)
+}
+
+/// Sends the validity of a route as JSON. `now` is in seconds since 1970.
+pub(crate) fn send_validity(
+    alloc: Global,
+    route: &Route,
+    validity: &Validity,
+    now: u64,
+    response: &mut Response,
+) -> Result<(), AllocError>
+    ensures { OnOk result (SendsValidityText route.now validity.now response.old response.new) }
+{
+    let mut text = Vec::new(alloc);
+    if write_validity(&mut text, route, validity, now).is_err() {
+        return Err(AllocError);
+    }
+    send(response, JSON, &text)
+}
