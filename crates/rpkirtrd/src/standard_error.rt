@@ -2,6 +2,7 @@
 use libc::net::{POLLOUT, poll};
 use libc::types::pollfd;
 use log_output::LogSink;
+use std::fmt::{self, Debug};
 use std::io::{self, Write};
 
 /// The descriptor of standard error.
@@ -20,6 +21,13 @@ impl<'a, E> StandardError<'a, E> {
             output,
             has_room: false,
         }
+    }
+}
+
+/// Whether it has room.
+impl<E> Debug for StandardError<'_, E> {
+    fn fmt<W: fmt::Write>(&self, f: &mut fmt::Formatter<W>) -> fmt::Result {
+        write!(f, "StandardError({})", self.has_room)
     }
 }
 
