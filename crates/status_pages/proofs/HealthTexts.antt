@@ -2,7 +2,6 @@
 use Rattle.std.proofs.Common.{◌≡◌, ◌++◌, ℕ, ◌+◌, ◌<◌, List, [], ◌∷◌, Option, length, take, get_or, ap, refl, subst, sym, append_assoc, ◌∙◌}
 use Rattle.std.proofs.KnownBytes.{Appends-trans}
 use Rattle.std.proofs.lemmas.List.{append-nil, take_more}
-use Rattle.std.specs.Io.KnownBytes.{Appends}
 use Rattle.status_pages.specs.Health.{AppendsSome, AreSourceTexts, IsSourceText}
 use Rattle.status_pages.specs.declared.status.FileStatus.{FileStatus}
 

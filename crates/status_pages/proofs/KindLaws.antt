@@ -4,7 +4,6 @@ use Rattle.std.specs.List.{list_any}
 use Rattle.prefixes.specs.Payload.{Payload}
 use Rattle.vrps.specs.Origin.{covers_route, is_origin, matches}
 use Rattle.vrps.specs.VrpSet.{listing}
-use Rattle.vrps.specs.declared.origin.OriginState.{OriginState}
 use Rattle.vrps.specs.declared.origin.OriginState.TheVariants.{Valid, Invalid, NotFound}
 use Rattle.status_pages.specs.Kinds.{ListsCover, OneKindEach, OriginIsTooShort, is_within}
 

@@ -1,7 +1,6 @@
 -- The result for the pairs of a query.
-use Rattle.std.proofs.Common.{◌≡◌, ◌⊎◌, inl, inr, ℕ, List, [], ◌∷◌, map, Result, Ok, Err, sym, subst, ap, ◌∙◌, refl}
+use Rattle.std.proofs.Common.{◌≡◌, inl, inr, ℕ, List, [], ◌∷◌, map, Result, Ok, Err, sym, subst, ap, ◌∙◌, refl}
 use Rattle.prefixes.specs.declared.route.Route.{Route}
-use Rattle.form_urlencoded.specs.Form.{raw_pairs}
 use Rattle.std.specs.List.{before_first, after_first}
 use Rattle.status_pages.specs.Query.{FindsIn, FindsInPath, FindsRoute, HasValues, is_slash, text_of}
 use Rattle.status_pages.specs.declared.query_fault.QueryFault.{QueryFault}

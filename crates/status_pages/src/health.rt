@@ -69,12 +69,7 @@ fn write_age<W: Write>(out: &mut W, file: &FileStatus) -> io::Result<()>
 
 /// Writes since when a source has been refused, with that time as a text, and why.
 #[tactic(auto, unfolding(crate::specs::Health::refused_line))]
-fn write_refused_at<W: Write>(
-    out: &mut W,
-    path: &str,
-    time: &[u8],
-    reason: &str,
-) -> io::Result<()>
+fn write_refused_at<W: Write>(out: &mut W, path: &str, time: &[u8], reason: &str) -> io::Result<()>
     ensures { OnOk result (Appends (W.contents out.old) (W.contents out.new) (refused_line path.now time.now reason.now)) }
 {
     write_label(out, path)?;

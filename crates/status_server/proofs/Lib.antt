@@ -1,3 +1,4 @@
+pub mod AnsweringLaws
 pub mod Sources
 pub mod Sending
 pub mod CallLaws

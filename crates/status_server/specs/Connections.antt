@@ -1,9 +1,15 @@
 -- The HTTP connections, each with its stream: the poll token, when it was admitted, when a byte last moved on it, in milliseconds of a
 -- monotonic clock, and how its last turn ended.
-use Rattle.std.specs.Prelude.{◌≡◌, ◌⊎◌, ℕ, ◌+◌, ⊤, Bool, false, true, cond, not, ◌||◌, ◌&&◌, ◌==◌, nat_lt, List, [], ◌∷◌, ◌++◌, filter, length, map, Option, if◌then◌else◌}
+use Rattle.std.specs.Prelude.{◌≡◌, ◌⊎◌, ℕ, ◌+◌, ⊤, Bool, false, true, cond, not, ◌||◌, ◌&&◌, ◌==◌, nat_lt, List, [], ◌∷◌, ◌++◌, filter, length, map, Option, if◌then◌else◌, All}
 use Rattle.std.specs.List.{list_any}
+use Rattle.http.specs.Request.{head_of}
+use Rattle.http.specs.declared.request.Parts.{Parts}
+use Rattle.http_server.specs.Connection.{history}
+use Rattle.http_server.specs.Exchange.{Call}
+use Rattle.http_server.specs.declared.response.Response.{Response}
 use Rattle.status_server.specs.Calls.{IsFirst, MakesCalls, has_moved}
 use Rattle.status_server.specs.Progress.{is_busy, is_closed}
+use Rattle.status_server.specs.declared.http_connection.HttpConnection.{HttpConnection}
 use Rattle.status_server.specs.declared.http_connection.HttpProgress.TheVariants.{Busy}
 use Rattle.status_server.specs.declared.http_connections.Entry.{Entry}
 
@@ -35,17 +41,25 @@ Each r [] (w ∷ ws) = ⊥
 Each r (v ∷ vs) [] = ⊥
 Each r (v ∷ vs) (w ∷ ws) = r v w × Each r vs ws
 
+-- The requests that a connection has read since are answered, each so, in order.
+pub record Answered {T : Type 0} (answers : Parts → Response → Type 0) (v w : HttpConnection T) : Type 0 where
+  pub calls : List Call
+  pub more : (history w.connection).calls ≡ (history v.connection).calls ++ calls
+  pub each : All (λ c. answers (head_of c.0) c.1) calls
+
 -- A busy connection had a turn at this time, of at most this many calls of its own stream. It keeps its token and its admission. If a byte was
 -- moved, this is the time of its last one.
-pub record Turned {T : Type 0} (remaining contents : T → Option (List ℕ)) (now budget : ℕ) (v w : Entry T) : Type 0 where
+pub record Turned {T : Type 0} (remaining contents : T → Option (List ℕ)) (answers : Parts → Response → Type 0) (now budget : ℕ) (v w : Entry T) : Type 0 where
   pub token : w.token ≡ v.token
   pub came : w.came ≡ v.came
   pub moved : w.moved ≡ (if has_moved v.connection w.connection then now else v.moved)
   pub calls : MakesCalls remaining contents budget v.connection w.connection
+  pub answered : Answered answers v.connection w.connection
 
 -- A connection that is busy has a turn. Another is unchanged.
-abbrev pub IsServed : {T : Type 0} → (T → Option (List ℕ)) → (T → Option (List ℕ)) → ℕ → ℕ → Entry T → Entry T → Type 0
-IsServed remaining contents now budget v w = (is_busy v.progress ≡ true → Turned remaining contents now budget v w) × (is_busy v.progress ≡ false → w ≡ v)
+abbrev pub IsServed : {T : Type 0} → (T → Option (List ℕ)) → (T → Option (List ℕ)) → (Parts → Response → Type 0) → ℕ → ℕ → Entry T → Entry T → Type 0
+IsServed remaining contents answers now budget v w =
+    (is_busy v.progress ≡ true → Turned remaining contents answers now budget v w) × (is_busy v.progress ≡ false → w ≡ v)
 
 -- A connection is unchanged, or it is busy, and otherwise as it was.
 abbrev pub IsWoken : {T : Type 0} → Entry T → Entry T → Type 0
@@ -55,9 +69,9 @@ abbrev pub unclosed : {T : Type 0} → List (Entry T) → List (Entry T)
 unclosed vs = filter (λ v. not (is_closed v.progress)) vs
 
 -- At this time busy connections are served, with at most this many calls of each stream. Those that are closed then are removed.
-pub record Serves {T : Type 0} (remaining contents : T → Option (List ℕ)) (now budget : ℕ) (vs ws : List (Entry T)) : Type 0 where
+pub record Serves {T : Type 0} (remaining contents : T → Option (List ℕ)) (answers : Parts → Response → Type 0) (now budget : ℕ) (vs ws : List (Entry T)) : Type 0 where
   pub served : List (Entry T)
-  pub each : Each (IsServed remaining contents now budget) vs served
+  pub each : Each (IsServed remaining contents answers now budget) vs served
   pub rest : ws ≡ unclosed served
 
 -- This stream is admitted under this token at this time: nothing was read or written, and it is served next.
@@ -86,13 +100,13 @@ pub record Accepts {T : Type 0} (now : ℕ) (vs ws : List (Entry T)) : Type 0 wh
   pub list : ws ≡ vs ++ added
 
 -- A turn at this time: some connections are woken, others admitted, the busy ones are served, and those that timed out are removed.
-pub record Turns {T : Type 0} (remaining contents : T → Option (List ℕ)) (now budget : ℕ) (vs ws : List (Entry T)) : Type 0 where
+pub record Turns {T : Type 0} (remaining contents : T → Option (List ℕ)) (answers : Parts → Response → Type 0) (now budget : ℕ) (vs ws : List (Entry T)) : Type 0 where
   pub woken_ones : List (Entry T)
   pub wakes : Each IsWoken vs woken_ones
   pub accepted : List (Entry T)
   pub accepts : Accepts now woken_ones accepted
   pub rest : List (Entry T)
-  pub serves : Serves remaining contents now budget accepted rest
+  pub serves : Serves remaining contents answers now budget accepted rest
   pub list : ws ≡ in_time now rest
 
 -- How long the next turn may wait, in milliseconds: not at all if a connection is busy, and a second if one is open or may be pending.

@@ -1,6 +1,7 @@
 //! One HTTP connection, over a non-blocking stream.
 ghost use Rattle.std.specs.Prelude.{◌≡◌, false, IfOk, OnErr};
 ghost use Rattle.http_server.specs.Connection.{history};
+ghost use Rattle.http_server.specs.Exchange.{Calls};
 ghost use Rattle.http_server.specs.History.{IsQuiet};
 ghost use Rattle.status_server.specs.Progress.{is_busy, is_closed};
 ghost use Rattle.status_server.specs.Calls.{IsFirst, MakesCall, MakesCalls, TellsMoved, has_moved};
@@ -88,6 +89,7 @@ impl<T: Read + Write> HttpConnection<T> {
     pub(crate) fn serve<S: Service>(&mut self, service: &mut S, budget: u32) -> Served
         ensures calls { MakesCalls T.remaining T.contents budget self.old self.new }
         ensures moved { result.has_moved ≡ has_moved self.old self.new }
+        ensures answered { Calls S.answers service.old service.new (history self.old.connection).calls (history self.new.connection).calls }
     {
         let mut has_moved = false;
         for _call in 0..budget {
@@ -109,6 +111,7 @@ impl<T: Read + Write> HttpConnection<T> {
     fn call<S: Service>(&mut self, service: &mut S) -> Moved
         ensures call { MakesCall T.remaining T.contents self.old self.new }
         ensures moved { TellsMoved result (has_moved self.old self.new) }
+        ensures answered { Calls S.answers service.old service.new (history self.old.connection).calls (history self.new.connection).calls }
     {
         if self.connection.wants_write() {
             let written = self.connection.write_to(&mut self.stream);
@@ -127,6 +130,7 @@ impl<T: Read + Write> HttpConnection<T> {
         ensures stream { self.new.stream ≡ self.old.stream }
         ensures ok { IfOk moved (λ n. result ≡ Moved.Bytes n) }
         ensures err { OnErr moved (TellsMoved result false) }
+        ensures answered { Calls S.answers service.old service.new (history self.old.connection).calls (history self.new.connection).calls }
     {
         match moved {
             Ok(count) => {

@@ -1,6 +1,7 @@
 //! All HTTP connections.
-ghost use Rattle.std.specs.Prelude.{◌≡◌, ◌==◌, ◌++◌, ◌∷◌, ◌↔◌, ◌≤◌, [], length, Err, OnOk, OnErr};
+ghost use Rattle.std.specs.Prelude.{◌≡◌, ◌==◌, ◌++◌, ◌∷◌, ◌↔◌, ◌≤◌, [], length, Err, OnOk, OnErr, option_copied};
 ghost use Rattle.std.specs.List.{list_any};
+ghost use Rattle.status_server.specs.Answers.{AnswersOn, AnswersSo};
 ghost use Rattle.status_server.specs.Connections.{Admits, Each, IsServed, Serves, has_busy, has_token, in_time, is_in_time, unclosed, wake, woken};
 ghost use Rattle.status_server.specs.Progress.{is_busy};
 
@@ -50,7 +51,6 @@ struct Entry<T> {
 pub struct HttpConnections<T> {
     alloc: Global,
     keys: RandomState,
-    name: Option<String>,
     entries: Vec<Entry<T>>,
 }
 
@@ -87,7 +87,8 @@ impl<T> Entry<T> {
 impl<T: Read + Write> Entry<T> {
     /// Serves the connection at this time, if it is busy.
     fn serve<S: StatusSource>(&mut self, now: u64, answers: &mut Answers<'_, S>, budget: u32)
-        ensures { IsServed T.remaining T.contents now budget self.old self.new }
+        ensures served { IsServed T.remaining T.contents (AnswersSo (S.shows answers.old.source) answers.old.name) now budget self.old self.new }
+        ensures keeps { AnswersOn S.shows answers.old answers.new }
     {
         if !self.progress.is_busy() {
             return;
@@ -137,7 +138,7 @@ fn serve_in<T: Read + Write, S: StatusSource>(
     answers: &mut Answers<'_, S>,
     budget: u32,
 )
-    ensures { Each (IsServed T.remaining T.contents now budget) entries.old entries.new }
+    ensures { Each (IsServed T.remaining T.contents (AnswersSo (S.shows answers.old.source) answers.old.name) now budget) entries.old entries.new }
 {
     for entry in entries.iter_mut() {
         entry.serve(now, answers, budget);
@@ -145,15 +146,13 @@ fn serve_in<T: Read + Write, S: StatusSource>(
 }
 
 impl<T: Read + Write + Drop> HttpConnections<T> {
-    /// No connections. Clients choose the names of headers, so the keys must be random. Requests are served that name an address, `localhost`,
-    /// or this name (`is_served_host`).
-    pub fn new(alloc: Global, keys: RandomState, name: Option<String>) -> HttpConnections<T>
+    /// No connections. Clients choose the names of headers, so the keys must be random.
+    pub fn new(alloc: Global, keys: RandomState) -> HttpConnections<T>
         ensures { result ≡ [] }
     {
         HttpConnections {
             alloc,
             keys,
-            name,
             entries: Vec::new(alloc),
         }
     }
@@ -217,10 +216,16 @@ impl<T: Read + Write + Drop> HttpConnections<T> {
     }
 
     /// Serves the busy connections at this time.
-    fn serve_busy<S: StatusSource>(&mut self, now: u64, source: &mut S, budget: u32)
-        ensures { Each (IsServed T.remaining T.contents now budget) self.old self.new }
+    fn serve_busy<S: StatusSource>(
+        &mut self,
+        now: u64,
+        source: &mut S,
+        name: Option<&str>,
+        budget: u32,
+    )
+        ensures { Each (IsServed T.remaining T.contents (AnswersSo (S.shows source.old) (option_copied name.entry)) now budget) self.old self.new }
     {
-        let mut answers = Answers::new(self.alloc, source, self.name.as_deref());
+        let mut answers = Answers::new(self.alloc, source, name);
         serve_in(&mut self.entries, now, &mut answers, budget);
     }
 
@@ -232,11 +237,17 @@ impl<T: Read + Write + Drop> HttpConnections<T> {
     }
 
     /// Serves each busy connection at this time, until its stream would block, or until this many calls were made. Those that are closed then
-    /// are removed.
-    pub fn serve<S: StatusSource>(&mut self, now: u64, source: &mut S, budget: u32)
-        ensures { Serves T.remaining T.contents now budget self.old self.new }
+    /// are removed. Requests are served that name an address, `localhost`, or this name (`is_served_host`).
+    pub fn serve<S: StatusSource>(
+        &mut self,
+        now: u64,
+        source: &mut S,
+        name: Option<&str>,
+        budget: u32,
+    )
+        ensures { Serves T.remaining T.contents (AnswersSo (S.shows source.old) (option_copied name.entry)) now budget self.old self.new }
     {
-        self.serve_busy(now, source, budget);
+        self.serve_busy(now, source, name, budget);
         self.remove_closed();
     }
 

@@ -1,5 +1,6 @@
 //! The HTTP endpoint: it accepts connections and serves them, turn by turn.
-ghost use Rattle.std.specs.Prelude.{◌≡◌, List, [], true};
+ghost use Rattle.std.specs.Prelude.{◌≡◌, List, [], option_copied, true};
+ghost use Rattle.status_server.specs.Answers.{AnswersSo};
 ghost use Rattle.status_server.specs.declared.http_connections.Entry.{Entry};
 ghost use Rattle.status_server.specs.Connections.{Accepts, Each, IsWoken, Serves, Turns, in_time, wait_for, wait_of};
 
@@ -48,13 +49,12 @@ impl<T> Debug for HttpEndpoint<T> {
 }
 
 impl<T: Read + Write + Drop> HttpEndpoint<T> {
-    /// An endpoint without connections. One may be pending. Clients choose the names of headers, so the keys must be random. Requests are
-    /// served that name an address, `localhost`, or this name (`is_served_host`).
-    pub fn new(alloc: Global, keys: RandomState, name: Option<String>) -> HttpEndpoint<T>
+    /// An endpoint without connections. One may be pending. Clients choose the names of headers, so the keys must be random.
+    pub fn new(alloc: Global, keys: RandomState) -> HttpEndpoint<T>
         ensures { result ≡ ([], true) }
     {
         HttpEndpoint {
-            connections: HttpConnections::new(alloc, keys, name),
+            connections: HttpConnections::new(alloc, keys),
             pending: true,
         }
     }
@@ -67,17 +67,19 @@ impl<T: Read + Write + Drop> HttpEndpoint<T> {
     }
 
     /// One turn at this time: it accepts connections, serves those that are busy or ready, and removes those that are closed or timed out.
+    /// Requests are served that name an address, `localhost`, or this name (`is_served_host`).
     pub fn turn<N: HttpSockets<T>, S: StatusSource>(
         &mut self,
         now: u64,
         sockets: &mut N,
         source: &mut S,
+        name: Option<&str>,
     )
-        ensures { Turns T.remaining T.contents now BUDGET self.old.0 self.new.0 }
+        ensures { Turns T.remaining T.contents (AnswersSo (S.shows source.old) (option_copied name.entry)) now BUDGET self.old.0 self.new.0 }
     {
         self.note_all(sockets);
         self.accept_all(now, sockets);
-        self.serve(now, source);
+        self.serve(now, source, name);
     }
 
     /// How long the next turn may wait, in milliseconds: 0 if a connection is busy, a second if one is open or pending.
@@ -154,10 +156,10 @@ impl<T: Read + Write + Drop> HttpEndpoint<T> {
     }
 
     /// Serves the busy connections, and removes those that timed out.
-    fn serve<S: StatusSource>(&mut self, now: u64, source: &mut S)
-        ensures { (rest : List (Entry T)) × Serves T.remaining T.contents now BUDGET self.old.0 rest × (self.new.0 ≡ in_time now rest) }
+    fn serve<S: StatusSource>(&mut self, now: u64, source: &mut S, name: Option<&str>)
+        ensures { (rest : List (Entry T)) × Serves T.remaining T.contents (AnswersSo (S.shows source.old) (option_copied name.entry)) now BUDGET self.old.0 rest × (self.new.0 ≡ in_time now rest) }
     {
-        self.connections.serve(now, source, BUDGET);
+        self.connections.serve(now, source, name, BUDGET);
         self.connections.expire(now);
     }
 }

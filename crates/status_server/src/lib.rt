@@ -28,7 +28,7 @@
 //!     }
 //! }
 //!
-//! let mut connections = HttpConnections::new(rt.alloc(), RandomState::new(&rt)?, None);
+//! let mut connections = HttpConnections::new(rt.alloc(), RandomState::new(&rt)?);
 //! connections.admit(7, Silent, 0)?;
 //! connections.expire(IDLE_MILLIS - 1);
 //! assert!(rt; connections.has(7));

@@ -1,4 +1,4 @@
-use Rattle.std.proofs.Common.{◌≡◌, ◌∙◌, ◌++◌, ℕ, List, Bool, refl, sym, subst}
+use Rattle.std.proofs.Common.{◌∙◌, ◌++◌, ℕ, List, Bool, refl, sym, subst}
 use Rattle.std.proofs.KnownBytes.{Appends-trans}
 use Rattle.status_pages.proofs.Written.{on_ok}
 use Rattle.status_pages.specs.Health.{AreSourceTexts, IsTextOf, version_text}

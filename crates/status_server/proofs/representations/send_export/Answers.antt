@@ -1,6 +1,6 @@
-use Rattle.std.proofs.Common.{◌≡◌, ◌++◌, ℕ, List, [], Ok, ap, refl, subst, sym, append_assoc, ◌∙◌, codes}
+use Rattle.std.proofs.Common.{◌≡◌, ◌++◌, ℕ, [], Ok, ap, refl, subst, append_assoc, ◌∙◌, codes}
 use Rattle.std.specs.Prelude.{⊤}
-use Rattle.status_server.specs.Answers.{IsExport, IsExportHead, made_at, vrp_count}
+use Rattle.status_server.specs.Answers.{IsExport, IsExportHead, made_at}
 use Rattle.status_server.specs.Responses.{SendsUnder, export_tag, json_kind}
 use Rattle.status_server.proofs.Sending.{of_version, on_ok, tagged, unchanged, under}
 use Rattle.status_server.proofs.representations.send_export.Goals as goal
@@ -15,7 +15,7 @@ returns-then-branch c =
     of_version {T = ⊤} {E = ⊤} (Ok tt) s.serial c.args.list c.in-Some-Some.serial list (λ serial records. SendsUnder c.args.headers.now (export_tag s.session serial (made_at s)) json_kind (IsExport s records)) x z
     c.in-Some-Some.is-0 c.in-Some-Some.is-1
     (under {T = ⊤} {E = ⊤} (Ok tt) c.args.headers.now c.in_ok-tag.tag.bytes.items (export_tag s.session c.in-Some-Some.serial (made_at s)) json_kind (IsExport s list) c.in_ok-add_tag.field-0 x z tag c.in_ok-add_tag.ensures.known
-        (unchanged c.in_ok-tag.tag.bytes.items json_kind (IsExport s list) (λ text. text ≡ []) c.in_ok-add_tag.field-0 x z c.if-branch.true c.in_ok-add_tag.ensures.sends))
+    (unchanged c.in_ok-tag.tag.bytes.items json_kind (IsExport s list) (λ text. text ≡ []) c.in_ok-add_tag.field-0 x z c.if-branch.true c.in_ok-add_tag.ensures.sends))
 
 pub returns : goal.returns
 returns c =

@@ -1,4 +1,4 @@
-use Rattle.std.proofs.Common.{◌≡◌, refl, sym, ◌∙◌}
+use Rattle.std.proofs.Common.{◌≡◌, refl}
 use Rattle.status_server.specs.Responses.{SendsUnder, list_tag}
 use Rattle.status_server.proofs.Sending.{of_version, tagged, under}
 use Rattle.status_server.proofs.representations.send_list.Goals as goal
