@@ -26,7 +26,7 @@ impl Write for Silent {
 
 #[test]
 fn an_idle_connection_has_30_seconds(rt: HostRuntime) -> Result<(), Fail> {
-    let mut connections = HttpConnections::new(rt.alloc(), RandomState::new(&rt)?, None);
+    let mut connections = HttpConnections::new(rt.alloc(), RandomState::new(&rt)?);
     connections.admit(7, Silent, 0)?;
     connections.expire(IDLE_MILLIS - 1);
     assert!(rt; connections.has(7));

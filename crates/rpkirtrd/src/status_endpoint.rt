@@ -46,6 +46,8 @@ pub struct StatusEndpoint {
     alloc: Global,
     place: Place,
     http: HttpEndpoint<TcpStream>,
+    /// The name by which clients may call it, besides addresses.
+    name: Option<String>,
     version_cache: VersionCache,
 }
 
@@ -105,7 +107,8 @@ impl StatusEndpoint {
         StatusEndpoint {
             alloc,
             place,
-            http: HttpEndpoint::new(alloc, keys, name),
+            http: HttpEndpoint::new(alloc, keys),
+            name,
             version_cache: VersionCache::new(alloc),
         }
     }
@@ -128,7 +131,8 @@ impl StatusEndpoint {
             now,
             millis,
         };
-        self.http.turn(millis, system, &mut snapshot);
+        let name = self.name.as_deref();
+        self.http.turn(millis, system, &mut snapshot, name);
         let Snapshot { version_cache, .. } = snapshot;
         self.version_cache = version_cache;
         system.wait_at_most(self.http.wait_limit());

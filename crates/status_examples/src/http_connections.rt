@@ -100,31 +100,29 @@ fn answered_by(
     request: &[u8],
     piece: usize,
 ) -> Result<(HttpProgress, Shared), Fail> {
-    let connections = HttpConnections::new(rt.alloc(), RandomState::new(rt)?, None);
-    served(rt, connections, source, request, piece)
+    served(rt, None, source, request, piece)
 }
 
 /// The response under this name.
 pub(crate) fn named(rt: &HostRuntime, name: &str, request: &[u8]) -> Result<Shared, Fail> {
     let mut source = source(rt.alloc())?;
-    let name = String::from_str(rt.alloc(), name)?;
-    let connections = HttpConnections::new(rt.alloc(), RandomState::new(rt)?, Some(name));
-    let (_came, output) = served(rt, connections, &mut source, request, 4096)?;
+    let (_came, output) = served(rt, Some(name), &mut source, request, 4096)?;
     Ok(output)
 }
 
-/// The progress of one connection, and the response.
+/// The progress of one connection, and the response, if this name is served besides addresses.
 fn served(
     rt: &HostRuntime,
-    mut connections: HttpConnections<Wire>,
+    name: Option<&str>,
     source: &mut Small,
     request: &[u8],
     piece: usize,
 ) -> Result<(HttpProgress, Shared), Fail> {
     let output = shared(rt.alloc(), b"")?;
     let wire = Wire::of(&shared(rt.alloc(), request)?, &output, piece)?;
+    let mut connections = HttpConnections::new(rt.alloc(), RandomState::new(rt)?);
     connections.admit(7, wire, 0)?;
-    connections.serve(0, source, 100_000);
+    connections.serve(0, source, name, 100_000);
     Ok((progress(&connections), output))
 }
 
@@ -283,18 +281,18 @@ fn a_turn_is_bounded(rt: HostRuntime) -> Result<(), Fail> {
     let request = b"GET / HTTP/1.1\r\nHost: 192.0.2.1\r\n\r\n";
     let output = shared(rt.alloc(), b"")?;
     let wire = Wire::of(&shared(rt.alloc(), request)?, &output, 1)?;
-    let mut connections = HttpConnections::new(rt.alloc(), RandomState::new(&rt)?, None);
+    let mut connections = HttpConnections::new(rt.alloc(), RandomState::new(&rt)?);
     let mut source = source(rt.alloc())?;
     connections.wake(7);
-    connections.serve(0, &mut source, 8);
+    connections.serve(0, &mut source, None, 8);
     assert!(rt; connections.is_empty());
     connections.admit(7, wire, 0)?;
-    connections.serve(0, &mut source, 0);
+    connections.serve(0, &mut source, None, 0);
     assert!(rt; progress(&connections) == HttpProgress::Busy);
-    connections.serve(0, &mut source, 35);
+    connections.serve(0, &mut source, None, 35);
     assert!(rt; progress(&connections) == HttpProgress::Busy);
     assert!(rt; is_list(&output, &shared(rt.alloc(), b"")?));
-    connections.serve(0, &mut source, 1);
+    connections.serve(0, &mut source, None, 1);
     assert!(rt; progress(&connections) == HttpProgress::Busy);
     assert!(rt; is_list(&output, &shared(rt.alloc(), b"H")?));
     Ok(())
@@ -304,7 +302,7 @@ fn a_turn_is_bounded(rt: HostRuntime) -> Result<(), Fail> {
 fn so_many_visitors_and_so_long(rt: HostRuntime) -> Result<(), Fail> {
     let input = shared(rt.alloc(), b"")?;
     let output = shared(rt.alloc(), b"")?;
-    let mut connections = HttpConnections::new(rt.alloc(), RandomState::new(&rt)?, None);
+    let mut connections = HttpConnections::new(rt.alloc(), RandomState::new(&rt)?);
     assert!(rt; connections.is_empty());
     for token in 0..MAX_CONNECTIONS {
         connections.admit(token, Wire::of(&input, &output, 1)?, token as u64)?;

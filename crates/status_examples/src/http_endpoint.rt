@@ -53,7 +53,7 @@ fn nothing_ready(alloc: Global) -> Script {
 }
 
 fn endpoint(rt: &HostRuntime) -> Result<HttpEndpoint<Wire>, Fail> {
-    Ok(HttpEndpoint::new(rt.alloc(), RandomState::new(rt)?, None))
+    Ok(HttpEndpoint::new(rt.alloc(), RandomState::new(rt)?))
 }
 
 /// Puts bytes behind those that a stream has.
@@ -77,16 +77,16 @@ fn the_65th_is_closed_and_all_time_out(rt: HostRuntime) -> Result<(), Fail> {
     for token in 0..MAX_CONNECTIONS + 1 {
         script.add(token, Wire::of(&input, &output, 1)?)?;
     }
-    endpoint.turn(5, &mut script, &mut source);
-    endpoint.turn(6, &mut script, &mut source);
+    endpoint.turn(5, &mut script, &mut source, None);
+    endpoint.turn(6, &mut script, &mut source, None);
     assert!(rt; endpoint.connections().len() == MAX_CONNECTIONS);
     assert!(rt; endpoint.connections().has(MAX_CONNECTIONS - 1));
     assert!(rt; !endpoint.connections().has(MAX_CONNECTIONS));
-    endpoint.turn(IDLE_MILLIS + 4, &mut script, &mut source);
+    endpoint.turn(IDLE_MILLIS + 4, &mut script, &mut source, None);
     assert!(rt; endpoint.connections().len() == MAX_CONNECTIONS);
     assert!(rt; endpoint.wait_limit() == 1000);
     script.add(MAX_CONNECTIONS + 1, Wire::of(&input, &output, 1)?)?;
-    endpoint.turn(IDLE_MILLIS + 5, &mut script, &mut source);
+    endpoint.turn(IDLE_MILLIS + 5, &mut script, &mut source, None);
     assert!(rt; endpoint.connections().is_empty());
     assert!(rt; endpoint.wait_limit() == u64::MAX);
     Ok(())
@@ -101,10 +101,10 @@ fn a_failed_accept_is_tried_again(rt: HostRuntime) -> Result<(), Fail> {
     script.accepts.push_back(HttpAccept::Failed)?;
     script.accepts.push_back(HttpAccept::Again)?;
     script.add(7, Wire::of(&input, &output, 1)?)?;
-    endpoint.turn(0, &mut script, &mut source);
+    endpoint.turn(0, &mut script, &mut source, None);
     assert!(rt; endpoint.connections().is_empty());
     assert!(rt; endpoint.wait_limit() == 1000);
-    endpoint.turn(1, &mut script, &mut source);
+    endpoint.turn(1, &mut script, &mut source, None);
     assert!(rt; endpoint.connections().has(7));
     Ok(())
 }
@@ -116,15 +116,15 @@ fn a_blocked_stream_is_kept(rt: HostRuntime) -> Result<(), Fail> {
     let mut endpoint = endpoint(&rt)?;
     let mut source = source(rt.alloc())?;
     script.add(7, Wire::of(&input, &output, 4096)?)?;
-    endpoint.turn(0, &mut script, &mut source);
+    endpoint.turn(0, &mut script, &mut source, None);
     assert!(rt; endpoint.connections().has(7));
     assert!(rt; endpoint.wait_limit() == 1000);
     send(&input, LIST)?;
-    endpoint.turn(1, &mut script, &mut source);
+    endpoint.turn(1, &mut script, &mut source, None);
     assert!(rt; is_list(&output, &shared(rt.alloc(), b"")?));
     script.wake(8)?;
     script.wake(7)?;
-    endpoint.turn(2, &mut script, &mut source);
+    endpoint.turn(2, &mut script, &mut source, None);
     assert!(rt; has(rt.alloc(), &output, "HTTP/1.1 200 OK\r\n", "\r\n\r\n[")?);
     Ok(())
 }
@@ -137,11 +137,11 @@ fn a_request_in_pieces_takes_turns(rt: HostRuntime) -> Result<(), Fail> {
     let mut source = source(rt.alloc())?;
     script.add(7, Wire::of(&input, &output, 1)?)?;
     for now in 0..5 {
-        endpoint.turn(now, &mut script, &mut source);
+        endpoint.turn(now, &mut script, &mut source, None);
         assert!(rt; endpoint.wait_limit() == 0);
         assert!(rt; is_list(&output, &shared(rt.alloc(), b"")?));
     }
-    endpoint.turn(5, &mut script, &mut source);
+    endpoint.turn(5, &mut script, &mut source, None);
     assert!(rt; is_list(&output, &shared(rt.alloc(), b"HTTP")?));
     Ok(())
 }
@@ -155,11 +155,11 @@ fn tokens_are_not_mixed(rt: HostRuntime) -> Result<(), Fail> {
     let mut source = source(rt.alloc())?;
     script.add(7, Wire::of(&one, &to_one, 4096)?)?;
     script.add(8, Wire::of(&other, &to_other, 4096)?)?;
-    endpoint.turn(0, &mut script, &mut source);
+    endpoint.turn(0, &mut script, &mut source, None);
     send(&one, LIST)?;
     send(&other, ELSEWHERE)?;
     script.wake(8)?;
-    endpoint.turn(1, &mut script, &mut source);
+    endpoint.turn(1, &mut script, &mut source, None);
     assert!(rt; is_list(&to_one, &shared(rt.alloc(), b"")?));
     assert!(rt;
         has(
@@ -170,7 +170,7 @@ fn tokens_are_not_mixed(rt: HostRuntime) -> Result<(), Fail> {
         )?
     );
     script.wake(7)?;
-    endpoint.turn(2, &mut script, &mut source);
+    endpoint.turn(2, &mut script, &mut source, None);
     assert!(rt; has(rt.alloc(), &to_one, "HTTP/1.1 200 OK\r\n", "\r\n\r\n[")?);
     Ok(())
 }
@@ -183,19 +183,19 @@ fn an_idle_connection_times_out(rt: HostRuntime) -> Result<(), Fail> {
     let mut source = source(rt.alloc())?;
     script.add(7, Wire::of(&input, &output, 1)?)?;
     script.add(8, Wire::of(&shared(rt.alloc(), b"")?, &output, 1)?)?;
-    endpoint.turn(0, &mut script, &mut source);
+    endpoint.turn(0, &mut script, &mut source, None);
     send(&input, b"G")?;
     script.wake(7)?;
-    endpoint.turn(20_000, &mut script, &mut source);
+    endpoint.turn(20_000, &mut script, &mut source, None);
     script.wake(8)?;
-    endpoint.turn(29_999, &mut script, &mut source);
+    endpoint.turn(29_999, &mut script, &mut source, None);
     assert!(rt; endpoint.connections().has(8));
     script.wake(8)?;
-    endpoint.turn(30_000, &mut script, &mut source);
+    endpoint.turn(30_000, &mut script, &mut source, None);
     assert!(rt; !endpoint.connections().has(8));
-    endpoint.turn(49_999, &mut script, &mut source);
+    endpoint.turn(49_999, &mut script, &mut source, None);
     assert!(rt; endpoint.connections().has(7));
-    endpoint.turn(50_000, &mut script, &mut source);
+    endpoint.turn(50_000, &mut script, &mut source, None);
     assert!(rt; !endpoint.connections().has(7));
     Ok(())
 }
@@ -207,18 +207,18 @@ fn a_trickle_of_requests_has_ten_minutes(rt: HostRuntime) -> Result<(), Fail> {
     let mut endpoint = endpoint(&rt)?;
     let mut source = source(rt.alloc())?;
     script.add(7, Wire::of(&input, &output, 1)?)?;
-    endpoint.turn(0, &mut script, &mut source);
+    endpoint.turn(0, &mut script, &mut source, None);
     for count in 1..30 {
         send(&input, b"G")?;
         script.wake(7)?;
-        endpoint.turn(count * 20_000, &mut script, &mut source);
+        endpoint.turn(count * 20_000, &mut script, &mut source, None);
         assert!(rt; endpoint.connections().has(7));
     }
     send(&input, b"G")?;
     script.wake(7)?;
-    endpoint.turn(599_999, &mut script, &mut source);
+    endpoint.turn(599_999, &mut script, &mut source, None);
     assert!(rt; endpoint.connections().has(7));
-    endpoint.turn(600_000, &mut script, &mut source);
+    endpoint.turn(600_000, &mut script, &mut source, None);
     assert!(rt; endpoint.connections().is_empty());
     Ok(())
 }
@@ -231,12 +231,12 @@ fn a_slow_download_has_ten_minutes(rt: HostRuntime) -> Result<(), Fail> {
     let mut source = source(rt.alloc())?;
     script.add(7, Wire::of(&input, &output, 1)?)?;
     for count in 0..30 {
-        endpoint.turn(count * 20_000, &mut script, &mut source);
+        endpoint.turn(count * 20_000, &mut script, &mut source, None);
         assert!(rt; endpoint.wait_limit() == 0);
     }
-    endpoint.turn(599_999, &mut script, &mut source);
+    endpoint.turn(599_999, &mut script, &mut source, None);
     assert!(rt; endpoint.connections().has(7));
-    endpoint.turn(600_000, &mut script, &mut source);
+    endpoint.turn(600_000, &mut script, &mut source, None);
     assert!(rt; endpoint.connections().is_empty());
     Ok(())
 }
@@ -265,12 +265,12 @@ fn pipelined_requests_take_turns(rt: HostRuntime) -> Result<(), Fail> {
     let mut endpoint = endpoint(&rt)?;
     let mut source = source(rt.alloc())?;
     script.add(7, Wire::of(&input, &output, 4096)?)?;
-    endpoint.turn(0, &mut script, &mut source);
+    endpoint.turn(0, &mut script, &mut source, None);
     let first = responses(&output);
     assert!(rt; 1 <= first && first <= 8);
     assert!(rt; endpoint.wait_limit() == 0);
     for now in 1..40 {
-        endpoint.turn(now, &mut script, &mut source);
+        endpoint.turn(now, &mut script, &mut source, None);
     }
     assert!(rt; responses(&output) == 40);
     Ok(())
@@ -286,10 +286,10 @@ fn connections_of_a_turn_share_its_texts(rt: HostRuntime) -> Result<(), Fail> {
         send(&input, HEAD)?;
         script.add(token, Wire::of(&input, &output, HEAD.len())?)?;
     }
-    endpoint.turn(0, &mut script, &mut source);
+    endpoint.turn(0, &mut script, &mut source, None);
     assert!(rt; 8 <= responses(&output));
     assert!(rt; source.asked == 1);
-    endpoint.turn(1, &mut script, &mut source);
+    endpoint.turn(1, &mut script, &mut source, None);
     assert!(rt; source.asked <= 2);
     Ok(())
 }
