@@ -36,6 +36,8 @@ mod rpkirtr_cli_example;
 #[cfg(test)]
 mod rpkirtrd_cli_example;
 #[cfg(test)]
+mod rsa_sha256_example;
+#[cfg(test)]
 mod rtr_commands_example;
 #[cfg(test)]
 mod rtr_daemon_example;

@@ -1,0 +1,3 @@
+pub mod LimbLaws
+pub mod MontgomeryLaws
+pub mod OctetLaws
