@@ -5,7 +5,7 @@ use thiserror::Error;
 #[derive(Clone, Copy, Debug, PartialEq, Eq, Error)]
 pub enum ModulusFault {
     /// 1: it has fewer than 256 or more than 512 octets: 2,048 to 4,096 bits.
-    #[error("the modulus has not 2048 to 4096 bits (fault 1)")]
+    #[error("the modulus does not have 2048 to 4096 bits (fault 1)")]
     Length,
     /// 2: its first bit is 0, so that it has fewer bits than its octets.
     #[error("the first bit of the modulus is 0 (fault 2)")]

@@ -47,7 +47,7 @@ fn texts_of_faults(rt: HostRuntime) -> Result<(), Fail> {
     let alloc = rt.alloc();
     assert_eq!(rt;
         format!(in alloc; "{}", ModulusFault::Length)?.as_str(),
-        "the modulus has not 2048 to 4096 bits (fault 1)"
+        "the modulus does not have 2048 to 4096 bits (fault 1)"
     );
     assert_eq!(rt;
         format!(in alloc; "{}", ModulusFault::TopBit)?.as_str(),
