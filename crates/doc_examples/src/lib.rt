@@ -32,6 +32,8 @@ mod prefixes_example;
 #[cfg(test)]
 mod printed;
 #[cfg(test)]
+mod relays_example;
+#[cfg(test)]
 mod rpkirtr_cli_example;
 #[cfg(test)]
 mod rpkirtrd_cli_example;
@@ -61,6 +63,8 @@ mod sources_example;
 mod status_pages_example;
 #[cfg(test)]
 mod status_server_example;
+#[cfg(test)]
+mod upstreams_example;
 #[cfg(test)]
 mod values;
 #[cfg(test)]

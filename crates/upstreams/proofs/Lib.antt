@@ -1,0 +1,3 @@
+pub mod AnswerLogs
+pub mod ConnectionLaws
+pub mod UpstreamLaws

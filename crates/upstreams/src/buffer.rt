@@ -1,0 +1,115 @@
+//! Bytes between a stream and a router.
+ghost use Rattle.std.specs.Prelude.{◌≡◌, ◌↔◌, ◌≤◌, [], IsTrue, length, take, drop};
+ghost use Rattle.std.specs.Io.KnownBytes.{Keeps};
+ghost use Rattle.rtr_pdu.specs.Payloads.{AreBytes};
+ghost use Rattle.rtr_ends.specs.LinkRules as rules;
+ghost use Rattle.rtr_ends.specs.Router as model;
+ghost use Rattle.rtr_ends.specs.Router.{called};
+ghost use Rattle.rtr_ends.specs.RouterShown.{Calls, IsShown, ReceivesSo};
+ghost use Rattle.rtr_server.specs.Streams.{EmptiesSo, FillsSo, Logged, a_read, a_write};
+
+use rtr_ends::Router;
+use rtr_pdu::MAX_UNIT_LEN;
+use rtr_server::{Progress, Stream};
+use std::marker::Model;
+
+/// Bytes that were read and are not consumed, or that were pulled and are not written.
+#[derive(Debug, Drop)]
+pub(crate) struct Buffer {
+    bytes: [u8; MAX_UNIT_LEN],
+    from: usize,
+    to: usize,
+}
+
+impl Model for Buffer {
+    ghost use Rattle.std.specs.Prelude.{ℕ, List, ◌≤◌, ◌-◌, take, drop};
+
+    ghost Value = { List ℕ };
+
+    ghost view = { λ b. take (b.to - b.from) (drop b.from b.bytes) };
+
+    ghost invariant = { λ b. (b.from ≤ b.to) × (b.to ≤ 4096) };
+}
+
+#[tactic(auto, using(rtr_server::proofs::Windows::moved_on))]
+impl Buffer {
+    /// An empty buffer.
+    pub(crate) fn new() -> Buffer
+        ensures { result ≡ [] }
+    {
+        Buffer {
+            bytes: [0; MAX_UNIT_LEN],
+            from: 0,
+            to: 0,
+        }
+    }
+
+    /// Whether it is empty.
+    pub(crate) fn is_empty(&self) -> bool
+        ensures { IsTrue result ↔ (self.now ≡ []) }
+    {
+        self.from == self.to
+    }
+
+    /// Reads a piece, if it is empty.
+    pub(crate) fn read<T: Stream>(&mut self, stream: &mut T) -> Progress
+        requires { self.old ≡ [] }
+        ensures fills { FillsSo (T.remaining stream.old) (T.remaining stream.new) result self.new }
+        ensures room { length self.new ≤ 4096 }
+        ensures keeps { Keeps (T.contents stream.old) (T.contents stream.new) }
+        ensures logs { Logged (a_read result) (T.answers stream.old) (T.answers stream.new) }
+    {
+        let moved = stream.read(&mut self.bytes);
+        self.from = 0;
+        self.to = match moved {
+            Progress::Bytes(n) => n,
+            _ => 0,
+        };
+        moved
+    }
+
+    /// Passes it to the router, and returns how many bytes were consumed.
+    pub(crate) fn hand_in(&mut self, router: &mut Router, now: u64) -> usize
+        ensures takes { ReceivesSo now self.old result router.old router.new }
+        ensures rest { self.new ≡ drop result self.old }
+        ensures within { result ≤ length self.old }
+        ensures bytes { AreBytes self.old }
+    {
+        let taken = hand_piece(router, &self.bytes[self.from..self.to], now);
+        self.from += taken;
+        taken
+    }
+
+    /// Pulls what the router has to send, if it is empty.
+    pub(crate) fn pull(&mut self, router: &mut Router)
+        requires { self.old ≡ [] }
+        ensures calls { Calls (λ r. (called (model.Pulls 4096) r).router) router.old router.new }
+        ensures bytes { (r : rules.Router) → IsShown r router.old → self.new ≡ take 4096 r.out }
+    {
+        self.from = 0;
+        self.to = router.pull(&mut self.bytes);
+    }
+
+    /// Writes of it what the stream accepts in one call.
+    pub(crate) fn write<T: Stream>(&mut self, stream: &mut T) -> Progress
+        ensures empties { EmptiesSo (T.contents stream.old) (T.contents stream.new) result self.old self.new }
+        ensures keeps { Keeps (T.remaining stream.old) (T.remaining stream.new) }
+        ensures logs { Logged (a_write result) (T.answers stream.old) (T.answers stream.new) }
+    {
+        let moved = stream.write(&self.bytes[self.from..self.to]);
+        self.from += match moved {
+            Progress::Bytes(n) => n,
+            _ => 0,
+        };
+        moved
+    }
+}
+
+/// Passes in bytes.
+fn hand_piece(router: &mut Router, piece: &[u8], now: u64) -> usize
+    ensures takes { ReceivesSo now piece.now result router.old router.new }
+    ensures within { result ≤ length piece.now }
+    ensures bytes { AreBytes piece.now }
+{
+    router.receive(piece, now)
+}

@@ -1,0 +1,293 @@
+//! A cache of which this one is a router.
+ghost use Rattle.std.specs.Prelude.{◌≡◌, ◌∷◌, [], List, None, Some, is_some, option_map, true};
+ghost use Rattle.rtr_ends.specs.FetchStream.{is_asking};
+ghost use Rattle.rtr_ends.specs.LinkRules as rules;
+ghost use Rattle.rtr_ends.specs.Router as model;
+ghost use Rattle.rtr_ends.specs.RouterLink.{is_idle, name_of};
+ghost use Rattle.rtr_ends.specs.RouterShown.{CallsLead, IsShown};
+ghost use Rattle.rtr_ends.specs.Transcript.{kept};
+ghost use Rattle.rtr_server.specs.Clients.{Begun};
+ghost use Rattle.upstreams.specs.Polls.{PollsIf, heard_if, heard_on, no_bytes};
+ghost use Rattle.upstreams.specs.Upstreams.{CallsOn, GoesOn, Polls, ShowsUpstream, TicksOn, carried_by, closed_for, data_of, expiry_of, falls_back, is_past, is_stalled, next_due};
+
+use crate::connection::{Connection, DisconnectReason, PollOutcome};
+use rtr_ends::{End, Link, Router};
+use rtr_pdu::Version;
+use rtr_pdu::error_code::UNSUPPORTED_VERSION;
+use rtr_server::{ByteCounts, Stream};
+use std::alloc::Global;
+use vrps::{Serial, VrpSet};
+
+/// A router of another cache (RFC 6810, RFC 8210 sections 5 to 8), and its connection, if there is one. Times are in seconds of a clock that
+/// the caller supplies; to the router, one below the greatest so far counts as that one.
+#[derive(Debug, Drop)]
+pub struct Upstream<T> {
+    router: Router,
+    connection: Option<Connection<T>>,
+    /// After how many seconds without a byte a connection is dropped on which a question is outstanding.
+    stall: u64,
+    /// The bytes that went over the latest connection, once that is dropped.
+    carried: ByteCounts,
+}
+
+impl<T: Stream + Drop> Upstream<T> {
+    /// Nothing is committed, and there is no connection. A connection on which a question brings no byte for `stall` seconds is dropped.
+    /// Connections are of version 1. It allocates no memory.
+    pub fn new(alloc: Global, stall: u64) -> Upstream<T>
+        ensures shows { (b : Begun) → ShowsUpstream T.remaining T.contents [] b result }
+        ensures stall { result.stall ≡ stall }
+        ensures carried { result.carried ≡ no_bytes }
+    {
+        Upstream {
+            router: Router::new(alloc),
+            connection: None,
+            stall,
+            carried: ByteCounts {
+                read: 0,
+                written: 0,
+            },
+        }
+    }
+
+    /// Sets the version of the protocol for the next connection and those after it (RFC 8210 section 7). A connection keeps its own.
+    pub fn set_version(&mut self, version: Version)
+        ensures calls { CallsOn T.remaining T.contents (model.Speaks version) self.old self.new }
+        ensures rest { self.new ≡ record self.old { router = self.new.router } }
+    {
+        self.router.speak(version);
+    }
+
+    /// A connection was made, over this stream: a query becomes due on it. An older connection is dropped.
+    pub fn connect(&mut self, stream: T, now: u64)
+        ensures calls { (calls : List model.RouterCall) (b : Begun) → ShowsUpstream T.remaining T.contents calls b self.old →
+            ShowsUpstream T.remaining T.contents (model.Connects now ∷ calls) (record { before = T.remaining stream; had = T.contents stream }) self.new }
+        ensures carried { carried_by self.new.connection self.new.carried ≡ no_bytes }
+        ensures stall { self.new.stall ≡ self.old.stall }
+    {
+        self.router.connect(now);
+        self.connection = Some(Connection::new(stream, now));
+    }
+
+    /// Drops the connection, if there is one, with all that remained to be written to it.
+    pub fn disconnect(&mut self, now: u64)
+        ensures calls { CallsOn T.remaining T.contents (model.Closes now) self.old self.new }
+        ensures gone { self.new.connection ≡ None }
+        ensures carried { self.new.carried ≡ carried_by self.old.connection self.old.carried }
+        ensures stall { self.new.stall ≡ self.old.stall }
+    {
+        self.carried = self.carried();
+        self.connection = None;
+        self.router.closed(now);
+    }
+
+    /// Advances the clock: data that has expired is dropped, and an idle link sends a query if that is due. A connection is dropped if its
+    /// question brought no byte for so long, and the result says so. Poll it afterwards: a query may have to be written, or the link may have
+    /// ended.
+    pub fn tick(&mut self, now: u64) -> Option<DisconnectReason>
+        ensures ticks { TicksOn T.remaining T.contents now self.old result self.new }
+        ensures gone { result ≡ Some DisconnectReason.Stalled → self.new.connection ≡ None }
+        ensures stall { self.new.stall ≡ self.old.stall }
+    {
+        if self.is_stalled(now) {
+            self.disconnect(now);
+            return Some(DisconnectReason::Stalled);
+        }
+        note_idle(&mut self.connection, &self.router, now);
+        self.router.tick(now);
+        None
+    }
+
+    /// Polls the connection, with at most `budget` calls of its stream. What was pulled is written, then more is pulled. If the router has
+    /// nothing to send, it receives what was read. If nothing is left of that, a piece is read. A connection that is gone is dropped, and the
+    /// outcome says why; `carried` still has what went over it. What was committed stays, by the router's rules. After Error Report 4,
+    /// Unsupported Protocol Version, the connections from the next one on are of version 0 (RFC 8210 section 7).
+    pub fn poll(&mut self, now: u64, budget: u32) -> PollOutcome
+        ensures polls { Polls T.remaining T.contents T.answers now budget self.old result self.new }
+        ensures goes { GoesOn T.remaining T.contents self.old self.new }
+    {
+        let outcome = poll_connection(&mut self.connection, &mut self.router, now, budget);
+        if let PollOutcome::Disconnected(reason) = outcome {
+            self.drop_connection(now, reason);
+        }
+        outcome
+    }
+
+    /// Drops the connection, with what follows from the reason.
+    fn drop_connection(&mut self, now: u64, reason: DisconnectReason)
+        ensures closed { (calls : List model.RouterCall) → CallsLead calls self.old.router → CallsLead (closed_for now reason calls) self.new.router }
+        ensures gone { self.new.connection ≡ None }
+        ensures carried { self.new.carried ≡ carried_by self.old.connection self.old.carried }
+        ensures stall { self.new.stall ≡ self.old.stall }
+    {
+        self.carried = self.carried();
+        self.connection = None;
+        self.router.closed(now);
+        if falls_back(reason) {
+            self.router.speak(Version::V0);
+        }
+    }
+
+    /// When something is due, if ever. Without a connection that is to connect, at once if none was made yet. On an idle link it is to ask. If
+    /// a question is outstanding, it is to drop the connection, after `stall` seconds without a byte. A link that has ended is due at once.
+    pub fn next_due(&self) -> Option<u64>
+        ensures { (calls : List model.RouterCall) (b : Begun) → ShowsUpstream T.remaining T.contents calls b self.now → result ≡ next_due self.now.stall calls }
+    {
+        match self.router.link() {
+            Link::Closed => Some(self.router.due().unwrap_or(0)),
+            Link::Idle => self.router.due(),
+            Link::Asked | Link::Answering => {
+                Some(heard_at(&self.connection).saturating_add(self.stall))
+            }
+            Link::Ended(_) => Some(0),
+        }
+    }
+
+    /// Whether something is due.
+    pub fn is_due(&self, now: u64) -> bool
+        ensures { (calls : List model.RouterCall) (b : Begun) → ShowsUpstream T.remaining T.contents calls b self.now → result ≡ is_past (next_due self.now.stall calls) now }
+    {
+        is_past(self.next_due(), now)
+    }
+
+    /// Whether a question is outstanding that has brought no byte for so long.
+    pub fn is_stalled(&self, now: u64) -> bool
+        ensures { (calls : List model.RouterCall) (b : Begun) → ShowsUpstream T.remaining T.contents calls b self.now → result ≡ is_stalled self.now.stall now calls }
+    {
+        is_asking(&self.router) && self.is_due(now)
+    }
+
+    /// Whether there is a connection.
+    pub fn is_connected(&self) -> bool
+        ensures { result ≡ is_some self.now.connection }
+    {
+        self.connection.is_some()
+    }
+
+    /// The stream of the connection, if there is one.
+    pub fn stream(&self) -> Option<&T>
+        ensures { option_map (λ stream. stream.now) result ≡ option_map (λ c. c.stream) self.now.connection }
+    {
+        match &self.connection {
+            None => None,
+            Some(connection) => Some(&connection.stream),
+        }
+    }
+
+    /// How many bytes went over the latest connection.
+    pub fn carried(&self) -> ByteCounts
+        ensures { result ≡ carried_by self.now.connection self.now.carried }
+    {
+        match &self.connection {
+            None => self.carried,
+            Some(connection) => connection.carried,
+        }
+    }
+
+    /// The version of the protocol, session and serial of the committed version, if there is one.
+    pub fn committed(&self) -> Option<(Version, u16, Serial)>
+        ensures { (calls : List model.RouterCall) (b : Begun) → ShowsUpstream T.remaining T.contents calls b self.now →
+            option_map (λ name. (name.0, name.1, name.2.0)) result ≡ name_of (kept (model.played calls).items).version }
+    {
+        self.router.committed()
+    }
+
+    /// The committed table: empty if nothing is committed.
+    pub fn table(&self) -> &VrpSet
+        ensures { (calls : List model.RouterCall) (b : Begun) → ShowsUpstream T.remaining T.contents calls b self.now → result.now ≡ (kept (model.played calls).items).table }
+    {
+        self.router.table()
+    }
+
+    /// The data of the cache: the committed table, if a version is committed.
+    pub fn data(&self) -> Option<&VrpSet>
+        ensures { (calls : List model.RouterCall) (b : Begun) → ShowsUpstream T.remaining T.contents calls b self.now →
+            option_map (λ set. set.now) result ≡ data_of (kept (model.played calls).items) }
+    {
+        match self.router.committed() {
+            Some(_name) => Some(self.router.table()),
+            None => None,
+        }
+    }
+
+    /// Until when the data is kept without another commit (RFC 8210 section 6), if there is any: a `tick` after that time drops it.
+    pub fn expires_at(&self) -> Option<u64>
+        ensures { (calls : List model.RouterCall) (b : Begun) → ShowsUpstream T.remaining T.contents calls b self.now → result ≡ expiry_of (kept (model.played calls).items).version }
+    {
+        match self.router.committed_version() {
+            Some(version) => Some(version.moment.saturating_add(u64::from(version.expire))),
+            None => None,
+        }
+    }
+
+    /// The router.
+    pub fn router(&self) -> &Router
+        ensures { result.now ≡ self.now.router }
+    {
+        &self.router
+    }
+}
+
+/// Polls a connection, if there is one.
+fn poll_connection<T: Stream>(
+    connection: &mut Option<Connection<T>>,
+    router: &mut Router,
+    now: u64,
+    budget: u32,
+) -> PollOutcome
+    ensures { PollsIf T.remaining T.contents T.answers now budget router.old connection.old result router.new connection.new }
+{
+    match connection {
+        None => PollOutcome::NotConnected,
+        Some(connection) => connection.poll(router, now, budget),
+    }
+}
+
+/// Notes that a link is idle at this time: no question is outstanding.
+fn note_idle<T>(connection: &mut Option<Connection<T>>, router: &Router, now: u64)
+    ensures { (r : rules.Router) → IsShown r router.now → connection.new ≡ heard_if (is_idle r.link) now connection.old }
+{
+    if router.link() != Link::Idle {
+        return;
+    }
+    if let Some(connection) = connection {
+        connection.heard_at = now;
+    }
+}
+
+/// Since when nothing was heard of the cache on this connection.
+fn heard_at<T>(connection: &Option<Connection<T>>) -> u64
+    ensures { result ≡ heard_on connection.now }
+{
+    match connection {
+        None => 0,
+        Some(connection) => connection.heard_at,
+    }
+}
+
+/// Whether it is this time or later.
+fn is_past(due: Option<u64>, now: u64) -> bool
+    ensures { result ≡ is_past due now }
+{
+    match due {
+        Some(at) => at <= now,
+        None => false,
+    }
+}
+
+/// Whether a question is outstanding.
+fn is_asking(router: &Router) -> bool
+    ensures { (r : rules.Router) → IsShown r router.now → result ≡ is_asking r.link }
+{
+    matches!(router.link(), Link::Asked | Link::Answering)
+}
+
+/// Whether connections are of version 0 after this.
+fn falls_back(reason: DisconnectReason) -> bool
+    ensures { result ≡ falls_back reason }
+{
+    match reason {
+        DisconnectReason::LinkEnded(End::Told(code) | End::Reported(code)) => code
+            == UNSUPPORTED_VERSION,
+        _ => false,
+    }
+}
