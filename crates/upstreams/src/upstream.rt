@@ -3,12 +3,13 @@ ghost use Rattle.std.specs.Prelude.{◌≡◌, ◌∷◌, [], List, None, Some, 
 ghost use Rattle.rtr_ends.specs.FetchStream.{is_asking};
 ghost use Rattle.rtr_ends.specs.LinkRules as rules;
 ghost use Rattle.rtr_ends.specs.Router as model;
+ghost use Rattle.rtr_ends.specs.Router.{called};
 ghost use Rattle.rtr_ends.specs.RouterLink.{is_idle, name_of};
-ghost use Rattle.rtr_ends.specs.RouterShown.{CallsLead, IsShown};
+ghost use Rattle.rtr_ends.specs.RouterShown.{Calls, CallsLead, IsShown};
 ghost use Rattle.rtr_ends.specs.Transcript.{kept};
 ghost use Rattle.rtr_server.specs.Clients.{Begun};
 ghost use Rattle.upstreams.specs.Polls.{PollsIf, heard_if, heard_on, no_bytes};
-ghost use Rattle.upstreams.specs.Upstreams.{CallsOn, GoesOn, Polls, ShowsUpstream, TicksOn, carried_by, closed_for, data_of, expiry_of, falls_back, is_past, is_stalled, next_due};
+ghost use Rattle.upstreams.specs.Upstreams.{CallsOn, GoesOn, Polls, ShowsUpstream, TicksOn, carried_by, closed_for, data_of, expiry_of, falls_back, is_past, is_stalled, is_unsupported_version, next_due};
 
 use crate::connection::{Connection, DisconnectReason, PollOutcome};
 use rtr_ends::{End, Link, Router};
@@ -68,9 +69,19 @@ impl<T: Stream + Drop> Upstream<T> {
         self.connection = Some(Connection::new(stream, now));
     }
 
-    /// Drops the connection, if there is one, with all that remained to be written to it.
+    /// Drops the connection, if there is one, with all that remained to be written to it. `carried` still has what went over it.
     pub fn disconnect(&mut self, now: u64)
         ensures calls { CallsOn T.remaining T.contents (model.Closes now) self.old self.new }
+        ensures gone { self.new.connection ≡ None }
+        ensures carried { self.new.carried ≡ carried_by self.old.connection self.old.carried }
+        ensures stall { self.new.stall ≡ self.old.stall }
+    {
+        self.close(now);
+    }
+
+    /// The same, as the router sees it.
+    fn close(&mut self, now: u64)
+        ensures calls { Calls (λ r. (called (model.Closes now) r).router) self.old.router self.new.router }
         ensures gone { self.new.connection ≡ None }
         ensures carried { self.new.carried ≡ carried_by self.old.connection self.old.carried }
         ensures stall { self.new.stall ≡ self.old.stall }
@@ -119,9 +130,7 @@ impl<T: Stream + Drop> Upstream<T> {
         ensures carried { self.new.carried ≡ carried_by self.old.connection self.old.carried }
         ensures stall { self.new.stall ≡ self.old.stall }
     {
-        self.carried = self.carried();
-        self.connection = None;
-        self.router.closed(now);
+        self.close(now);
         if falls_back(reason) {
             self.router.speak(Version::V0);
         }
@@ -286,8 +295,17 @@ fn falls_back(reason: DisconnectReason) -> bool
     ensures { result ≡ falls_back reason }
 {
     match reason {
-        DisconnectReason::LinkEnded(End::Told(code) | End::Reported(code)) => code
-            == UNSUPPORTED_VERSION,
+        DisconnectReason::LinkEnded(end) => is_unsupported_version(end),
+        _ => false,
+    }
+}
+
+/// Whether a link ended by Error Report 4, sent or received.
+fn is_unsupported_version(end: End) -> bool
+    ensures { result ≡ is_unsupported_version end }
+{
+    match end {
+        End::Told(code) | End::Reported(code) => code == UNSUPPORTED_VERSION,
         _ => false,
     }
 }
