@@ -1,5 +1,5 @@
 -- Chains of relays: each relay is a router of one world and the cache of the next (RFC 8210 section 10).
-use Rattle.std.specs.Prelude.{◌≡◌, ◌⊎◌, ℕ, List, [], ◌∷◌, Option, Some, None, IsSome, ⊤}
+use Rattle.std.specs.Prelude.{◌≡◌, ◌⊎◌, ℕ, List, [], ◌∷◌, length, Option, Some, None, IsSome, ⊤}
 use Rattle.std.specs.List.{AllByRecursion}
 use Rattle.vrps.specs.Instance.{Instance, NumberedSet, versions}
 use Rattle.vrps.specs.Stores.{newest}
@@ -7,9 +7,9 @@ use Rattle.vrps.specs.VrpSet.{VrpSet, empty}
 use Rattle.rtr_ends.specs.Transcript.{Committed, kept}
 use Rattle.rtr_world.specs.CaughtUp.{HoldsNow}
 use Rattle.rtr_world.specs.Claims.{Always, IsNamed}
-use Rattle.rtr_world.specs.History.{Entry, LeadsFrom, Reached, side_at}
+use Rattle.rtr_world.specs.History.{Entry, LeadsFrom, Outcome, Reached, after, side_at}
 use Rattle.rtr_world.specs.VersionPlaces.{IsNotAfter, VersionPlace, version_place_of}
-use Rattle.rtr_world.specs.World.{Side, World, instances}
+use Rattle.rtr_world.specs.World.{Event, Publish, Side, World, instances}
 
 -- The set is one of these.
 abbrev pub IsOneOf : VrpSet → List VrpSet → Type 0
@@ -52,6 +52,17 @@ pub record Relay : Type 0 where
 -- What a relay promises: each set that it published is made of one that its router held at some moment.
 abbrev pub Relays : World → Relay → Type 0
 Relays before relay = (set : VrpSet) → WasPublished (instances relay.world) set → (held : VrpSet) × WasHeld before relay.router held × (set ≡ relay.make held)
+
+-- What is published in the relay's world, if anything, is made of a set that its router held.
+abbrev pub IsRelayed : World → Relay → Event → Type 0
+IsRelayed before relay (Publish set) = (held : VrpSet) × WasHeld before relay.router held × (set ≡ relay.make held)
+IsRelayed before relay event = ⊤
+
+-- A relay that publishes no other set keeps its promise, whatever happens in the world before it.
+abbrev pub EachKeepsRelaying : Type 0
+EachKeepsRelaying =
+    (before later : World) (since : List Entry) (relay : Relay) (event : Event) (outcome : Outcome) (reached : Reached (after event outcome relay.world)) → Relays before relay → LeadsFrom before since later →
+    IsRelayed later relay event → Relays later (record relay { world = after event outcome relay.world; reached = reached })
 
 -- A chain of relays after a world, the next one first
 abbrev pub IsChain : World → List Relay → Type 0
@@ -117,3 +128,45 @@ held_place h = version_place_of (instances h.moment) (kept h.side.items).version
 -- No way back at a relay: what its router held later was not published before what it held earlier.
 abbrev pub RelaysInOrder : Type 0
 RelaysInOrder = (w : World) (r : ℕ) (set older : VrpSet) (now : WasHeld w r set) (before : WasHeld now.moment r older) → IsNotAfter (held_place before) (held_place now)
+
+-- This set has this many before it among those of one instance, the newest first.
+abbrev pub IsNth : ℕ → VrpSet → List VrpSet → Type 0
+IsNth n set [] = ⊥
+IsNth n set (one ∷ older) = ((n ≡ length older) × (set ≡ one)) ⊎ IsNth n set older
+
+-- This set is at this place among all that a cache published.
+abbrev pub IsAt : VersionPlace → VrpSet → List Instance → Type 0
+IsAt place set [] = ⊥
+IsAt place set (i ∷ older) = ((place.instance ≡ length older) × IsNth place.position set i.sets) ⊎ IsAt place set older
+
+-- The cache published the first of these sets at no later place than the second.
+pub record PublishedInTurn (w : World) (old new : VrpSet) : Type 0 where
+  pub earlier : VersionPlace
+  pub later : VersionPlace
+  pub old_at : IsAt earlier old (instances w)
+  pub new_at : IsAt later new (instances w)
+  pub in_turn : IsNotAfter (Some earlier) (Some later)
+
+-- The router held the first of these sets in a version that was not published after the version in which it held the second.
+pub record HeldInTurn (w : World) (r : ℕ) (old new : VrpSet) : Type 0 where
+  pub first : WasHeld w r old
+  pub second : WasHeld w r new
+  pub in_turn : IsNotAfter (held_place first) (held_place second)
+
+-- A relay that publishes in turn: two sets that it published in turn are made of two that its router held in turn.
+abbrev pub RelaysInTurn : World → Relay → Type 0
+RelaysInTurn before relay =
+    (old new : VrpSet) → PublishedInTurn relay.world old new →
+    (a : VrpSet) × (b : VrpSet) × HeldInTurn before relay.router a b × (old ≡ relay.make a) × (new ≡ relay.make b)
+
+abbrev pub IsChainInTurn : World → List Relay → Type 0
+IsChainInTurn before [] = ⊤
+IsChainInTurn before (relay ∷ relays) = RelaysInTurn before relay × IsChainInTurn relay.world relays
+
+-- No way back along a chain of such relays. What a router of the last world held, and what it held before, are made of sets that the first
+-- cache published in turn.
+abbrev pub ChainInOrder : Type 0
+ChainInOrder =
+    (first : World) (relays : List Relay) (r : ℕ) (old new : VrpSet) → IsChainInTurn first relays →
+    (now : WasHeld (last_world first relays) r new) → WasHeld now.moment r old →
+    (a : VrpSet) × (b : VrpSet) × PublishedInTurn first a b × (old ≡ made_by relays a) × (new ≡ made_by relays b)

@@ -1,9 +1,14 @@
 //! Laws of the definitions. These functions do nothing: their contracts are the laws.
-ghost use Rattle.relays.specs.Chains.{EachFromFirst, EachIsCurrent, EachIsPublished, RelaysInOrder};
+ghost use Rattle.relays.specs.Chains.{ChainInOrder, EachFromFirst, EachIsCurrent, EachIsPublished, EachKeepsRelaying, RelaysInOrder};
 
 /// What a router of a world holds, if it holds a version, is a set that this world's cache published.
 pub fn held_is_published()
     ensures { EachIsPublished }
+{}
+
+/// A relay that publishes only what it makes of sets that its router held keeps that promise, whatever happens in the world before it.
+pub fn keeps_relaying()
+    ensures { EachKeepsRelaying }
 {}
 
 /// This holds of every history of every world of a chain of any length, whatever was lost, cut or refused in any of them. Each router of the
@@ -23,4 +28,10 @@ pub fn caught_up()
 /// whatever restarts were between.
 pub fn in_order()
     ensures { RelaysInOrder }
+{}
+
+/// No way back along a chain whose relays publish in turn. What a router of the last world held, and what it held before, are made of sets
+/// that the first cache published in turn.
+pub fn chain_in_order()
+    ensures { ChainInOrder }
 {}

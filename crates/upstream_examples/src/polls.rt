@@ -101,7 +101,7 @@ fn half_an_answer_is_nothing(rt: HostRuntime) -> Result<(), Fail> {
     Ok(())
 }
 
-/// What comes of an answer, five bytes at a call, if this call is bad, until a second poll also waits.
+/// The outcome of an answer, five bytes at a call, if this call is bad, until a second poll also waits.
 fn with_bad(alloc: Global, bad_call: u32, bad: Bad) -> Result<(PollOutcome, Option<usize>), Fail> {
     let answer = bytes(ANSWER);
     let output = shared(alloc)?;
