@@ -8,6 +8,7 @@ use std::test::Fail;
 use vrps::Serial;
 
 /// A chain: the world of the first cache, and those of the two relays.
+#[derive(Drop)]
 struct Chain {
     first: World,
     second: World,
@@ -67,21 +68,23 @@ fn holds(
     })
 }
 
-/// The router of the last world holds what the first cache published, under the name of the last cache.
+/// The first cache publishes these records; whether the router of the last world holds them then, under this serial of the last cache.
+fn arrives(chain: &mut Chain, alloc: Global, rows: &[Row], serial: u32) -> Result<bool, Fail> {
+    publishes(&mut chain.first, alloc, rows)?;
+    spread(chain)?;
+    holds(&chain.third, alloc, rows, 19, serial)
+}
+
 #[test]
 fn the_last_router_holds_what_the_first_cache_published(rt: HostRuntime) -> Result<(), Fail> {
-    let alloc = rt.alloc();
-    let mut chain = chain_of(alloc)?;
-    publishes(&mut chain.first, alloc, &[V])?;
-    spread(&mut chain)?;
-    assert!(rt; holds(&chain.third, alloc, &[V], 19, 5)?);
-    publishes(&mut chain.first, alloc, &[V, W])?;
-    spread(&mut chain)?;
-    assert!(rt; holds(&chain.third, alloc, &[V, W], 19, 6)?);
+    let mut chain = chain_of(rt.alloc())?;
+    assert!(rt; arrives(&mut chain, rt.alloc(), &[V], 5)?);
+    assert!(rt; arrives(&mut chain, rt.alloc(), &[V, W], 6)?);
+    assert!(rt; arrives(&mut chain, rt.alloc(), &[], 7)?);
     Ok(())
 }
 
-/// The answer to the first relay is cut before its last byte: no relay publishes any of it.
+/// The answer to the first relay is cut before its last byte.
 const CUT: &[SideEvent] = &[
     SideEvent::Connect,
     SideEvent::RouterSends(12),
@@ -91,41 +94,44 @@ const CUT: &[SideEvent] = &[
     SideEvent::Cut(0),
 ];
 
-#[test]
-fn a_cut_keeps_what_was_held(rt: HostRuntime) -> Result<(), Fail> {
-    let alloc = rt.alloc();
-    let mut chain = chain_of(alloc)?;
-    publishes(&mut chain.first, alloc, &[V])?;
-    spread(&mut chain)?;
-    publishes(&mut chain.first, alloc, &[V, W])?;
+/// The first cache publishes these records, and the answer to the first relay is cut; whether both relays hold the earlier ones.
+fn is_cut(chain: &mut Chain, alloc: Global, rows: &[Row], earlier: &[Row]) -> Result<bool, Fail> {
+    publishes(&mut chain.first, alloc, rows)?;
     for &event in CUT {
         chain.first.step(&Event::On { router: 0, event })?;
     }
     relay(&chain.first, &mut chain.second)?;
     chain.second.catch_up(0)?;
-    assert!(rt; holds(&chain.first, alloc, &[V], 17, 5)?);
-    assert!(rt; holds(&chain.second, alloc, &[V], 18, 5)?);
-    spread(&mut chain)?;
-    assert!(rt; holds(&chain.third, alloc, &[V, W], 19, 6)?);
+    Ok(holds(&chain.first, alloc, earlier, 17, 5)? && holds(&chain.second, alloc, earlier, 18, 5)?)
+}
+
+#[test]
+fn a_cut_keeps_what_was_held(rt: HostRuntime) -> Result<(), Fail> {
+    let mut chain = chain_of(rt.alloc())?;
+    assert!(rt; arrives(&mut chain, rt.alloc(), &[V], 5)?);
+    assert!(rt; is_cut(&mut chain, rt.alloc(), &[V, W], &[V])?);
+    assert!(rt; arrives(&mut chain, rt.alloc(), &[V, W], 6)?);
     Ok(())
 }
 
-/// The first cache restarts with another session: the relays publish one version more, under their own sessions.
-#[test]
-fn a_restart_is_one_version_more(rt: HostRuntime) -> Result<(), Fail> {
-    let alloc = rt.alloc();
-    let mut chain = chain_of(alloc)?;
-    publishes(&mut chain.first, alloc, &[V])?;
-    spread(&mut chain)?;
+/// The first cache restarts with another session, and publishes these records; whether the relays have them, as one version more of their own.
+fn is_restarted(chain: &mut Chain, alloc: Global, rows: &[Row]) -> Result<bool, Fail> {
     chain.first.step(&Event::Restart {
         session: 99,
         session0: 99,
         start: 1,
     })?;
-    publishes(&mut chain.first, alloc, &[W])?;
-    spread(&mut chain)?;
-    assert!(rt; holds(&chain.first, alloc, &[W], 99, 1)?);
-    assert!(rt; holds(&chain.second, alloc, &[W], 18, 6)?);
-    assert!(rt; holds(&chain.third, alloc, &[W], 19, 6)?);
+    Ok(
+        arrives(chain, alloc, rows, 6)?
+            && holds(&chain.first, alloc, rows, 99, 1)?
+            && holds(&chain.second, alloc, rows, 18, 6)?,
+    )
+}
+
+#[test]
+fn a_restart_is_one_version_more(rt: HostRuntime) -> Result<(), Fail> {
+    let mut chain = chain_of(rt.alloc())?;
+    assert!(rt; arrives(&mut chain, rt.alloc(), &[V], 5)?);
+    assert!(rt; is_restarted(&mut chain, rt.alloc(), &[W])?);
     Ok(())
 }
