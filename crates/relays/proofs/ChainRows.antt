@@ -1,5 +1,5 @@
 -- Chains of relays, worked out: what was published, before a restart too; in which order relays change a set; and which world is the last.
-use Rattle.std.specs.Prelude.{◌≡◌, ℕ, List, [], ◌∷◌, Option, Some, None, refl}
+use Rattle.std.specs.Prelude.{◌≡◌, [], ◌∷◌, Some, None, refl}
 use Rattle.std.proofs.Common.{inl, inr}
 use Rattle.vrps.specs.Instance.{Instance, versions}
 use Rattle.vrps.specs.Stores.{newest}

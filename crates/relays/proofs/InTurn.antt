@@ -2,9 +2,9 @@
 use Rattle.std.specs.Prelude.{◌≡◌, ◌⊎◌, ℕ, ◌==◌, Bool, true, false, find, List, [], ◌∷◌, length, Option, Some, None, IsSome, option_and_then, if◌then◌else◌, refl}
 use Rattle.std.specs.Option.{option_map}
 use Rattle.std.proofs.Common.{sym, ap, ◌∙◌, subst, inl, inr, suc}
-use Rattle.vrps.specs.Instance.{Instance, NumberedSet, named, versions, versions_from, with_serial}
+use Rattle.vrps.specs.Instance.{Instance, named, versions, versions_from, with_serial}
 use Rattle.vrps.specs.Serial.{serial_at}
-use Rattle.vrps.specs.Store.{is_current, published}
+use Rattle.vrps.specs.Store.{is_current}
 use Rattle.vrps.specs.VrpSet.{VrpSet}
 use Rattle.rtr_ends.specs.Answer.{session_in}
 use Rattle.rtr_ends.specs.Transcript.{Committed, kept}
@@ -14,7 +14,7 @@ use Rattle.rtr_world.specs.VersionPlaces.{IsNotAfter, VersionPlace, place_named,
 use Rattle.rtr_world.specs.World.{Side, World, instances, Event, Publish, Restart, On, goes_through, is_refused, settled}
 use Rattle.rtr_world.proofs.Versions.{some_is}
 use Rattle.rtr_world.proofs.WorldSteps.{headline}
-use Rattle.relays.specs.Chains.{ChainInOrder, HeldInTurn, IsAt, IsChainInTurn, IsNth, PublishedInTurn, Relay, WasHeld, held_place, last_world, made_by}
+use Rattle.relays.specs.Chains.{ChainInOrder, HeldInTurn, IsAt, IsNth, PublishedInTurn, WasHeld, held_place, made_by}
 use Rattle.relays.proofs.Growing.{in_order}
 use Rattle.relays.proofs.Published.{at_number}
 use Rattle.relays.proofs.Relaying.{still_held}

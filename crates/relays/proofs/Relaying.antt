@@ -1,12 +1,11 @@
 -- What was held stays so, and a relay keeps its promise from event to event.
 use Rattle.std.specs.Prelude.{◌≡◌, ◌⊎◌, ℕ, Bool, true, false, List, [], ◌∷◌, ◌++◌, if◌then◌else◌}
-use Rattle.std.proofs.Common.{sym, ◌∙◌, subst, inl, inr}
-use Rattle.vrps.specs.Instance.{Instance}
-use Rattle.vrps.specs.Store.{is_current, published}
+use Rattle.std.proofs.Common.{◌∙◌, subst, inl, inr}
+use Rattle.vrps.specs.Store.{is_current}
 use Rattle.vrps.specs.VrpSet.{VrpSet}
 use Rattle.rtr_world.specs.History.{Outcome, Done, Memory, Entry, LeadsFrom, after}
 use Rattle.rtr_world.specs.World.{World, instances, Event, Publish, Restart, On, goes_through, is_refused, settled}
-use Rattle.relays.specs.Chains.{EachKeepsRelaying, IsOneOf, IsRelayed, Relay, Relays, WasHeld, WasPublished}
+use Rattle.relays.specs.Chains.{EachKeepsRelaying, IsRelayed, WasHeld, WasPublished}
 
 -- a history, and another after it
 pub leads_both : (old : World) (history : List Entry) (w : World) (since : List Entry) (later : World) → LeadsFrom old history w → LeadsFrom w since later → LeadsFrom old (history ++ since) later

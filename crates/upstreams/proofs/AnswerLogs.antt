@@ -4,7 +4,6 @@ use Rattle.std.proofs.Common.{sym, ap, ◌∙◌, subst, arith, inl, inr}
 use Rattle.std.proofs.lemmas.List.{length-append}
 use Rattle.prefixes.proofs.Basics.{eq_of}
 use Rattle.rtr_ends.specs.declared.link.End.{End}
-use Rattle.rtr_server.specs.Streams.{Logged}
 use Rattle.rtr_server.specs.Turns.{LastIs}
 use Rattle.rtr_server.specs.declared.stream.Call.{Call}
 use Rattle.rtr_server.specs.declared.stream.Call.TheVariants as calls

@@ -1,21 +1,19 @@
 -- One connection, from step to step.
 use Rattle.std.specs.Prelude.{◌≡◌, ℕ, ◌+◌, ◌-◌, ◌<◌, ◌≤◌, ◌==◌, Bool, true, false, List, [], ◌∷◌, ◌++◌, length, min, take, drop, Option, Some, None, if◌then◌else◌, refl}
-use Rattle.std.specs.List.{AllByRecursion}
 use Rattle.std.proofs.Common.{zero, suc, sym, ap, ◌∙◌, subst, arith, append_assoc}
 use Rattle.std.proofs.lemmas.List.{append-nil, length-append, length-take-le, take-append-drop}
-use Rattle.std.specs.Io.KnownBytes.{Consumes, IsAtEnd, Keeps}
-use Rattle.std.proofs.KnownBytes.{Appends-kept, Appends-nil, Appends-trans, Consumes-kept, Consumes-nil, Consumes-trans}
+use Rattle.std.specs.Io.KnownBytes.{Consumes, Keeps}
+use Rattle.std.proofs.KnownBytes.{Appends-kept, Appends-trans, Consumes-kept, Consumes-trans}
 use Rattle.prefixes.proofs.Basics.{eq_of}
 use Rattle.rtr_pdu.specs.Judging.{Begins, Faulty, Whole}
 use Rattle.rtr_pdu.specs.Payloads.{AreBytes}
 use Rattle.rtr_pdu.specs.Unit.{MAX_UNIT_LEN}
-use Rattle.rtr_ends.specs.Consumed.{IsRouterCall, came}
+use Rattle.rtr_ends.specs.Consumed.{came}
 use Rattle.rtr_ends.specs.LinkRules as rules
 use Rattle.rtr_ends.specs.Router.{RouterCall, Connects, Receives, Ticks, asks_if, called, clocked, close, closed_at, connects_at, played, receives, router_pulled, ticks_at}
 use Rattle.rtr_ends.specs.Router as routers
-use Rattle.rtr_ends.specs.RouterLaws.{pulled_by}
 use Rattle.rtr_ends.specs.RouterLink.{Link, Answering, Asked, Closed, Ended, Idle, is_closed, is_due, is_reading}
-use Rattle.rtr_ends.specs.RouterShown.{Calls, CallsLead, IsShown, ReceivesSo}
+use Rattle.rtr_ends.specs.RouterShown.{Calls, IsShown, ReceivesSo}
 use Rattle.rtr_ends.specs.declared.link.End.{End}
 use Rattle.rtr_ends.specs.declared.router.Router.{Router}
 use Rattle.rtr_ends.proofs.CallSteps.{BytesKeep, by_piece}
@@ -28,11 +26,10 @@ use Rattle.rtr_server.specs.Streams.{EmptiesSo, FillsSo, moved_count}
 use Rattle.rtr_server.specs.declared.stream.Progress.{Progress}
 use Rattle.rtr_server.specs.declared.stream.Progress.TheVariants.{Bytes, Waits, Interrupted, Failed}
 use Rattle.rtr_server.specs.declared.turn.ByteCounts.{ByteCounts}
-use Rattle.upstreams.specs.Polls.{Anyhow, AwaitsBytes, Carries, ConnectionState, EndsSo, Flow, Goes, GoesFrom, GoesOrEnds, HandsIn, HasEnded, HasUnwritten, IsFlushed, IsOver, MayBeFlushed, MayStep, MaySteps, Pulls, Reads, Runs, StandsFor, Step, Writes, after_read, after_write, and_read, and_written, next_on, router_of, state_after, state_of, steps_after}
+use Rattle.upstreams.specs.Polls.{Anyhow, AwaitsBytes, ConnectionState, Flow, GoesFrom, GoesOrEnds, HandsIn, HasEnded, HasUnwritten, IsFlushed, IsOver, MayBeFlushed, MayStep, MaySteps, Pulls, Reads, Runs, StandsFor, Step, Writes, after_read, after_write, and_read, and_written, next_on, router_of, state_after, state_of, steps_after}
 use Rattle.upstreams.specs.declared.connection.Connection.{Connection}
 use Rattle.upstreams.specs.declared.connection.DisconnectReason.TheVariants.{PeerClosed, WriteFailed}
 use Rattle.upstreams.specs.declared.connection.NextCall.{NextCall}
-use Rattle.upstreams.specs.declared.connection.NextCall.TheVariants.{Read}
 use Rattle.upstreams.specs.declared.connection.PollOutcome.{PollOutcome}
 use Rattle.upstreams.specs.declared.connection.PollOutcome.TheVariants.{Disconnected}
 

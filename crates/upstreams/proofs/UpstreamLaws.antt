@@ -1,7 +1,6 @@
 -- An upstream, from call to call.
-use Rattle.std.specs.Prelude.{◌≡◌, ℕ, ◌==◌, Bool, true, false, not, nat_lt, List, [], ◌∷◌, ◌++◌, length, Option, Some, None, if◌then◌else◌, unwrap_or, refl}
-use Rattle.std.specs.List.{AllByRecursion}
-use Rattle.std.proofs.Common.{sym, ap, ◌∙◌, subst, append_assoc}
+use Rattle.std.specs.Prelude.{◌≡◌, ℕ, Bool, true, false, List, [], ◌∷◌, ◌++◌, length, Option, Some, None, if◌then◌else◌, unwrap_or, refl}
+use Rattle.std.proofs.Common.{sym, ap, ◌∙◌, subst}
 use Rattle.std.proofs.lemmas.List.{append-nil}
 use Rattle.std.specs.Io.KnownBytes.{Consumes}
 use Rattle.std.proofs.KnownBytes.{Appends-nil, Consumes-nil}
@@ -9,7 +8,6 @@ use Rattle.rtr_pdu.specs.declared.version.Version.{Version}
 use Rattle.rtr_pdu.specs.declared.version.Version.TheVariants.{V0}
 use Rattle.rtr_pdu.specs.Unit.{MAX_UNIT_LEN}
 use Rattle.rtr_ends.specs.Consumed.{came}
-use Rattle.rtr_ends.specs.FetchStream.{is_asking}
 use Rattle.rtr_ends.specs.LinkRules as rules
 use Rattle.rtr_ends.specs.Router as routers
 use Rattle.rtr_ends.specs.Router.{RouterCall, Closes, Connects, Receives, Speaks, Ticks, called, played}
@@ -18,7 +16,6 @@ use Rattle.rtr_ends.specs.RouterLink.{Link, Answering, Asked, Closed, Ended, Idl
 use Rattle.rtr_ends.specs.RouterShown.{Calls, CallsLead, IsShown}
 use Rattle.rtr_ends.specs.Transcript.{Question, Begun as Transcribed, due, sum_of}
 use Rattle.rtr_ends.specs.declared.link.End.{End}
-use Rattle.rtr_ends.specs.declared.link.Link as code
 use Rattle.rtr_ends.specs.declared.link.Link.TheVariants as links
 use Rattle.rtr_ends.specs.declared.router.Router.{Router}
 use Rattle.rtr_ends.proofs.TableLaws.{false_true}
@@ -26,8 +23,8 @@ use Rattle.rtr_server.specs.Clients.{Begun}
 use Rattle.rtr_server.specs.Counting.{capped}
 use Rattle.rtr_server.specs.declared.stream.Call.{Call}
 use Rattle.rtr_server.specs.declared.turn.ByteCounts.{ByteCounts}
-use Rattle.upstreams.specs.Polls.{Carries, CarriesIf, ConnectionState, Flow, Goes, Polled, PollsIf, Runs, Step, HandsIn, Pulls, Reads, Writes, heard_at, heard_if, heard_on, no_bytes, state_of, steps_after}
-use Rattle.upstreams.specs.Upstreams.{GoesOn, Leaves, Polls, ShowsUpstream, Stays, carried_by, closed_for, due_on, falls_back, is_past, is_stalled, next_due}
+use Rattle.upstreams.specs.Polls.{CarriesIf, ConnectionState, Flow, PollsIf, Runs, Step, HandsIn, Pulls, Reads, Writes, heard_at, heard_if, heard_on, no_bytes, state_of, steps_after}
+use Rattle.upstreams.specs.Upstreams.{GoesOn, Leaves, Polls, ShowsUpstream, carried_by, closed_for, due_on, falls_back, next_due}
 use Rattle.upstreams.specs.declared.connection.Connection.{Connection}
 use Rattle.upstreams.specs.declared.connection.DisconnectReason.{DisconnectReason}
 use Rattle.upstreams.specs.declared.connection.PollOutcome.{PollOutcome}

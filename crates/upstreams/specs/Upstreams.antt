@@ -1,15 +1,15 @@
 -- A router of another cache, over one connection after another (RFC 8210 sections 5 to 8 and 10).
-use Rattle.std.specs.Prelude.{◌≡◌, ℕ, ◌≤◌, ◌==◌, Bool, true, false, not, ◌&&◌, nat_lt, List, [], ◌∷◌, ◌++◌, Option, Some, None, if◌then◌else◌, unwrap_or}
+use Rattle.std.specs.Prelude.{◌≡◌, ℕ, ◌==◌, Bool, true, false, not, ◌&&◌, nat_lt, List, ◌∷◌, ◌++◌, Option, Some, None, if◌then◌else◌, unwrap_or}
 use Rattle.vrps.specs.VrpSet.{VrpSet}
 use Rattle.rtr_pdu.specs.Code.{UNSUPPORTED_VERSION}
 use Rattle.rtr_pdu.specs.declared.version.Version.TheVariants.{V0}
 use Rattle.rtr_ends.specs.Consumed.{IsSplit, came}
 use Rattle.rtr_ends.specs.FetchStream.{is_asking}
-use Rattle.rtr_ends.specs.Router.{RouterCall, Closes, Connects, Speaks, Ticks, played}
+use Rattle.rtr_ends.specs.Router.{RouterCall, Closes, Speaks, Ticks, played}
 use Rattle.rtr_ends.specs.RouterLaws.{HasSaid, IsKept, pulled_by}
 use Rattle.rtr_ends.specs.RouterLink.{Link, Answering, Asked, Closed, Ended, Idle}
 use Rattle.rtr_ends.specs.RouterShown.{CallsLead}
-use Rattle.rtr_ends.specs.Transcript.{Committed, Item, Kept, due, kept, sum_of}
+use Rattle.rtr_ends.specs.Transcript.{Committed, Kept, due, sum_of}
 use Rattle.rtr_ends.specs.declared.link.End.{End}
 use Rattle.rtr_ends.specs.declared.link.End.TheVariants.{Reported, Told}
 use Rattle.rtr_ends.specs.declared.router.Router.{Router}
@@ -21,7 +21,7 @@ use Rattle.upstreams.specs.declared.connection.Connection.{Connection}
 use Rattle.upstreams.specs.declared.connection.DisconnectReason.{DisconnectReason}
 use Rattle.upstreams.specs.declared.connection.DisconnectReason.TheVariants.{LinkEnded, Stalled}
 use Rattle.upstreams.specs.declared.connection.PollOutcome.{PollOutcome}
-use Rattle.upstreams.specs.declared.connection.PollOutcome.TheVariants.{Disconnected, NotConnected}
+use Rattle.upstreams.specs.declared.connection.PollOutcome.TheVariants.{Disconnected}
 use Rattle.upstreams.specs.declared.upstream.Upstream.{Upstream}
 
 -- These calls led to the upstream, and the stream of its latest connection was so when that was made.

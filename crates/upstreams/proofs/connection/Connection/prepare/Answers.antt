@@ -1,4 +1,4 @@
-use Rattle.std.proofs.Common.{◌≡◌, ◌∙◌, ap, refl}
+use Rattle.std.proofs.Common.{◌≡◌, ◌∙◌, refl}
 use Rattle.rtr_ends.proofs.TableLaws.{false_true}
 use Rattle.upstreams.specs.Polls.{Anyhow, HasUnwritten, IsFlushed, IsOver, MayBeFlushed}
 use Rattle.upstreams.proofs.ConnectionLaws as laws

@@ -1,5 +1,4 @@
 use Rattle.upstreams.specs.Polls.{Anyhow, AwaitsBytes, GoesOrEnds, HasUnwritten}
-use Rattle.upstreams.proofs.AnswerLogs as logs
 use Rattle.upstreams.proofs.ConnectionLaws as laws
 use Rattle.upstreams.proofs.connection.Connection.step.Goals as goal
 
