@@ -128,7 +128,7 @@ daemon_entries (event.Warning reason) = of_text (codes "reason") reason.now ∷ 
 daemon_entries (event.Stopped reason) = of_text (codes "reason") reason.now ∷ []
 daemon_entries e = []
 
--- of an event about files, or else about the daemon
+-- of an event about files. Of another event these are those about the daemon.
 abbrev pub file_entries : LogEvent → List Entry
 file_entries (event.Taken file) = of_text (codes "file") file.now ∷ []
 file_entries (event.Refused file reason) = of_text (codes "file") file.now ∷ of_text (codes "reason") reason.now ∷ []

@@ -68,7 +68,7 @@ published_at s = option_map (λ c. c.at) (slice_get s.changes.items (length s.ch
 abbrev pub made_at : Status → ℕ
 made_at s = unwrap_or (oldest s.files.items) (unwrap_or (published_at s) s.now)
 
--- how many records are served, of which 2^64 - 1 can be told
+-- how many records are served, in 64 bits
 abbrev pub vrp_count : Status → ℕ
 vrp_count s = min (s.ipv4 + s.ipv6) 18446744073709551615
 

@@ -4,12 +4,12 @@ use Rattle.http_header.specs.FieldValue.{FieldValue}
 use Rattle.http_header.specs.HeaderMap.{Entries, get}
 use Rattle.memchr.specs.Find.{OccursAt}
 
--- The bytes of one text stand somewhere in another.
+-- One text is a part of another.
 abbrev pub Occurs : List ℕ → List ℕ → Type 0
 Occurs part whole = (place : ℕ) × OccursAt whole part place
 
--- If-None-Match is `*`, or lists the tag, as a weak one or not (RFC 9110 section 13.1.2). A tag stands between quotes, and ours has no
--- comma and no blank: where it occurs in a list, it is an element.
+-- If-None-Match is `*`, or lists the tag, weak or strong (RFC 9110 section 13.1.2). An entity tag begins and ends with a quote, and ours has
+-- only digits and hyphens between them. So a list in which it occurs has it as an element.
 abbrev pub NamesTag : List ℕ → List ℕ → Type 0
 NamesTag tag value = (value ≡ codes "*") ⊎ Occurs tag value
 

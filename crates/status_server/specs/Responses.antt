@@ -39,7 +39,7 @@ html_kind = codes "text/html; charset=utf-8"
 abbrev pub metrics_kind : List ℕ
 metrics_kind = codes "text/plain; version=0.0.4; charset=utf-8"
 
--- What a page may load, and where its form leads: nothing from elsewhere.
+-- What a page may load, and the destination of its form: nothing from elsewhere.
 abbrev pub policy : List ℕ
 policy = codes "default-src 'none'; style-src 'unsafe-inline'; base-uri 'none'; form-action 'self'; frame-ancestors 'none'"
 

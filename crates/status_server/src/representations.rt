@@ -56,7 +56,7 @@ fn made_at(status: &Status) -> u64
     }
 }
 
-/// How many records are served, of which 2^64 - 1 can be told.
+/// How many records are served, at most 2^64 - 1.
 fn vrp_count(status: &Status) -> u64
     ensures { result ≡ vrp_count status.entry.now }
 {
