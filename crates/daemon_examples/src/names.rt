@@ -1,4 +1,5 @@
 //! Sessions and serials over restarts, and the pace of versions.
+use rtr_daemon::laws::versions_are_paced;
 use session_names::laws::restart_is_later;
 use session_names::{Pace, first_serial, is_machine_id, session_of, session0_of};
 
@@ -12,6 +13,7 @@ fn names_of_versions(rt: HostRuntime) {
     assert!(rt; session0_of(65_535) == 65_535);
     assert!(rt; session0_of(65_536) == 0);
     restart_is_later();
+    versions_are_paced();
 }
 
 /// What a session is made of, and the session, which was computed with Python's hashlib.

@@ -1,1 +1,3 @@
+pub mod Expiry
+pub mod PacingLaws
 pub mod ServiceLaws

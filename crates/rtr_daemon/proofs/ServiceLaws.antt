@@ -1,6 +1,6 @@
 -- The steps from one service to another.
 use Rattle.std.specs.Prelude.{◌≡◌, ℕ, ◌==◌, true, false, List, [], ◌∷◌, ◌++◌, Option, Some, None, Result, Ok, Err, refl, if◌then◌else◌, ⊤}
-use Rattle.std.proofs.Common.{ap, sym, subst, ◌∙◌, length}
+use Rattle.std.proofs.Common.{ap, inl, inr, sym, subst, ◌∙◌, length}
 use Rattle.std.specs.List.{AllByRecursion}
 use Rattle.std.specs.declared.alloc.AllocError.{AllocError}
 use Rattle.std.proofs.lemmas.List.{append_assoc}
@@ -22,8 +22,13 @@ use Rattle.rtr_server.specs.declared.turn.Turn.{Turn}
 use Rattle.rtr_server.specs.declared.turn.Turn.TheVariants.{Busy, Gone, WaitsToRead, WaitsToWrite}
 use Rattle.sources.specs.declared.sources.Sources.{Sources}
 use Rattle.prefixes.proofs.Basics.{eq_of, false_if_never}
-use Rattle.rtr_daemon.specs.Serving.{OpensNone, GoesOn, IsLater, IsNewest, IsNewestAt, IsServedAt, Issues, SameSources}
+use Rattle.der_lite.specs.Moments.{CivilMoment}
+use Rattle.der_lite.specs.Seconds.{seconds_of}
+use Rattle.points.specs.InUse.{no_points}
+use Rattle.session_names.specs.Runs.{may_publish}
+use Rattle.rtr_daemon.specs.Serving.{Adds, AddsVersion, Continues, GoesOn, IsFresh, IsLater, IsNewestAt, IsServedAt, IsOfSecond, Issues, KeepsVersions, LeadsToService, OpensNone, PublishesAt, PublishesOnce, SameExpired, SameSources, ShowsService, with_version}
 use Rattle.rtr_daemon.specs.declared.service.Service.{Service}
+use Rattle.rtr_daemon.proofs.Expiry.{served_later}
 
 -- No calls are added.
 pub no_later : (p : Past) → IsLater p p
@@ -50,15 +55,49 @@ later_on p q r a b = record {
   begun = λ c h. b.begun c (opens_parts c b.more a.more h).0 ∙ a.begun c (opens_parts c b.more a.more h).1;
 }
 
--- Two steps of a daemon, one after the other
-pub then_on : {S T : Type 0} (holds : ℕ → Instance → S → Type 0) (remaining contents : T → Option (List ℕ)) (a b c : Service S T) → GoesOn holds remaining contents a b → GoesOn holds remaining contents b c → GoesOn holds remaining contents a c
+-- Two steps that publish nothing, one after the other
+pub then_on : {S T : Type 0} (holds : ℕ → Instance → S → Type 0) (remaining contents : T → Option (List ℕ)) (a b c : Service S T) → Continues holds remaining contents a b → Continues holds remaining contents b c → Continues holds remaining contents a c
 then_on holds remaining contents a b c f g p h =
     let one = f p h in
     let two = g one.0 one.2 in
-    (two.0, later_on p one.0 two.0 one.1 two.1, two.2)
+    (two.0, later_on p one.0 two.0 one.1 two.1, two.2, two.3 ∙ one.3, two.4 ∙ one.4)
 
-pub stays : {S T : Type 0} (holds : ℕ → Instance → S → Type 0) (remaining contents : T → Option (List ℕ)) (a : Service S T) → GoesOn holds remaining contents a a
-stays holds remaining contents a p h = (p, no_later p, h)
+once_after : {S T : Type 0} (clock : ℕ → Type 0) (a b c : Service S T) (p q r : Past) → KeepsVersions p q → b.pace ≡ a.pace → PublishesOnce clock b c q r → PublishesOnce clock a c p r
+once_after clock a b c p q r same pace (inl kept) = inl (kept.0 ∙ same, kept.1 ∙ pace)
+once_after clock a b c p q r same pace (inr h) = inr (record {
+  now = h.now;
+  answered = h.answered;
+  set = h.set;
+  served = h.served;
+  differs = subst (λ i. is_current i.sets h.set ≡ false) same h.differs;
+  adds = h.adds ∙ ap (λ i. with_version h.set i) same;
+  second = h.second;
+  later = subst (λ last. may_publish last h.second ≡ true) pace h.later;
+  paced = h.paced;
+})
+
+-- A step that publishes nothing, then one that publishes at most one version
+pub then_goes : {S T : Type 0} (clock : ℕ → Type 0) (holds : ℕ → Instance → S → Type 0) (remaining contents : T → Option (List ℕ)) (a b c : Service S T) → Continues holds remaining contents a b → GoesOn clock holds remaining contents b c → GoesOn clock holds remaining contents a c
+then_goes clock holds remaining contents a b c f g p h =
+    let one = f p h in
+    let two = g one.0 one.2 in
+    (two.0, later_on p one.0 two.0 one.1 two.1, two.2, once_after clock a b c p one.0 two.0 one.3 one.4 two.3)
+
+-- From a new service to that of an open daemon
+pub leads_on : {S T : Type 0} (clock : ℕ → Type 0) (holds : ℕ → Instance → S → Type 0) (remaining contents : T → Option (List ℕ)) (a b : Service S T) (p : Past) (start : ℕ) → clock start → a.pace ≡ Some start → ShowsService holds remaining contents p a
+    → Continues holds remaining contents a b → LeadsToService clock holds remaining contents p b
+leads_on clock holds remaining contents a b p start answered pace h f =
+    let on = f p h in
+    (on.0, on.1, on.2, on.3, (start, answered, on.4 ∙ pace))
+
+-- A step that publishes nothing publishes at most one version.
+pub goes : {S T : Type 0} (clock : ℕ → Type 0) (holds : ℕ → Instance → S → Type 0) (remaining contents : T → Option (List ℕ)) (a b : Service S T) → Continues holds remaining contents a b → GoesOn clock holds remaining contents a b
+goes clock holds remaining contents a b f p h =
+    let one = f p h in
+    (one.0, one.1, one.2, inl (one.3, one.4))
+
+pub stays : {S T : Type 0} (holds : ℕ → Instance → S → Type 0) (remaining contents : T → Option (List ℕ)) (a : Service S T) → Continues holds remaining contents a a
+stays holds remaining contents a p h = (p, no_later p, h, refl, refl)
 
 -- a call that publishes nothing
 abbrev PublishesNone : CacheCall → Type 0
@@ -106,15 +145,15 @@ more_calls more p = record { more = more; calls = refl; keep = refl; timing = re
 
 -- A turn of a client publishes nothing.
 pub served_on : {S T : Type 0} (holds : ℕ → Instance → S → Type 0) (remaining contents : T → Option (List ℕ)) (p : Past) (c : ℕ) (turn : Option Turn) (new : Server S T) → GoesOnAfter holds remaining contents p c turn new
-    → (q : Past) × IsLater p q × ShowsServer holds remaining contents q new × ((present q).cache ≡ (present p).cache)
+    → (q : Past) × IsLater p q × ShowsServer holds remaining contents q new × KeepsVersions p q
 served_on holds remaining contents p c None new h = (p, no_later p, h, refl)
 served_on holds remaining contents p c (Some (Gone how)) new h = (_, more_calls (Close c ∷ h.0) p, h.2, all_keep (Close c ∷ h.0) p.calls (made p) (tt, on_none c h.0 h.1))
 served_on holds remaining contents p c (Some Busy) new h = (_, more_calls h.0 p, h.2, all_keep h.0 p.calls (made p) (on_none c h.0 h.1))
 served_on holds remaining contents p c (Some WaitsToRead) new h = (_, more_calls h.0 p, h.2, all_keep h.0 p.calls (made p) (on_none c h.0 h.1))
 served_on holds remaining contents p c (Some WaitsToWrite) new h = (_, more_calls h.0 p, h.2, all_keep h.0 p.calls (made p) (on_none c h.0 h.1))
 
-by_new : (set : VrpSet) (i : Instance) → is_current i.sets set ≡ false → newest (versions (published set i)) ≡ Some (record { serial = serial_at i.start (length i.sets); set = set })
-by_new set i h = ap (λ b. newest (versions (if b then i else record i { sets = set ∷ i.sets }))) h
+adds_new : (set : VrpSet) (i : Instance) → is_current i.sets set ≡ false → published set i ≡ with_version set i
+adds_new set i h = ap (λ b. if b then i else record i { sets = set ∷ i.sets }) h
 
 -- The newest version has this set.
 pub record NewestIs (set : VrpSet) (found : Option NumberedSet) : Type 0 where
@@ -126,57 +165,61 @@ by_same : (set : VrpSet) (start : ℕ) (sets : List VrpSet) → is_current sets 
 by_same set start [] h = absurd (cc)
 by_same set start (now ∷ older) h = record { version = record { serial = serial_at start (length older); set = now }; is = refl; set_is = (same_exactly now set).0 h }
 
--- the result of a publication: the newest version has this set, or nothing changed
+-- the result of a publication: it is added and is the newest version, or nothing changed
 abbrev pub Published_is : VrpSet → Result Published AllocError → Past → Past → Type 0
-Published_is set (Ok x) p q = NewestIs set (newest (versions (present q).cache))
+Published_is set (Ok x) p q = NewestIs set (newest (versions (present q).cache)) × Adds x set (present p).cache (present q).cache
 Published_is set (Err e) p q = (present q).cache ≡ (present p).cache
 
 pub published_on : {S T : Type 0} (holds : ℕ → Instance → S → Type 0) (remaining contents : T → Option (List ℕ)) (p : Past) (set : VrpSet) (result : Result Published AllocError) (old new : Server S T) → PublishesTo holds remaining contents p set result old new
     → (q : Past) × IsLater p q × ShowsServer holds remaining contents q new × Published_is set result p q
 published_on holds remaining contents p set (Ok (New serial)) old new h =
-    let cached : (present (record p { calls = h.notices ++ Publish set ∷ p.calls })).cache ≡ published set (present p).cache =
-    all_keep h.notices (Publish set ∷ p.calls) (made p) (notice_none h.notices h.are) in (
+    let cached : (present (record p { calls = h.notices ++ Publish set ∷ p.calls })).cache ≡ with_version set (present p).cache =
+    all_keep h.notices (Publish set ∷ p.calls) (made p) (notice_none h.notices h.are) ∙ adds_new set (present p).cache h.differs in (
       record p { calls = h.notices ++ Publish set ∷ p.calls },
       record { more = h.notices ++ Publish set ∷ []; calls = sym (append_assoc h.notices (Publish set ∷ []) p.calls); keep = refl; timing = refl; first = refl; most = refl; begun = λ c none. refl },
       h.shows,
-      record { version = record { serial = serial_at (present p).cache.start (length (present p).cache.sets); set = set }; is = ap (λ i. newest (versions i)) cached ∙ by_new set (present p).cache h.differs; set_is = refl },
+      (record { version = record { serial = serial_at (present p).cache.start (length (present p).cache.sets); set = set }; is = ap (λ i. newest (versions i)) cached; set_is = refl }, (h.differs, h.serial_is, cached)),
     )
-published_on holds remaining contents p set (Ok Unchanged) old new h = (p, no_later p, h.1, by_same set (present p).cache.start (present p).cache.sets h.0)
+published_on holds remaining contents p set (Ok Unchanged) old new h = (p, no_later p, h.1, (by_same set (present p).cache.start (present p).cache.sets h.0, (h.0, refl)))
 published_on holds remaining contents p set (Err e) old new h = (p, no_later p, h.0, refl)
 
 -- A version becomes pending.
-pub pending_on : {S T : Type 0} (holds : ℕ → Instance → S → Type 0) (remaining contents : T → Option (List ℕ)) (old new : Service S T) → new.server ≡ old.server → new.is_pending ≡ true → GoesOn holds remaining contents old new
-pending_on holds remaining contents old new same pending p h =
-    (p, no_later p, record { server = subst (λ s. ShowsServer holds remaining contents p s) (sym same) h.server; newest = λ e. absurd (let never : true ≡ false = sym pending ∙ e in cc) })
+pub pending_on : {S T : Type 0} (holds : ℕ → Instance → S → Type 0) (remaining contents : T → Option (List ℕ)) (old new : Service S T) → new.server ≡ old.server → new.is_pending ≡ true → new.pace ≡ old.pace
+    → ((old.has_points ≡ false → old.sources.repository ≡ no_points) → new.has_points ≡ false → new.sources.repository ≡ no_points) → Continues holds remaining contents old new
+pending_on holds remaining contents old new same pending pace points p h =
+    (p, no_later p, record { server = subst (λ s. ShowsServer holds remaining contents p s) (sym same) h.server; newest = λ e. absurd (let never : true ≡ false = sym pending ∙ e in cc); points = points h.points }, refl, pace)
 
-same_newest : (i : Instance) (a b : Sources) → SameSources a b → IsNewest i a → IsNewest i b
-same_newest i a b e (now, h) = (
-  now,
-  record {
-    version = h.version;
-    is = h.is;
-    served = record { at = h.served.at; seconds = h.served.seconds; served = rw (e.lists, e.exceptions, e.repository, e.leaves_out) h.served.served };
-  },
-)
+same_newest : (now : ℕ) (i : Instance) (a b : Sources) → SameSources a b → IsNewestAt now i a → IsNewestAt now i b
+same_newest now i a b e h = record {
+  version = h.version;
+  is = h.is;
+  served = record { at = h.served.at; seconds = h.served.seconds; served = rw (e.lists, e.exceptions, e.repository, e.leaves_out) h.served.served };
+}
 
 -- The sources are unchanged.
-pub same_on : {S T : Type 0} (holds : ℕ → Instance → S → Type 0) (remaining contents : T → Option (List ℕ)) (old new : Service S T) → new.server ≡ old.server → new.is_pending ≡ old.is_pending → SameSources old.sources new.sources → GoesOn holds remaining contents old new
-same_on holds remaining contents old new same pending sources p h =
-    (p, no_later p, record { server = subst (λ s. ShowsServer holds remaining contents p s) (sym same) h.server; newest = λ e. same_newest (present p).cache old.sources new.sources sources (h.newest (sym pending ∙ e)) })
+pub same_on : {S T : Type 0} (holds : ℕ → Instance → S → Type 0) (remaining contents : T → Option (List ℕ)) (old : Service S T) (sources : Sources) → SameSources old.sources sources → Continues holds remaining contents old (record old { sources = sources })
+same_on holds remaining contents old sources same p h =
+    (p, no_later p, record { server = h.server; newest = λ e. same_newest old.current_at (present p).cache old.sources sources same (h.newest e); points = λ e. same.repository ∙ h.points e }, refl, refl)
 
 -- The server continues, and nothing is published.
-pub server_on : {S T : Type 0} (holds : ℕ → Instance → S → Type 0) (remaining contents : T → Option (List ℕ)) (old new : Service S T) → new.sources ≡ old.sources → new.is_pending ≡ old.is_pending
-    → ((p : Past) → ShowsServer holds remaining contents p old.server → (q : Past) × IsLater p q × ShowsServer holds remaining contents q new.server × ((present q).cache ≡ (present p).cache)) → GoesOn holds remaining contents old new
-server_on holds remaining contents old new same pending goes p h =
+pub server_on : {S T : Type 0} (holds : ℕ → Instance → S → Type 0) (remaining contents : T → Option (List ℕ)) (old : Service S T) (server : Server S T)
+    → ((p : Past) → ShowsServer holds remaining contents p old.server → (q : Past) × IsLater p q × ShowsServer holds remaining contents q server × KeepsVersions p q) → Continues holds remaining contents old (record old { server = server })
+server_on holds remaining contents old server goes p h =
     let on = goes p h.server in
-    (on.0, on.1, record { server = on.2; newest = λ e. subst (λ i. IsNewest i new.sources) (sym on.3) (subst (λ s. IsNewest (present p).cache s) (sym same) (h.newest (sym pending ∙ e))) })
+    (on.0, on.1, record { server = on.2; newest = λ e. subst (λ i. IsNewestAt old.current_at i old.sources) (sym on.3) (h.newest e); points = h.points }, on.3, refl)
+
+-- The newest version is the set of the sources at another second too.
+pub current_on : {S T : Type 0} (holds : ℕ → Instance → S → Type 0) (remaining contents : T → Option (List ℕ)) (old : Service S T) (now : ℕ) (m : CivilMoment) → seconds_of m ≡ now → old.has_points ≡ false → SameExpired old.current_at now old.sources.lists.items
+    → Continues holds remaining contents old (record old { current_at = now })
+current_on holds remaining contents old now m seconds none same p h =
+    (p, no_later p, record { server = h.server; newest = λ e. let was = h.newest e in record { version = was.version; is = was.is; served = served_later old.current_at now old.sources was.version.set (h.points none) m seconds same was.served }; points = h.points }, refl, refl)
 
 differs : (a b : ℕ) → ¬ (b ≡ a) → (a == b) ≡ false
 differs a b h = false_if_never (a == b) (λ e. h (sym (eq_of a b e)))
 
 -- To admit a stream publishes nothing.
 pub admitted_on : {S T : Type 0} (holds : ℕ → Instance → S → Type 0) (remaining contents : T → Option (List ℕ)) (p : Past) (stream : T) (result : Result Client AdmitFault) (old new : Server S T) → ShowsServer holds remaining contents p old
-    → AdmitsTo holds remaining contents p stream result old new → (q : Past) × IsLater p q × ShowsServer holds remaining contents q new × ((present q).cache ≡ (present p).cache)
+    → AdmitsTo holds remaining contents p stream result old new → (q : Past) × IsLater p q × ShowsServer holds remaining contents q new × KeepsVersions p q
 admitted_on holds remaining contents p stream (Ok client) old new is h =
     (_, record { more = Open client.0.0 ∷ []; calls = refl; keep = refl; timing = refl; first = refl; most = refl; begun = λ c none. ap (λ b. if b then record { before = remaining stream; had = contents stream } else p.begun c) (differs c client.0.0 none.0) }, h.shows, refl)
 admitted_on holds remaining contents p stream (Err TooManyClients) old new is h = (p, no_later p, subst (λ s. ShowsServer holds remaining contents p s) (sym h.1) is, refl)
@@ -184,7 +227,7 @@ admitted_on holds remaining contents p stream (Err Memory) old new is h = (p, no
 
 -- To drop a client publishes nothing.
 pub dropped_on : {S T : Type 0} (holds : ℕ → Instance → S → Type 0) (remaining contents : T → Option (List ℕ)) (p : Past) (c : ℕ) (new : Server S T) → ShowsServer holds remaining contents (record p { calls = Close c ∷ p.calls }) new
-    → (q : Past) × IsLater p q × ShowsServer holds remaining contents q new × ((present q).cache ≡ (present p).cache)
+    → (q : Past) × IsLater p q × ShowsServer holds remaining contents q new × KeepsVersions p q
 dropped_on holds remaining contents p c new h = (_, record { more = Close c ∷ []; calls = refl; keep = refl; timing = refl; first = refl; most = refl; begun = λ d none. refl }, h, refl)
 
 newest_served : (now : ℕ) (s : Sources) (set : VrpSet) (i : Instance) → IsServedAt now s set → NewestIs set (newest (versions i)) → IsNewestAt now i s
@@ -192,18 +235,54 @@ newest_served now s set i h n = record { version = n.version; is = n.is; served 
 
 -- The set of the sources is published.
 pub issues : {S T : Type 0} (holds : ℕ → Instance → S → Type 0) (remaining contents : T → Option (List ℕ)) (old new : Service S T) (now : ℕ) (set : VrpSet) (x : Published) → IsServedAt now old.sources set → new.sources ≡ old.sources
-    → ((p : Past) → ShowsServer holds remaining contents p old.server → PublishesTo holds remaining contents p set (Ok x) old.server new.server) → Issues holds remaining contents now old new
+    → ((p : Past) → ShowsServer holds remaining contents p old.server → PublishesTo holds remaining contents p set (Ok x) old.server new.server) → Issues holds remaining contents now x old new
 issues holds remaining contents old new now set x served same publishes p h =
     let on = published_on holds remaining contents p set (Ok x) old.server new.server (publishes p h) in
-    (on.0, on.1, on.2, newest_served now new.sources set (present on.0).cache (subst (λ s. IsServedAt now s set) (sym same) served) on.3)
+    let serves = subst (λ s. IsServedAt now s set) (sym same) served in
+    (on.0, on.1, on.2, newest_served now new.sources set (present on.0).cache serves on.3.0, record { set = set; served = serves; adds = on.3.1 })
 
-pub issued_on : {S T : Type 0} (holds : ℕ → Instance → S → Type 0) (remaining contents : T → Option (List ℕ)) (old new : Service S T) (now : ℕ) → Issues holds remaining contents now old new → GoesOn holds remaining contents old new
-issued_on holds remaining contents old new now h p is =
-    let on = h p is.server in
-    (on.0, on.1, record { server = on.2; newest = λ e. (now, on.3) })
+publishes_once : {S T : Type 0} (now second : ℕ) (x : Published) (old new : Service S T) (p q : Past) → PublishesAt now new.sources x p q → may_publish old.pace second ≡ true → IsOfSecond x second old.pace new.pace → PublishesOnce (λ at. at ≡ now) old new p q
+publishes_once now second (New serial) old new p q h later pace =
+    inr (record { now = now; answered = refl; set = h.set; served = h.served; differs = h.adds.0; adds = h.adds.2; second = second; later = later; paced = pace })
+publishes_once now second Unchanged old new p q h later pace = inl (h.adds.1, pace)
+
+-- What was published is of this second of the pace.
+pub issued_on : {S T : Type 0} (holds : ℕ → Instance → S → Type 0) (remaining contents : T → Option (List ℕ)) (old new : Service S T) (now second : ℕ) (x : Published) → Issues holds remaining contents now x old new → new.sources ≡ old.sources → new.current_at ≡ now → new.has_points ≡ old.has_points
+    → may_publish old.pace second ≡ true → IsOfSecond x second old.pace new.pace → GoesOn (λ at. at ≡ now) holds remaining contents old new
+issued_on holds remaining contents old new now second x h same at points later pace p is =
+    let on = h p is.server in (
+      on.0,
+      on.1,
+      record { server = on.2; newest = λ e. subst (λ second. IsNewestAt second (present on.0).cache new.sources) (sym at) on.3; points = λ e. ap (λ s. s.repository) same ∙ is.points (sym points ∙ e) },
+      publishes_once now second x old new p on.0 on.4 later pace,
+    )
+
+by_clock : {S T : Type 0} (clock : ℕ → Type 0) (old new : Service S T) (p q : Past) (now : ℕ) → clock now → PublishesOnce (λ at. at ≡ now) old new p q → PublishesOnce clock old new p q
+by_clock clock old new p q now answered (inl kept) = inl kept
+by_clock clock old new p q now answered (inr h) = inr (record {
+  now = h.now;
+  answered = subst clock (sym h.answered) answered;
+  set = h.set;
+  served = h.served;
+  differs = h.differs;
+  adds = h.adds;
+  second = h.second;
+  later = h.later;
+  paced = h.paced;
+})
+
+-- The second of a publication is one that the clock answered.
+pub at_clock : {S T : Type 0} (clock : ℕ → Type 0) (holds : ℕ → Instance → S → Type 0) (remaining contents : T → Option (List ℕ)) (old new : Service S T) (now : ℕ) → clock now → GoesOn (λ at. at ≡ now) holds remaining contents old new → GoesOn clock holds remaining contents old new
+at_clock clock holds remaining contents old new now answered goes p is =
+    let on = goes p is in
+    (on.0, on.1, on.2, by_clock clock old new p on.0 now answered on.3)
+
+pub fresh_at : {S T : Type 0} (clock : ℕ → Type 0) (service : Service S T) (now : ℕ) → clock now → IsFresh (λ at. at ≡ now) service → IsFresh clock service
+fresh_at clock service now answered (inl pending) = inl pending
+fresh_at clock service now answered (inr same) = inr (subst clock (sym same) answered)
 
 -- Memory ran out, and nothing is published.
-pub unissued_on : {S T : Type 0} (holds : ℕ → Instance → S → Type 0) (remaining contents : T → Option (List ℕ)) (old new : Service S T) (set : VrpSet) (error : AllocError) → new.sources ≡ old.sources → new.is_pending ≡ old.is_pending
-    → ((p : Past) → ShowsServer holds remaining contents p old.server → PublishesTo holds remaining contents p set (Err error) old.server new.server) → GoesOn holds remaining contents old new
-unissued_on holds remaining contents old new set error same pending publishes =
-    server_on holds remaining contents old new same pending (λ p is. published_on holds remaining contents p set (Err error) old.server new.server (publishes p is))
+pub unissued_on : {S T : Type 0} (holds : ℕ → Instance → S → Type 0) (remaining contents : T → Option (List ℕ)) (old : Service S T) (server : Server S T) (set : VrpSet) (error : AllocError)
+    → ((p : Past) → ShowsServer holds remaining contents p old.server → PublishesTo holds remaining contents p set (Err error) old.server server) → Continues holds remaining contents old (record old { server = server })
+unissued_on holds remaining contents old server set error publishes =
+    server_on holds remaining contents old server (λ p is. published_on holds remaining contents p set (Err error) old.server server (publishes p is))

@@ -1,13 +1,20 @@
 -- The set that a service serves, and the steps from one service to another.
-use Rattle.std.specs.Prelude.{◌≡◌, ◌⊎◌, ℕ, false, true, List, [], ◌∷◌, ◌++◌, ⊤, Option, Some, Result, Ok, Err}
+use Rattle.std.specs.Prelude.{◌≡◌, ◌⊎◌, ◌<◌, ℕ, slice_get, false, true, List, [], ◌∷◌, ◌++◌, ⊤, length, Option, Some, Result, Ok, Err}
 use Rattle.der_lite.specs.Moments.{CivilMoment}
 use Rattle.der_lite.specs.Seconds.{seconds_of}
 use Rattle.vrps.specs.Instance.{Instance, NumberedSet, versions}
+use Rattle.vrps.specs.Serial.{serial_at}
+use Rattle.vrps.specs.Store.{is_current}
 use Rattle.vrps.specs.Stores.{newest}
 use Rattle.vrps.specs.VrpSet.{VrpSet}
+use Rattle.vrps.specs.declared.store.Published.{Published}
+use Rattle.vrps.specs.declared.store.Published.TheVariants.{New, Unchanged}
 use Rattle.rtr_ends.specs.CacheState.{CacheCall, Open}
 use Rattle.rtr_server.specs.Clients.{Past, ShowsServer, present}
-use Rattle.sources.specs.Served.{ExportTaken, ServesAt, SlurmsTaken}
+use Rattle.points.specs.InUse.{no_points}
+use Rattle.sources.specs.Served.{ExportTaken, ServesAt, SlurmsTaken, expired_of}
+use Rattle.sources.specs.declared.listed.Listed.{Listed}
+use Rattle.session_names.specs.Runs.{may_publish}
 use Rattle.sources.specs.declared.sources.Sources.{Sources}
 use Rattle.rtr_daemon.specs.declared.refusal.Refusal.{Refusal}
 use Rattle.rtr_daemon.specs.declared.service.Service.{Service}
@@ -40,19 +47,60 @@ pub record IsNewestAt (now : ℕ) (i : Instance) (s : Sources) : Type 0 where
   pub is : newest (versions i) ≡ Some version
   pub served : IsServedAt now s version.set
 
--- The newest version is the set of the sources at some time.
-abbrev pub IsNewest : Instance → Sources → Type 0
-IsNewest i s = (now : ℕ) × IsNewestAt now i s
-
--- This past led to the server of a service. If no version is pending, the newest version is a set of the sources.
+-- This past led to the server of a service. If no version is pending, the newest version is the set of the sources at the second of the service.
+-- If it says so, there are no publication points.
 pub record ShowsService {S T : Type 0} (holds : ℕ → Instance → S → Type 0) (remaining contents : T → Option (List ℕ)) (p : Past) (service : Service S T) : Type 0 where
   pub server : ShowsServer holds remaining contents p service.server
-  pub newest : service.is_pending ≡ false → IsNewest (present p).cache service.sources
+  pub newest : service.is_pending ≡ false → IsNewestAt service.current_at (present p).cache service.sources
+  pub points : service.has_points ≡ false → service.sources.repository ≡ no_points
 
--- A step of the daemon continues the past of its service, and keeps the relation above.
-abbrev pub GoesOn : {S T : Type 0} → (ℕ → Instance → S → Type 0) → (T → Option (List ℕ)) → (T → Option (List ℕ)) → Service S T → Service S T → Type 0
-GoesOn holds remaining contents old new =
-    (p : Past) → ShowsService holds remaining contents p old → (q : Past) × IsLater p q × ShowsService holds remaining contents q new
+-- A version is pending, or the newest version is the set of the sources at a second that the clock answered.
+abbrev pub IsFresh : {S T : Type 0} → (ℕ → Type 0) → Service S T → Type 0
+IsFresh clock service = (service.is_pending ≡ true) ⊎ clock service.current_at
+
+-- At both seconds the same number of payloads of each file has expired.
+abbrev pub SameExpired : ℕ → ℕ → List Listed → Type 0
+SameExpired before now lists = (i : ℕ) → i < length lists → expired_of before (slice_get lists i) ≡ expired_of now (slice_get lists i)
+
+-- No version was published between two pasts.
+abbrev pub KeepsVersions : Past → Past → Type 0
+KeepsVersions p q = (present q).cache ≡ (present p).cache
+
+-- A step that publishes nothing continues the past of its service, and keeps the relation above.
+abbrev pub Continues : {S T : Type 0} → (ℕ → Instance → S → Type 0) → (T → Option (List ℕ)) → (T → Option (List ℕ)) → Service S T → Service S T → Type 0
+Continues holds remaining contents old new =
+    (p : Past) → ShowsService holds remaining contents p old → (q : Past) × IsLater p q × ShowsService holds remaining contents q new × KeepsVersions p q × (new.pace ≡ old.pace)
+
+-- an instance with one version more
+abbrev pub with_version : VrpSet → Instance → Instance
+with_version set i = record i { sets = set ∷ i.sets }
+
+-- One version was published: the set of the sources at a second that the clock answered. Its second of the pace is later than that of the version
+-- before.
+pub record AddsVersion {S T : Type 0} (clock : ℕ → Type 0) (old new : Service S T) (p q : Past) : Type 0 where
+  pub now : ℕ
+  pub answered : clock now
+  pub set : VrpSet
+  pub served : IsServedAt now new.sources set
+  pub differs : is_current (present p).cache.sets set ≡ false
+  pub adds : (present q).cache ≡ with_version set (present p).cache
+  pub second : ℕ
+  pub later : may_publish old.pace second ≡ true
+  pub paced : new.pace ≡ Some second
+
+-- The second of the pace after a publication: that of a new version, otherwise as before.
+abbrev pub IsOfSecond : Published → ℕ → Option ℕ → Option ℕ → Type 0
+IsOfSecond (New serial) second old new = new ≡ Some second
+IsOfSecond Unchanged second old new = new ≡ old
+
+-- At most one version was published.
+abbrev pub PublishesOnce : {S T : Type 0} → (ℕ → Type 0) → Service S T → Service S T → Past → Past → Type 0
+PublishesOnce clock old new p q = (KeepsVersions p q × (new.pace ≡ old.pace)) ⊎ AddsVersion clock old new p q
+
+-- A turn of the daemon continues the past of its service, and publishes at most one version.
+abbrev pub GoesOn : {S T : Type 0} → (ℕ → Type 0) → (ℕ → Instance → S → Type 0) → (T → Option (List ℕ)) → (T → Option (List ℕ)) → Service S T → Service S T → Type 0
+GoesOn clock holds remaining contents old new =
+    (p : Past) → ShowsService holds remaining contents p old → (q : Past) × IsLater p q × ShowsService holds remaining contents q new × PublishesOnce clock old new p q
 
 -- A source that is loaded makes a version pending. A refusal changes nothing of that.
 abbrev pub TakesSo : {S T A E : Type 0} → Result A E → Service S T → Service S T → Type 0
@@ -63,15 +111,30 @@ TakesSo (Err e) old new = (new.server ≡ old.server) × (new.is_pending ≡ old
 abbrev pub KeepsSources : {S T : Type 0} → Service S T → Service S T → Type 0
 KeepsSources old new = (new.sources ≡ old.sources) × (new.is_pending ≡ old.is_pending)
 
--- The set of the sources at a time is published. The server continues, and its newest version is that set.
-abbrev pub Issues : {S T : Type 0} → (ℕ → Instance → S → Type 0) → (T → Option (List ℕ)) → (T → Option (List ℕ)) → ℕ → Service S T → Service S T → Type 0
-Issues holds remaining contents now old new =
-    (p : Past) → ShowsServer holds remaining contents p old.server
-    → (q : Past) × IsLater p q × ShowsServer holds remaining contents q new.server × IsNewestAt now (present q).cache new.sources
+-- A set is published: as a new version of the next serial, or it is that of the newest version already.
+abbrev pub Adds : Published → VrpSet → Instance → Instance → Type 0
+Adds (New serial) set old new = (is_current old.sets set ≡ false) × (serial.0 ≡ serial_at old.start (length old.sets)) × (new ≡ with_version set old)
+Adds Unchanged set old new = (is_current old.sets set ≡ true) × (new ≡ old)
 
--- If this past led to a server, a later past leads to the service over it.
-abbrev pub LeadsToService : {S T : Type 0} → (ℕ → Instance → S → Type 0) → (T → Option (List ℕ)) → (T → Option (List ℕ)) → Past → Service S T → Type 0
-LeadsToService holds remaining contents p service = (q : Past) × IsLater p q × ShowsService holds remaining contents q service
+-- What is published is the set of the sources at a time, in seconds since 1970.
+pub record PublishesAt (now : ℕ) (s : Sources) (published : Published) (p q : Past) : Type 0 where
+  pub set : VrpSet
+  pub served : IsServedAt now s set
+  pub adds : Adds published set (present p).cache (present q).cache
+
+-- The set of the sources at a time is published. The server continues, and its newest version is that set.
+abbrev pub Issues : {S T : Type 0} → (ℕ → Instance → S → Type 0) → (T → Option (List ℕ)) → (T → Option (List ℕ)) → ℕ → Published → Service S T → Service S T → Type 0
+Issues holds remaining contents now published old new =
+    (p : Past) → ShowsServer holds remaining contents p old.server
+    → (q : Past) × IsLater p q × ShowsServer holds remaining contents q new.server × IsNewestAt now (present q).cache new.sources × PublishesAt now new.sources published p q
+
+-- The pace begins with a second that the clock answered.
+abbrev pub BeginsPace : {S T : Type 0} → (ℕ → Type 0) → Service S T → Type 0
+BeginsPace clock service = (start : ℕ) × clock start × (service.pace ≡ Some start)
+
+-- If this past led to a server, a later past leads to the service over it. No version was published, and the first one waits for a later second.
+abbrev pub LeadsToService : {S T : Type 0} → (ℕ → Type 0) → (ℕ → Instance → S → Type 0) → (T → Option (List ℕ)) → (T → Option (List ℕ)) → Past → Service S T → Type 0
+LeadsToService clock holds remaining contents p service = (q : Past) × IsLater p q × ShowsService holds remaining contents q service × KeepsVersions p q × BeginsPace clock service
 
 -- The sources are unchanged.
 pub record SameSources (old new : Sources) : Type 0 where
@@ -84,10 +147,6 @@ pub record SameSources (old new : Sources) : Type 0 where
 abbrev pub LoadsExport : ℕ → List ℕ → ℕ → Result ℕ Refusal → Sources → Sources → Type 0
 LoadsExport file bytes now (Ok expired) old new = ExportTaken bytes now file (Ok expired) old new
 LoadsExport file bytes now (Err refusal) old new = SameSources old new
-
--- After a poll of an export the sources are unchanged, or some bytes were loaded as this export.
-abbrev pub Follows : ℕ → ℕ → Sources → Sources → Type 0
-Follows file now old new = SameSources old new ⊎ ((bytes : List ℕ) × (expired : ℕ) × LoadsExport file bytes now (Ok expired) old new)
 
 -- The files of local exceptions were loaded together. If they were refused, nothing changed.
 abbrev pub LoadsSlurms : {E : Type 0} → List (List ℕ) → Result (Unit {0}) E → Sources → Sources → Type 0

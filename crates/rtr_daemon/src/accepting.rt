@@ -1,6 +1,6 @@
 //! Listeners, and the connections that are accepted from them.
 ghost use Rattle.std.specs.Prelude.{◌≡◌, false};
-ghost use Rattle.rtr_daemon.specs.Serving.{GoesOn};
+ghost use Rattle.rtr_daemon.specs.Serving.{Continues};
 
 use crate::daemon::Daemon;
 use crate::environment::{AcceptResult, EventLog, Sockets, Time};
@@ -107,7 +107,7 @@ impl Listeners {
 impl<S: VersionStore, T: Stream + Drop> Daemon<S, T> {
     /// Accepts the pending connections of all listeners, once a version is published.
     pub(crate) fn accept_pending<W: Sockets<T> + Time + EventLog>(&mut self, env: &mut W)
-        ensures goes { GoesOn S.holds T.remaining T.contents self.old.service self.new.service }
+        ensures goes { Continues S.holds T.remaining T.contents self.old.service self.new.service }
         ensures before { self.old.is_ready ≡ false → self.new.service ≡ self.old.service }
     {
         if !self.is_ready {
@@ -120,7 +120,7 @@ impl<S: VersionStore, T: Stream + Drop> Daemon<S, T> {
 
     /// Accepts the pending connections of one listener.
     fn accept_from<W: Sockets<T> + Time + EventLog>(&mut self, listener: usize, env: &mut W)
-        ensures { GoesOn S.holds T.remaining T.contents self.old.service self.new.service }
+        ensures { Continues S.holds T.remaining T.contents self.old.service self.new.service }
     {
         for _connection in 0..AT_ONCE {
             if !self.listeners.can_accept(listener, env.millis()) {
@@ -132,7 +132,7 @@ impl<S: VersionStore, T: Stream + Drop> Daemon<S, T> {
 
     /// Accepts one connection, if one is pending.
     fn accept_one<W: Sockets<T> + Time + EventLog>(&mut self, listener: usize, env: &mut W)
-        ensures { GoesOn S.holds T.remaining T.contents self.old.service self.new.service }
+        ensures { Continues S.holds T.remaining T.contents self.old.service self.new.service }
     {
         match env.accept(listener) {
             AcceptResult::Connection {
@@ -158,7 +158,7 @@ impl<S: VersionStore, T: Stream + Drop> Daemon<S, T> {
         address: SocketAddr,
         env: &mut W,
     )
-        ensures { GoesOn S.holds T.remaining T.contents self.old.service self.new.service }
+        ensures { Continues S.holds T.remaining T.contents self.old.service self.new.service }
     {
         let clients = self.clients.of_address(address);
         match self.plan.clients_per_address {
@@ -179,7 +179,7 @@ impl<S: VersionStore, T: Stream + Drop> Daemon<S, T> {
         address: SocketAddr,
         env: &mut W,
     )
-        ensures { GoesOn S.holds T.remaining T.contents self.old.service self.new.service }
+        ensures { Continues S.holds T.remaining T.contents self.old.service self.new.service }
     {
         let now = env.seconds();
         match self.service.admit(stream) {

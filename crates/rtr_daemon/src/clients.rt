@@ -1,6 +1,7 @@
 //! Serving clients.
 ghost use Rattle.std.specs.Prelude.{◌≡◌};
-ghost use Rattle.rtr_daemon.specs.Serving.{GoesOn};
+ghost use Rattle.rtr_daemon.specs.Serving.{Continues};
+ghost use Rattle.rtr_daemon.specs.Turns.{HasTurn};
 
 use crate::daemon::Daemon;
 use crate::environment::{EventLog, Ready, Sockets, Time};
@@ -46,7 +47,7 @@ impl<S: VersionStore, T: Stream + Drop> Daemon<S, T> {
 
     /// Serves each queued client once.
     pub(crate) fn serve_all<W: Time + EventLog>(&mut self, env: &mut W)
-        ensures { GoesOn S.holds T.remaining T.contents self.old.service self.new.service }
+        ensures { Continues S.holds T.remaining T.contents self.old.service self.new.service }
     {
         for _client in 0..self.clients.queue_len() {
             self.serve_next(env);
@@ -55,7 +56,7 @@ impl<S: VersionStore, T: Stream + Drop> Daemon<S, T> {
 
     /// Serves the next client of the queue.
     fn serve_next<W: Time + EventLog>(&mut self, env: &mut W)
-        ensures { GoesOn S.holds T.remaining T.contents self.old.service self.new.service }
+        ensures { Continues S.holds T.remaining T.contents self.old.service self.new.service }
     {
         if let Some((token, client)) = self.clients.next() {
             self.serve(token, client, env);
@@ -93,7 +94,8 @@ impl<S: VersionStore, T: Stream + Drop> Daemon<S, T> {
 
     /// One turn of a client.
     fn serve<W: Time + EventLog>(&mut self, token: usize, client: Client, env: &mut W)
-        ensures { GoesOn S.holds T.remaining T.contents self.old.service self.new.service }
+        ensures goes { Continues S.holds T.remaining T.contents self.old.service self.new.service }
+        ensures turn { HasTurn S.holds T.remaining T.contents T.answers 8 client.0.0 self.old.service.server self.new.service.server }
     {
         match self.service.serve(client, BUDGET) {
             None => {}
@@ -164,7 +166,7 @@ impl<S: VersionStore, T: Stream + Drop> Daemon<S, T> {
 
     /// Closes the clients that sent no whole query within the timeout.
     pub(crate) fn drop_silent<W: Time + EventLog>(&mut self, now: u64, env: &mut W)
-        ensures { GoesOn S.holds T.remaining T.contents self.old.service self.new.service }
+        ensures { Continues S.holds T.remaining T.contents self.old.service self.new.service }
     {
         for _client in 0..u64::MAX {
             match self.clients.next_overdue(now, FIRST_QUERY) {
@@ -175,7 +177,7 @@ impl<S: VersionStore, T: Stream + Drop> Daemon<S, T> {
     }
 
     fn drop_if_silent<W: Time + EventLog>(&mut self, token: usize, env: &mut W)
-        ensures { GoesOn S.holds T.remaining T.contents self.old.service self.new.service }
+        ensures { Continues S.holds T.remaining T.contents self.old.service self.new.service }
     {
         if let Some((client, _address)) = self.clients.at(token) {
             if !self.service.server().has_asked(client) {
@@ -186,7 +188,7 @@ impl<S: VersionStore, T: Stream + Drop> Daemon<S, T> {
 
     /// Closes the clients that have been blocked on writing for too long.
     pub(crate) fn drop_stalled<W: Time + EventLog>(&mut self, env: &mut W)
-        ensures { GoesOn S.holds T.remaining T.contents self.old.service self.new.service }
+        ensures { Continues S.holds T.remaining T.contents self.old.service self.new.service }
     {
         let now = env.millis();
         let Ok(tokens) = self.clients.stalled(self.alloc, now, self.plan.stall) else {
@@ -198,7 +200,7 @@ impl<S: VersionStore, T: Stream + Drop> Daemon<S, T> {
     }
 
     fn drop_stalled_client<W: Time + EventLog>(&mut self, token: usize, env: &mut W)
-        ensures { GoesOn S.holds T.remaining T.contents self.old.service self.new.service }
+        ensures { Continues S.holds T.remaining T.contents self.old.service self.new.service }
     {
         if let Some((_client, address)) = self.clients.at(token) {
             let now = env.seconds();
@@ -210,7 +212,7 @@ impl<S: VersionStore, T: Stream + Drop> Daemon<S, T> {
 
     /// Closes the client of a poll token, for this reason.
     fn drop_connection<W: Time + EventLog>(&mut self, token: usize, why: &str, env: &mut W)
-        ensures { GoesOn S.holds T.remaining T.contents self.old.service self.new.service }
+        ensures { Continues S.holds T.remaining T.contents self.old.service self.new.service }
     {
         let Some((client, _address)) = self.clients.at(token) else {
             return;

@@ -1,7 +1,11 @@
 //! The daemon: a loop that serves what is ready, and does what is due by the clock.
-ghost use Rattle.std.specs.Prelude.{◌≡◌, IfOk};
+ghost use Rattle.std.specs.Prelude.{◌≡◌, ◌≤◌, IfOk};
+ghost use Rattle.points.specs.InUse.{no_points};
 ghost use Rattle.rtr_server.specs.Clients.{Past, ShowsServer};
-ghost use Rattle.rtr_daemon.specs.Serving.{Follows, GoesOn, LeadsToService};
+ghost use Rattle.std.specs.String.{string_bytes};
+ghost use Rattle.rtr_daemon.specs.Due.{PublishesIfDue, second_of_pace};
+ghost use Rattle.rtr_daemon.specs.Files.{Follows};
+ghost use Rattle.rtr_daemon.specs.Serving.{Continues, GoesOn, IsFresh, LeadsToService};
 
 use crate::accepting::Listeners;
 use crate::client_table::ClientTable;
@@ -15,7 +19,7 @@ use crate::statistics::{Families, Statistics};
 use crate::watched_file::{Look, WatchedExport, WatchedFile};
 use event_log::{LogEvent, Publication};
 use rtr_server::{Server, Stream};
-use session_names::{Pace, SessionIds};
+use session_names::SessionIds;
 use sources::{ServedSet, Sources};
 use std::alloc::{AllocError, Global};
 use std::io;
@@ -102,7 +106,6 @@ pub struct Daemon<S, T> {
     pub(crate) started: u64,
     /// When it was opened, in milliseconds of the monotonic clock.
     opened: u64,
-    pace: Pace,
     /// Whether a version was published.
     pub(crate) is_ready: bool,
     /// Whether a client was closed.
@@ -130,7 +133,7 @@ impl<S: VersionStore + Drop, T: Stream + Drop> Daemon<S, T> {
         sources: Paths,
         env: &mut W,
     ) -> Result<Daemon<S, T>, StartFault>
-        ensures { IfOk result (λ daemon. (p : Past) → ShowsServer S.holds T.remaining T.contents p server → LeadsToService S.holds T.remaining T.contents p daemon.service) }
+        ensures { IfOk result (λ daemon. (p : Past) → ShowsServer S.holds T.remaining T.contents p server → LeadsToService W.can_be S.holds T.remaining T.contents p daemon.service) }
     {
         let now = env.seconds();
         let millis = env.millis();
@@ -140,7 +143,7 @@ impl<S: VersionStore + Drop, T: Stream + Drop> Daemon<S, T> {
             points,
         } = sources;
         let held = sources_of(alloc, files.len(), plan.leaves_out_length_0)?;
-        let mut service = Service::new(server, held);
+        let mut service = Service::after(now, server, held);
         let mut exports = watched_exports(alloc, files)?;
         let mut slurms = watched_slurms(alloc, slurms)?;
         let mut offered = watched_points(alloc, points)?;
@@ -162,7 +165,6 @@ impl<S: VersionStore + Drop, T: Stream + Drop> Daemon<S, T> {
             statistics,
             started: now,
             opened: millis,
-            pace: Pace::after(now),
             is_ready: false,
             has_parted: false,
             is_old: false,
@@ -180,7 +182,7 @@ impl<S: VersionStore + Drop, T: Stream + Drop> Daemon<S, T> {
         &mut self,
         env: &mut W,
     ) -> io::Result<Option<StopReason>>
-        ensures { GoesOn S.holds T.remaining T.contents self.old.service self.new.service }
+        ensures { GoesOn W.can_be S.holds T.remaining T.contents self.old.service self.new.service }
     {
         let wait = self.longest_wait(env.millis());
         env.wait(wait)?;
@@ -216,17 +218,18 @@ impl<S: VersionStore + Drop, T: Stream + Drop> Daemon<S, T> {
 
     /// Does what is due by the clock.
     fn do_what_is_due<W: Disk + Time + EventLog>(&mut self, env: &mut W)
-        ensures { GoesOn S.holds T.remaining T.contents self.old.service self.new.service }
+        ensures { GoesOn W.can_be S.holds T.remaining T.contents self.old.service self.new.service }
     {
         let now = env.millis();
         self.check(now, env);
-        self.go_round(now, env);
         self.drop_silent(now, env);
+        self.go_round(now, env);
     }
 
-    /// Polls the files, if they are due.
+    /// Polls the files, if they are due. Then a version is pending, or the newest one is the set of the sources at a second of this poll.
     fn check<W: Disk + Time + EventLog>(&mut self, now: u64, env: &mut W)
-        ensures { GoesOn S.holds T.remaining T.contents self.old.service self.new.service }
+        ensures goes { Continues S.holds T.remaining T.contents self.old.service self.new.service }
+        ensures fresh { self.old.next_check ≤ now → IsFresh W.can_be self.new.service }
     {
         if now < self.next_check {
             return;
@@ -234,6 +237,15 @@ impl<S: VersionStore + Drop, T: Stream + Drop> Daemon<S, T> {
         self.next_check = now.saturating_add(self.plan.check);
         self.next_round = now;
         self.held_until = now;
+        self.poll_all(now, env);
+        let second = env.seconds();
+        self.service.judge_expiry(second);
+    }
+
+    /// Polls all files and publication points, and judges the clock and the ages of the exports.
+    fn poll_all<W: Disk + Time + EventLog>(&mut self, now: u64, env: &mut W)
+        ensures { Continues S.holds T.remaining T.contents self.old.service self.new.service }
+    {
         self.judge_clock(now, env);
         self.follow_all(env);
         self.follow_slurms(env);
@@ -243,7 +255,7 @@ impl<S: VersionStore + Drop, T: Stream + Drop> Daemon<S, T> {
 
     /// Closes stalled clients and publishes a pending version, if that is due.
     fn go_round<W: Time + EventLog>(&mut self, now: u64, env: &mut W)
-        ensures { GoesOn S.holds T.remaining T.contents self.old.service self.new.service }
+        ensures { GoesOn W.can_be S.holds T.remaining T.contents self.old.service self.new.service }
     {
         if now < self.next_round {
             return;
@@ -256,26 +268,31 @@ impl<S: VersionStore + Drop, T: Stream + Drop> Daemon<S, T> {
 
     /// The second by which versions are paced: the second of the start, plus the seconds of the monotonic clock since. So a wall clock that is
     /// set back delays no version. If it is never set back, no serial is ahead of it.
-    fn paced(&self, millis: u64) -> u64 {
+    fn paced(&self, millis: u64) -> u64
+        ensures { result ≡ second_of_pace self.now.started self.now.opened millis }
+    {
         self.started
             .saturating_add(millis.saturating_sub(self.opened) / 1000)
     }
 
     /// Publishes a pending version, if the last version is of an earlier second.
     fn publish_pending<W: Time + EventLog>(&mut self, env: &mut W)
-        ensures { GoesOn S.holds T.remaining T.contents self.old.service self.new.service }
+        ensures goes { GoesOn W.can_be S.holds T.remaining T.contents self.old.service self.new.service }
+        ensures due { PublishesIfDue W.can_tick self.old self.new }
     {
         let now = env.seconds();
         if !self.service.is_pending() {
             return;
         }
         let began = env.millis();
-        if began < self.held_until || !self.pace.may_publish(self.paced(began)) {
+        if began < self.held_until {
             return;
         }
-        match self.service.publish(now) {
-            Ok(report) => self.note_published(report, now, began, env),
-            Err(refusal) => self.note_failure(refusal, now, env),
+        let second = self.paced(began);
+        match self.service.publish_paced(now, second) {
+            None => {}
+            Some(Ok(report)) => self.note_published(report, now, began, env),
+            Some(Err(refusal)) => self.note_failure(refusal, now, env),
         }
     }
 
@@ -294,8 +311,6 @@ impl<S: VersionStore + Drop, T: Stream + Drop> Daemon<S, T> {
         let Published::New(serial) = report.published else {
             return;
         };
-        let second = self.paced(began);
-        self.pace.published(second);
         self.note_version(serial, report, now);
         self.clients.wake_all();
         let milliseconds = env.millis().saturating_sub(began);
@@ -337,7 +352,8 @@ impl<S: VersionStore + Drop, T: Stream + Drop> Daemon<S, T> {
 
     /// Reports that publication failed. It is tried again at the next poll of the files.
     fn note_failure<W: EventLog>(&mut self, refusal: Refusal, now: u64, env: &mut W)
-        ensures { self.new.service ≡ self.old.service }
+        ensures service { self.new.service ≡ self.old.service }
+        ensures held { self.new.held_until ≡ self.new.next_check }
     {
         self.held_until = self.next_check;
         log_failure(self.alloc, &refusal, now, env);
@@ -473,7 +489,9 @@ fn log_age<W: EventLog>(file: &str, age: u64, most: u64, now: u64, env: &mut W) 
 }
 
 /// Sources of this many files, of which none is loaded.
-fn sources_of(alloc: Global, files: usize, leaves_out: bool) -> Result<Sources, AllocError> {
+fn sources_of(alloc: Global, files: usize, leaves_out: bool) -> Result<Sources, AllocError>
+    ensures { IfOk result (λ s. s.repository ≡ no_points) }
+{
     let mut sources = Sources::new(alloc, files)?;
     if leaves_out {
         sources.leave_out_length_0();
@@ -514,7 +532,7 @@ fn read_all<S: VersionStore, T: Stream + Drop, W: Disk + EventLog>(
     now: u64,
     env: &mut W,
 ) -> Result<(), StartFault>
-    ensures { GoesOn S.holds T.remaining T.contents service.old service.new }
+    ensures { Continues S.holds T.remaining T.contents service.old service.new }
 {
     for export in exports.iter_mut() {
         match read_one(export, service, alloc, now, env) {
@@ -533,8 +551,8 @@ fn read_one<S: VersionStore, T: Stream + Drop, W: Disk>(
     now: u64,
     env: &mut W,
 ) -> Result<u64, Refusal>
-    ensures goes { GoesOn S.holds T.remaining T.contents service.old service.new }
-    ensures follows { Follows export.old.number now service.old.sources service.new.sources }
+    ensures goes { Continues S.holds T.remaining T.contents service.old service.new }
+    ensures follows { Follows W.can_hold (string_bytes export.old.file.path) export.old.number now service.old.sources service.new.sources }
 {
     for _time in 0..16u8 {
         match export.file.look(env, false) {
@@ -557,7 +575,7 @@ fn read_points<S: VersionStore, T: Stream + Drop, W: Disk>(
     now: u64,
     env: &mut W,
 ) -> Result<(), StartFault>
-    ensures { GoesOn S.holds T.remaining T.contents service.old service.new }
+    ensures { Continues S.holds T.remaining T.contents service.old service.new }
 {
     for point in points.iter_mut() {
         match offer(service, point.path.as_str(), alloc, now, env) {

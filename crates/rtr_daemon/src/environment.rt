@@ -62,11 +62,17 @@ pub struct Stamp {
 
 /// The files.
 pub trait Disk {
+    ghost use Rattle.std.specs.Prelude.{ℕ, List, IfOk};
+
+    /// What a read of a path may answer. Contracts that cite it hold for each such relation, so they speak of bytes that this path answered.
+    ghost can_hold: { List ℕ → List ℕ → Type 0 } = { λ path bytes. Unit {0} };
+
     /// The current stamp of a file.
     fn stamp(&mut self, path: &str) -> io::Result<Stamp>;
 
     /// The content of a file.
-    fn read(&mut self, path: &str) -> io::Result<Vec<u8>>;
+    fn read(&mut self, path: &str) -> io::Result<Vec<u8>>
+        ensures { IfOk result (λ bytes. can_hold path.now bytes.items) };
 
     /// The content of a directory that is a publication point.
     fn directory<'a>(&mut self, path: &'a str) -> io::Result<Directory<'a>>;
@@ -74,11 +80,21 @@ pub trait Disk {
 
 /// The clocks.
 pub trait Time {
+    ghost use Rattle.std.specs.Prelude.{ℕ};
+
+    /// What the wall clock may answer. Contracts that cite it hold for each such relation, so they speak of seconds that the clock answered.
+    ghost can_be: { ℕ → Type 0 } = { λ second. Unit {0} };
+
+    /// What the monotonic clock may answer, likewise.
+    ghost can_tick: { ℕ → Type 0 } = { λ millis. Unit {0} };
+
     /// The wall clock, in seconds since 1970.
-    fn seconds(&mut self) -> u64;
+    fn seconds(&mut self) -> u64
+        ensures { can_be result };
 
     /// A monotonic clock, in milliseconds.
-    fn millis(&mut self) -> u64;
+    fn millis(&mut self) -> u64
+        ensures { can_tick result };
 }
 
 /// The event log.

@@ -28,6 +28,7 @@ mod client_table;
 mod clients;
 mod daemon;
 mod environment;
+pub mod laws;
 mod polling;
 mod refusal;
 mod refusals;

@@ -1,6 +1,8 @@
 //! Polling the files, and loading those that have changed.
 ghost use Rattle.std.specs.Prelude.{◌≡◌, true};
-ghost use Rattle.rtr_daemon.specs.Serving.{Follows, GoesOn, LoadsExport, TakesSo};
+ghost use Rattle.std.specs.String.{string_bytes};
+ghost use Rattle.rtr_daemon.specs.Files.{Follows};
+ghost use Rattle.rtr_daemon.specs.Serving.{Continues, LoadsExport, TakesSo};
 
 use crate::daemon::Daemon;
 use crate::environment::{Disk, EventLog, Stamp, Time};
@@ -81,7 +83,7 @@ pub(crate) fn take<S: VersionStore, T: Stream + Drop>(
     alloc: Global,
     now: u64,
 ) -> Result<u64, Refusal>
-    ensures goes { GoesOn S.holds T.remaining T.contents service.old service.new }
+    ensures goes { Continues S.holds T.remaining T.contents service.old service.new }
     ensures takes { TakesSo result service.old service.new }
     ensures loads { LoadsExport number bytes.now now result service.old.sources service.new.sources }
 {
@@ -108,7 +110,7 @@ pub(crate) fn offer<S: VersionStore, T: Stream + Drop, W: Disk>(
     now: u64,
     env: &mut W,
 ) -> Result<Option<PointState>, Refusal>
-    ensures goes { GoesOn S.holds T.remaining T.contents service.old service.new }
+    ensures goes { Continues S.holds T.remaining T.contents service.old service.new }
     ensures server { service.new.server ≡ service.old.server }
 {
     match env.directory(path) {
@@ -130,7 +132,7 @@ fn note_expired<S: VersionStore, T: Stream + Drop>(
     service: &mut Service<S, T>,
     now: u64,
 ) -> bool
-    ensures goes { GoesOn S.holds T.remaining T.contents service.old service.new }
+    ensures goes { Continues S.holds T.remaining T.contents service.old service.new }
     ensures server { service.new.server ≡ service.old.server }
     ensures pending { ¬ (export.new.expired_since ≡ export.old.expired_since) → service.new.is_pending ≡ true }
 {
@@ -175,9 +177,9 @@ fn follow<S: VersionStore, T: Stream + Drop, W: Disk>(
     now: u64,
     env: &mut W,
 ) -> PollResult
-    ensures goes { GoesOn S.holds T.remaining T.contents service.old service.new }
+    ensures goes { Continues S.holds T.remaining T.contents service.old service.new }
     ensures server { service.new.server ≡ service.old.server }
-    ensures follows { Follows export.old.number now service.old.sources service.new.sources }
+    ensures follows { Follows W.can_hold (string_bytes export.old.file.path) export.old.number now service.old.sources service.new.sources }
 {
     let anew = export.file.is_loaded_after(now);
     match export.file.look(env, anew) {
@@ -197,7 +199,7 @@ fn follow<S: VersionStore, T: Stream + Drop, W: Disk>(
 impl<S: VersionStore, T: Stream + Drop> Daemon<S, T> {
     /// Polls all exports.
     pub(crate) fn follow_all<W: Disk + Time + EventLog>(&mut self, env: &mut W)
-        ensures goes { GoesOn S.holds T.remaining T.contents self.old.service self.new.service }
+        ensures goes { Continues S.holds T.remaining T.contents self.old.service self.new.service }
         ensures server { self.new.service.server ≡ self.old.service.server }
     {
         follow_each(
@@ -211,7 +213,7 @@ impl<S: VersionStore, T: Stream + Drop> Daemon<S, T> {
 
     /// Offers all directories.
     pub(crate) fn offer_all<W: Disk + Time + EventLog>(&mut self, env: &mut W)
-        ensures goes { GoesOn S.holds T.remaining T.contents self.old.service self.new.service }
+        ensures goes { Continues S.holds T.remaining T.contents self.old.service self.new.service }
         ensures server { self.new.service.server ≡ self.old.service.server }
     {
         offer_each(
@@ -232,7 +234,7 @@ fn follow_each<S: VersionStore, T: Stream + Drop, W: Disk + Time + EventLog>(
     alloc: Global,
     env: &mut W,
 )
-    ensures goes { GoesOn S.holds T.remaining T.contents service.old service.new }
+    ensures goes { Continues S.holds T.remaining T.contents service.old service.new }
     ensures server { service.new.server ≡ service.old.server }
 {
     for export in exports.iter_mut() {
@@ -255,7 +257,7 @@ fn offer_each<S: VersionStore, T: Stream + Drop, W: Disk + Time + EventLog>(
     alloc: Global,
     env: &mut W,
 )
-    ensures goes { GoesOn S.holds T.remaining T.contents service.old service.new }
+    ensures goes { Continues S.holds T.remaining T.contents service.old service.new }
     ensures server { service.new.server ≡ service.old.server }
 {
     for point in points.iter_mut() {

@@ -1,8 +1,12 @@
 //! A server, its sources, and whether a version is pending.
-ghost use Rattle.std.specs.Prelude.{◌≡◌, false, true, IfErr, IfOk, Option, map};
+ghost use Rattle.std.specs.Prelude.{◌≡◌, false, true, IfErr, IfOk, IfSome, IsNone, Option, map};
+ghost use Rattle.session_names.specs.Runs.{may_publish};
+ghost use Rattle.der_lite.specs.Moments.{CivilMoment};
+ghost use Rattle.der_lite.specs.Seconds.{seconds_of};
+ghost use Rattle.points.specs.InUse.{no_points};
 ghost use Rattle.rtr_server.specs.Clients.{AdmitsTo, KeepsOthers, Past, Serves, ShowsServer, is_gone, slot_at};
 ghost use Rattle.sources.specs.Served.{ExportTaken, SlurmTaken, SlurmsTaken};
-ghost use Rattle.rtr_daemon.specs.Serving.{GoesOn, IsServedAt, Issues, KeepsSources, ShowsService, TakesSo};
+ghost use Rattle.rtr_daemon.specs.Serving.{Continues, GoesOn, IsFresh, IsOfSecond, IsServedAt, Issues, KeepsSources, SameExpired, ShowsService, TakesSo};
 
 use crate::refusal::Refusal;
 use crate::set_changes::change_counts;
@@ -10,6 +14,7 @@ use event_log::moment_at;
 use payload_commands::Directory;
 use points::{Offered, PointFault};
 use rtr_server::{AdmitFault, Client, Server, Stream, Turn};
+use session_names::Pace;
 use slurm::SlurmFault;
 use sources::{ServedSet, SlurmSetFault, Sources, TakeFault};
 use std::alloc::Global;
@@ -22,18 +27,40 @@ pub struct Service<S, T> {
     sources: Sources,
     /// Whether the sources have changed since the last publication.
     is_pending: bool,
+    /// The pace of its versions.
+    pace: Pace,
+    /// A second since 1970. If no version is pending, the newest version is what the sources have then.
+    current_at: u64,
+    /// Whether there may be publication points.
+    has_points: bool,
 }
 
 impl<S: VersionStore, T: Stream + Drop> Service<S, T> {
     /// A service over a server whose cache has no version.
     pub fn new(server: Server<S, T>, sources: Sources) -> Service<S, T>
-        ensures { (p : Past) → ShowsServer S.holds T.remaining T.contents p server → ShowsService S.holds T.remaining T.contents p result }
+        ensures shows { (p : Past) → ShowsServer S.holds T.remaining T.contents p server → ShowsService S.holds T.remaining T.contents p result }
+        ensures pace { result.pace ≡ Option.None }
+        ensures sources { result.sources ≡ sources }
     {
         Service {
             server,
             sources,
             is_pending: true,
+            pace: Pace::new(),
+            current_at: 0,
+            has_points: true,
         }
+    }
+
+    /// The same over sources without publication points. The first version is published in a later second of the pace than this one.
+    pub(crate) fn after(start: u64, server: Server<S, T>, sources: Sources) -> Service<S, T>
+        ensures shows { sources.repository ≡ no_points → (p : Past) → ShowsServer S.holds T.remaining T.contents p server → ShowsService S.holds T.remaining T.contents p result }
+        ensures pace { result.pace ≡ Option.Some start }
+    {
+        let mut service = Service::new(server, sources);
+        service.pace = Pace::after(start);
+        service.has_points = false;
+        service
     }
 
     /// The server.
@@ -59,7 +86,7 @@ impl<S: VersionStore, T: Stream + Drop> Service<S, T> {
 
     /// One turn of a client.
     pub fn serve(&mut self, client: Client, budget: u32) -> Option<Turn>
-        ensures goes { GoesOn S.holds T.remaining T.contents self.old self.new }
+        ensures goes { Continues S.holds T.remaining T.contents self.old self.new }
         ensures others { KeepsOthers client.0.0 self.old.server.slots.items self.new.server.slots.items }
         ensures serves { Serves S.holds T.remaining T.contents T.answers budget client.0.0 (slot_at self.old.server.slots.items client.0.0) self.old.server.cache result (slot_at self.new.server.slots.items client.0.0) self.new.server.cache self.new.server.parted }
         ensures stays { is_gone result ≡ false → self.new.server.parted ≡ self.old.server.parted }
@@ -70,7 +97,7 @@ impl<S: VersionStore, T: Stream + Drop> Service<S, T> {
 
     /// Admits a client.
     pub fn admit(&mut self, stream: T) -> Result<Client, AdmitFault>
-        ensures goes { GoesOn S.holds T.remaining T.contents self.old self.new }
+        ensures goes { Continues S.holds T.remaining T.contents self.old self.new }
         ensures admits { (p : Past) → ShowsServer S.holds T.remaining T.contents p self.old.server → AdmitsTo S.holds T.remaining T.contents p stream result self.old.server self.new.server }
         ensures rest { KeepsSources self.old self.new }
     {
@@ -79,7 +106,7 @@ impl<S: VersionStore, T: Stream + Drop> Service<S, T> {
 
     /// Drops a client.
     pub fn drop_client(&mut self, client: Client)
-        ensures goes { GoesOn S.holds T.remaining T.contents self.old self.new }
+        ensures goes { Continues S.holds T.remaining T.contents self.old self.new }
         ensures others { KeepsOthers client.0.0 self.old.server.slots.items self.new.server.slots.items }
         ensures gone { slot_at self.new.server.slots.items client.0.0 ≡ Option.None }
         ensures rest { KeepsSources self.old self.new }
@@ -94,7 +121,7 @@ impl<S: VersionStore, T: Stream + Drop> Service<S, T> {
 
     /// Loads the export of a file, and answers how many of its entries had expired.
     pub fn take_export(&mut self, file: usize, bytes: &[u8], now: u64) -> Result<u64, TakeFault>
-        ensures goes { GoesOn S.holds T.remaining T.contents self.old self.new }
+        ensures goes { Continues S.holds T.remaining T.contents self.old self.new }
         ensures takes { TakesSo result self.old self.new }
         ensures export { ExportTaken bytes.now now file result self.old.sources self.new.sources }
     {
@@ -105,7 +132,7 @@ impl<S: VersionStore, T: Stream + Drop> Service<S, T> {
 
     /// Loads local exceptions.
     pub fn take_slurm(&mut self, bytes: &[u8]) -> Result<(), SlurmFault>
-        ensures goes { GoesOn S.holds T.remaining T.contents self.old self.new }
+        ensures goes { Continues S.holds T.remaining T.contents self.old self.new }
         ensures takes { TakesSo result self.old self.new }
         ensures exceptions { SlurmTaken bytes.now result self.old.sources self.new.sources }
     {
@@ -116,7 +143,7 @@ impl<S: VersionStore, T: Stream + Drop> Service<S, T> {
 
     /// Loads the local exceptions of several files together (RFC 8416 section 4.2).
     pub fn take_slurms(&mut self, files: &[Vec<u8>]) -> Result<(), SlurmSetFault>
-        ensures goes { GoesOn S.holds T.remaining T.contents self.old self.new }
+        ensures goes { Continues S.holds T.remaining T.contents self.old self.new }
         ensures takes { TakesSo result self.old self.new }
         ensures exceptions { SlurmsTaken (map (λ f. f.items) files.now) result self.old.sources self.new.sources }
     {
@@ -127,12 +154,41 @@ impl<S: VersionStore, T: Stream + Drop> Service<S, T> {
 
     /// Makes a version pending: payloads of publication points expire by the clock, so the set may have changed.
     pub(crate) fn set_pending(&mut self)
-        ensures goes { GoesOn S.holds T.remaining T.contents self.old self.new }
+        ensures goes { Continues S.holds T.remaining T.contents self.old self.new }
         ensures server { self.new.server ≡ self.old.server }
         ensures pending { self.new.is_pending ≡ true }
         ensures sources { self.new.sources ≡ self.old.sources }
     {
         self.is_pending = true;
+    }
+
+    /// Makes a version pending if records have expired since the newest version, by this second since 1970. If there are publication points, one
+    /// is pending in any case.
+    pub(crate) fn judge_expiry(&mut self, now: u64)
+        ensures goes { Continues S.holds T.remaining T.contents self.old self.new }
+        ensures server { self.new.server ≡ self.old.server }
+        ensures fresh { IsFresh (λ at. at ≡ now) self.new }
+    {
+        if self.is_current_at(now) {
+            self.current_at = now;
+        } else {
+            self.is_pending = true;
+        }
+    }
+
+    /// Whether the sources have no publication points, and no record of a file has expired between the newest version and this second.
+    fn is_current_at(&self, now: u64) -> bool
+        ensures points { result ≡ true → self.now.has_points ≡ false }
+        ensures moment { result ≡ true → (m : CivilMoment) × (seconds_of m ≡ now) }
+        ensures same { result ≡ true → SameExpired self.now.current_at now self.now.sources.lists.items }
+    {
+        if self.has_points {
+            return false;
+        }
+        let Some(_moment) = moment_at(now) else {
+            return false;
+        };
+        !has_expired_between(&self.sources, self.current_at, now)
     }
 
     /// Offers the content of a directory to the publication point of its name, at a time in seconds since 1970.
@@ -142,10 +198,11 @@ impl<S: VersionStore, T: Stream + Drop> Service<S, T> {
         alloc: Global,
         now: u64,
     ) -> Result<Offered, Refusal>
-        ensures goes { GoesOn S.holds T.remaining T.contents self.old self.new }
+        ensures goes { Continues S.holds T.remaining T.contents self.old self.new }
         ensures rest { self.new.server ≡ self.old.server }
     {
         self.is_pending = true;
+        self.has_points = true;
         let Some(moment) = moment_at(now) else {
             return Err(Refusal::Clock);
         };
@@ -178,12 +235,15 @@ impl<S: VersionStore, T: Stream + Drop> Service<S, T> {
 
     /// Publishes the set of the sources at a time in seconds since 1970. If that fails, the version stays pending, and the served set stays.
     pub fn publish(&mut self, now: u64) -> Result<PublishReport, Refusal>
-        ensures goes { GoesOn S.holds T.remaining T.contents self.old self.new }
-        ensures issues { IfOk result (λ _. Issues S.holds T.remaining T.contents now self.old self.new) }
+        ensures issues { IfOk result (λ report. Issues S.holds T.remaining T.contents now report.published self.old self.new) }
         ensures done { IfOk result (λ _. self.new.is_pending ≡ false) }
         ensures undone { IfErr result (λ _. self.new.is_pending ≡ self.old.is_pending) }
         ensures kept { IfErr result (λ _. (p : Past) → ShowsServer S.holds T.remaining T.contents p self.old.server → ShowsServer S.holds T.remaining T.contents p self.new.server) }
+        ensures fails { IfErr result (λ _. Continues S.holds T.remaining T.contents self.old self.new) }
         ensures sources { self.new.sources ≡ self.old.sources }
+        ensures pace { self.new.pace ≡ self.old.pace }
+        ensures at { IfOk result (λ _. self.new.current_at ≡ now) }
+        ensures points { self.new.has_points ≡ self.old.has_points }
     {
         let ServedSet { set, left_out } = self.served(now)?;
         let counts = change_counts(self.set(), &set);
@@ -192,6 +252,7 @@ impl<S: VersionStore, T: Stream + Drop> Service<S, T> {
             Err(_) => Err(Refusal::Set(SetFault::Memory)),
             Ok(published) => {
                 self.is_pending = false;
+                self.current_at = now;
                 Ok(PublishReport {
                     published,
                     announced: counts.announced,
@@ -203,6 +264,38 @@ impl<S: VersionStore, T: Stream + Drop> Service<S, T> {
         }
     }
 
+    /// Publishes as [`Service::publish`] does, in this second of the pace. `None`: the last version is not of an earlier second, and nothing changes.
+    pub(crate) fn publish_paced(
+        &mut self,
+        now: u64,
+        second: u64,
+    ) -> Option<Result<PublishReport, Refusal>>
+        ensures goes { GoesOn (λ at. at ≡ now) S.holds T.remaining T.contents self.old self.new }
+        ensures waits { IsNone result → may_publish self.old.pace second ≡ false }
+        ensures done { IfSome result (λ tried. IfOk tried (λ _. self.new.is_pending ≡ false)) }
+    {
+        if !self.pace.may_publish(second) {
+            return None;
+        }
+        match self.publish(now) {
+            Err(refusal) => Some(Err(refusal)),
+            Ok(report) => {
+                self.note_second(&report.published, second);
+                Some(Ok(report))
+            }
+        }
+    }
+
+    /// A new version is of this second of the pace.
+    fn note_second(&mut self, published: &Published, second: u64)
+        ensures pace { IsOfSecond published.now second self.old.pace self.new.pace }
+        ensures rest { self.new ≡ record self.old { pace = self.new.pace } }
+    {
+        if let Published::New(_serial) = published {
+            self.pace.published(second);
+        }
+    }
+
     /// The served set.
     fn set(&self) -> Option<&VrpSet> {
         match self.server.current() {
@@ -210,6 +303,18 @@ impl<S: VersionStore, T: Stream + Drop> Service<S, T> {
             None => None,
         }
     }
+}
+
+/// Whether records of a file have expired from one second to another, or are no longer expired.
+fn has_expired_between(sources: &Sources, before: u64, now: u64) -> bool
+    ensures { result ≡ false → SameExpired before now sources.now.lists.items }
+{
+    for file in 0..sources.files() {
+        if sources.expired(file, before) != sources.expired(file, now) {
+            return true;
+        }
+    }
+    false
 }
 
 /// The counts of a publication.

@@ -1,6 +1,6 @@
 //! Polling the files of local exceptions, which are loaded together (RFC 8416 section 4.2).
 ghost use Rattle.std.specs.Prelude.{◌≡◌, map};
-ghost use Rattle.rtr_daemon.specs.Serving.{GoesOn, LoadsSlurms, TakesSo};
+ghost use Rattle.rtr_daemon.specs.Serving.{Continues, LoadsSlurms, TakesSo};
 
 use crate::daemon::Daemon;
 use crate::environment::{Disk, EventLog, Stamp, Time};
@@ -121,7 +121,7 @@ fn take<S: VersionStore, T: Stream + Drop>(
     contents: &Contents,
     alloc: Global,
 ) -> Result<(), SlurmRefusal>
-    ensures goes { GoesOn S.holds T.remaining T.contents service.old service.new }
+    ensures goes { Continues S.holds T.remaining T.contents service.old service.new }
     ensures takes { TakesSo result service.old service.new }
     ensures loads { LoadsSlurms (map (λ b. b.items) contents.now.bytes.items) result service.old.sources service.new.sources }
 {
@@ -164,7 +164,7 @@ pub(crate) fn read_slurms<S: VersionStore, T: Stream + Drop, W: Disk>(
     now: u64,
     env: &mut W,
 ) -> Result<(), StartFault>
-    ensures { GoesOn S.holds T.remaining T.contents service.old service.new }
+    ensures { Continues S.holds T.remaining T.contents service.old service.new }
 {
     let contents = match settled_contents(slurms, alloc, env) {
         Ok(contents) => contents,
@@ -201,7 +201,7 @@ fn note_all_loaded(slurms: &mut [WatchedFile], contents: &Contents, now: u64) {
 impl<S: VersionStore, T: Stream + Drop> Daemon<S, T> {
     /// Polls the files of local exceptions, and loads all if one has changed.
     pub(crate) fn follow_slurms<W: Disk + Time + EventLog>(&mut self, env: &mut W)
-        ensures goes { GoesOn S.holds T.remaining T.contents self.old.service self.new.service }
+        ensures goes { Continues S.holds T.remaining T.contents self.old.service self.new.service }
         ensures server { self.new.service.server ≡ self.old.service.server }
     {
         follow(
@@ -222,7 +222,7 @@ fn follow<S: VersionStore, T: Stream + Drop, W: Disk + Time + EventLog>(
     alloc: Global,
     env: &mut W,
 )
-    ensures goes { GoesOn S.holds T.remaining T.contents service.old service.new }
+    ensures goes { Continues S.holds T.remaining T.contents service.old service.new }
     ensures server { service.new.server ≡ service.old.server }
 {
     let now = env.seconds();
@@ -256,7 +256,7 @@ fn load<S: VersionStore, T: Stream + Drop, W: Disk>(
     alloc: Global,
     env: &mut W,
 ) -> Result<Contents, SlurmRefusal>
-    ensures goes { GoesOn S.holds T.remaining T.contents service.old service.new }
+    ensures goes { Continues S.holds T.remaining T.contents service.old service.new }
     ensures server { service.new.server ≡ service.old.server }
 {
     let contents = contents_of(slurms, alloc, env)?;

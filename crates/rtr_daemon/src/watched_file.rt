@@ -1,4 +1,8 @@
 //! Watched files.
+ghost use Rattle.std.specs.Prelude.{IfOk};
+ghost use Rattle.std.specs.String.{string_bytes};
+ghost use Rattle.rtr_daemon.specs.Files.{ReadsFrom};
+
 use crate::environment::{Disk, Stamp};
 use crate::refusal::Refusal;
 use crate::refusals::Refusals;
@@ -53,7 +57,9 @@ impl WatchedFile {
 
     /// Reads the file if its stamp has changed. With `anew` it is read even if its stamp is unchanged. A file that changes while it is read is
     /// tried again at the next poll.
-    pub(crate) fn look<W: Disk>(&self, env: &mut W, anew: bool) -> Look {
+    pub(crate) fn look<W: Disk>(&self, env: &mut W, anew: bool) -> Look
+        ensures { ReadsFrom W.can_hold (string_bytes self.now.path) result }
+    {
         let before = match env.stamp(self.path.as_str()) {
             Ok(stamp) => stamp,
             Err(error) => return Look::Failed(error),
@@ -65,7 +71,9 @@ impl WatchedFile {
         }
     }
 
-    fn read<W: Disk>(&self, env: &mut W, before: Stamp) -> Look {
+    fn read<W: Disk>(&self, env: &mut W, before: Stamp) -> Look
+        ensures { ReadsFrom W.can_hold (string_bytes self.now.path) result }
+    {
         let bytes = match env.read(self.path.as_str()) {
             Ok(bytes) => bytes,
             Err(error) => return Look::Failed(error),
@@ -78,7 +86,9 @@ impl WatchedFile {
     }
 
     /// Reads the file, even if it has not changed.
-    pub(crate) fn content<W: Disk>(&self, env: &mut W) -> Result<(Stamp, Vec<u8>), Refusal> {
+    pub(crate) fn content<W: Disk>(&self, env: &mut W) -> Result<(Stamp, Vec<u8>), Refusal>
+        ensures { IfOk result (λ read. W.can_hold (string_bytes self.now.path) read.1.items) }
+    {
         let before = match env.stamp(self.path.as_str()) {
             Ok(stamp) => stamp,
             Err(error) => return Err(Refusal::Device(error)),

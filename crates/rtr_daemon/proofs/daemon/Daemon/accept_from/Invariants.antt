@@ -1,6 +1,6 @@
 -- So far the service went on.
-use Rattle.rtr_daemon.specs.Serving.{GoesOn}
+use Rattle.rtr_daemon.specs.Serving.{Continues}
 use Rattle.rtr_daemon.proofs.daemon.Daemon.accept_from.Given as goal
 
 abbrev pub invariant-loop-connection : goal.invariant-loop-connection
-invariant-loop-connection g l = GoesOn g.S.VersionStore.holds g.T.Stream.remaining g.T.Stream.contents l.initial.self.service l.self.service
+invariant-loop-connection g l = Continues g.S.VersionStore.holds g.T.Stream.remaining g.T.Stream.contents l.initial.self.service l.self.service

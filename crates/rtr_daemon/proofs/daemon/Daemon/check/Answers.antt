@@ -1,11 +1,9 @@
-use Rattle.std.proofs.Common.{subst, sym}
-use Rattle.rtr_daemon.specs.Serving.{GoesOn}
-use Rattle.rtr_daemon.proofs.ServiceLaws.{then_on}
+use Rattle.rtr_daemon.proofs.ServiceLaws.{fresh_at, then_on}
 use Rattle.rtr_daemon.proofs.daemon.Daemon.check.Goals as goal
 
-pub returns : goal.returns
-returns g c =
-    let followed = then_on g.S.VersionStore.holds g.T.Stream.remaining g.T.Stream.contents c.judge_clock.new.self.service c.follow_all.new.self.service c.follow_slurms.new.self.service c.follow_all.ensures.goes c.follow_slurms.ensures.goes in
-    subst (λ s. GoesOn g.S.VersionStore.holds g.T.Stream.remaining g.T.Stream.contents c.args.self.now.service s) (sym c.judge_ages.ensures)
-    (subst (λ s. GoesOn g.S.VersionStore.holds g.T.Stream.remaining g.T.Stream.contents s c.offer_all.new.self.service) c.judge_clock.ensures
-    (then_on g.S.VersionStore.holds g.T.Stream.remaining g.T.Stream.contents c.judge_clock.new.self.service c.follow_slurms.new.self.service c.offer_all.new.self.service followed c.offer_all.ensures.goes))
+pub returns-clause-goes : goal.returns-clause-goes
+returns-clause-goes g c =
+    then_on g.S.VersionStore.holds g.T.Stream.remaining g.T.Stream.contents c.args.self.now.service c.poll_all.new.self.service c.judge_expiry.new.self c.poll_all.ensures c.judge_expiry.ensures.goes
+
+pub returns-clause-fresh : goal.returns-clause-fresh
+returns-clause-fresh g c = λ due. fresh_at g.W.Time.can_be c.judge_expiry.new.self c.seconds-second.result c.seconds-second.ensures c.judge_expiry.ensures.fresh

@@ -1,6 +1,6 @@
 -- So far the service went on.
-use Rattle.rtr_daemon.specs.Serving.{GoesOn}
+use Rattle.rtr_daemon.specs.Serving.{Continues}
 use Rattle.rtr_daemon.proofs.daemon.Daemon.drop_silent.Given as goal
 
 abbrev pub invariant-loop-client : goal.invariant-loop-client
-invariant-loop-client g l = GoesOn g.S.VersionStore.holds g.T.Stream.remaining g.T.Stream.contents l.initial.self.service l.self.service
+invariant-loop-client g l = Continues g.S.VersionStore.holds g.T.Stream.remaining g.T.Stream.contents l.initial.self.service l.self.service

@@ -1,6 +1,6 @@
 -- So far the service went on.
-use Rattle.rtr_daemon.specs.Serving.{GoesOn}
+use Rattle.rtr_daemon.specs.Serving.{Continues}
 use Rattle.rtr_daemon.proofs.daemon.Daemon.drop_stalled.Given as goal
 
 abbrev pub invariant-loop-token : goal.invariant-loop-token
-invariant-loop-token g l = GoesOn g.S.VersionStore.holds g.T.Stream.remaining g.T.Stream.contents l.initial.self.service l.self.service
+invariant-loop-token g l = Continues g.S.VersionStore.holds g.T.Stream.remaining g.T.Stream.contents l.initial.self.service l.self.service
