@@ -91,10 +91,11 @@ def code(path):
     return PASSED[os.path.splitext(path)[1]].sub(blank, read(path))
 
 
-def is_foreign(text, place):
-    """Whether the word at a place belongs to a path into another crate, as in `Rattle.rtr_ends.specs.Seen`."""
+def is_foreign(crate, text, place):
+    """Whether the word at a place belongs to a path into another crate, as in `Rattle.rtr_ends.specs.Seen`, or to a list of its names."""
     line = text[text.rfind("\n", 0, place) + 1 : place]
-    return re.search(r"Rattle\.[\w.]*\.?$", line) is not None
+    listed = re.search(r"Rattle\.(\w+)\.[\w.]*\{[^}]*$", line)
+    return re.search(r"Rattle\.[\w.]*\.?$", line) is not None or (listed is not None and listed.group(1) != crate)
 
 
 def replaced(crate):
@@ -103,7 +104,7 @@ def replaced(crate):
         text = code(path)
         for found in WORD.finditer(text):
             name = found.group(0)
-            if name in REPLACED[crate] and not is_foreign(text, found.start()):
+            if name in REPLACED[crate] and not is_foreign(crate, text, found.start()):
                 line = text.count("\n", 0, found.start()) + 1
                 yield f"{os.path.relpath(path, TOP)}:{line}: {name} is now {REPLACED[crate][name]}"
 

@@ -1,8 +1,7 @@
 -- If no record expires between two seconds, the set of the sources is the same at both.
-use Rattle.std.proofs.Common.{◌≡◌, ℕ, zero, suc, ◌+◌, ◌<◌, ◌≤◌, Bool, true, false, cond, nat_lt, List, [], ◌∷◌, length, None, Some, refl, sym, ap, ◌∙◌, arith}
-use Rattle.std.specs.Prelude.{nat_le, not, slice_get, count_by}
+use Rattle.std.proofs.Common.{◌≡◌, ℕ, suc, ◌+◌, ◌<◌, ◌≤◌, Bool, true, false, cond, nat_lt, List, [], ◌∷◌, None, Some, refl, sym, ap, ◌∙◌, arith}
+use Rattle.std.specs.Prelude.{nat_le, not, count_by}
 use Rattle.std.specs.FinMap as map
-use Rattle.std.specs.List.{Contains}
 use Rattle.std.specs.Ordering.{nat_cmp}
 use Rattle.std.specs.Cmp.Lexicographic.{slice_cmp}
 use Rattle.std.proofs.lemmas.Bool.Decides.{nat_tests}
@@ -11,7 +10,7 @@ use Rattle.der_lite.specs.Moments.{CivilMoment}
 use Rattle.der_lite.specs.Seconds.{seconds_of}
 use Rattle.prefixes.specs.Payload.{Payload}
 use Rattle.vrps.specs.VrpSet.{VrpSet, listing, set_of, union}
-use Rattle.exports.specs.Lasting.{counting}
+use Rattle.exports.specs.Lasting.{counting as left_at}
 use Rattle.points.specs.InUse.{Lists, Payloads, Points, no_points}
 use Rattle.sources.specs.Served.{counting_at, excepted_by, narrowed, with_lists}
 use Rattle.sources.specs.declared.listed.Listed.{Listed}
@@ -50,7 +49,7 @@ not_before : (last at : ℕ) (b : Bool) → nat_lt last at ≡ b → nat_le at l
 not_before last at true e = grind (arith, nat_tests)
 not_before last at false e = grind (arith, nat_tests)
 
-same_up : (a b : ℕ) → a ≤ b → (vs : List Payload) (lasts : List ℕ) → gone a lasts ≡ gone b lasts → counting a vs lasts ≡ counting b vs lasts
+same_up : (a b : ℕ) → a ≤ b → (vs : List Payload) (lasts : List ℕ) → gone a lasts ≡ gone b lasts → left_at a vs lasts ≡ left_at b vs lasts
 same_up a b le [] lasts e = refl
 same_up a b le (v ∷ vs) [] e = refl
 same_up a b le (v ∷ vs) (last ∷ lasts) e =
@@ -62,10 +61,10 @@ same_up a b le (v ∷ vs) (last ∷ lasts) e =
     let rest = same_up a b le vs lasts others in
     (λ i. cond (test i) (v ∷ rest i) (rest i))
 
-same_counting : (a b : ℕ) (vs : List Payload) (lasts : List ℕ) → gone a lasts ≡ gone b lasts → counting a vs lasts ≡ counting b vs lasts
+same_counting : (a b : ℕ) (vs : List Payload) (lasts : List ℕ) → gone a lasts ≡ gone b lasts → left_at a vs lasts ≡ left_at b vs lasts
 same_counting a b vs lasts e = by_order (nat_le a b) refl
   where
-    by_order : (t : Bool) → nat_le a b ≡ t → counting a vs lasts ≡ counting b vs lasts
+    by_order : (t : Bool) → nat_le a b ≡ t → left_at a vs lasts ≡ left_at b vs lasts
     by_order true is = let le : a ≤ b = grind (arith, nat_tests) in same_up a b le vs lasts e
     by_order false is = let le : b ≤ a = grind (arith, nat_tests) in sym (same_up b a le vs lasts (sym e))
 

@@ -1,14 +1,11 @@
 -- The versions of a daemon are those of a run.
-use Rattle.std.proofs.Common.{◌≡◌, ℕ, zero, suc, ◌+◌, ◌^◌, ◌<◌, ◌≤◌, true, nat_lt, List, [], ◌∷◌, ◌++◌, length, All, None, Some, arith, refl, subst, sym, ap, ◌∙◌, length-append}
+use Rattle.std.proofs.Common.{◌≡◌, ℕ, zero, suc, ◌+◌, ◌^◌, ◌<◌, ◌≤◌, true, nat_lt, List, [], ◌∷◌, ◌++◌, length, All, Some, arith, refl, subst, sym, ap, ◌∙◌, length-append}
 use Rattle.std.proofs.lemmas.Bool.Decides.{nat_tests}
 use Rattle.session_names.specs.Names.{first_serial}
-use Rattle.session_names.specs.Runs.{ArePaced, Run, may_publish, serial_in}
+use Rattle.session_names.specs.Runs.{ArePaced, may_publish}
 use Rattle.session_names.proofs.RunLaws.{restart_at_once_is_later}
-use Rattle.vrps.specs.Instance.{Instance}
 use Rattle.vrps.specs.Serial.{is_before, serial_at}
-use Rattle.vrps.specs.VrpSet.{VrpSet}
-use Rattle.rtr_daemon.specs.Pacing.{IsPaced, RestartsLater, StaysPaced, last_of}
-use Rattle.rtr_daemon.specs.Serving.{with_version}
+use Rattle.rtr_daemon.specs.Pacing.{RestartsLater, StaysPaced, last_of}
 
 -- One time more
 paced_more : (last now : ℕ) (times : List ℕ) → ArePaced (Some last) times → nat_lt (last_of last times) now ≡ true → ArePaced (Some last) (times ++ now ∷ [])

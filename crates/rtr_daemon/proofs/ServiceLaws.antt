@@ -26,7 +26,7 @@ use Rattle.der_lite.specs.Moments.{CivilMoment}
 use Rattle.der_lite.specs.Seconds.{seconds_of}
 use Rattle.points.specs.InUse.{no_points}
 use Rattle.session_names.specs.Runs.{may_publish}
-use Rattle.rtr_daemon.specs.Serving.{Adds, AddsVersion, Continues, GoesOn, IsFresh, IsLater, IsNewestAt, IsServedAt, IsOfSecond, Issues, KeepsVersions, LeadsToService, OpensNone, PublishesAt, PublishesOnce, SameExpired, SameSources, ShowsService, with_version}
+use Rattle.rtr_daemon.specs.Serving.{Adds, Continues, GoesOn, IsFresh, IsLater, IsNewestAt, IsServedAt, IsOfSecond, Issues, KeepsVersions, LeadsToService, OpensNone, PublishesAt, PublishesOnce, SameExpired, SameSources, ShowsService, with_version}
 use Rattle.rtr_daemon.specs.declared.service.Service.{Service}
 use Rattle.rtr_daemon.proofs.Expiry.{served_later}
 

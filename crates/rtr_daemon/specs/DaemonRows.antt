@@ -1,5 +1,5 @@
 -- Seconds of the pace and runs, worked out.
-use Rattle.std.specs.Prelude.{◌≡◌, ℕ, [], ◌∷◌, refl}
+use Rattle.std.specs.Prelude.{◌≡◌, [], ◌∷◌, refl}
 use Rattle.rtr_daemon.specs.Due.{second_of_pace}
 use Rattle.rtr_daemon.specs.Pacing.{last_of}
 

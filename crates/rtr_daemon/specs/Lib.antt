@@ -1,5 +1,7 @@
+pub mod DaemonRows
 pub mod Due
 pub mod Files
+pub mod PointOffers
 pub mod Pacing
 pub mod Serving
 pub mod Turns

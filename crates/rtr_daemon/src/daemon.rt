@@ -1,10 +1,10 @@
 //! The daemon: a loop that serves what is ready, and does what is due by the clock.
-ghost use Rattle.std.specs.Prelude.{◌≡◌, ◌≤◌, IfOk};
+ghost use Rattle.std.specs.Prelude.{◌≡◌, ◌≤◌, IfOk, false};
 ghost use Rattle.points.specs.InUse.{no_points};
 ghost use Rattle.rtr_server.specs.Clients.{Past, ShowsServer};
 ghost use Rattle.std.specs.String.{string_bytes};
 ghost use Rattle.rtr_daemon.specs.Due.{PublishesIfDue, second_of_pace};
-ghost use Rattle.rtr_daemon.specs.Files.{Follows};
+ghost use Rattle.rtr_daemon.specs.Files.{AreNumbered, Follows};
 ghost use Rattle.rtr_daemon.specs.Serving.{Continues, GoesOn, IsFresh, LeadsToService};
 
 use crate::accepting::Listeners;
@@ -133,7 +133,8 @@ impl<S: VersionStore + Drop, T: Stream + Drop> Daemon<S, T> {
         sources: Paths,
         env: &mut W,
     ) -> Result<Daemon<S, T>, StartFault>
-        ensures { IfOk result (λ daemon. (p : Past) → ShowsServer S.holds T.remaining T.contents p server → LeadsToService W.can_be S.holds T.remaining T.contents p daemon.service) }
+        ensures leads { IfOk result (λ daemon. (p : Past) → ShowsServer S.holds T.remaining T.contents p server → LeadsToService W.can_be S.holds T.remaining T.contents p daemon.service) }
+        ensures closed { IfOk result (λ daemon. daemon.is_ready ≡ false) }
     {
         let now = env.seconds();
         let millis = env.millis();
@@ -377,7 +378,8 @@ impl<S: VersionStore + Drop, T: Stream + Drop> Daemon<S, T> {
 
     /// Reports which exports have become older than the maximum age, and which are no longer.
     fn judge_ages<W: Time + EventLog>(&mut self, env: &mut W)
-        ensures { self.new.service ≡ self.old.service }
+        ensures service { self.new.service ≡ self.old.service }
+        ensures ready { self.new.is_ready ≡ self.old.is_ready }
     {
         let Some(most) = self.plan.max_age else {
             return;
@@ -499,7 +501,9 @@ fn sources_of(alloc: Global, files: usize, leaves_out: bool) -> Result<Sources, 
     Ok(sources)
 }
 
-fn watched_exports(alloc: Global, paths: Vec<String>) -> Result<Vec<WatchedExport>, AllocError> {
+fn watched_exports(alloc: Global, paths: Vec<String>) -> Result<Vec<WatchedExport>, AllocError>
+    ensures { IfOk result (λ exports. AreNumbered exports.items) }
+{
     let mut exports = Vec::new(alloc);
     for path in paths {
         let number = exports.len();

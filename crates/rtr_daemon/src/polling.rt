@@ -1,8 +1,8 @@
 //! Polling the files, and loading those that have changed.
-ghost use Rattle.std.specs.Prelude.{◌≡◌, true};
+ghost use Rattle.std.specs.Prelude.{◌≡◌, IfErr, true};
 ghost use Rattle.std.specs.String.{string_bytes};
 ghost use Rattle.rtr_daemon.specs.Files.{Follows};
-ghost use Rattle.rtr_daemon.specs.Serving.{Continues, LoadsExport, TakesSo};
+ghost use Rattle.rtr_daemon.specs.Serving.{Continues, LoadsExport, SameSources, TakesSo};
 
 use crate::daemon::Daemon;
 use crate::environment::{Disk, EventLog, Stamp, Time};
@@ -112,6 +112,7 @@ pub(crate) fn offer<S: VersionStore, T: Stream + Drop, W: Disk>(
 ) -> Result<Option<PointState>, Refusal>
     ensures goes { Continues S.holds T.remaining T.contents service.old service.new }
     ensures server { service.new.server ≡ service.old.server }
+    ensures refused { IfErr result (λ _. SameSources service.old.sources service.new.sources) }
 {
     match env.directory(path) {
         Err(error) => {

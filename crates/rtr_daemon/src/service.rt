@@ -6,6 +6,7 @@ ghost use Rattle.der_lite.specs.Seconds.{seconds_of};
 ghost use Rattle.points.specs.InUse.{no_points};
 ghost use Rattle.rtr_server.specs.Clients.{AdmitsTo, KeepsOthers, Past, Serves, ShowsServer, is_gone, slot_at};
 ghost use Rattle.sources.specs.Served.{ExportTaken, SlurmTaken, SlurmsTaken};
+ghost use Rattle.rtr_daemon.specs.PointOffers.{OffersTo};
 ghost use Rattle.rtr_daemon.specs.Serving.{Continues, GoesOn, IsFresh, IsOfSecond, IsServedAt, Issues, KeepsSources, SameExpired, ShowsService, TakesSo};
 
 use crate::refusal::Refusal;
@@ -200,6 +201,7 @@ impl<S: VersionStore, T: Stream + Drop> Service<S, T> {
     ) -> Result<Offered, Refusal>
         ensures goes { Continues S.holds T.remaining T.contents self.old self.new }
         ensures rest { self.new.server ≡ self.old.server }
+        ensures offers { OffersTo result self.old.sources self.new.sources }
     {
         self.is_pending = true;
         self.has_points = true;

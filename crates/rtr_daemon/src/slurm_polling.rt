@@ -1,6 +1,8 @@
 //! Polling the files of local exceptions, which are loaded together (RFC 8416 section 4.2).
-ghost use Rattle.std.specs.Prelude.{◌≡◌, map};
-ghost use Rattle.rtr_daemon.specs.Serving.{Continues, LoadsSlurms, TakesSo};
+ghost use Rattle.std.specs.Prelude.{◌≡◌, ◌∷◌, ◌++◌, [], ℕ, IfErr, IfOk, List, OnOk, map};
+ghost use Rattle.std.specs.String.{string_bytes};
+ghost use Rattle.rtr_daemon.specs.Files.{AreContents, FollowsSlurms, ReadsSlurms};
+ghost use Rattle.rtr_daemon.specs.Serving.{Continues, LoadsSlurms, SameSources, TakesSo};
 
 use crate::daemon::Daemon;
 use crate::environment::{Disk, EventLog, Stamp, Time};
@@ -27,14 +29,18 @@ struct Contents {
 }
 
 impl Contents {
-    fn new(alloc: Global) -> Contents {
+    fn new(alloc: Global) -> Contents
+        ensures { result.bytes.items ≡ [] }
+    {
         Contents {
             stamps: Vec::new(alloc),
             bytes: Vec::new(alloc),
         }
     }
 
-    fn add(&mut self, stamp: Stamp, bytes: Vec<u8>) -> Result<(), AllocError> {
+    fn add(&mut self, stamp: Stamp, bytes: Vec<u8>) -> Result<(), AllocError>
+        ensures { OnOk result (self.new.bytes.items ≡ self.old.bytes.items ++ bytes ∷ []) }
+    {
         self.stamps.push(stamp)?;
         self.bytes.push(bytes)?;
         Ok(())
@@ -63,15 +69,21 @@ fn contents_of<W: Disk>(
     slurms: &[WatchedFile],
     alloc: Global,
     env: &mut W,
-) -> Result<Contents, SlurmRefusal> {
+) -> Result<Contents, SlurmRefusal>
+    ensures { IfOk result (λ contents. AreContents W.can_hold slurms.now (map (λ b. b.items) contents.bytes.items)) }
+{
     let mut contents = Contents::new(alloc);
-    for (index, file) in slurms.iter().enumerate() {
-        if let Err(why) = add_content(&mut contents, file, env) {
-            return Err(SlurmRefusal {
-                index,
-                stamp: None,
-                why,
-            });
+    for file in slurms {
+        let index = contents.bytes.len();
+        match add_content(&mut contents, file, env) {
+            Ok(()) => {}
+            Err(why) => {
+                return Err(SlurmRefusal {
+                    index,
+                    stamp: None,
+                    why,
+                });
+            }
         }
     }
     Ok(contents)
@@ -82,7 +94,9 @@ fn add_content<W: Disk>(
     contents: &mut Contents,
     file: &WatchedFile,
     env: &mut W,
-) -> Result<(), Refusal> {
+) -> Result<(), Refusal>
+    ensures { IfOk result (λ _. (read : List ℕ) × W.can_hold (string_bytes file.now.path) read × (map (λ b. b.items) contents.new.bytes.items ≡ map (λ b. b.items) contents.old.bytes.items ++ read ∷ [])) }
+{
     let (stamp, bytes) = file.content(env)?;
     if contents.add(stamp, bytes).is_err() {
         return Err(Refusal::memory());
@@ -95,7 +109,9 @@ fn settled_contents<W: Disk>(
     slurms: &[WatchedFile],
     alloc: Global,
     env: &mut W,
-) -> Result<Contents, SlurmRefusal> {
+) -> Result<Contents, SlurmRefusal>
+    ensures { IfOk result (λ contents. AreContents W.can_hold slurms.now (map (λ b. b.items) contents.bytes.items)) }
+{
     let mut last = contents_of(slurms, alloc, env);
     for _time in 1..TRIES {
         if !is_changing(&last) {
@@ -164,7 +180,8 @@ pub(crate) fn read_slurms<S: VersionStore, T: Stream + Drop, W: Disk>(
     now: u64,
     env: &mut W,
 ) -> Result<(), StartFault>
-    ensures { Continues S.holds T.remaining T.contents service.old service.new }
+    ensures goes { Continues S.holds T.remaining T.contents service.old service.new }
+    ensures reads { IfOk result (λ _. ReadsSlurms W.can_hold slurms.old.items service.old.sources service.new.sources) }
 {
     let contents = match settled_contents(slurms, alloc, env) {
         Ok(contents) => contents,
@@ -203,6 +220,7 @@ impl<S: VersionStore, T: Stream + Drop> Daemon<S, T> {
     pub(crate) fn follow_slurms<W: Disk + Time + EventLog>(&mut self, env: &mut W)
         ensures goes { Continues S.holds T.remaining T.contents self.old.service self.new.service }
         ensures server { self.new.service.server ≡ self.old.service.server }
+        ensures follows { FollowsSlurms W.can_hold self.old.slurms.items self.old.service.sources self.new.service.sources }
     {
         follow(
             &mut self.slurms,
@@ -224,6 +242,7 @@ fn follow<S: VersionStore, T: Stream + Drop, W: Disk + Time + EventLog>(
 )
     ensures goes { Continues S.holds T.remaining T.contents service.old service.new }
     ensures server { service.new.server ≡ service.old.server }
+    ensures follows { FollowsSlurms W.can_hold slurms.old.items service.old.sources service.new.sources }
 {
     let now = env.seconds();
     if !is_any_new(slurms, env) {
@@ -258,6 +277,7 @@ fn load<S: VersionStore, T: Stream + Drop, W: Disk>(
 ) -> Result<Contents, SlurmRefusal>
     ensures goes { Continues S.holds T.remaining T.contents service.old service.new }
     ensures server { service.new.server ≡ service.old.server }
+    ensures follows { FollowsSlurms W.can_hold slurms.now service.old.sources service.new.sources }
 {
     let contents = contents_of(slurms, alloc, env)?;
     take(service, slurms, &contents, alloc)?;

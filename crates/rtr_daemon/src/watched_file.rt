@@ -1,5 +1,5 @@
 //! Watched files.
-ghost use Rattle.std.specs.Prelude.{IfOk};
+ghost use Rattle.std.specs.Prelude.{◌≡◌, IfOk};
 ghost use Rattle.std.specs.String.{string_bytes};
 ghost use Rattle.rtr_daemon.specs.Files.{ReadsFrom};
 
@@ -160,7 +160,9 @@ pub(crate) struct WatchedExport {
 }
 
 impl WatchedExport {
-    pub(crate) fn new(path: String, number: usize) -> WatchedExport {
+    pub(crate) fn new(path: String, number: usize) -> WatchedExport
+        ensures { result.number ≡ number }
+    {
         WatchedExport {
             file: WatchedFile::new(path),
             number,

@@ -1,4 +1,3 @@
-use Rattle.std.proofs.Common.{true}
 use Rattle.rtr_daemon.proofs.ServiceLaws.{current_on}
 use Rattle.rtr_daemon.proofs.service.Service.judge_expiry.Goals as goal
 
