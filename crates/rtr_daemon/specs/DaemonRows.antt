@@ -1,7 +1,8 @@
--- Seconds of the pace and runs, worked out.
-use Rattle.std.specs.Prelude.{◌≡◌, [], ◌∷◌, refl}
+-- Seconds of the pace, runs, and stalled clients, worked out.
+use Rattle.std.specs.Prelude.{◌≡◌, true, false, [], ◌∷◌, None, Some, refl}
 use Rattle.rtr_daemon.specs.Due.{second_of_pace}
 use Rattle.rtr_daemon.specs.Pacing.{last_of}
+use Rattle.rtr_daemon.specs.Stalling.{is_stalled}
 
 at_the_start : second_of_pace 1764096000 5000 5000 ≡ 1764096000
 at_the_start = refl
@@ -24,3 +25,12 @@ no_version = refl
 
 two_versions : last_of 1764096000 (1764096001 ∷ 1764096007 ∷ []) ≡ 1764096007
 two_versions = refl
+
+not_blocked : is_stalled None 60000 0 ≡ false
+not_blocked = refl
+
+almost : is_stalled (Some 5000) 34999 30000 ≡ false
+almost = refl
+
+stalled : is_stalled (Some 5000) 35000 30000 ≡ true
+stalled = refl

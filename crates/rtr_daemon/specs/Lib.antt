@@ -4,4 +4,5 @@ pub mod Files
 pub mod PointOffers
 pub mod Pacing
 pub mod Serving
+pub mod Stalling
 pub mod Turns

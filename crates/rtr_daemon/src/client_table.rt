@@ -1,4 +1,7 @@
 //! The table of connected clients, and the queue of those that are served next.
+ghost use Rattle.std.specs.Prelude.{◌≡◌};
+ghost use Rattle.rtr_daemon.specs.Stalling.{is_stalled};
+
 use rtr_server::{ByteCounts, Client, Turn};
 use std::alloc::{AllocError, Global};
 use std::collections::btree_map::Values;
@@ -223,7 +226,9 @@ impl ClientTable {
 }
 
 impl ClientEntry {
-    fn is_stalled(&self, now: u64, stall: u64) -> bool {
+    fn is_stalled(&self, now: u64, stall: u64) -> bool
+        ensures { result ≡ is_stalled self.now.blocked now stall }
+    {
         match self.blocked {
             Some(since) => now.saturating_sub(since) >= stall,
             None => false,

@@ -1,5 +1,5 @@
 //! The daemon: a loop that serves what is ready, and does what is due by the clock.
-ghost use Rattle.std.specs.Prelude.{◌≡◌, ◌≤◌, IfOk, false};
+ghost use Rattle.std.specs.Prelude.{◌≡◌, ◌≤◌, IfOk, false, map};
 ghost use Rattle.points.specs.InUse.{no_points};
 ghost use Rattle.rtr_server.specs.Clients.{Past, ShowsServer};
 ghost use Rattle.std.specs.String.{string_bytes};
@@ -502,7 +502,8 @@ fn sources_of(alloc: Global, files: usize, leaves_out: bool) -> Result<Sources, 
 }
 
 fn watched_exports(alloc: Global, paths: Vec<String>) -> Result<Vec<WatchedExport>, AllocError>
-    ensures { IfOk result (λ exports. AreNumbered exports.items) }
+    ensures numbered { IfOk result (λ exports. AreNumbered exports.items) }
+    ensures paths { IfOk result (λ exports. map (λ e. e.file.path) exports.items ≡ paths.items) }
 {
     let mut exports = Vec::new(alloc);
     for path in paths {
@@ -512,7 +513,9 @@ fn watched_exports(alloc: Global, paths: Vec<String>) -> Result<Vec<WatchedExpor
     Ok(exports)
 }
 
-fn watched_slurms(alloc: Global, paths: Vec<String>) -> Result<Vec<WatchedFile>, AllocError> {
+fn watched_slurms(alloc: Global, paths: Vec<String>) -> Result<Vec<WatchedFile>, AllocError>
+    ensures { IfOk result (λ files. map (λ f. f.path) files.items ≡ paths.items) }
+{
     let mut slurms = Vec::new(alloc);
     for path in paths {
         slurms.push(WatchedFile::new(path))?;
@@ -520,9 +523,11 @@ fn watched_slurms(alloc: Global, paths: Vec<String>) -> Result<Vec<WatchedFile>,
     Ok(slurms)
 }
 
-fn watched_points(alloc: Global, points: Vec<String>) -> Result<Vec<WatchedPoint>, AllocError> {
+fn watched_points(alloc: Global, paths: Vec<String>) -> Result<Vec<WatchedPoint>, AllocError>
+    ensures { IfOk result (λ points. map (λ p. p.path) points.items ≡ paths.items) }
+{
     let mut offered = Vec::new(alloc);
-    for path in points {
+    for path in paths {
         offered.push(WatchedPoint::new(path))?;
     }
     Ok(offered)

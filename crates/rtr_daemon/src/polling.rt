@@ -37,7 +37,9 @@ pub(crate) struct WatchedPoint {
 }
 
 impl WatchedPoint {
-    pub(crate) fn new(path: String) -> WatchedPoint {
+    pub(crate) fn new(path: String) -> WatchedPoint
+        ensures { result.path ≡ path }
+    {
         WatchedPoint {
             path,
             loaded_at: None,

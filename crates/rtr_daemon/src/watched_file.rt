@@ -46,7 +46,9 @@ pub(crate) enum Look {
 }
 
 impl WatchedFile {
-    pub(crate) fn new(path: String) -> WatchedFile {
+    pub(crate) fn new(path: String) -> WatchedFile
+        ensures { result.path ≡ path }
+    {
         WatchedFile {
             path,
             loaded: None,
@@ -161,7 +163,8 @@ pub(crate) struct WatchedExport {
 
 impl WatchedExport {
     pub(crate) fn new(path: String, number: usize) -> WatchedExport
-        ensures { result.number ≡ number }
+        ensures number { result.number ≡ number }
+        ensures path { result.file.path ≡ path }
     {
         WatchedExport {
             file: WatchedFile::new(path),
