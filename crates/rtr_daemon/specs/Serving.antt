@@ -48,7 +48,7 @@ pub record IsNewestAt (now : ℕ) (i : Instance) (s : Sources) : Type 0 where
   pub served : IsServedAt now s version.set
 
 -- This past led to the server of a service. If no version is pending, the newest version is the set of the sources at the second of the service.
--- If it says so, there are no publication points.
+-- If the service says that it has no publication points, it has none.
 pub record ShowsService {S T : Type 0} (holds : ℕ → Instance → S → Type 0) (remaining contents : T → Option (List ℕ)) (p : Past) (service : Service S T) : Type 0 where
   pub server : ShowsServer holds remaining contents p service.server
   pub newest : service.is_pending ≡ false → IsNewestAt service.current_at (present p).cache service.sources
