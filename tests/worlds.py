@@ -132,11 +132,18 @@ class Driver:
             self.routers[router].speaks = version
 
     def publish(self):
+        self.published(self.drawn())
+
+    def drawn(self):
+        """Records at random."""
         records = set()
         for prefix in self.random.sample(PREFIXES, self.random.randrange(len(PREFIXES))):
             for asn in self.random.sample(ORIGINS, self.random.choice([1, 1, 2])):
                 longest = self.random.choice([prefix.prefixlen, prefix.prefixlen + self.random.randrange(9), prefix.max_prefixlen])
                 records.add((prefix, min(longest, prefix.max_prefixlen), asn))
+        return records
+
+    def published(self, records):
         items = [f"{prefix},{longest},{asn}" for prefix, longest, asn in records]
         self.add(" ".join(["publish", *items]))
         if self.newest is not None and self.versions[self.newest][3] == records:
@@ -197,7 +204,7 @@ class Shown:
 
     def __init__(self, router, at, versions, first, end, spoken):
         self.router, self.at, self.versions, self.first, self.end, self.spoken = router, at, versions, first, end, spoken
-        self.must_hold, self.records = router.now <= router.held_until, set()
+        self.must_hold, self.records, self.place = router.now <= router.held_until, set(), None
 
     def __call__(self, text):
         if text == f"{self.at} empty":
@@ -206,14 +213,13 @@ class Shown:
             session, session0, serial, records = self.versions[place]
             names = [f"v0 {session0}", f"{session}"]
             if text in [f"{self.at} {names[it]} {serial} {len(records)}" for it in self.spoken]:
-                self.router.shown, self.records = place, records
+                self.router.shown, self.records, self.place = place, records, place
                 return True
         return False
 
 
-def played(program, seed, events):
+def played(program, driver):
     """Plays one script. Returns how many lines it had, or what was wrong."""
-    driver = Driver(seed, events)
     script = driver.make()
     ran = subprocess.run([program, "world", "/dev/stdin"], input=script, stdout=subprocess.PIPE, stderr=subprocess.PIPE, text=True, timeout=120)
     told = ran.stdout.splitlines()
@@ -233,7 +239,7 @@ def main():
     given = words.parse_args()
     seed, lines, end = given.seed, 0, time.time() + given.seconds
     while time.time() < end:
-        more, wrong = played(given.program, seed, given.events)
+        more, wrong = played(given.program, Driver(seed, given.events))
         if wrong:
             print(f"seed {seed}, {given.events} events: {wrong}")
             return 1
