@@ -72,6 +72,39 @@ def sources(given):
         expect("other exceptions", router.catch_up(), kept | set(FIRST))
 
 
+@part
+def same_size(given):
+    """A file is loaded again though it has as many bytes as before: if it is written in place, if another of the same modification time
+    replaces it, and if it is written in place and given its old modification time."""
+    def text(asn):
+        return text_of([("192.0.2.0/24", 24, asn)])
+
+    def write(asn):
+        with open("list.json", "r+", encoding="utf-8") as it:
+            it.write(text(asn))
+
+    def write_back_in_time(asn):
+        before = os.stat("list.json")
+        write(asn)
+        os.utime("list.json", ns=(before.st_atime_ns, before.st_mtime_ns))
+
+    def replace(asn):
+        before = os.stat("list.json")
+        put("other.json", text(asn))
+        os.utime("other.json", ns=(before.st_atime_ns, before.st_mtime_ns))
+        os.replace("other.json", "list.json")
+
+    put("list.json", text(64496))
+    with running(given.program, "--vrps", "list.json", "--listen", "127.0.0.1:0", "--check", "1") as daemon:
+        router = Router(daemon.listens())
+        router.catch_up()
+        for asn, change in ((64497, write), (64498, replace), (64499, write_back_in_time)):
+            change(asn)
+            daemon.wait("published", announced=1, withdrawn=1)
+            router.wait_notify()
+            expect("a file of the same size", router.catch_up(), {("192.0.2.0/24", 24, asn)})
+
+
 def exceptions(*, asserted=(), filtered=(), keys=()):
     """A SLURM file with these assertions (prefix and AS), filters of prefixes, and BGPsec filters of ASes."""
     return json.dumps({
