@@ -1,15 +1,17 @@
 #!/usr/bin/env python3
 """The example of a router client that stays, over TCP: it follows a daemon whose file changes, that restarts, and that is away.
 
-usage: tests/router_over_tcp.py CLIENT RPKIRTRD [SHIM]
+usage: tests/router_over_tcp.py CLIENT RPKIRTRD [SHIM] [--changes N]
 
 The parts run one after another, each in a folder of its own with its own port. A part waits for lines of the client, never for a time. A
 cache in Python speaks version 0 alone. StayRTR is a cache too, if it is installed. SHIM is what tests/hurrying.c was compiled to: data
-then expire, by a clock that runs fast. The last line says how many parts passed and failed; the exit status is 0 if none failed."""
+then expire, by a clock that runs fast. N is how many changes of each cache are followed (6 unless said otherwise). The last line says how many parts passed and failed; the exit status is 0 if none failed."""
+import argparse
 import contextlib
 import json
 import os
 import queue
+import random
 import re
 import shutil
 import socket
@@ -27,6 +29,9 @@ from rtr import END, HEADER, cache_response, error_report, pdu, prefix_pdu
 # Seconds of the daemon: it looks at its files each second, and a router tries again after one.
 TIMES = ("--check", "1", "--retry", "1", "--refresh", "2")
 UNSUPPORTED_VERSION = 4
+
+# Records of which each change draws some.
+POOL = [(f"10.{place}.0.0/16", 16 + place % 9, 64496 + place) for place in range(50)]
 
 
 def lines_of(sign, records):
@@ -175,11 +180,16 @@ def exported(records):
     return json.dumps({"metadata": {}, "roas": [entry_of(*it) for it in records]})
 
 
+def stayrtr_words(port):
+    """The command line of StayRTR, whose export has three records at first."""
+    words = ["-cache", put_export(FIRST), "-bind", f"127.0.0.1:{port}", "-metrics.addr", "", "-refresh", "1", "-checktime=false"]
+    return [*words, "-rtr.retry", "1", "-rtr.refresh", "2"]
+
+
 def stayrtr(client, *_):
     """StayRTR, whose file changes, and which restarts with another session."""
     port = free_port()
-    words = ["-cache", put_export(FIRST), "-bind", f"127.0.0.1:{port}", "-metrics.addr", "", "-refresh", "1", "-checktime=false"]
-    words += ["-rtr.retry", "1", "-rtr.refresh", "2"]
+    words = stayrtr_words(port)
     with client_of(client, port) as it:
         with running("stayrtr", *words):
             it.until(r"serial \d+ session \d+ records 3")
@@ -198,6 +208,40 @@ def put_export(records):
     return os.path.abspath("export.json")
 
 
+def put_list(records):
+    put("list.json", text_of(records))
+
+
+def follow(it, put_records, draw, count):
+    """Random changes of a cache, one after the other, each of which the client commits."""
+    records = None
+    for _ in range(count):
+        drawn = draw.sample(POOL, draw.randrange(1, len(POOL)))
+        if records is None or set(drawn) != set(records):
+            records = drawn
+            put_records(records)
+            it.commit(records)
+
+
+def many_changes(client, rpkirtrd, _, count):
+    """Random changes of the daemon's list, with a restart under another session halfway."""
+    port, draw = free_port(), random.Random(1)
+    with client_of(client, port) as it:
+        for session in (4660, 4661):
+            with daemon_at(rpkirtrd, port, session):
+                follow(it, put_list, draw, count // 2)
+                expect("the session", it.session, session)
+
+
+def many_changes_of_stayrtr(client, _, __, count):
+    """Random changes of StayRTR's file, with a restart halfway."""
+    port, draw = free_port(), random.Random(2)
+    with client_of(client, port) as it:
+        for _ in range(2):
+            with running("stayrtr", *stayrtr_words(port)):
+                follow(it, put_export, draw, count // 2)
+
+
 def play(part, words):
     """Runs a part in a folder of its own, and returns whether it failed."""
     with playing(part.__name__):
@@ -205,15 +249,21 @@ def play(part, words):
     return bool(checks.failures)
 
 
-def main(words):
-    client, rpkirtrd, shim = [os.path.abspath(it) for it in words] + [None] * (3 - len(words))
-    parts = [changes, restarts, version_0, *([expiry] if shim else []), *([stayrtr] if shutil.which("stayrtr") else [])]
-    failed = sum(play(part, (client, rpkirtrd, shim)) for part in parts)
-    print(f"{len(parts) - failed} passed, {failed} failed")
+def main():
+    words = argparse.ArgumentParser(description="A router client that stays, over TCP.")
+    words.add_argument("client")
+    words.add_argument("rpkirtrd")
+    words.add_argument("shim", nargs="?")
+    words.add_argument("--changes", type=int, default=6)
+    given = words.parse_args()
+    programs = [it and os.path.abspath(it) for it in (given.client, given.rpkirtrd, given.shim)]
+    has_stayrtr = shutil.which("stayrtr")
+    parts = [changes, restarts, version_0, *([expiry] if given.shim else []), *([stayrtr] if has_stayrtr else [])]
+    longer = [many_changes, *([many_changes_of_stayrtr] if has_stayrtr else [])]
+    failed = sum(play(part, programs) for part in parts) + sum(play(part, [*programs, given.changes]) for part in longer)
+    print(f"{len(parts) + len(longer) - failed} passed, {failed} failed")
     return failed > 0
 
 
 if __name__ == "__main__":
-    if len(sys.argv) not in (3, 4):
-        sys.exit(__doc__)
-    sys.exit(main(sys.argv[1:]))
+    sys.exit(main())
