@@ -175,11 +175,28 @@ impl<'a> Cursor<'a> {
         Ok(moment)
     }
 
+    /// A cursor over the content of the element of this tag here: its members, if the tag is that of a constructed element (X.690 section
+    /// 8.1). The content is not judged: [`remaining`](Cursor::remaining) lends its bytes.
+    pub fn tagged(&mut self, tag: u8) -> Result<Cursor<'a>, DerFault>
+        ensures { GivesElement (λ c. c) result self.old self.new (element_at tag self.old) }
+    {
+        let (content, behind) = self.element(tag)?;
+        *self = behind;
+        Ok(content)
+    }
+
     /// The byte here, which is the tag of the next element; `None` at the end of the enclosing one.
     pub fn peek_tag(&self) -> Option<u8>
         ensures { result ≡ slice_get self.now.rest 0 }
     {
         self.rest.first().copied()
+    }
+
+    /// The bytes of the enclosing element from here to its end.
+    pub fn remaining(&self) -> &'a [u8]
+        ensures { result.now ≡ self.now.rest }
+    {
+        self.rest
     }
 
     /// Whether the enclosing element ends here.

@@ -167,6 +167,14 @@ impl DerWriter {
         self.element(tag::GENERALIZED_TIME, &moment.text(), &[])
     }
 
+    /// Writes an element of this tag, which is one byte (X.690 section 8.1.2.2), and this content.
+    pub fn tagged(&mut self, tag: u8, content: &[u8]) -> Result<(), AllocError>
+        requires { length content.now < 2 ^ 32 }
+        ensures { Adds result tag content.now self.old self.new }
+    {
+        self.element(tag, &[], content)
+    }
+
     /// What was written.
     pub fn as_slice(&self) -> &[u8]
         ensures { result.now ≡ self.now }
