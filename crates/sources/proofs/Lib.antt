@@ -1,4 +1,5 @@
 pub mod Together
 pub mod Counts
 pub mod Stays
+pub mod Until
 pub mod Files

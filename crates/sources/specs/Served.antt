@@ -1,5 +1,5 @@
 -- What is served: what all sources have together, with local exceptions.
-use Rattle.std.specs.Prelude.{◌≡◌, ◌⊎◌, ◌<◌, ◌≤◌, ℕ, nat_lt, length, take, count_by, filter, slice_set, Bool, true, false, not, ◌&&◌, ◌||◌, ◌==◌, List, [], ◌∷◌, Option, Some, None, Result, Ok, Err, ⊤}
+use Rattle.std.specs.Prelude.{◌≡◌, ◌⊎◌, ◌<◌, ◌≤◌, ℕ, ◌+◌, ◌^◌, cond, nat_lt, length, take, count_by, filter, slice_set, Bool, true, false, not, ◌&&◌, ◌||◌, ◌==◌, List, [], ◌∷◌, Option, Some, None, Result, Ok, Err, ⊤}
 use Rattle.std.specs.List.{All, list_any, slice_get}
 use Rattle.der_lite.specs.Moments.{CivilMoment}
 use Rattle.der_lite.specs.Seconds.{seconds_of}
@@ -21,6 +21,8 @@ use Rattle.sources.specs.declared.fault.SlurmSetFault.{SlurmSetFault}
 use Rattle.sources.specs.declared.fault.SlurmSetFault.TheVariants.{File, Unite}
 use Rattle.sources.specs.declared.fault.TakeFault.{TakeFault}
 use Rattle.sources.specs.declared.fault.TakeFault.TheVariants.{NoSuchFile, Export}
+use Rattle.sources.specs.declared.fault.TakeSetFault.{TakeSetFault}
+use Rattle.sources.specs.declared.fault.TakeSetFault.TheVariants as set
 use Rattle.sources.specs.declared.listed.Listed.{Listed}
 use Rattle.sources.specs.declared.sources.Sources.{Sources}
 
@@ -173,14 +175,45 @@ abbrev pub built_at : Option Listed → Option ℕ
 built_at None = None
 built_at (Some l) = l.built
 
+-- A second is before the end. Without an end each second is.
+abbrev pub is_before_end : Option ℕ → ℕ → Bool
+is_before_end None at = true
+is_before_end (Some end) at = nat_lt at end
+
+-- At each second before the end the whole set counts, and none of it at the end or later (RFC 8210 section 6). What counted at the first
+-- second and does not count any more has expired.
+pub record CountsUntil (set : VrpSet) (end : Option ℕ) (l : Listed) : Type 0 where
+  pub counts : (at : ℕ) → at < 2 ^ 64 → counting_at at l ≡ cond (is_before_end end at) set empty
+  pub expired : (at : ℕ) → at < 2 ^ 64 → size (counting_at at l) + expired_of at (Some l) ≡ size (counting_at 0 l)
+  pub built_is : l.built ≡ None
+
+-- A list is replaced by a set as a whole, or nothing changes.
+abbrev pub TakesSet : VrpSet → Option ℕ → ℕ → Result (Unit {0}) TakeSetFault → List Listed → List Listed → Type 0
+TakesSet s end i (Ok u) old new = (i < length old) × ((l : Listed) × CountsUntil s end l × (new ≡ slice_set old i l))
+TakesSet s end i (Err set.NoSuchList) old new = (length old ≤ i) × (new ≡ old)
+TakesSet s end i (Err set.Memory) old new = (i < length old) × (new ≡ old)
+
+-- A list is emptied, if there is one of this number.
+abbrev pub DropsSet : ℕ → Bool → List Listed → List Listed → Type 0
+DropsSet i true old new = (i < length old) × ((l : Listed) × IsNothing l × (new ≡ slice_set old i l))
+DropsSet i false old new = (length old ≤ i) × (new ≡ old)
+
 -- what these sources have at a moment
 abbrev pub ServesAt : Sources → CivilMoment → VrpSet → Type 0
 ServesAt s now t = IsServed s.repository s.lists.items s.exceptions s.leaves_out now t
 
--- What the sources keep of an export, and of local exceptions
+-- What the sources keep of an export, of a set, and of local exceptions
 abbrev pub ExportTaken : List ℕ → ℕ → ℕ → Result ℕ TakeFault → Sources → Sources → Type 0
 ExportTaken bytes now i result old new =
     TakesExport bytes now i result old.lists.items new.lists.items × (new.exceptions ≡ old.exceptions) × (new.repository ≡ old.repository) × (new.leaves_out ≡ old.leaves_out)
+
+abbrev pub SetTaken : VrpSet → Option ℕ → ℕ → Result (Unit {0}) TakeSetFault → Sources → Sources → Type 0
+SetTaken s end i result old new =
+    TakesSet s end i result old.lists.items new.lists.items × (new.exceptions ≡ old.exceptions) × (new.repository ≡ old.repository) × (new.leaves_out ≡ old.leaves_out)
+
+abbrev pub SetDropped : ℕ → Bool → Sources → Sources → Type 0
+SetDropped i result old new =
+    DropsSet i result old.lists.items new.lists.items × (new.exceptions ≡ old.exceptions) × (new.repository ≡ old.repository) × (new.leaves_out ≡ old.leaves_out)
 
 abbrev pub SlurmTaken : List ℕ → Result (Unit {0}) SlurmFault → Sources → Sources → Type 0
 SlurmTaken bytes result old new =

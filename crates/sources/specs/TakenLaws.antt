@@ -1,13 +1,13 @@
 -- What is kept of a file says what it exports at later moments too.
 use Rattle.std.specs.Prelude.{◌≡◌, ◌↔◌, ℕ, ◌+◌, ◌^◌, ◌<◌, ◌≤◌, List, [], ◌∷◌, Option, Some, Ok, Err}
-use Rattle.vrps.specs.VrpSet.{size}
+use Rattle.vrps.specs.VrpSet.{empty, size}
 use Rattle.exports.specs.Export.{IsExport}
 use Rattle.exports.specs.declared.export.Export.{Export}
 use Rattle.slurm.specs.declared.fault.SlurmFault.{SlurmFault}
 use Rattle.slurm.specs.declared.filter.Slurm.{Slurm}
 use Rattle.slurm.specs.declared.unite_fault.UniteFault.{UniteFault}
 use Rattle.slurm.specs.declared.unite_fault.UniteFault.TheVariants as unite
-use Rattle.sources.specs.Served.{IsTaken, TakesSlurm, TakesSlurms, counting_at, expired_of}
+use Rattle.sources.specs.Served.{IsNothing, IsTaken, TakesSlurm, TakesSlurms, counting_at, expired_of}
 use Rattle.sources.specs.declared.fault.SlurmSetFault.TheVariants.{File, Unite}
 use Rattle.sources.specs.declared.listed.Listed.{Listed}
 
@@ -22,6 +22,10 @@ abbrev pub CountsExpired : Type 0
 CountsExpired =
     (bytes : List ℕ) (now expired : ℕ) (l : Listed) → IsTaken bytes now expired l → (at : ℕ) → at < 2 ^ 64
     → size (counting_at at l) + expired_of at (Some l) ≡ size l.set
+
+-- Of a list that has nothing no payload counts at any second, and none has expired.
+abbrev pub NothingCounts : Type 0
+NothingCounts = (l : Listed) → IsNothing l → (at : ℕ) → (counting_at at l ≡ empty) × (expired_of at (Some l) ≡ 0)
 
 -- One file is read alike by `TakesSlurm`, and by `TakesSlurms` as the only one.
 abbrev pub OneSlurm : Type 0

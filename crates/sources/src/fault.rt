@@ -1,8 +1,9 @@
-//! Why the export of a file, or files of local exceptions, are refused.
+//! Why the export of a file, a set, or files of local exceptions are refused.
 ghost use Rattle.std.specs.Prelude.{◌≡◌};
 
 use exports::ExportFault;
 use slurm::{SlurmFault, UniteFault};
+use std::alloc::AllocError;
 use thiserror::Error;
 
 /// Why the export of a file is refused.
@@ -23,6 +24,27 @@ impl From<ExportFault> for TakeFault {
 
     fn from(fault: ExportFault) -> TakeFault {
         TakeFault::Export(fault)
+    }
+}
+
+/// Why a set is not taken.
+#[derive(Clone, Copy, Debug, PartialEq, Eq, Error)]
+pub enum TakeSetFault {
+    /// No list has this number, counted from 0.
+    #[error("no list has this number")]
+    NoSuchList,
+    /// Out of memory.
+    #[error("out of memory")]
+    Memory,
+}
+
+impl From<AllocError> for TakeSetFault {
+    ghost use Rattle.sources.specs.declared.fault.TakeSetFault.TheVariants.{Memory};
+
+    ghost from_gives = { λ _ e. e ≡ Memory };
+
+    fn from(_error: AllocError) -> TakeSetFault {
+        TakeSetFault::Memory
     }
 }
 

@@ -1,5 +1,5 @@
 //! Laws of sources. The functions do nothing: each states a law, which is proved.
-ghost use Rattle.sources.specs.TakenLaws.{CountsExpired, OneSlurm, StaysTaken};
+ghost use Rattle.sources.specs.TakenLaws.{CountsExpired, NothingCounts, OneSlurm, StaysTaken};
 
 use exports::laws::later_exports;
 
@@ -13,6 +13,11 @@ pub fn stays_taken()
 /// At each second a record of a file counts or is among those that `expired` counts.
 pub fn counts_expired()
     ensures { CountsExpired }
+{}
+
+/// Nothing counts of a list that has nothing, and nothing of it has expired.
+pub fn nothing_counts()
+    ensures { NothingCounts }
 {}
 
 /// One file of local exceptions gives the same by itself, and as the only one of several.

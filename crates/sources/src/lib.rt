@@ -1,5 +1,5 @@
-//! The sources of what a cache serves: exports of validators, publication points, and local exceptions. [`Sources`] keeps the
-//! last good content of each, and makes one set of them.
+//! The sources of what a cache serves: exports of validators, sets of other caches, publication points, and local exceptions. [`Sources`]
+//! keeps the last good content of each, and makes one set of them.
 //!
 //! For example, where `rt` is the runtime that `main` is handed:
 //!
@@ -23,6 +23,6 @@ mod listed;
 mod slurms;
 mod sources;
 
-pub use fault::{SlurmSetFault, TakeFault};
+pub use fault::{SlurmSetFault, TakeFault, TakeSetFault};
 pub use listed::Listed;
 pub use sources::{ServedSet, Sources};

@@ -1,15 +1,15 @@
-//! The export of a file, as it was read last.
-ghost use Rattle.std.specs.Prelude.{◌≡◌, ◌<◌, ◌++◌, ◌∷◌, [], cond, nat_le, IfOk, IsErrOf, OnOk, Some};
+//! What one source says: the export of a file as it was read last, or the set of another cache.
+ghost use Rattle.std.specs.Prelude.{◌≡◌, ◌<◌, ◌++◌, ◌∷◌, [], cond, nat_le, IfOk, IsErrOf, None, OnOk, Some, replicate};
 ghost use Rattle.vrps.specs.VrpSet.{size};
 ghost use Rattle.exports.specs.Lasting.{counting, last_at};
-ghost use Rattle.sources.specs.Served.{IsNothing, counting_at, expired_of, is_any_before};
+ghost use Rattle.sources.specs.Served.{CountsUntil, IsNothing, counting_at, expired_of, is_any_before};
 
 use prefixes::Vrp;
 use std::alloc::{AllocError, Global};
 use vrps::{SetFault, VrpSet};
 
-/// The export of a file as it was read last: the records that counted then, and how long each of them counts. Moments are in seconds since
-/// 1970.
+/// The export of a file as it was read last, or the set of another cache: the records that counted then, and how long each of them counts.
+/// Moments are in seconds since 1970.
 #[derive(Debug, Drop)]
 pub struct Listed {
     /// The records.
@@ -30,6 +30,36 @@ impl Listed {
             lasts: Vec::new(alloc),
             built: None,
         }
+    }
+
+    /// A set whose records all count at each second before a moment, and at none from then on. Without a moment they count at each second.
+    pub(crate) fn until(
+        alloc: Global,
+        set: &VrpSet,
+        until: Option<u64>,
+    ) -> Result<Listed, AllocError>
+        ensures { IfOk result (CountsUntil set.now until) }
+    {
+        let Some(end) = until else {
+            return Listed::to_one_second(alloc, set, u64::MAX);
+        };
+        if end == 0 {
+            return Ok(Listed::empty(alloc));
+        }
+        Listed::to_one_second(alloc, set, end - 1)
+    }
+
+    /// A set whose records all have the same last second.
+    fn to_one_second(alloc: Global, set: &VrpSet, last: u64) -> Result<Listed, AllocError>
+        ensures set { IfOk result (λ l. (l.set ≡ set.now) × (l.built ≡ None)) }
+        ensures lasts { IfOk result (λ l. l.lasts.items ≡ replicate (size set.now) last) }
+    {
+        let lasts = vec![in alloc; last; set.len()]?;
+        Ok(Listed {
+            set: set.duplicate()?,
+            lasts,
+            built: None,
+        })
     }
 
     /// How many records have expired at this moment.

@@ -4,9 +4,9 @@ ghost use Rattle.vrps.specs.VrpSet.{empty, size, union};
 ghost use Rattle.points.specs.Answers.{told_by, NewExactly, BecomesAt};
 ghost use Rattle.points.specs.InUse.{accepted_at, no_points};
 ghost use Rattle.points.specs.Offers.{Acceptable, Judged};
-ghost use Rattle.sources.specs.Served.{HasServed, IsServed, LeavesOut, NoneTaken, PassesLimit, TakesExport, TakesSlurm, TakesSlurms, built_at, excepted_by, expired_of, has_length_0, left_out_of, narrowed, with_lists};
+ghost use Rattle.sources.specs.Served.{HasServed, IsServed, DropsSet, LeavesOut, NoneTaken, PassesLimit, TakesExport, TakesSet, TakesSlurm, TakesSlurms, built_at, excepted_by, expired_of, has_length_0, left_out_of, narrowed, with_lists};
 
-use crate::fault::{SlurmSetFault, TakeFault};
+use crate::fault::{SlurmSetFault, TakeFault, TakeSetFault};
 use crate::listed::Listed;
 use crate::slurms::read_united;
 use der_lite::Moment;
@@ -103,6 +103,39 @@ impl Sources {
         let (list, expired) = listed_of(read);
         self.lists[file] = list;
         Ok(expired)
+    }
+
+    /// Replaces the list of this number, counted from 0, by a set of another cache. Its records count at each second before `until`, in seconds
+    /// since 1970, and none of them counts at `until` or later, as a router's records end with the Expire Interval (RFC 8210 section 6). Without
+    /// `until` they count until the list is replaced or dropped. If there is no such list, or memory runs out, nothing changes.
+    pub fn take_set(
+        &mut self,
+        list: usize,
+        set: &VrpSet,
+        until: Option<u64>,
+    ) -> Result<(), TakeSetFault>
+        ensures lists { TakesSet set.now until list result self.old.lists.items self.new.lists.items }
+        ensures rest { (self.new.exceptions ≡ self.old.exceptions) × (self.new.repository ≡ self.old.repository) × (self.new.leaves_out ≡ self.old.leaves_out) }
+    {
+        if list >= self.lists.len() {
+            return Err(TakeSetFault::NoSuchList);
+        }
+        let listed = Listed::until(self.alloc, set, until)?;
+        self.lists[list] = listed;
+        Ok(())
+    }
+
+    /// Empties the list of this number, counted from 0: no record of it counts at any second. It tells whether there is such a list; if there is
+    /// none, nothing changes. It allocates nothing.
+    pub fn drop_set(&mut self, list: usize) -> bool
+        ensures lists { DropsSet list result self.old.lists.items self.new.lists.items }
+        ensures rest { (self.new.exceptions ≡ self.old.exceptions) × (self.new.repository ≡ self.old.repository) × (self.new.leaves_out ≡ self.old.leaves_out) }
+    {
+        if list >= self.lists.len() {
+            return false;
+        }
+        self.lists[list] = Listed::empty(self.alloc);
+        true
     }
 
     /// Replaces the local exceptions. If the bytes are no SLURM file, nothing changes.
