@@ -1,8 +1,9 @@
-//! What sources serve of files whose records expire, and with several files of local exceptions.
+//! What sources serve of files whose records expire, of sets that end, and with several files of local exceptions.
 use crate::slurm_files::file;
 use der_lite::Moment;
+use example_values::sets::set_of;
 use slurm::{SlurmFault, UniteFault};
-use sources::{SlurmSetFault, Sources, TakeFault};
+use sources::{SlurmSetFault, Sources, TakeFault, TakeSetFault};
 use std::alloc::Global;
 use std::test::Fail;
 
@@ -50,6 +51,33 @@ fn another_file_keeps_its_record(rt: HostRuntime) -> Result<(), Fail> {
     assert!(rt; served(&sources, "20231114221322Z")? == 2);
     assert!(rt; sources.expired(1, NOW + 2) == 0);
     assert!(rt; sources.expired(2, NOW + 2) == 0);
+    Ok(())
+}
+
+#[test]
+fn a_set_counts_until_its_end(rt: HostRuntime) -> Result<(), Fail> {
+    let set = set_of(rt.alloc(), &[("10.0.0.0/8", 8, 1), ("11.0.0.0/8", 8, 1)])?;
+    let mut sources = Sources::new(rt.alloc(), 2)?;
+    sources.take_export(0, TWO.as_bytes(), NOW)?;
+    sources.take_set(1, &set, Some(NOW + 2))?;
+    assert!(rt; served(&sources, "20231114221321Z")? == 3);
+    assert!(rt; sources.expired(1, NOW + 1) == 0);
+    assert!(rt; served(&sources, "20231114221322Z")? == 1);
+    assert!(rt; sources.expired(1, NOW + 2) == 2);
+    Ok(())
+}
+
+#[test]
+fn a_set_without_an_end_counts_until_it_is_dropped(rt: HostRuntime) -> Result<(), Fail> {
+    let set = set_of(rt.alloc(), &[("10.0.0.0/8", 8, 1), ("11.0.0.0/8", 8, 1)])?;
+    let mut sources = Sources::new(rt.alloc(), 1)?;
+    sources.take_set(0, &set, None)?;
+    assert!(rt; served(&sources, "99991231235959Z")? == 2);
+    assert!(rt; sources.take_set(1, &set, None) == Err(TakeSetFault::NoSuchList));
+    assert!(rt; !sources.drop_set(1));
+    assert!(rt; served(&sources, "99991231235959Z")? == 2);
+    assert!(rt; sources.drop_set(0));
+    assert!(rt; served(&sources, "99991231235959Z")? == 0);
     Ok(())
 }
 
