@@ -1,5 +1,5 @@
 -- Bytes of PDUs are counted as these PDUs.
-use Rattle.std.specs.Prelude.{◌≡◌, ◌⊎◌, ℕ, ◌+◌, ◌<◌, ◌≤◌, ◌^◌, ◌==◌, Bool, true, false, List, [], ◌∷◌, ◌++◌, drop, length, max, take, slice_index, slice_set, Option, Some, None, if◌then◌else◌, refl}
+use Rattle.std.specs.Prelude.{◌≡◌, ◌⊎◌, ℕ, ◌+◌, ◌<◌, ◌≤◌, ◌^◌, ◌==◌, ◌&&◌, Bool, true, false, List, [], ◌∷◌, ◌++◌, drop, length, max, take, slice_index, slice_set, Option, Some, None, if◌then◌else◌, refl}
 use Rattle.std.proofs.Common.{zero, suc, sym, ap, ◌∙◌, subst, arith, append_assoc, inl, inr}
 use Rattle.std.proofs.lemmas.Bool.Decides.{nat_tests}
 use Rattle.std.proofs.lemmas.List.{append-nil, drop_all, length-append, length-drop, length-set, take_all}
@@ -8,7 +8,8 @@ use Rattle.prefixes.proofs.Basics.{eq_of, not_eq_of}
 use Rattle.prefixes.specs.declared.prefix.IpPrefix.TheVariants.{V4, V6}
 use Rattle.vrps.specs.declared.serial.Serial.{Serial}
 use Rattle.rtr_pdu.specs.Kind.{type_number}
-use Rattle.rtr_pdu.specs.Stream.{AreRead, IsPartial, IsReport, header_fault, length_of, type_of}
+use Rattle.rtr_pdu.specs.Stream.{AreRead, IsPartial, IsReport, any_after, as_read, header_fault, is_notify, is_notify_header, length_of, type_of}
+use Rattle.rtr_pdu.specs.Version.{version_number}
 use Rattle.rtr_pdu.proofs.BodyLaws.{header_most}
 use Rattle.rtr_pdu.specs.Unit.{Ignored, IsUnit, Reads, fits, prefix_bytes, spelled}
 use Rattle.rtr_pdu.specs.declared.kind.Kind.{Kind}
@@ -24,8 +25,8 @@ use Rattle.rtr_pdu.specs.Judging.{unit_in}
 use Rattle.rtr_pdu.specs.Payloads.{Report}
 use Rattle.rtr_pdu.specs.Reading.{number_at}
 use Rattle.rtr_server.specs.Reports.{Said, said_in}
-use Rattle.rtr_server.specs.Counting.{Counted, CountsReports, CountsUnits, IsBetween, and_pdu, and_whole, capped, count_of, counted, counted_on, end_serial, kind_of, kind_of_prefix, last_report, last_serial, none_counted, report_after, report_of, serial_after, text_in, told_len, units_of}
-use Rattle.rtr_server.proofs.CountingLaws.{coming, counted_both, not_yet, one_more, said_is, tail_of, text_is, whole_counts}
+use Rattle.rtr_server.specs.Counting.{Counted, CountsReports, CountsSplits, CountsUnits, IsBetween, and_pdu, and_whole, capped, count_of, counted, counted_on, end_serial, kind_of, kind_of_prefix, last_report, last_serial, none_counted, report_after, report_of, serial_after, text_in, told_len, units_of}
+use Rattle.rtr_server.proofs.CountingLaws.{coming, counted_both, no_report, not_yet, one_more, said_is, tail_of, text_is, whole_counts}
 
 -- The bytes of a PDU show its type,
 type_is : (version : Version) (u : Unit) (z : Ignored) (rest : List ℕ) → type_of (spelled version u z ++ rest) ≡ type_number (kind_of u)
@@ -237,11 +238,28 @@ units_count version (u ∷ units) front rest c read h =
     ∙ unit_counts version u read.0 (read.1 ++ rest) c r h (unit_low version u read.0 r)
     ∙ units_count version units read.1 rest (and_unit u c) read.4 (record { no_front = refl; no_tail = refl; none_came = refl })
 
-rest_counts : (version : Version) (rest : List ℕ) (c : Counted) → IsPartial version rest → IsBetween c → counted_on c rest ≡ coming rest c
-rest_counts version rest c p h =
-    let most = partial_most version rest (subst (IsPartial version) (sym (strict version rest)) p) in
+rest_so : (rest : List ℕ) (c : Counted) → (length rest < 8) ⊎ (length rest < length_of rest) → length rest < 2 ^ 64 → IsBetween c → counted_on c rest ≡ coming rest c
+rest_so rest c short low h =
     let start : List ℕ → List ℕ → ℕ → Counted = λ front tail came. record c { front = front; tail = tail; came = came } in
-    (λ i. counted_on (start (h.no_front i) (h.no_tail i) (h.none_came i)) rest) ∙ coming_on [] rest c (below (length_of rest) (length rest) p.1) (omega (arith, most))
+    (λ i. counted_on (start (h.no_front i) (h.no_tail i) (h.none_came i)) rest) ∙ coming_on [] rest c (below (length_of rest) (length rest) short) low
+
+partial_low : (version : Version) (rest : List ℕ) → IsPartial version rest → length rest < 2 ^ 64
+partial_low version rest p = let most = partial_most version rest (subst (IsPartial version) (sym (strict version rest)) p) in omega (arith, most)
+
+rest_counts : (version : Version) (rest : List ℕ) (c : Counted) → IsPartial version rest → IsBetween c → counted_on c rest ≡ coming rest c
+rest_counts version rest c p h = rest_so rest c p.1 (partial_low version rest p) h
+
+none_of_type : (kind : Kind) → count_of none_counted.pdus kind ≡ capped 0
+none_of_type kinds.SerialNotify = refl
+none_of_type kinds.SerialQuery = refl
+none_of_type kinds.ResetQuery = refl
+none_of_type kinds.CacheResponse = refl
+none_of_type kinds.Ipv4Prefix = refl
+none_of_type kinds.Ipv6Prefix = refl
+none_of_type kinds.EndOfData = refl
+none_of_type kinds.CacheReset = refl
+none_of_type kinds.RouterKey = refl
+none_of_type kinds.ErrorReport = refl
 
 pub counts_units : CountsUnits
 counts_units version units front rest read partial =
@@ -251,18 +269,71 @@ counts_units version units front rest read partial =
       ap (λ (c : Counted). c.serial) both ∙ serial_after_units units none_counted,
       ap (λ (c : Counted). c.report) both ∙ report_after_units units none_counted,
     )
+
+-- ---- a Serial Notify of any version, before a router has agreed on one
+
+both_true : (p q : Bool) → (p && q) ≡ true → (p ≡ true) × (q ≡ true)
+both_true true q h = (refl, h)
+both_true false q h = absurd (let no : false ≡ true = h in cc)
+
+-- The version of a PDU that is no Error Report is not counted.
+other_version : (x y a k : ℕ) (g : List ℕ) (c : Counted) → IsBetween c → a ≡ 0 → length_of (y ∷ a ∷ g) ≡ suc k → 8 ≤ suc k → suc k ≤ length (y ∷ a ∷ g) → suc k < 2 ^ 64
+    → counted_on c (x ∷ a ∷ g) ≡ counted_on c (y ∷ a ∷ g)
+other_version x y a k g c between type told eight within low = as_one x ∙ sym (as_one y)
   where
-    none_of_type : (kind : Kind) → count_of none_counted.pdus kind ≡ capped 0
-    none_of_type kinds.SerialNotify = refl
-    none_of_type kinds.SerialQuery = refl
-    none_of_type kinds.ResetQuery = refl
-    none_of_type kinds.CacheResponse = refl
-    none_of_type kinds.Ipv4Prefix = refl
-    none_of_type kinds.Ipv6Prefix = refl
-    none_of_type kinds.EndOfData = refl
-    none_of_type kinds.CacheReset = refl
-    none_of_type kinds.RouterKey = refl
-    none_of_type kinds.ErrorReport = refl
+    other : ¬ (a ≡ 10)
+    other ten = absurd (omega (arith, type, ten))
+
+    as_one : (z : ℕ) → counted_on c (z ∷ a ∷ g) ≡ counted_on (and_whole (y ∷ a ∷ g) [] (suc k) c) (drop k (a ∷ g))
+    as_one z =
+        whole_counts c (z ∷ a ∷ g) (suc k) between (eight_most (length_of (z ∷ a ∷ g)) (suc k) told eight) within low
+        ∙ ap (λ now. counted_on now (drop k (a ∷ g))) (no_report (z ∷ a ∷ g) (tail_of (take (suc k) (z ∷ a ∷ g))) (suc k) c other)
+
+notify_counts : (version : Version) (u : Unit) (front rest : List ℕ) (c : Counted) → is_notify_header front ≡ true → Reads version u (version_number version ∷ drop 1 front) → IsBetween c → counted_on c (front ++ rest) ≡ counted_on (and_unit u c) rest
+notify_counts version u [] rest c h r between = absurd (let no : false ≡ true = h in cc)
+notify_counts version u (x ∷ []) rest c h r between = absurd (let no : false ≡ true = h in cc)
+notify_counts version u (x ∷ a ∷ f) rest c h r between =
+    let y = version_number version in
+    let low = unit_low version u (y ∷ a ∷ f) r in
+    let o = opens version u r.ignored rest r.fits r.of_version in
+    let long = ap (λ z. length z) r.bytes_are in
+    let l = length-append f rest in
+    let eight : 8 ≤ length (y ∷ a ∷ f) = omega (arith, long, o.eight) in
+    let within : length (y ∷ a ∷ f) ≤ length (y ∷ a ∷ (f ++ rest)) = omega (arith, l) in
+    let type = eq_of a 0 (both_true _ _ (both_true _ _ h).1).0 in
+    other_version x y a (length (a ∷ f)) (f ++ rest) c between type (ap (λ z. length_of (z ++ rest)) r.bytes_are ∙ o.len ∙ sym long) eight within low
+    ∙ unit_counts version u (y ∷ a ∷ f) rest c r between low
+
+any_unit_counts : (version : Version) (any : Bool) (u : Unit) (front rest : List ℕ) (c : Counted) → Reads version u (as_read version any front) → IsBetween c → counted_on c (front ++ rest) ≡ counted_on (and_unit u c) rest
+unfolding as_read
+any_unit_counts version any u front rest c r between = by_test (any && is_notify_header front) refl r
+  where
+    by_test : (b : Bool) → (any && is_notify_header front) ≡ b → Reads version u (if b then version_number version ∷ drop 1 front else front) → counted_on c (front ++ rest) ≡ counted_on (and_unit u c) rest
+    by_test true is read = notify_counts version u front rest c (both_true any (is_notify_header front) is).1 read between
+    by_test false is read = unit_counts version u front rest c read between (unit_low version u front read)
+
+any_units_count : (version : Version) (any : Bool) (units : List Unit) (front rest : List ℕ) (c : Counted) → AreRead version any units front → IsBetween c → counted_on c (front ++ rest) ≡ counted_on (and_units units c) rest
+any_units_count version any [] front rest c read h = ap (λ x. counted_on c (x ++ rest)) read
+any_units_count version any (u ∷ units) front rest c read h =
+    ap (λ x. counted_on c (x ++ rest)) read.2 ∙ ap (counted_on c) (append_assoc read.0 read.1 rest)
+    ∙ any_unit_counts version any u read.0 (read.1 ++ rest) c read.3 h
+    ∙ any_units_count version (any && is_notify u) units read.1 rest (and_unit u c) read.4 (record { no_front = refl; no_tail = refl; none_came = refl })
+
+any_rest_counts : (version : Version) (any : Bool) (rest : List ℕ) (c : Counted) → IsPartial version (as_read version any rest) → IsBetween c → counted_on c rest ≡ coming rest c
+unfolding as_read
+any_rest_counts version any rest c p h = by_test (any && is_notify_header rest) refl rest p
+  where
+    by_test : (b : Bool) → (any && is_notify_header rest) ≡ b → (bytes : List ℕ) → IsPartial version (if b then version_number version ∷ drop 1 bytes else bytes) → counted_on c bytes ≡ coming bytes c
+    by_test false is bytes p = rest_counts version bytes c p h
+    by_test true is [] p = rest_so [] c (inl (omega arith)) (omega arith) h
+    by_test true is (x ∷ f) p = rest_so (x ∷ f) c p.1 (partial_low version (version_number version ∷ f) p) h
+
+pub counts_splits : CountsSplits
+counts_splits version any stream units rest s kind =
+    let b : IsBetween none_counted = record { no_front = refl; no_tail = refl; none_came = refl } in
+    let both = any_units_count version any units s.front rest none_counted s.read b ∙ any_rest_counts version (any_after any units) rest (and_units units none_counted) s.after (between_units units none_counted b) in
+    let e : 0 + units_of kind units ≡ units_of kind units = omega arith in
+    ap (λ x. count_of (counted x).pdus kind) s.whole ∙ ap (λ (c : Counted). count_of c.pdus kind) both ∙ count_after kind units 0 none_counted refl (none_of_type kind) ∙ ap capped e
 
 -- An Error Report that comes whole
 pub counts_reports : CountsReports

@@ -9,7 +9,7 @@ use Rattle.rtr_pdu.specs.declared.version.Version.{Version}
 use Rattle.rtr_pdu.specs.Kind.{type_number}
 use Rattle.rtr_pdu.specs.Payloads.{AreBytes}
 use Rattle.rtr_pdu.specs.Reading.{number_at}
-use Rattle.rtr_pdu.specs.Stream.{AreRead, IsPartial, is_kind, length_of, type_of}
+use Rattle.rtr_pdu.specs.Stream.{AreRead, IsPartial, Splits, is_kind, length_of, type_of}
 use Rattle.rtr_pdu.specs.declared.kind.Kind.{Kind}
 use Rattle.rtr_pdu.specs.declared.kind.Kind.TheVariants as kinds
 use Rattle.rtr_server.specs.Reports.{Said, said_in}
@@ -161,6 +161,13 @@ abbrev pub CountsUnits : Type 0
 CountsUnits =
     (version : Version) (units : List Unit) (front rest : List ℕ) → AreRead version false units front → IsPartial version rest →
     ((kind : Kind) → count_of (counted (front ++ rest)).pdus kind ≡ capped (units_of kind units)) × ((counted (front ++ rest)).serial ≡ last_serial None units) × ((counted (front ++ rest)).report ≡ last_report None units)
+
+-- What is counted of bytes that are split into these PDUs, at a cache or at a router (any), if no fault shows. The beginning of one more
+-- counts for nothing.
+abbrev pub CountsSplits : Type 0
+CountsSplits =
+    (version : Version) (any : Bool) (stream : List ℕ) (units : List Unit) (rest : List ℕ) → Splits version any stream units rest None →
+    (kind : Kind) → count_of (counted stream).pdus kind ≡ capped (units_of kind units)
 
 -- After the bytes of a whole Error Report, behind whole PDUs, it is the last, also if a fault is in it.
 abbrev pub CountsReports : Type 0

@@ -1,6 +1,6 @@
 //! Laws of the definitions and of servers. These functions do nothing: their contracts are the laws.
 ghost use Rattle.rtr_server.specs.Clients.{EachClientIsServed};
-ghost use Rattle.rtr_server.specs.Counting.{CountsQueries, CountsReports, CountsUnits};
+ghost use Rattle.rtr_server.specs.Counting.{CountsQueries, CountsReports, CountsSplits, CountsUnits};
 ghost use Rattle.rtr_server.specs.Turns.{MemoryEnds};
 
 use crate::server::Server;
@@ -23,6 +23,12 @@ pub fn memory_ends_its_client()
 /// the serial of the last End of Data among them, and what the last Error Report among them says.
 pub fn counts_units()
     ensures { CountsUnits }
+{}
+
+/// Bytes that are split into PDUs without a fault are counted as these PDUs by type, at a cache and at a router. A router reads a Serial Notify
+/// of any version before the two agree on one (RFC 8210 section 7).
+pub fn counts_splits()
+    ensures { CountsSplits }
 {}
 
 /// Of an Error Report that comes whole, its code and the beginning of its text are kept, also if a fault is in it. The text is empty if the

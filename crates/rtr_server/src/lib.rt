@@ -33,5 +33,5 @@ mod turn;
 pub use report::{REPORT_TEXT_LEN, Report};
 pub use server::{AdmitFault, Client, ClientId, Server};
 pub use stream::{Call, Duplex, Progress, Stream};
-pub use tally::PdusByKind;
-pub use turn::{ByteCounts, CloseReason, Parted, Turn};
+pub use tally::{PdusByKind, Tally};
+pub use turn::{ByteCounts, CloseReason, Parted, Traffic, Turn};

@@ -7,7 +7,7 @@ ghost use Rattle.rtr_server.specs.Streams.{EmptiesSo, FillsSo, Logged, PullsInto
 ghost use Rattle.rtr_server.specs.Counting.{counted_on};
 
 use crate::stream::{Progress, Stream};
-use crate::tally::{Tally, count};
+use crate::tally::Tally;
 use rtr_ends::{Cache, Conn};
 use rtr_pdu::MAX_UNIT_LEN;
 use std::alloc::Global;
@@ -83,7 +83,7 @@ impl Unread {
         ensures counts { received.new ≡ counted_on received.old (take result self.old) }
     {
         let taken = hand_piece(cache, conn, &self.bytes[self.from..self.to]);
-        count(received, &self.bytes[self.from..self.from + taken]);
+        received.count(&self.bytes[self.from..self.from + taken]);
         self.from += taken;
         taken
     }
@@ -193,7 +193,7 @@ impl Unwritten {
         let room = room_at_hand(&self.small, &self.large);
         let moved = stream.write(&room[self.from..self.to]);
         let gone = moved.count() as usize;
-        count(sent, &room[self.from..self.from + gone]);
+        sent.count(&room[self.from..self.from + gone]);
         self.from += gone;
         moved
     }

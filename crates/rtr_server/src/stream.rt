@@ -33,7 +33,7 @@ impl Progress {
     }
 
     /// How many bytes went.
-    pub(crate) fn count(self) -> u64
+    pub fn count(self) -> u64
         ensures { result ≡ moved_count self }
     {
         match self {

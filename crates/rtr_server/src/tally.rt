@@ -18,8 +18,8 @@ pub struct PdusByKind {
 }
 
 impl PdusByKind {
-    /// None.
-    pub(crate) fn none() -> PdusByKind
+    /// None of any type.
+    pub fn none() -> PdusByKind
         ensures { result ≡ none_counted.pdus }
     {
         PdusByKind { counts: [0; 11] }
@@ -56,10 +56,11 @@ const FRONT: usize = 12;
 /// The bytes that are kept of an Error Report behind the PDU that it encapsulates: the length of the text, and the beginning of the text.
 const TAIL: usize = 4 + REPORT_TEXT_LEN;
 
-/// What was counted of bytes that went one way. Of a PDU that has not come whole it keeps how many bytes came, and the first of them. Of an
-/// Error Report it also keeps the tail: the bytes behind the PDU that it encapsulates.
+/// What was counted of bytes that went one way, in whatever pieces: their PDUs by type, the serial of the last End of Data, and what the last
+/// Error Report says. Of a PDU that has not come whole it keeps how many bytes came, and the first of them. Of an Error Report it also keeps
+/// the tail: the bytes behind the PDU that it encapsulates.
 #[derive(Debug, Drop)]
-pub(crate) struct Tally {
+pub struct Tally {
     pdus: PdusByKind,
     serial: Option<Serial>,
     report: Option<Report>,
@@ -79,7 +80,7 @@ impl Model for Tally {
 
 impl Tally {
     /// Nothing went yet.
-    pub(crate) fn new() -> Tally
+    pub fn new() -> Tally
         ensures { result ≡ none_counted }
     {
         Tally {
@@ -92,35 +93,42 @@ impl Tally {
         }
     }
 
-    /// The PDUs.
-    pub(crate) fn pdus(&self) -> PdusByKind
+    /// How many PDUs of each type went. One that has not come whole is not among them.
+    pub fn pdus(&self) -> PdusByKind
         ensures { result ≡ self.now.pdus }
     {
         self.pdus
     }
 
-    /// The serial of the last End of Data.
-    pub(crate) fn serial(&self) -> Option<Serial>
+    /// The serial of the last End of Data (RFC 8210 section 5.8), if one went.
+    pub fn serial(&self) -> Option<Serial>
         ensures { result ≡ self.now.serial }
     {
         self.serial
     }
 
-    /// What the last Error Report says.
-    pub(crate) fn report(&self) -> Option<Report>
+    /// What the last Error Report says (RFC 8210 section 5.11), if one went.
+    pub fn report(&self) -> Option<Report>
         ensures { result ≡ self.now.report }
     {
         self.report
     }
 
-    /// The code of the last Error Report.
-    pub(crate) fn report_code(&self) -> Option<u16>
+    /// The code of the last Error Report (RFC 8210 section 12), if one went.
+    pub fn report_code(&self) -> Option<u16>
         ensures { result ≡ option_map (λ said. said.code) self.now.report }
     {
         match &self.report {
             None => None,
             Some(report) => Some(report.code()),
         }
+    }
+
+    /// Counts the bytes that went next. What they are read as is what is counted: see [`counts_units`](crate::laws::counts_units).
+    pub fn count(&mut self, piece: &[u8])
+        ensures { self.new ≡ counted_on self.old piece.now }
+    {
+        count_all(self, piece);
     }
 
     /// One more byte of the last PDU came.
@@ -219,7 +227,7 @@ impl Tally {
 }
 
 /// Counts bytes that went.
-pub(crate) fn count(tally: &mut Tally, piece: &[u8])
+fn count_all(tally: &mut Tally, piece: &[u8])
     ensures { tally.new ≡ counted_on tally.old piece.now }
 {
     let mut rest = piece;

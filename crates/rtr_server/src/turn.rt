@@ -40,7 +40,7 @@ pub enum Turn {
     Gone(CloseReason),
 }
 
-/// How many bytes were read from and written to a client since it was admitted. Counts stop at `u64::MAX`.
+/// How many bytes were read from and written to a peer since its stream came. Counts stop at `u64::MAX`.
 #[derive(Clone, Copy, Debug, PartialEq, Eq)]
 pub struct ByteCounts {
     /// Bytes that were read from it.
@@ -67,17 +67,20 @@ pub struct Parted {
     pub version: Option<Version>,
 }
 
-/// What is counted of a client: the bytes that went over its stream, the PDUs of what its connection consumed, and those of what was written.
+/// What is counted of a peer: the bytes that went over its stream, the PDUs of what was consumed of them, and those of what was written.
 #[derive(Debug, Drop)]
-pub(crate) struct Traffic {
-    pub(crate) carried: ByteCounts,
-    pub(crate) received: Tally,
-    pub(crate) sent: Tally,
+pub struct Traffic {
+    /// How many bytes went over its stream.
+    pub carried: ByteCounts,
+    /// What came from it and was consumed.
+    pub received: Tally,
+    /// What was written to it.
+    pub sent: Tally,
 }
 
 impl Traffic {
     /// Nothing went yet.
-    fn new() -> Traffic
+    pub fn new() -> Traffic
         ensures { result ≡ no_traffic }
     {
         Traffic {
