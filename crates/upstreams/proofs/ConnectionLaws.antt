@@ -21,12 +21,14 @@ use Rattle.rtr_ends.proofs.Effects.{by_close, by_whole, clocked_keeps, unit_keep
 use Rattle.rtr_ends.proofs.FetchStreamLaws.{none_received, pulled_front}
 use Rattle.rtr_ends.proofs.TableLaws.{false_true}
 use Rattle.rtr_server.specs.Clients.{Begun}
-use Rattle.rtr_server.specs.Counting.{capped}
+use Rattle.rtr_server.specs.Counting.{capped, counted, counted_on, none_counted}
 use Rattle.rtr_server.specs.Streams.{EmptiesSo, FillsSo, moved_count}
 use Rattle.rtr_server.specs.declared.stream.Progress.{Progress}
 use Rattle.rtr_server.specs.declared.stream.Progress.TheVariants.{Bytes, Waits, Interrupted, Failed}
-use Rattle.rtr_server.specs.declared.turn.ByteCounts.{ByteCounts}
-use Rattle.upstreams.specs.Polls.{Anyhow, AwaitsBytes, ConnectionState, Flow, GoesFrom, GoesOrEnds, HandsIn, HasEnded, HasUnwritten, IsFlushed, IsOver, MayBeFlushed, MayStep, MaySteps, Pulls, Reads, Runs, StandsFor, Step, Writes, after_read, after_write, and_read, and_written, next_on, router_of, state_after, state_of, steps_after}
+use Rattle.rtr_server.specs.declared.turn.Traffic.{Traffic}
+use Rattle.rtr_server.specs.Turns.{and_read, and_received, and_written}
+use Rattle.rtr_server.proofs.CountingLaws.{counted_both}
+use Rattle.upstreams.specs.Polls.{Anyhow, AwaitsBytes, ConnectionState, Flow, GoesFrom, GoesOrEnds, HandsIn, HasEnded, HasUnwritten, IsFlushed, IsOver, MayBeFlushed, MayStep, MaySteps, Pulls, Reads, Runs, StandsFor, Step, Writes, after_read, after_write, next_on, router_of, state_after, state_of, steps_after}
 use Rattle.upstreams.specs.declared.connection.Connection.{Connection}
 use Rattle.upstreams.specs.declared.connection.DisconnectReason.TheVariants.{PeerClosed, WriteFailed}
 use Rattle.upstreams.specs.declared.connection.NextCall.{NextCall}
@@ -134,17 +136,19 @@ written_is had has Interrupted old new h = sym h.1
 written_is had has Failed old new h = sym h.1
 
 -- bytes are read
-flow_read : (calls : List RouterCall) (b : Begun) (left after has still : Option (List ℕ)) (old unread unwritten : List ℕ) (carried : ByteCounts) (moved : Progress) → old ≡ []
-    → Flow b left has (record { calls = calls; unread = old; unwritten = unwritten; carried = carried }) → FillsSo left after moved unread → Keeps has still
-    → Flow b after still (record { calls = calls; unread = unread; unwritten = unwritten; carried = and_read (length unread) carried })
-flow_read calls b left after has still old unread unwritten carried moved nothing flow fills keeps = record {
+flow_read : (calls : List RouterCall) (b : Begun) (left after has still : Option (List ℕ)) (old unread unwritten : List ℕ) (traffic : Traffic) (moved : Progress) → old ≡ []
+    → Flow b left has (record { calls = calls; unread = old; unwritten = unwritten; traffic = traffic }) → FillsSo left after moved unread → Keeps has still
+    → Flow b after still (record { calls = calls; unread = unread; unwritten = unwritten; traffic = and_read (length unread) traffic })
+flow_read calls b left after has still old unread unwritten traffic moved nothing flow fills keeps = record {
   read = by_moved moved fills;
   written = flow.written;
   given = flow.given;
   out = Appends-kept b.had has still flow.written flow.out keeps;
-  all_read = more_counted carried.read (length unread) (length (came calls ++ old)) (length (came calls ++ unread)) flow.all_read
+  all_read = more_counted traffic.carried.read (length unread) (length (came calls ++ old)) (length (came calls ++ unread)) flow.all_read
       (length-append (came calls) unread ∙ ap (λ n. n + length unread) (sym (ap (λ x. length (came calls ++ x)) nothing ∙ ap (λ x. length x) (append-nil (came calls)))));
   all_written = flow.all_written;
+  all_received = flow.all_received;
+  all_sent = flow.all_sent;
 }
   where
     all : Consumes b.before left (came calls)
@@ -160,51 +164,48 @@ flow_read calls b left after has still old unread unwritten carried moved nothin
     by_moved Failed h = none h.0 h.1
 
 -- bytes are written
-flow_written : (calls : List RouterCall) (b : Begun) (left still has wrote : Option (List ℕ)) (unread old new : List ℕ) (carried : ByteCounts) (moved : Progress)
-    → Flow b left has (record { calls = calls; unread = unread; unwritten = old; carried = carried }) → EmptiesSo has wrote moved old new → Keeps left still
-    → Flow b still wrote (record { calls = calls; unread = unread; unwritten = new; carried = and_written (moved_count moved) carried })
-flow_written calls b left still has wrote unread old new carried moved flow empties keeps = by_moved moved empties
+flow_written : (calls : List RouterCall) (b : Begun) (left still has wrote : Option (List ℕ)) (unread old new : List ℕ) (traffic : Traffic) (moved : Progress)
+    → Flow b left has (record { calls = calls; unread = unread; unwritten = old; traffic = traffic }) → EmptiesSo has wrote moved old new → Keeps left still
+    → Flow b still wrote (record { calls = calls; unread = unread; unwritten = new; traffic = and_written (moved_count moved) (take (moved_count moved) old) traffic })
+flow_written calls b left still has wrote unread old new traffic moved flow empties keeps = by_moved moved empties
   where
     read : Consumes b.before still (came calls ++ unread)
     read = Consumes-kept b.before left still (came calls ++ unread) flow.read keeps
 
-    none : Keeps has wrote → new ≡ old → Flow b still wrote (record { calls = calls; unread = unread; unwritten = new; carried = and_written 0 carried })
+    none : Keeps has wrote → new ≡ old → Flow b still wrote (record { calls = calls; unread = unread; unwritten = new; traffic = and_written 0 (take 0 old) traffic })
     none kept is = record {
       read = read;
       written = flow.written;
       given = flow.given ∙ ap (λ x. flow.written ++ x) (sym is);
       out = Appends-kept b.had has wrote flow.written flow.out kept;
       all_read = flow.all_read;
-      all_written = more_counted carried.written 0 (length flow.written) (length flow.written) flow.all_written (omega arith);
+      all_written = more_counted traffic.carried.written 0 (length flow.written) (length flow.written) flow.all_written (omega arith);
+      all_received = flow.all_received;
+      all_sent = flow.all_sent;
     }
 
-    by_moved : (moved : Progress) → EmptiesSo has wrote moved old new → Flow b still wrote (record { calls = calls; unread = unread; unwritten = new; carried = and_written (moved_count moved) carried })
+    by_moved : (moved : Progress) → EmptiesSo has wrote moved old new → Flow b still wrote (record { calls = calls; unread = unread; unwritten = new; traffic = and_written (moved_count moved) (take (moved_count moved) old) traffic })
     by_moved (Bytes n) h = record {
       read = read;
       written = flow.written ++ take n old;
       given = flow.given ∙ ap (λ x. flow.written ++ x) (sym (ap (λ x. take n old ++ x) h.1 ∙ take-append-drop n old)) ∙ sym (append_assoc flow.written (take n old) new);
       out = Appends-trans b.had has wrote flow.written (take n old) flow.out h.0;
       all_read = flow.all_read;
-      all_written = more_counted carried.written n (length flow.written) (length (flow.written ++ take n old)) flow.all_written
+      all_written = more_counted traffic.carried.written n (length flow.written) (length (flow.written ++ take n old)) flow.all_written
           (length-append flow.written (take n old) ∙ ap (λ k. length flow.written + k) (length-take-le n old h.2));
+      all_received = flow.all_received;
+      all_sent = ap (λ c. counted_on c (take n old)) flow.all_sent ∙ sym (counted_both none_counted flow.written (take n old));
     }
     by_moved Waits h = none h.0 h.1
     by_moved Interrupted h = none h.0 h.1
     by_moved Failed h = none h.0 h.1
 
--- a count of bytes, and more
-pub read_more : (c : ByteCounts) (now more count : ℕ) → now ≡ capped (c.read + more) → more ≡ count → record c { read = now } ≡ and_read count c
-read_more c now more count e is = let f : ℕ → ByteCounts = λ n. record c { read = n } in ap f (e ∙ ap (λ k. capped (c.read + k)) is)
-
-pub written_more : (c : ByteCounts) (now more count : ℕ) → now ≡ capped (c.written + more) → more ≡ count → record c { written = now } ≡ and_written count c
-written_more c now more count e is = let f : ℕ → ByteCounts = λ n. record c { written = n } in ap f (e ∙ ap (λ k. capped (c.written + k)) is)
-
--- what stays of a connection if one field or two are others
+-- what stays of a connection if some fields are others
 pub same_filled : {T A : Type 0} (f : T → A) (old new : Connection T) (bytes : List ℕ) → new ≡ record old { unwritten = bytes } → f new.stream ≡ f old.stream
 same_filled f old new bytes e = ap (λ x. f x.stream) e
 
-pub same_taken : {T A : Type 0} (f : T → A) (old new : Connection T) (bytes : List ℕ) (now : ℕ) → new ≡ record old { unread = bytes; heard_at = now } → f new.stream ≡ f old.stream
-same_taken f old new bytes now e = ap (λ x. f x.stream) e
+pub same_taken : {T A : Type 0} (f : T → A) (old new : Connection T) (bytes : List ℕ) (traffic : Traffic) (now : ℕ) → new ≡ record old { unread = bytes; traffic = traffic; heard_at = now } → f new.stream ≡ f old.stream
+same_taken f old new bytes traffic now e = ap (λ x. f x.stream) e
 
 module _ {T : Type 0} (remaining contents : T → Option (List ℕ)) where
   -- one part of a poll after another
@@ -233,15 +234,16 @@ module _ {T : Type 0} (remaining contents : T → Option (List ℕ)) where
   stays now P router c calls begun runs is = record { steps = []; may = tt; calls = calls; leads = refl; runs = runs; so = is }
 
   -- What was read is passed to the router, and this many bytes of it are consumed.
-  pub takes : (now : ℕ) (before after : Router) (old : Connection T) (rest : List ℕ) (count : ℕ) → 0 < length old.unread → rest ≡ drop count old.unread → AreBytes old.unread → ReceivesSo now old.unread count before after
-      → GoesFrom remaining contents now IsFlushed before old after (record old { unread = rest; heard_at = now }) (λ s. count ≡ 0 → IsOver s)
-  takes now before after old rest count some rest_is bytes received calls b runs flushed =
+  pub takes : (now : ℕ) (before after : Router) (old : Connection T) (rest : List ℕ) (traffic : Traffic) (count : ℕ) → 0 < length old.unread → rest ≡ drop count old.unread → traffic ≡ and_received (take count old.unread) old.traffic → AreBytes old.unread → ReceivesSo now old.unread count before after
+      → GoesFrom remaining contents now IsFlushed before old after (record old { unread = rest; traffic = traffic; heard_at = now }) (λ s. count ≡ 0 → IsOver s)
+  takes now before after old rest traffic count some rest_is traffic_is bytes received calls b runs flushed =
       let r : rules.Router = (played calls).router in
       let s = received.1 r runs.leads in
       let wanting : Option ℕ = received.0 in
       let unread : List ℕ = old.unread in
       let more : List RouterCall = Receives now wanting unread ∷ calls in
-      let left : List ℕ → ConnectionState = λ bs. record { calls = more; unread = bs; unwritten = old.unwritten; carried = old.carried } in
+      let left : ℕ → ConnectionState = λ n. record { calls = more; unread = drop n unread; unwritten = old.unwritten; traffic = and_received (take n unread) old.traffic } in
+      let all : List ℕ → Traffic → ConnectionState = λ bs t. record { calls = more; unread = bs; unwritten = old.unwritten; traffic = t } in
       let is_open = received_open now wanting unread r runs.carries.is_open in
       let whole_is : (came more ++ rest) ≡ came calls ++ unread =
       ap (λ x. came more ++ x) rest_is ∙ ap (λ n. (came calls ++ take n unread) ++ drop count unread) (sym s.count_is) ∙ append_assoc (came calls) (take count unread) (drop count unread) ∙ ap (λ x. came calls ++ x) (take-append-drop count unread) in
@@ -249,7 +251,7 @@ module _ {T : Type 0} (remaining contents : T → Option (List ℕ)) where
         steps = HandsIn wanting ∷ [];
         may = ((bytes, flushed, s.wanted), tt);
         calls = more;
-        leads = ap (λ n. left (drop n unread)) (sym s.count_is) ∙ ap left (sym rest_is);
+        leads = ap left (sym s.count_is) ∙ (λ i. all (sym rest_is i) (sym traffic_is i));
         runs = record {
           leads = s.shown;
           can_be = (bytes, runs.can_be);
@@ -261,8 +263,11 @@ module _ {T : Type 0} (remaining contents : T → Option (List ℕ)) where
               written = runs.carries.flow.written;
               given = runs.carries.flow.given;
               out = runs.carries.flow.out;
-              all_read = runs.carries.flow.all_read ∙ ap (λ x. capped (length x)) (sym whole_is);
-              all_written = runs.carries.flow.all_written;
+              all_read = ap (λ (x : Traffic). x.carried.read) traffic_is ∙ runs.carries.flow.all_read ∙ ap (λ x. capped (length x)) (sym whole_is);
+              all_written = ap (λ (x : Traffic). x.carried.written) traffic_is ∙ runs.carries.flow.all_written;
+              all_received = ap (λ (x : Traffic). x.received) traffic_is ∙ ap (λ c. counted_on c (take count unread)) runs.carries.flow.all_received ∙ sym (counted_both none_counted (came calls) (take count unread))
+                  ∙ ap (λ n. counted (came calls ++ take n unread)) s.count_is;
+              all_sent = ap (λ (x : Traffic). x.sent) traffic_is ∙ runs.carries.flow.all_sent;
             };
           };
         };
@@ -281,7 +286,7 @@ module _ {T : Type 0} (remaining contents : T → Option (List ℕ)) where
       let flow = runs.carries.flow in
       let pulled = is r runs.leads in
       let more : List RouterCall = routers.Pulls MAX_UNIT_LEN ∷ calls in
-      let with_bytes : List ℕ → ConnectionState = λ bs. record { calls = more; unread = old.unread; unwritten = bs; carried = old.carried } in
+      let with_bytes : List ℕ → ConnectionState = λ bs. record { calls = more; unread = old.unread; unwritten = bs; traffic = old.traffic } in
       record {
         steps = Pulls ∷ [];
         may = (nothing, tt);
@@ -300,6 +305,8 @@ module _ {T : Type 0} (remaining contents : T → Option (List ℕ)) where
               out = flow.out;
               all_read = flow.all_read ∙ ap (λ x. capped (length (x ++ old.unread))) (sym (append-nil (came calls)));
               all_written = flow.all_written;
+              all_received = flow.all_received ∙ ap counted (sym (append-nil (came calls)));
+              all_sent = flow.all_sent;
             };
           };
         };
@@ -308,9 +315,9 @@ module _ {T : Type 0} (remaining contents : T → Option (List ℕ)) where
 
   -- bytes are read
   pub reads : (now : ℕ) (router : Router) (old : Connection T) (stream : T) (unread : List ℕ) (moved : Progress) (outcome : Option PollOutcome) → FillsSo (remaining old.stream) (remaining stream) moved unread → Keeps (contents old.stream) (contents stream)
-      → length unread ≤ MAX_UNIT_LEN → outcome ≡ after_read moved → (carried : ByteCounts) → carried ≡ and_read (moved_count moved) old.carried
-      → GoesFrom remaining contents now AwaitsBytes router old router (record old { stream = stream; unread = unread; carried = carried }) (GoesOrEnds outcome (remaining stream))
-  reads now router old stream unread moved outcome fills keeps room outcome_is carried carried_is calls b runs idle =
+      → length unread ≤ MAX_UNIT_LEN → outcome ≡ after_read moved → (traffic : Traffic) → traffic ≡ and_read (moved_count moved) old.traffic
+      → GoesFrom remaining contents now AwaitsBytes router old router (record old { stream = stream; unread = unread; traffic = traffic }) (GoesOrEnds outcome (remaining stream))
+  reads now router old stream unread moved outcome fills keeps room outcome_is traffic traffic_is calls b runs idle =
       record {
         steps = Reads unread ∷ [];
         may = ((idle, room), tt);
@@ -323,26 +330,26 @@ module _ {T : Type 0} (remaining contents : T → Option (List ℕ)) where
             is_open = runs.carries.is_open;
             heard = runs.carries.heard;
             flow = subst (λ c. Flow b (remaining stream) (contents stream) (with_count c)) so_counted
-                (flow_read calls b (remaining old.stream) (remaining stream) (contents old.stream) (contents stream) old.unread unread old.unwritten old.carried moved idle.all_consumed runs.carries.flow fills keeps);
+                (flow_read calls b (remaining old.stream) (remaining stream) (contents old.stream) (contents stream) old.unread unread old.unwritten old.traffic moved idle.all_consumed runs.carries.flow fills keeps);
           };
         };
-        so = subst (λ o. GoesOrEnds o (remaining stream) (with_count carried)) (sym outcome_is) (ends moved fills);
+        so = subst (λ o. GoesOrEnds o (remaining stream) (with_count traffic)) (sym outcome_is) (ends moved fills);
       }
     where
-      with_count : ByteCounts → ConnectionState
-      with_count c = record { calls = calls; unread = unread; unwritten = old.unwritten; carried = c }
+      with_count : Traffic → ConnectionState
+      with_count c = record { calls = calls; unread = unread; unwritten = old.unwritten; traffic = c }
 
-      so_counted : and_read (length unread) old.carried ≡ carried
-      so_counted = ap (λ n. and_read n old.carried) (filled_count (remaining old.stream) (remaining stream) moved unread fills) ∙ sym carried_is
+      so_counted : and_read (length unread) old.traffic ≡ traffic
+      so_counted = ap (λ n. and_read n old.traffic) (filled_count (remaining old.stream) (remaining stream) moved unread fills) ∙ sym traffic_is
 
-      stays_idle : unread ≡ [] → AwaitsBytes (with_count carried)
+      stays_idle : unread ≡ [] → AwaitsBytes (with_count traffic)
       stays_idle none = record { flushed = record { all_written = idle.flushed.all_written; none_due = idle.flushed.none_due }; all_consumed = none; open_link = idle.open_link }
 
-      by_zero : (n : ℕ) (b : Bool) → (n == 0) ≡ b → FillsSo (remaining old.stream) (remaining stream) (Bytes n) unread → GoesOrEnds (if b then Some (Disconnected PeerClosed) else None) (remaining stream) (with_count carried)
+      by_zero : (n : ℕ) (b : Bool) → (n == 0) ≡ b → FillsSo (remaining old.stream) (remaining stream) (Bytes n) unread → GoesOrEnds (if b then Some (Disconnected PeerClosed) else None) (remaining stream) (with_count traffic)
       by_zero n true is h = (stays_idle (is_empty unread (h.1 ∙ eq_of n 0 is)), h.2 (eq_of n 0 is))
       by_zero n false is h = tt
 
-      ends : (moved : Progress) → FillsSo (remaining old.stream) (remaining stream) moved unread → GoesOrEnds (after_read moved) (remaining stream) (with_count carried)
+      ends : (moved : Progress) → FillsSo (remaining old.stream) (remaining stream) moved unread → GoesOrEnds (after_read moved) (remaining stream) (with_count traffic)
       ends (Bytes n) h = by_zero n (n == 0) refl h
       ends Waits h = stays_idle h.1
       ends Interrupted h = tt
@@ -350,38 +357,38 @@ module _ {T : Type 0} (remaining contents : T → Option (List ℕ)) where
 
   -- bytes are written
   pub writes : (now : ℕ) (router : Router) (old : Connection T) (stream : T) (new : List ℕ) (moved : Progress) (outcome : Option PollOutcome) → EmptiesSo (contents old.stream) (contents stream) moved old.unwritten new → Keeps (remaining old.stream) (remaining stream)
-      → outcome ≡ after_write moved → (carried : ByteCounts) → carried ≡ and_written (moved_count moved) old.carried
-      → GoesFrom remaining contents now HasUnwritten router old router (record old { stream = stream; unwritten = new; carried = carried }) (GoesOrEnds outcome (remaining stream))
-  writes now router old stream new moved outcome empties keeps outcome_is carried carried_is calls b runs some =
+      → outcome ≡ after_write moved → (traffic : Traffic) → traffic ≡ and_written (moved_count moved) (take (moved_count moved) old.unwritten) old.traffic
+      → GoesFrom remaining contents now HasUnwritten router old router (record old { stream = stream; unwritten = new; traffic = traffic }) (GoesOrEnds outcome (remaining stream))
+  writes now router old stream new moved outcome empties keeps outcome_is traffic traffic_is calls b runs some =
       record {
         steps = Writes (moved_count moved) ∷ [];
         may = (some, tt);
         calls = calls;
-        leads = ap (λ bs. with_both bs (and_written (moved_count moved) old.carried)) (written_is (contents old.stream) (contents stream) moved old.unwritten new empties) ∙ ap (with_both new) (sym carried_is);
+        leads = ap (λ bs. with_both bs (and_written (moved_count moved) (take (moved_count moved) old.unwritten) old.traffic)) (written_is (contents old.stream) (contents stream) moved old.unwritten new empties) ∙ ap (with_both new) (sym traffic_is);
         runs = record {
           leads = runs.leads;
           can_be = runs.can_be;
           carries = record {
             is_open = runs.carries.is_open;
             heard = runs.carries.heard;
-            flow = subst (λ c. Flow b (remaining stream) (contents stream) (with_both new c)) (sym carried_is)
-                (flow_written calls b (remaining old.stream) (remaining stream) (contents old.stream) (contents stream) old.unread old.unwritten new old.carried moved runs.carries.flow empties keeps);
+            flow = subst (λ c. Flow b (remaining stream) (contents stream) (with_both new c)) (sym traffic_is)
+                (flow_written calls b (remaining old.stream) (remaining stream) (contents old.stream) (contents stream) old.unread old.unwritten new old.traffic moved runs.carries.flow empties keeps);
           };
         };
-        so = subst (λ o. GoesOrEnds o (remaining stream) (with_both new carried)) (sym outcome_is) (ends moved empties);
+        so = subst (λ o. GoesOrEnds o (remaining stream) (with_both new traffic)) (sym outcome_is) (ends moved empties);
       }
     where
-      with_both : List ℕ → ByteCounts → ConnectionState
-      with_both bs c = record { calls = calls; unread = old.unread; unwritten = bs; carried = c }
+      with_both : List ℕ → Traffic → ConnectionState
+      with_both bs c = record { calls = calls; unread = old.unread; unwritten = bs; traffic = c }
 
       still : new ≡ old.unwritten → 0 < length new
       still is = subst (λ (x : List ℕ). 0 < length x) (sym is) some
 
-      by_zero : (n : ℕ) (b : Bool) → (n == 0) ≡ b → EmptiesSo (contents old.stream) (contents stream) (Bytes n) old.unwritten new → GoesOrEnds (if b then Some (Disconnected WriteFailed) else None) (remaining stream) (with_both new carried)
+      by_zero : (n : ℕ) (b : Bool) → (n == 0) ≡ b → EmptiesSo (contents old.stream) (contents stream) (Bytes n) old.unwritten new → GoesOrEnds (if b then Some (Disconnected WriteFailed) else None) (remaining stream) (with_both new traffic)
       by_zero n true is h = still (h.1 ∙ ap (λ k. drop k old.unwritten) (eq_of n 0 is))
       by_zero n false is h = tt
 
-      ends : (moved : Progress) → EmptiesSo (contents old.stream) (contents stream) moved old.unwritten new → GoesOrEnds (after_write moved) (remaining stream) (with_both new carried)
+      ends : (moved : Progress) → EmptiesSo (contents old.stream) (contents stream) moved old.unwritten new → GoesOrEnds (after_write moved) (remaining stream) (with_both new traffic)
       ends (Bytes n) h = by_zero n (n == 0) refl h
       ends Waits h = still h.1
       ends Interrupted h = tt

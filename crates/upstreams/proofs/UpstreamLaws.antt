@@ -7,24 +7,27 @@ use Rattle.std.proofs.KnownBytes.{Appends-nil, Consumes-nil}
 use Rattle.rtr_pdu.specs.declared.version.Version.{Version}
 use Rattle.rtr_pdu.specs.declared.version.Version.TheVariants.{V0}
 use Rattle.rtr_pdu.specs.Unit.{MAX_UNIT_LEN}
-use Rattle.rtr_ends.specs.Consumed.{came}
+use Rattle.rtr_pdu.specs.Stream.{Splits}
+use Rattle.rtr_ends.specs.Consumed.{came, units_read_in}
 use Rattle.rtr_ends.specs.LinkRules as rules
 use Rattle.rtr_ends.specs.Router as routers
 use Rattle.rtr_ends.specs.Router.{RouterCall, Closes, Connects, Receives, Speaks, Ticks, called, played}
 use Rattle.rtr_ends.specs.RouterLaws.{pulled_by}
 use Rattle.rtr_ends.specs.RouterLink.{Link, Answering, Asked, Closed, Ended, Idle, is_closed, is_idle, told_link}
 use Rattle.rtr_ends.specs.RouterShown.{Calls, CallsLead, IsShown}
-use Rattle.rtr_ends.specs.Transcript.{Question, Begun as Transcribed, due, sum_of}
+use Rattle.rtr_ends.specs.Transcript.{Question, Begun as Transcribed, due, spoken, sum_of}
+use Rattle.rtr_ends.proofs.ConsumedLaws.{router_splits}
 use Rattle.rtr_ends.specs.declared.link.End.{End}
 use Rattle.rtr_ends.specs.declared.link.Link.TheVariants as links
 use Rattle.rtr_ends.specs.declared.router.Router.{Router}
 use Rattle.rtr_ends.proofs.TableLaws.{false_true}
 use Rattle.rtr_server.specs.Clients.{Begun}
-use Rattle.rtr_server.specs.Counting.{capped}
+use Rattle.rtr_server.specs.Counting.{Counted, CountsSplits, capped, count_of, counted}
 use Rattle.rtr_server.specs.declared.stream.Call.{Call}
-use Rattle.rtr_server.specs.declared.turn.ByteCounts.{ByteCounts}
-use Rattle.upstreams.specs.Polls.{CarriesIf, ConnectionState, Flow, PollsIf, Runs, Step, HandsIn, Pulls, Reads, Writes, heard_at, heard_if, heard_on, no_bytes, state_of, steps_after}
-use Rattle.upstreams.specs.Upstreams.{GoesOn, Leaves, Polls, ShowsUpstream, carried_by, closed_for, due_on, falls_back, next_due}
+use Rattle.rtr_server.specs.Turns.{no_traffic}
+use Rattle.rtr_server.specs.declared.turn.Traffic.{Traffic}
+use Rattle.upstreams.specs.Polls.{Carries, CarriesIf, ConnectionState, Flow, PollsIf, Runs, Step, HandsIn, Pulls, Reads, Writes, heard_at, heard_if, heard_on, state_of, steps_after}
+use Rattle.upstreams.specs.Upstreams.{CountsReceived, GoesOn, Leaves, Polls, ShowsUpstream, carried_by, closed_for, due_on, falls_back, next_due, received_by, sent_by}
 use Rattle.upstreams.specs.declared.connection.Connection.{Connection}
 use Rattle.upstreams.specs.declared.connection.DisconnectReason.{DisconnectReason}
 use Rattle.upstreams.specs.declared.connection.PollOutcome.{PollOutcome}
@@ -78,15 +81,17 @@ ended_seen (Answering answer) told e = absurd (cc)
 
 module _ {T : Type 0} (remaining contents : T → Option (List ℕ)) where
   -- A call over which no bytes go leaves what went over the connection.
-  flow_same : (more calls : List RouterCall) (b : Begun) (left has : Option (List ℕ)) (unread unwritten : List ℕ) (carried : ByteCounts) → came more ≡ came calls → pulled_by more ≡ pulled_by calls
-      → Flow b left has (record { calls = calls; unread = unread; unwritten = unwritten; carried = carried }) → Flow b left has (record { calls = more; unread = unread; unwritten = unwritten; carried = carried })
-  flow_same more calls b left has unread unwritten carried same given flow = record {
+  flow_same : (more calls : List RouterCall) (b : Begun) (left has : Option (List ℕ)) (unread unwritten : List ℕ) (traffic : Traffic) → came more ≡ came calls → pulled_by more ≡ pulled_by calls
+      → Flow b left has (record { calls = calls; unread = unread; unwritten = unwritten; traffic = traffic }) → Flow b left has (record { calls = more; unread = unread; unwritten = unwritten; traffic = traffic })
+  flow_same more calls b left has unread unwritten traffic same given flow = record {
     read = subst (λ x. Consumes b.before left (x ++ unread)) (sym same) flow.read;
     written = flow.written;
     given = given ∙ flow.given;
     out = flow.out;
     all_read = flow.all_read ∙ ap (λ x. capped (length (x ++ unread))) (sym same);
     all_written = flow.all_written;
+    all_received = flow.all_received ∙ ap counted (sym same);
+    all_sent = flow.all_sent;
   }
 
   -- A version is set.
@@ -95,7 +100,7 @@ module _ {T : Type 0} (remaining contents : T → Option (List ℕ)) where
     where
       by_connection : (c : Option (Connection T)) → CarriesIf remaining contents calls b c → CarriesIf remaining contents (Speaks version ∷ calls) b c
       by_connection None h = h
-      by_connection (Some c) h = record { is_open = h.is_open; heard = h.heard; flow = flow_same (Speaks version ∷ calls) calls b (remaining c.stream) (contents c.stream) c.unread c.unwritten c.carried (append-nil (came calls)) refl h.flow }
+      by_connection (Some c) h = record { is_open = h.is_open; heard = h.heard; flow = flow_same (Speaks version ∷ calls) calls b (remaining c.stream) (contents c.stream) c.unread c.unwritten c.traffic (append-nil (came calls)) refl h.flow }
 
   -- The clock is advanced.
   pub ticks : (old new : Router) (before after : Option (Connection T)) (now : ℕ) → ((r : rules.Router) → IsShown r old → after ≡ heard_if (is_idle r.link) now before) → Calls (λ r. (called (Ticks now) r).router) old new
@@ -112,30 +117,47 @@ module _ {T : Type 0} (remaining contents : T → Option (List ℕ)) where
       by_idle true is (Some c) h = record {
         is_open = ticked_closed now (played calls).router ∙ h.is_open;
         heard = ap (λ x. if x then now else heard_at calls) (sym is);
-        flow = flow_same (Ticks now ∷ calls) calls b (remaining c.stream) (contents c.stream) c.unread c.unwritten c.carried (append-nil (came calls)) refl h.flow;
+        flow = flow_same (Ticks now ∷ calls) calls b (remaining c.stream) (contents c.stream) c.unread c.unwritten c.traffic (append-nil (came calls)) refl h.flow;
       }
       by_idle false is (Some c) h = record {
         is_open = ticked_closed now (played calls).router ∙ h.is_open;
         heard = h.heard ∙ ap (λ x. if x then now else heard_at calls) (sym is);
-        flow = flow_same (Ticks now ∷ calls) calls b (remaining c.stream) (contents c.stream) c.unread c.unwritten c.carried (append-nil (came calls)) refl h.flow;
+        flow = flow_same (Ticks now ∷ calls) calls b (remaining c.stream) (contents c.stream) c.unread c.unwritten c.traffic (append-nil (came calls)) refl h.flow;
       }
 
   -- The connection is dropped.
   pub closes : (old new : Router) (c : Option (Connection T)) (now : ℕ) → Calls (λ r. (called (Closes now) r).router) old new → (calls : List RouterCall) (b : Begun) → Runs remaining contents calls b old c → Runs remaining contents (Closes now ∷ calls) b new None
   closes old new c now does calls b runs = record { leads = does (played calls).router runs.leads; can_be = (tt, runs.can_be); carries = closed_is now (played calls).router }
 
+  -- None can be made.
+  pub fails : (old between new : Router) (c : Option (Connection T)) (now : ℕ) → Calls (λ r. (called (Connects now) r).router) old between → Calls (λ r. (called (Closes now) r).router) between new → (calls : List RouterCall) (b : Begun)
+      → Runs remaining contents calls b old c → Runs remaining contents (Closes now ∷ Connects now ∷ calls) b new None
+  fails old between new c now one two calls b runs = record {
+    leads = two (played (Connects now ∷ calls)).router (one (played calls).router runs.leads);
+    can_be = (tt, (tt, runs.can_be));
+    carries = closed_is now (played (Connects now ∷ calls)).router;
+  }
+
   -- One is made.
   pub connects : (old new : Router) (c : Option (Connection T)) (stream : T) (now : ℕ) → Calls (λ r. (called (Connects now) r).router) old new → (calls : List RouterCall) (b : Begun) → Runs remaining contents calls b old c
-      → Runs remaining contents (Connects now ∷ calls) (record { before = remaining stream; had = contents stream }) new (Some (record { stream = stream; unread = []; unwritten = []; carried = no_bytes; heard_at = now }))
+      → Runs remaining contents (Connects now ∷ calls) (record { before = remaining stream; had = contents stream }) new (Some (record { stream = stream; unread = []; unwritten = []; traffic = no_traffic; heard_at = now }))
   connects old new c stream now does calls b runs = record {
     leads = does (played calls).router runs.leads;
     can_be = (tt, runs.can_be);
     carries = record {
       is_open = connected_is now (played calls).router;
       heard = refl;
-      flow = record { read = Consumes-nil (remaining stream); written = []; given = refl; out = Appends-nil (contents stream); all_read = refl; all_written = refl };
+      flow = record { read = Consumes-nil (remaining stream); written = []; given = refl; out = Appends-nil (contents stream); all_read = refl; all_written = refl; all_received = refl; all_sent = refl };
     };
   }
+
+  -- What is counted are the PDUs of the split.
+  pub counts_received : (u : Upstream T) → CountsSplits → CountsReceived remaining contents u
+  counts_received u law calls b c shown is sound kind =
+      let split = router_splits calls shown.can_be in
+      let carries : Carries remaining contents calls b c = subst (CarriesIf remaining contents calls b) is shown.carries in
+      ap (λ (x : Counted). count_of x.pdus kind) carries.flow.all_received
+      ∙ law (spoken (played calls).items) true (came calls) (units_read_in (played calls).items) split.rest (subst (Splits (spoken (played calls).items) true (came calls) (units_read_in (played calls).items) split.rest) sound split.split) kind
 
   module _ (answers : T → Option (List Call)) where
     polled_on : (now budget : ℕ) (before : Router) (old : Option (Connection T)) (outcome : PollOutcome) (router : Router) (new : Option (Connection T)) → PollsIf remaining contents answers now budget before old outcome router new
@@ -160,26 +182,27 @@ module _ {T : Type 0} (remaining contents : T → Option (List ℕ)) where
 
     -- A connection was polled to its end and dropped.
     pub leaves : (now budget : ℕ) (old : Upstream T) (reason : DisconnectReason) (between : Router) (after : Option (Connection T)) (new : Upstream T) → PollsIf remaining contents answers now budget old.router old.connection (Disconnected reason) between after
-        → new.connection ≡ None → ((calls : List RouterCall) → CallsLead calls between → CallsLead (closed_for now reason calls) new.router) → new.carried ≡ carried_by after old.carried → new.stall ≡ old.stall
+        → new.connection ≡ None → ((calls : List RouterCall) → CallsLead calls between → CallsLead (closed_for now reason calls) new.router) → new.carried ≡ carried_by after old.carried
+        → new.received ≡ received_by after old.received → new.sent ≡ sent_by after old.sent → new.stall ≡ old.stall
         → Leaves remaining contents answers now budget old reason new
-    leaves now budget old reason between after new h gone closed counted stall = by_after after h counted
+    leaves now budget old reason between after new h gone closed counted received sent stall = by_after after h counted received sent
       where
         none : (c : Option (Connection T)) → PollsIf remaining contents answers now budget old.router c (Disconnected reason) between None → ⊥
         none None h = h
         none (Some c) h = h
 
-        by_after : (after : Option (Connection T)) → PollsIf remaining contents answers now budget old.router old.connection (Disconnected reason) between after → new.carried ≡ carried_by after old.carried → Leaves remaining contents answers now budget old reason new
-        by_after None h counted = absurd (none old.connection h)
-        by_after (Some last) h counted = record { last = last; between = between; polled = h; gone = gone; closed = closed; counted = counted; stall = stall }
+        by_after : (after : Option (Connection T)) → PollsIf remaining contents answers now budget old.router old.connection (Disconnected reason) between after → new.carried ≡ carried_by after old.carried → new.received ≡ received_by after old.received → new.sent ≡ sent_by after old.sent → Leaves remaining contents answers now budget old reason new
+        by_after None h counted received sent = absurd (none old.connection h)
+        by_after (Some last) h counted received sent = record { last = last; between = between; polled = h; gone = gone; closed = closed; counted = counted; received = received; sent = sent; stall = stall }
 
     -- A connection was polled and stays, or there is none.
     pub stays_so : (now budget : ℕ) (old : Upstream T) (outcome : PollOutcome) (new : Upstream T) → ((reason : DisconnectReason) → ¬ (outcome ≡ Disconnected reason)) → PollsIf remaining contents answers now budget old.router old.connection outcome new.router new.connection
-        → new.carried ≡ old.carried → new.stall ≡ old.stall → Polls remaining contents answers now budget old outcome new
-    stays_so now budget old (Disconnected reason) new other h counted stall = absurd (other reason refl)
-    stays_so now budget old NotConnected new other h counted stall = record { polled = h; counted = counted; stall = stall }
-    stays_so now budget old WaitsToRead new other h counted stall = record { polled = h; counted = counted; stall = stall }
-    stays_so now budget old WaitsToWrite new other h counted stall = record { polled = h; counted = counted; stall = stall }
-    stays_so now budget old Busy new other h counted stall = record { polled = h; counted = counted; stall = stall }
+        → new.carried ≡ old.carried → new.received ≡ old.received → new.sent ≡ old.sent → new.stall ≡ old.stall → Polls remaining contents answers now budget old outcome new
+    stays_so now budget old (Disconnected reason) new other h counted received sent stall = absurd (other reason refl)
+    stays_so now budget old NotConnected new other h counted received sent stall = record { polled = h; counted = counted; received = received; sent = sent; stall = stall }
+    stays_so now budget old WaitsToRead new other h counted received sent stall = record { polled = h; counted = counted; received = received; sent = sent; stall = stall }
+    stays_so now budget old WaitsToWrite new other h counted received sent stall = record { polled = h; counted = counted; received = received; sent = sent; stall = stall }
+    stays_so now budget old Busy new other h counted received sent stall = record { polled = h; counted = counted; received = received; sent = sent; stall = stall }
 
     -- A poll leads on.
     pub goes_on : (now budget : ℕ) (old new : Upstream T) (outcome : PollOutcome) → Polls remaining contents answers now budget old outcome new → GoesOn remaining contents old new

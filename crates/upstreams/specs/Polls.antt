@@ -1,5 +1,5 @@
 -- What a poll of a connection to a cache does, step by step, and how it ends (RFC 8210 sections 5, 7, 8 and 12).
-use Rattle.std.specs.Prelude.{◌≡◌, ◌⊎◌, ℕ, ◌+◌, ◌-◌, ◌<◌, ◌≤◌, ◌==◌, Bool, true, false, List, [], ◌∷◌, ◌++◌, length, take, drop, Option, Some, None, IfSome, if◌then◌else◌, ⊤}
+use Rattle.std.specs.Prelude.{◌≡◌, ◌⊎◌, ℕ, ◌-◌, ◌<◌, ◌≤◌, ◌==◌, Bool, true, false, List, [], ◌∷◌, ◌++◌, length, take, drop, Option, Some, None, IfSome, if◌then◌else◌, ⊤}
 use Rattle.std.specs.List.{AllByRecursion}
 use Rattle.std.specs.Io.KnownBytes.{Appends, Consumes, IsAtEnd}
 use Rattle.rtr_pdu.specs.Payloads.{AreBytes}
@@ -14,14 +14,15 @@ use Rattle.rtr_ends.specs.RouterShown.{CallsLead, is_wanted_by_router}
 use Rattle.rtr_ends.specs.declared.link.End.{End}
 use Rattle.rtr_ends.specs.declared.router.Router.{Router}
 use Rattle.rtr_server.specs.Clients.{Begun}
-use Rattle.rtr_server.specs.Counting.{capped}
+use Rattle.rtr_server.specs.Counting.{capped, counted}
 use Rattle.rtr_server.specs.Streams.{Logged}
-use Rattle.rtr_server.specs.Turns.{LastIs}
+use Rattle.rtr_server.specs.Turns.{LastIs, and_read, and_received, and_written}
 use Rattle.rtr_server.specs.declared.stream.Call.{Call}
 use Rattle.rtr_server.specs.declared.stream.Call.TheVariants as calls
 use Rattle.rtr_server.specs.declared.stream.Progress.{Progress}
 use Rattle.rtr_server.specs.declared.stream.Progress.TheVariants.{Bytes, Waits, Interrupted, Failed}
 use Rattle.rtr_server.specs.declared.turn.ByteCounts.{ByteCounts}
+use Rattle.rtr_server.specs.declared.turn.Traffic.{Traffic}
 use Rattle.upstreams.specs.declared.connection.Connection.{Connection}
 use Rattle.upstreams.specs.declared.connection.DisconnectReason.TheVariants.{LinkEnded, PeerClosed, ReadFailed, Stalled, WriteFailed}
 use Rattle.upstreams.specs.declared.connection.NextCall.{NextCall}
@@ -30,12 +31,12 @@ use Rattle.upstreams.specs.declared.connection.PollOutcome.{PollOutcome}
 use Rattle.upstreams.specs.declared.connection.PollOutcome.TheVariants.{Busy, Disconnected, NotConnected, WaitsToRead, WaitsToWrite}
 
 -- A connection: the calls that led to its router, the last first. What was read of its stream and is not consumed. What was pulled of the
--- router and is not written. And how many bytes were read and written.
+-- router and is not written. And what is counted of it.
 pub record ConnectionState : Type 0 where
   pub calls : List RouterCall
   pub unread : List ℕ
   pub unwritten : List ℕ
-  pub carried : ByteCounts
+  pub traffic : Traffic
 
 abbrev pub router_of : ConnectionState → rules.Router
 router_of s = (played s.calls).router
@@ -55,17 +56,15 @@ consumed_count now wanting s = length s.unread - length (receives now wanting s.
 abbrev pub no_bytes : ByteCounts
 no_bytes = record { read = 0; written = 0 }
 
-abbrev pub and_read : ℕ → ByteCounts → ByteCounts
-and_read count c = record c { read = capped (c.read + count) }
-
-abbrev pub and_written : ℕ → ByteCounts → ByteCounts
-and_written count c = record c { written = capped (c.written + count) }
-
 abbrev pub state_after : ℕ → Step → ConnectionState → ConnectionState
-state_after now (HandsIn wanting) s = record s { calls = Receives now wanting s.unread ∷ s.calls; unread = drop (consumed_count now wanting s) s.unread }
+state_after now (HandsIn wanting) s = record s {
+  calls = Receives now wanting s.unread ∷ s.calls;
+  unread = drop (consumed_count now wanting s) s.unread;
+  traffic = and_received (take (consumed_count now wanting s) s.unread) s.traffic;
+}
 state_after now Pulls s = record s { calls = routers.Pulls MAX_UNIT_LEN ∷ s.calls; unwritten = take MAX_UNIT_LEN (router_of s).out }
-state_after now (Reads bytes) s = record s { unread = bytes; carried = and_read (length bytes) s.carried }
-state_after now (Writes count) s = record s { unwritten = drop count s.unwritten; carried = and_written count s.carried }
+state_after now (Reads bytes) s = record s { unread = bytes; traffic = and_read (length bytes) s.traffic }
+state_after now (Writes count) s = record s { unwritten = drop count s.unwritten; traffic = and_written count (take count s.unwritten) s.traffic }
 
 -- All that was pulled is written, and the router has nothing to send.
 pub record IsFlushed (s : ConnectionState) : Type 0 where
@@ -112,18 +111,21 @@ MaySteps now [] s = ⊤
 MaySteps now (step ∷ steps) s = MayStep now step (steps_after now steps s) × MaySteps now steps s
 
 -- What was read of the stream since the connection was made is what the router consumed on it, and then the bytes that are not consumed. What
--- was pulled is what was written to it, and then the bytes that are not written. This many are counted.
+-- was pulled is what was written to it, and then the bytes that are not written. This many are counted. The PDUs that are counted are those
+-- of what the router consumed, and of what was written.
 pub record Flow (b : Begun) (left has : Option (List ℕ)) (s : ConnectionState) : Type 0 where
   pub read : Consumes b.before left (came s.calls ++ s.unread)
   pub written : List ℕ
   pub given : pulled_by s.calls ≡ written ++ s.unwritten
   pub out : Appends b.had has written
-  pub all_read : s.carried.read ≡ capped (length (came s.calls ++ s.unread))
-  pub all_written : s.carried.written ≡ capped (length written)
+  pub all_read : s.traffic.carried.read ≡ capped (length (came s.calls ++ s.unread))
+  pub all_written : s.traffic.carried.written ≡ capped (length written)
+  pub all_received : s.traffic.received ≡ counted (came s.calls)
+  pub all_sent : s.traffic.sent ≡ counted written
 
 -- what a connection is if these calls led to its router
 abbrev pub state_of : {T : Type 0} → List RouterCall → Connection T → ConnectionState
-state_of calls c = record { calls = calls; unread = c.unread; unwritten = c.unwritten; carried = c.carried }
+state_of calls c = record { calls = calls; unread = c.unread; unwritten = c.unwritten; traffic = c.traffic }
 
 -- Since when nothing was heard of the cache: the last time at which the connection was made, or the router received bytes of it. The clock of
 -- an idle link counts too, as no question is outstanding then.

@@ -2,8 +2,9 @@
 use Rattle.std.specs.Prelude.{◌≡◌, ℕ, ◌==◌, Bool, true, false, not, ◌&&◌, nat_lt, List, ◌∷◌, ◌++◌, Option, Some, None, if◌then◌else◌, unwrap_or}
 use Rattle.vrps.specs.VrpSet.{VrpSet}
 use Rattle.rtr_pdu.specs.Code.{UNSUPPORTED_VERSION}
+use Rattle.rtr_pdu.specs.declared.kind.Kind.{Kind}
 use Rattle.rtr_pdu.specs.declared.version.Version.TheVariants.{V0}
-use Rattle.rtr_ends.specs.Consumed.{IsSplit, came}
+use Rattle.rtr_ends.specs.Consumed.{IsSplit, came, fault_in, units_read_in}
 use Rattle.rtr_ends.specs.FetchStream.{is_asking}
 use Rattle.rtr_ends.specs.Router.{RouterCall, Closes, Speaks, Ticks, played}
 use Rattle.rtr_ends.specs.RouterLaws.{HasSaid, IsKept, pulled_by}
@@ -14,7 +15,9 @@ use Rattle.rtr_ends.specs.declared.link.End.{End}
 use Rattle.rtr_ends.specs.declared.link.End.TheVariants.{Reported, Told}
 use Rattle.rtr_ends.specs.declared.router.Router.{Router}
 use Rattle.rtr_server.specs.Clients.{Begun}
+use Rattle.rtr_server.specs.Counting.{capped, count_of, units_of}
 use Rattle.rtr_server.specs.declared.stream.Call.{Call}
+use Rattle.rtr_server.specs.declared.tally.PdusByKind.{PdusByKind}
 use Rattle.rtr_server.specs.declared.turn.ByteCounts.{ByteCounts}
 use Rattle.upstreams.specs.Polls.{PollsIf, Runs, heard_at}
 use Rattle.upstreams.specs.declared.connection.Connection.{Connection}
@@ -35,7 +38,16 @@ CallsOn remaining contents call old new = (calls : List RouterCall) (b : Begun) 
 -- The bytes that went over the latest connection
 abbrev pub carried_by : {T : Type 0} → Option (Connection T) → ByteCounts → ByteCounts
 carried_by None last = last
-carried_by (Some c) last = c.carried
+carried_by (Some c) last = c.traffic.carried
+
+-- The PDUs that came on it, and those that were sent, by type
+abbrev pub received_by : {T : Type 0} → Option (Connection T) → PdusByKind → PdusByKind
+received_by None last = last
+received_by (Some c) last = c.traffic.received.pdus
+
+abbrev pub sent_by : {T : Type 0} → Option (Connection T) → PdusByKind → PdusByKind
+sent_by None last = last
+sent_by (Some c) last = c.traffic.sent.pdus
 
 -- The link ended by Error Report 4, Unsupported Protocol Version, sent or received (RFC 8210 section 7).
 abbrev pub is_unsupported_version : End → Bool
@@ -59,13 +71,17 @@ pub record Leaves {T : Type 0} (remaining contents : T → Option (List ℕ)) (a
   pub polled : PollsIf remaining contents answers now budget old.router old.connection (Disconnected reason) between (Some last)
   pub gone : new.connection ≡ None
   pub closed : (calls : List RouterCall) → CallsLead calls between → CallsLead (closed_for now reason calls) new.router
-  pub counted : new.carried ≡ last.carried
+  pub counted : new.carried ≡ last.traffic.carried
+  pub received : new.received ≡ last.traffic.received.pdus
+  pub sent : new.sent ≡ last.traffic.sent.pdus
   pub stall : new.stall ≡ old.stall
 
 -- A connection was polled and stays, or there is none.
 pub record Stays {T : Type 0} (remaining contents : T → Option (List ℕ)) (answers : T → Option (List Call)) (now budget : ℕ) (old : Upstream T) (outcome : PollOutcome) (new : Upstream T) : Type 0 where
   pub polled : PollsIf remaining contents answers now budget old.router old.connection outcome new.router new.connection
   pub counted : new.carried ≡ old.carried
+  pub received : new.received ≡ old.received
+  pub sent : new.sent ≡ old.sent
   pub stall : new.stall ≡ old.stall
 
 -- What became of an upstream by a poll
@@ -132,3 +148,9 @@ pub record Holds {T : Type 0} (remaining contents : T → Option (List ℕ)) (ca
 abbrev pub EachHolds : {T : Type 0} → (T → Option (List ℕ)) → (T → Option (List ℕ)) → Upstream T → Type 0
 EachHolds remaining contents u =
     (calls : List RouterCall) (b : Begun) → ShowsUpstream remaining contents calls b u → Holds remaining contents calls b u
+
+-- As long as no fault shows in what came on a connection, the PDUs that are counted as received are those of the transcript's split, by type.
+abbrev pub CountsReceived : {T : Type 0} → (T → Option (List ℕ)) → (T → Option (List ℕ)) → Upstream T → Type 0
+CountsReceived {T = T} remaining contents u =
+    (calls : List RouterCall) (b : Begun) (c : Connection T) → ShowsUpstream remaining contents calls b u → u.connection ≡ Some c → fault_in (played calls).items ≡ None
+    → (kind : Kind) → count_of c.traffic.received.pdus kind ≡ capped (units_of kind (units_read_in (played calls).items))

@@ -6,11 +6,12 @@ ghost use Rattle.rtr_ends.specs.LinkRules as rules;
 ghost use Rattle.rtr_ends.specs.Router as model;
 ghost use Rattle.rtr_ends.specs.Router.{called};
 ghost use Rattle.rtr_ends.specs.RouterShown.{Calls, IsShown, ReceivesSo};
-ghost use Rattle.rtr_server.specs.Streams.{EmptiesSo, FillsSo, Logged, a_read, a_write};
+ghost use Rattle.rtr_server.specs.Counting.{counted_on};
+ghost use Rattle.rtr_server.specs.Streams.{EmptiesSo, FillsSo, Logged, a_read, a_write, moved_count};
 
 use rtr_ends::Router;
 use rtr_pdu::MAX_UNIT_LEN;
-use rtr_server::{Progress, Stream};
+use rtr_server::{Progress, Stream, Tally};
 use std::marker::Model;
 
 /// Bytes that were read and are not consumed, or that were pulled and are not written.
@@ -68,14 +69,16 @@ impl Buffer {
         moved
     }
 
-    /// Passes it to the router, and returns how many bytes were consumed.
-    pub(crate) fn hand_in(&mut self, router: &mut Router, now: u64) -> usize
+    /// Passes it to the router, counts what was consumed, and returns how many bytes that is.
+    pub(crate) fn hand_in(&mut self, router: &mut Router, now: u64, received: &mut Tally) -> usize
         ensures takes { ReceivesSo now self.old result router.old router.new }
         ensures rest { self.new ≡ drop result self.old }
         ensures within { result ≤ length self.old }
         ensures bytes { AreBytes self.old }
+        ensures counts { received.new ≡ counted_on received.old (take result self.old) }
     {
         let taken = hand_piece(router, &self.bytes[self.from..self.to], now);
+        received.count(&self.bytes[self.from..self.from + taken]);
         self.from += taken;
         taken
     }
@@ -90,17 +93,17 @@ impl Buffer {
         self.to = router.pull(&mut self.bytes);
     }
 
-    /// Writes of it what the stream accepts in one call.
-    pub(crate) fn write<T: Stream>(&mut self, stream: &mut T) -> Progress
+    /// Writes of it what the stream accepts in one call, and counts that.
+    pub(crate) fn write<T: Stream>(&mut self, stream: &mut T, sent: &mut Tally) -> Progress
         ensures empties { EmptiesSo (T.contents stream.old) (T.contents stream.new) result self.old self.new }
         ensures keeps { Keeps (T.remaining stream.old) (T.remaining stream.new) }
         ensures logs { Logged (a_write result) (T.answers stream.old) (T.answers stream.new) }
+        ensures counts { sent.new ≡ counted_on sent.old (take (moved_count result) self.old) }
     {
         let moved = stream.write(&self.bytes[self.from..self.to]);
-        self.from += match moved {
-            Progress::Bytes(n) => n,
-            _ => 0,
-        };
+        let gone = moved.count() as usize;
+        sent.count(&self.bytes[self.from..self.from + gone]);
+        self.from += gone;
         moved
     }
 }

@@ -1,15 +1,15 @@
 //! One connection to a cache.
-ghost use Rattle.std.specs.Prelude.{◌≡◌, ◌<◌, ◌≤◌, ℕ, [], drop, length};
+ghost use Rattle.std.specs.Prelude.{◌≡◌, ◌<◌, ◌≤◌, ℕ, [], drop, length, take};
 ghost use Rattle.rtr_ends.specs.LinkRules as rules;
 ghost use Rattle.rtr_ends.specs.RouterLink as links;
 ghost use Rattle.rtr_ends.specs.RouterLink.{is_closed};
 ghost use Rattle.rtr_ends.specs.RouterShown.{IsShown};
-ghost use Rattle.rtr_server.specs.Streams.{moved_count};
-ghost use Rattle.upstreams.specs.Polls.{AnswersPoll, AnswersStep, Anyhow, AwaitsBytes, EndsSo, GoesFrom, GoesOrEnds, HasUnwritten, IsFlushed, IsOver, MayBeFlushed, StandsFor, after_read, after_write, next_on, no_bytes};
+ghost use Rattle.rtr_server.specs.Turns.{and_received, no_traffic};
+ghost use Rattle.upstreams.specs.Polls.{AnswersPoll, AnswersStep, Anyhow, AwaitsBytes, EndsSo, GoesFrom, GoesOrEnds, HasUnwritten, IsFlushed, IsOver, MayBeFlushed, StandsFor, after_read, after_write, next_on};
 
 use crate::buffer::Buffer;
 use rtr_ends::{End, Link, Router};
-use rtr_server::{ByteCounts, Progress, Stream};
+use rtr_server::{Progress, Stream, Traffic};
 
 /// Why a connection was dropped.
 #[derive(Clone, Copy, Debug, PartialEq, Eq)]
@@ -41,13 +41,13 @@ pub enum PollOutcome {
     Disconnected(DisconnectReason),
 }
 
-/// The stream of a connection, and what is between it and the router.
+/// The stream of a connection, what is between it and the router, and what is counted of it.
 #[derive(Debug, Drop)]
 pub(crate) struct Connection<T> {
     pub(crate) stream: T,
     pub(crate) unread: Buffer,
     pub(crate) unwritten: Buffer,
-    pub(crate) carried: ByteCounts,
+    pub(crate) traffic: Traffic,
     /// Since when nothing was heard of the cache, in seconds of the caller's clock.
     pub(crate) heard_at: u64,
 }
@@ -66,16 +66,13 @@ pub(crate) enum NextCall {
 impl<T: Stream> Connection<T> {
     /// A connection that was just made.
     pub(crate) fn new(stream: T, now: u64) -> Connection<T>
-        ensures { result ≡ record { stream = stream; unread = []; unwritten = []; carried = no_bytes; heard_at = now } }
+        ensures { result ≡ record { stream = stream; unread = []; unwritten = []; traffic = no_traffic; heard_at = now } }
     {
         Connection {
             stream,
             unread: Buffer::new(),
             unwritten: Buffer::new(),
-            carried: ByteCounts {
-                read: 0,
-                written: 0,
-            },
+            traffic: Traffic::new(),
             heard_at: now,
         }
     }
@@ -94,11 +91,11 @@ impl<T: Stream> Connection<T> {
     fn take(&mut self, router: &mut Router, now: u64) -> usize
         requires { 0 < length self.old.unread }
         ensures goes { GoesFrom T.remaining T.contents now IsFlushed router.old self.old router.new self.new (λ s. result ≡ 0 → IsOver s) }
-        ensures rest { self.new ≡ record self.old { unread = drop result self.old.unread; heard_at = now } }
+        ensures rest { self.new ≡ record self.old { unread = drop result self.old.unread; traffic = and_received (take result self.old.unread) self.old.traffic; heard_at = now } }
         ensures within { result ≤ length self.old.unread }
     {
         self.heard_at = now;
-        self.unread.hand_in(router, now)
+        self.unread.hand_in(router, now, &mut self.traffic.received)
     }
 
     /// Passes what was read to the router, as far as that has nothing to send, and returns which call of the stream is next.
@@ -128,7 +125,7 @@ impl<T: Stream> Connection<T> {
         ensures answers { AnswersStep result (T.answers self.old.stream) (T.answers self.new.stream) }
     {
         let moved = self.unread.read(&mut self.stream);
-        self.carried.read = self.carried.read.saturating_add(count_of(moved));
+        self.traffic.carried.read = self.traffic.carried.read.saturating_add(moved.count());
         after_read(moved)
     }
 
@@ -137,8 +134,10 @@ impl<T: Stream> Connection<T> {
         ensures goes { (now : ℕ) → GoesFrom T.remaining T.contents now HasUnwritten router.now self.old router.now self.new (GoesOrEnds result (T.remaining self.new.stream)) }
         ensures answers { AnswersStep result (T.answers self.old.stream) (T.answers self.new.stream) }
     {
-        let moved = self.unwritten.write(&mut self.stream);
-        self.carried.written = self.carried.written.saturating_add(count_of(moved));
+        let moved = self
+            .unwritten
+            .write(&mut self.stream, &mut self.traffic.sent);
+        self.traffic.carried.written = self.traffic.carried.written.saturating_add(moved.count());
         after_write(moved)
     }
 
@@ -187,16 +186,6 @@ fn end_of(router: &Router) -> End
     match router.link() {
         Link::Ended(end) => end,
         _ => End::Expired,
-    }
-}
-
-/// How many bytes were read or written.
-fn count_of(moved: Progress) -> u64
-    ensures { result ≡ moved_count moved }
-{
-    match moved {
-        Progress::Bytes(n) => n as u64,
-        Progress::Waits | Progress::Interrupted | Progress::Failed => 0,
     }
 }
 

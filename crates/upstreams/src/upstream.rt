@@ -8,14 +8,15 @@ ghost use Rattle.rtr_ends.specs.RouterLink.{is_idle, name_of};
 ghost use Rattle.rtr_ends.specs.RouterShown.{Calls, CallsLead, IsShown};
 ghost use Rattle.rtr_ends.specs.Transcript.{kept};
 ghost use Rattle.rtr_server.specs.Clients.{Begun};
+ghost use Rattle.rtr_server.specs.Counting.{none_counted};
 ghost use Rattle.upstreams.specs.Polls.{PollsIf, heard_if, heard_on, no_bytes};
-ghost use Rattle.upstreams.specs.Upstreams.{CallsOn, GoesOn, Polls, ShowsUpstream, TicksOn, carried_by, closed_for, data_of, expiry_of, falls_back, is_past, is_stalled, is_unsupported_version, next_due};
+ghost use Rattle.upstreams.specs.Upstreams.{CallsOn, GoesOn, Polls, ShowsUpstream, TicksOn, carried_by, closed_for, data_of, expiry_of, falls_back, is_past, is_stalled, is_unsupported_version, next_due, received_by, sent_by};
 
 use crate::connection::{Connection, DisconnectReason, PollOutcome};
 use rtr_ends::{End, Link, Router};
 use rtr_pdu::Version;
 use rtr_pdu::error_code::UNSUPPORTED_VERSION;
-use rtr_server::{ByteCounts, Stream};
+use rtr_server::{ByteCounts, PdusByKind, Stream};
 use std::alloc::Global;
 use vrps::{Serial, VrpSet};
 
@@ -29,6 +30,10 @@ pub struct Upstream<T> {
     stall: u64,
     /// The bytes that went over the latest connection, once that is dropped.
     carried: ByteCounts,
+    /// The PDUs that came on it, by type.
+    received: PdusByKind,
+    /// The PDUs that were sent on it, by type.
+    sent: PdusByKind,
 }
 
 impl<T: Stream + Drop> Upstream<T> {
@@ -38,6 +43,7 @@ impl<T: Stream + Drop> Upstream<T> {
         ensures shows { (b : Begun) → ShowsUpstream T.remaining T.contents [] b result }
         ensures stall { result.stall ≡ stall }
         ensures carried { result.carried ≡ no_bytes }
+        ensures pdus { (result.received ≡ none_counted.pdus) × (result.sent ≡ none_counted.pdus) }
     {
         Upstream {
             router: Router::new(alloc),
@@ -47,6 +53,8 @@ impl<T: Stream + Drop> Upstream<T> {
                 read: 0,
                 written: 0,
             },
+            received: PdusByKind::none(),
+            sent: PdusByKind::none(),
         }
     }
 
@@ -63,17 +71,36 @@ impl<T: Stream + Drop> Upstream<T> {
         ensures calls { (calls : List model.RouterCall) (b : Begun) → ShowsUpstream T.remaining T.contents calls b self.old →
             ShowsUpstream T.remaining T.contents (model.Connects now ∷ calls) (record { before = T.remaining stream; had = T.contents stream }) self.new }
         ensures carried { carried_by self.new.connection self.new.carried ≡ no_bytes }
+        ensures pdus { (received_by self.new.connection self.new.received ≡ none_counted.pdus) × (sent_by self.new.connection self.new.sent ≡ none_counted.pdus) }
         ensures stall { self.new.stall ≡ self.old.stall }
     {
         self.router.connect(now);
         self.connection = Some(Connection::new(stream, now));
     }
 
-    /// Drops the connection, if there is one, with all that remained to be written to it. `carried` still has what went over it.
+    /// A connection could not be made at this time: the next one is due after the retry interval (RFC 8210 section 6). An older connection is
+    /// dropped.
+    pub fn connect_failed(&mut self, at: u64)
+        ensures calls { (calls : List model.RouterCall) (b : Begun) → ShowsUpstream T.remaining T.contents calls b self.old →
+            ShowsUpstream T.remaining T.contents (model.Closes at ∷ model.Connects at ∷ calls) b self.new }
+        ensures gone { self.new.connection ≡ None }
+        ensures carried { self.new.carried ≡ carried_by self.old.connection self.old.carried }
+        ensures received { self.new.received ≡ received_by self.old.connection self.old.received }
+        ensures sent { self.new.sent ≡ sent_by self.old.connection self.old.sent }
+        ensures stall { self.new.stall ≡ self.old.stall }
+    {
+        self.router.connect(at);
+        self.close(at);
+    }
+
+    /// Drops the connection, if there is one, with all that remained to be written to it. `carried`, `received` and `sent` still have what went
+    /// over it.
     pub fn disconnect(&mut self, now: u64)
         ensures calls { CallsOn T.remaining T.contents (model.Closes now) self.old self.new }
         ensures gone { self.new.connection ≡ None }
         ensures carried { self.new.carried ≡ carried_by self.old.connection self.old.carried }
+        ensures received { self.new.received ≡ received_by self.old.connection self.old.received }
+        ensures sent { self.new.sent ≡ sent_by self.old.connection self.old.sent }
         ensures stall { self.new.stall ≡ self.old.stall }
     {
         self.close(now);
@@ -84,9 +111,13 @@ impl<T: Stream + Drop> Upstream<T> {
         ensures calls { Calls (λ r. (called (model.Closes now) r).router) self.old.router self.new.router }
         ensures gone { self.new.connection ≡ None }
         ensures carried { self.new.carried ≡ carried_by self.old.connection self.old.carried }
+        ensures received { self.new.received ≡ received_by self.old.connection self.old.received }
+        ensures sent { self.new.sent ≡ sent_by self.old.connection self.old.sent }
         ensures stall { self.new.stall ≡ self.old.stall }
     {
         self.carried = self.carried();
+        self.received = self.received();
+        self.sent = self.sent();
         self.connection = None;
         self.router.closed(now);
     }
@@ -110,8 +141,8 @@ impl<T: Stream + Drop> Upstream<T> {
 
     /// Polls the connection, with at most `budget` calls of its stream. What was pulled is written, then more is pulled. If the router has
     /// nothing to send, it receives what was read. If nothing is left of that, a piece is read. A connection that is gone is dropped, and the
-    /// outcome says why; `carried` still has what went over it. What was committed stays, by the router's rules. After Error Report 4,
-    /// Unsupported Protocol Version, the connections from the next one on are of version 0 (RFC 8210 section 7).
+    /// outcome says why; `carried`, `received` and `sent` still have what went over it. What was committed stays, by the router's rules. After
+    /// Error Report 4, Unsupported Protocol Version, the connections from the next one on are of version 0 (RFC 8210 section 7).
     pub fn poll(&mut self, now: u64, budget: u32) -> PollOutcome
         ensures polls { Polls T.remaining T.contents T.answers now budget self.old result self.new }
         ensures goes { GoesOn T.remaining T.contents self.old self.new }
@@ -128,6 +159,8 @@ impl<T: Stream + Drop> Upstream<T> {
         ensures closed { (calls : List model.RouterCall) → CallsLead calls self.old.router → CallsLead (closed_for now reason calls) self.new.router }
         ensures gone { self.new.connection ≡ None }
         ensures carried { self.new.carried ≡ carried_by self.old.connection self.old.carried }
+        ensures received { self.new.received ≡ received_by self.old.connection self.old.received }
+        ensures sent { self.new.sent ≡ sent_by self.old.connection self.old.sent }
         ensures stall { self.new.stall ≡ self.old.stall }
     {
         self.close(now);
@@ -188,7 +221,27 @@ impl<T: Stream + Drop> Upstream<T> {
     {
         match &self.connection {
             None => self.carried,
-            Some(connection) => connection.carried,
+            Some(connection) => connection.traffic.carried,
+        }
+    }
+
+    /// The PDUs that came on the latest connection, by type. These are the PDUs of what the router consumed.
+    pub fn received(&self) -> PdusByKind
+        ensures { result ≡ received_by self.now.connection self.now.received }
+    {
+        match &self.connection {
+            None => self.received,
+            Some(connection) => connection.traffic.received.pdus(),
+        }
+    }
+
+    /// The PDUs that were sent on the latest connection, by type. These are the PDUs that were written whole to its stream.
+    pub fn sent(&self) -> PdusByKind
+        ensures { result ≡ sent_by self.now.connection self.now.sent }
+    {
+        match &self.connection {
+            None => self.sent,
+            Some(connection) => connection.traffic.sent.pdus(),
         }
     }
 

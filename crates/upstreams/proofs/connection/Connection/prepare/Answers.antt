@@ -31,5 +31,5 @@ loop-now-preserved g c = record {
       (laws.so_then g.T.Stream.remaining g.T.Stream.contents c.args.now Anyhow MayBeFlushed IsFlushed c.args.router.now c.args.self.now c.fill.new.router c.fill.new.self (λ calls b runs flushed. flushed (c.if-not-is_empty.ensures.0 refl))
       (laws.then_on g.T.Stream.remaining g.T.Stream.contents c.args.now Anyhow Anyhow MayBeFlushed c.args.router.now c.args.self.now c.loop-now.router c.loop-now.self c.fill.new.router c.fill.new.self c.loop-now.invariant.goes (c.fill.ensures.goes c.args.now)))
       (laws.so_then g.T.Stream.remaining g.T.Stream.contents c.args.now IsFlushed (λ s. c.take.result ≡ 0 → IsOver s) Anyhow c.fill.new.router c.fill.new.self c.take.new.router c.take.new.self (λ calls b runs over. tt) c.take.ensures.goes);
-  answers = laws.same_taken g.T.Stream.answers c.fill.new.self c.take.new.self _ _ c.take.ensures.rest ∙ laws.same_filled g.T.Stream.answers c.loop-now.self c.fill.new.self _ c.fill.ensures.rest ∙ c.loop-now.invariant.answers;
+  answers = laws.same_taken g.T.Stream.answers c.fill.new.self c.take.new.self _ _ _ c.take.ensures.rest ∙ laws.same_filled g.T.Stream.answers c.loop-now.self c.fill.new.self _ c.fill.ensures.rest ∙ c.loop-now.invariant.answers;
 }

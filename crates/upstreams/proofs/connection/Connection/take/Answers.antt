@@ -1,5 +1,8 @@
+use Rattle.std.proofs.Common.{take}
+use Rattle.rtr_server.proofs.TurnLaws.{received_more}
 use Rattle.upstreams.proofs.ConnectionLaws as laws
 use Rattle.upstreams.proofs.connection.Connection.take.Goals as goal
 
 pub returns-clause-goes : goal.returns-clause-goes
-returns-clause-goes g c = laws.takes g.T.Stream.remaining g.T.Stream.contents c.args.now c.args.router.now c.hand_in.new.router c.args.self.now c.hand_in.new.self c.hand_in.result c.requires c.hand_in.ensures.rest c.hand_in.ensures.bytes c.hand_in.ensures.takes
+returns-clause-goes g c = laws.takes g.T.Stream.remaining g.T.Stream.contents c.args.now c.args.router.now c.hand_in.new.router c.args.self.now c.hand_in.new.self (record c.args.self.now.traffic { received = c.hand_in.new.received }) c.hand_in.result c.requires c.hand_in.ensures.rest
+    (received_more c.args.self.now.traffic c.hand_in.new.received (take c.hand_in.result c.args.self.now.unread) c.hand_in.ensures.counts) c.hand_in.ensures.bytes c.hand_in.ensures.takes
