@@ -7,22 +7,25 @@
 //! - `expired records 12`: the data expired (RFC 8210 section 6), so all were withdrawn.
 //! - `dropped records 12`: the cache has another session (section 5.1), so all were withdrawn.
 //!
-//! To feed a routing table of your own, replace what `Follower` prints. `Client` has the connections and the timers. A cache that leaves a
-//! query without an answer is given up after a minute. A cache that speaks version 0 alone is asked again in that version (section 7). If
-//! the router holds nothing, the wait for the next connection is ten seconds at most.
+//! To feed a routing table of your own, replace what `Follower` prints. The router, its timers and its connection are an `Upstream`, which
+//! takes any transport that has a `Stream`; `Client` dials, waits and passes the time. A cache that leaves a query without an answer is given up
+//! after a minute. A cache that speaks version 0 alone is asked again in that version (section 7). If the router holds nothing, the wait for
+//! the next connection is ten seconds at most.
 //!
 //! Each loop is proved to end, so those that run as long as the client does are counted.
 #![tactic(auto)]
 
 use anyhow::{Result, bail};
-use rtr_ends::{CommittedVersion, End, Link, Router};
-use rtr_pdu::{MAX_UNIT_LEN, Version, error_code};
+use rtr_ends::{CommittedVersion, End, Router};
+use rtr_pdu::{Version, error_code};
+use rtr_server::Duplex;
 use std::alloc::Global;
-use std::io::{self, BufRead, BufReader, BufWriter, ErrorKind, Write};
+use std::io::{self, BufWriter, Write};
 use std::net::{Net, OpenStream, SocketAddr, TcpStream};
 use std::time::{Clock, Duration, Instant};
 use std::{env, mem, thread};
 use thiserror::Error;
+use upstreams::{DisconnectReason, PollOutcome, Upstream};
 use vrps::VrpSet;
 
 /// The longest time for a connection to be made, in seconds.
@@ -49,14 +52,22 @@ enum Lost {
     /// The router's link ended.
     #[error("{0}")]
     Link(End),
-    /// The socket failed.
+    /// A read or a write failed.
+    #[error("the connection was reset")]
+    Reset,
+    /// It could not be made.
     #[error("{0}")]
     Socket(io::Error),
 }
 
-impl From<io::Error> for Lost {
-    fn from(error: io::Error) -> Lost {
-        Lost::Socket(error)
+impl From<DisconnectReason> for Lost {
+    fn from(reason: DisconnectReason) -> Lost {
+        match reason {
+            DisconnectReason::PeerClosed => Lost::Closed,
+            DisconnectReason::LinkEnded(end) => Lost::Link(end),
+            DisconnectReason::ReadFailed | DisconnectReason::WriteFailed => Lost::Reset,
+            DisconnectReason::Stalled => Lost::Silent,
+        }
     }
 }
 
@@ -147,18 +158,15 @@ impl<W: Write + Drop> Follower<W> {
     }
 }
 
-/// A router that follows one cache.
+/// A router that follows one cache over TCP.
 #[derive(Drop)]
-struct Client<'a, R, W: Write + Drop> {
+struct Client<'a, R: Net, W: Write + Drop> {
     rt: &'a R,
-    alloc: Global,
     /// The start of its clock, which counts seconds and never goes back.
     began: Instant,
-    router: Router,
+    upstream: Upstream<Duplex<R::Stream, R::Stream>>,
     /// The version of the protocol on the connection.
     spoken: Version,
-    /// When bytes last came or went, by its clock.
-    heard: u64,
     follower: Follower<W>,
 }
 
@@ -169,116 +177,85 @@ impl<'a, R: Clock + Net, W: Write + Drop> Client<'a, R, W> {
             if self.follower.left == 0 {
                 break;
             }
-            let lost = match self.connect(address) {
-                Ok(stream) => self.talk(stream)?,
-                Err(error) => Some(Lost::Socket(error)),
-            };
-            if let Some(lost) = lost {
+            if let Some(lost) = self.session(address)? {
                 self.lose(&lost)?;
             }
         }
         Ok(())
     }
 
-    /// Opens a connection. If that fails, the router's query fails with it, so the retry interval begins (RFC 8210 section 6).
-    fn connect(&mut self, address: &SocketAddr) -> io::Result<R::Stream> {
-        self.heard = self.now()?;
-        self.router.connect(self.heard);
-        let wait = Duration::from_secs(CONNECT_WAIT);
-        let stream = TcpStream::connect_timeout(self.rt, address, wait)?;
-        stream.set_nodelay(true)?;
-        stream.set_read_timeout(Some(Duration::from_secs(TICK)))?;
-        stream.set_write_timeout(Some(Duration::from_secs(ANSWER_WAIT)))?;
-        Ok(stream)
+    /// Follows the cache on one connection. It returns why that ended, or `None` if all commits are printed.
+    fn session(&mut self, address: &SocketAddr) -> Result<Option<Lost>> {
+        let now = self.now()?;
+        match dial(self.rt, address) {
+            Ok(stream) => {
+                self.upstream.connect(stream, now);
+                self.talk()
+            }
+            Err(error) => {
+                self.upstream.connect_failed(now);
+                Ok(Some(Lost::Socket(error)))
+            }
+        }
     }
 
-    /// Runs the router over a connection. It returns why that ended, or `None` if all commits are printed.
-    fn talk(&mut self, stream: R::Stream) -> Result<Option<Lost>> {
-        let mut output = stream.try_clone()?;
-        let mut input = BufReader::new(self.alloc, stream)?;
+    /// Runs the router over the connection. It returns why that ended, or `None` if all commits are printed.
+    fn talk(&mut self) -> Result<Option<Lost>> {
         for _ in 0..u64::MAX {
-            let now = self.tick()?;
+            let stalled = self.tick()?;
             if self.follower.left == 0 {
                 break;
             }
-            if let Err(lost) = self.exchange(&mut input, &mut output, now) {
-                return Ok(Some(lost));
+            let lost = match stalled {
+                Some(reason) => Some(reason),
+                None => self.exchange()?,
+            };
+            if let Some(reason) = lost {
+                return Ok(Some(Lost::from(reason)));
             }
-            self.follower.follow(&self.router, now)?;
         }
         Ok(None)
     }
 
-    /// Runs the timers, and prints what expired. It returns the time.
-    fn tick(&mut self) -> Result<u64> {
+    /// Runs the timers, and prints what expired. It returns why the connection ended, if it was silent for too long.
+    fn tick(&mut self) -> Result<Option<DisconnectReason>> {
         let now = self.now()?;
-        self.router.tick(now);
-        self.follower.follow(&self.router, now)?;
-        Ok(now)
+        let stalled = self.upstream.tick(now);
+        self.follower.follow(self.upstream.router(), now)?;
+        Ok(stalled)
     }
 
-    /// Sends what is pending to the cache, and waits a tick for bytes of the cache.
-    fn exchange<I: BufRead, O: Write>(
-        &mut self,
-        input: &mut I,
-        output: &mut O,
-        now: u64,
-    ) -> Result<(), Lost> {
-        self.send(output, now)?;
-        if let Link::Ended(end) = self.router.link() {
-            return Err(Lost::Link(end));
+    /// Makes one call of the socket, and prints what follows from it: so no commit is missed. It returns why the connection ended, if it did.
+    /// If there is nothing to read, it waits.
+    fn exchange(&mut self) -> Result<Option<DisconnectReason>> {
+        let now = self.now()?;
+        let outcome = self.upstream.poll(now, 1);
+        self.follower.follow(self.upstream.router(), now)?;
+        match outcome {
+            PollOutcome::Disconnected(reason) => return Ok(Some(reason)),
+            PollOutcome::WaitsToRead | PollOutcome::WaitsToWrite => self.await_bytes()?,
+            PollOutcome::Busy | PollOutcome::NotConnected => {}
         }
-        self.receive(input, now)
+        Ok(None)
     }
 
-    /// Sends what is pending to the cache.
-    fn send<O: Write>(&mut self, output: &mut O, now: u64) -> io::Result<()> {
-        let mut room = [0; MAX_UNIT_LEN];
-        for _ in 0..u64::MAX {
-            let count = self.router.pull(&mut room);
-            if count == 0 {
-                break;
-            }
-            output.write_all(&room[..count])?;
-            self.heard = now;
-        }
-        Ok(())
+    /// Waits for bytes of the cache, a tick at most.
+    fn await_bytes(&self) -> io::Result<()> {
+        let Some(stream) = self.upstream.stream() else {
+            return Ok(());
+        };
+        stream.input.set_nonblocking(false)?;
+        let _came = stream.input.peek(&mut [0]);
+        stream.input.set_nonblocking(true)
     }
 
-    /// Passes bytes of the cache to the router, which consumes them up to a PDU that it replies to. The time is that of the tick: what
-    /// expired by then is printed.
-    fn receive<I: BufRead>(&mut self, input: &mut I, now: u64) -> Result<(), Lost> {
-        match input.fill_buf() {
-            Ok(bytes) if bytes.is_empty() => Err(Lost::Closed),
-            Ok(bytes) => {
-                let taken = self.router.receive(bytes, now);
-                input.consume(taken);
-                self.heard = now;
-                Ok(())
-            }
-            Err(error) if is_passing(error.kind()) => self.judge_silence(now),
-            Err(error) => Err(Lost::Socket(error)),
-        }
-    }
-
-    /// Ends a connection whose query has had no answer for too long. (A link without a query may be silent.)
-    fn judge_silence(&self, now: u64) -> Result<(), Lost> {
-        let waits = matches!(self.router.link(), Link::Asked | Link::Answering);
-        if waits && now.saturating_sub(self.heard) > ANSWER_WAIT {
-            return Err(Lost::Silent);
-        }
-        Ok(())
-    }
-
-    /// Closes a connection, prints why it ended, and waits until the next one is due. If the cache may speak version 0 alone, the next one
-    /// is of version 0 and due at once.
+    /// Prints why a connection ended, and waits until the next one is due. If the cache may speak version 0 alone, the next one is of version 0
+    /// and due at once.
     fn lose(&mut self, lost: &Lost) -> Result<()> {
-        let now = self.now()?;
-        self.router.closed(now);
         self.follower.print_end(lost)?;
         let falls_back = self.spoken == Version::V1 && lost.is_of_version();
         self.spoken = if falls_back { Version::V0 } else { Version::V1 };
-        self.router.speak(self.spoken);
+        self.upstream.set_version(self.spoken);
         if !falls_back {
             self.wait()?;
         }
@@ -289,8 +266,9 @@ impl<'a, R: Clock + Net, W: Write + Drop> Client<'a, R, W> {
     fn wait(&mut self) -> Result<()> {
         let began = self.now()?;
         for _ in 0..u64::MAX {
-            let now = self.tick()?;
-            if self.is_due(now) || self.is_empty_since(began, now) {
+            self.tick()?;
+            let now = self.now()?;
+            if self.upstream.is_due(now) || self.is_empty_since(began, now) {
                 break;
             }
             thread::sleep(self.rt, Duration::from_secs(TICK));
@@ -298,17 +276,9 @@ impl<'a, R: Clock + Net, W: Write + Drop> Client<'a, R, W> {
         Ok(())
     }
 
-    /// Whether the retry interval has passed.
-    fn is_due(&self, now: u64) -> bool {
-        match self.router.due() {
-            Some(due) => due <= now,
-            None => true,
-        }
-    }
-
     /// Whether the router holds nothing, and the wait for the next connection has been long enough for that.
     fn is_empty_since(&self, began: u64, now: u64) -> bool {
-        self.router.committed().is_none() && now.saturating_sub(began) >= EMPTY_WAIT
+        self.upstream.committed().is_none() && now.saturating_sub(began) >= EMPTY_WAIT
     }
 
     /// The time by its clock.
@@ -317,12 +287,15 @@ impl<'a, R: Clock + Net, W: Write + Drop> Client<'a, R, W> {
     }
 }
 
-/// Whether a read only has no bytes yet.
-fn is_passing(kind: ErrorKind) -> bool {
-    matches!(
-        kind,
-        ErrorKind::WouldBlock | ErrorKind::TimedOut | ErrorKind::Interrupted
-    )
+/// Connects to an address. No call of the stream blocks.
+fn dial<R: Net>(rt: &R, address: &SocketAddr) -> io::Result<Duplex<R::Stream, R::Stream>> {
+    let wait = Duration::from_secs(CONNECT_WAIT);
+    let output = TcpStream::connect_timeout(rt, address, wait)?;
+    output.set_nodelay(true)?;
+    output.set_read_timeout(Some(Duration::from_secs(TICK)))?;
+    output.set_nonblocking(true)?;
+    let input = output.try_clone()?;
+    Ok(Duplex { input, output })
 }
 
 fn main(rt: HostRuntime) -> Result<()> {
@@ -337,11 +310,9 @@ fn main(rt: HostRuntime) -> Result<()> {
     };
     let mut client = Client {
         rt: &rt,
-        alloc: rt.alloc(),
         began: Instant::now(&rt)?,
-        router: Router::new(rt.alloc()),
+        upstream: Upstream::new(rt.alloc(), ANSWER_WAIT),
         spoken: Version::V1,
-        heard: 0,
         follower,
     };
     client.run(&address)
