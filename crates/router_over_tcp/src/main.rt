@@ -7,10 +7,10 @@
 //! - `expired records 12`: the data expired (RFC 8210 section 6), so all were withdrawn.
 //! - `dropped records 12`: the cache has another session (section 5.1), so all were withdrawn.
 //!
-//! To feed a routing table of your own, replace what `Follower` prints. The router, its timers and its connection are an `Upstream`, which
-//! takes any transport that has a `Stream`; `Client` dials, waits and passes the time. A cache that leaves a query without an answer is given up
-//! after a minute. A cache that speaks version 0 alone is asked again in that version (section 7). If the router holds nothing, the wait for
-//! the next connection is ten seconds at most.
+//! To feed a routing table of your own, replace what `Follower` prints. The router, its timers and its connection are an `Upstream`, over any
+//! transport that has a `Stream`. `Client` dials, waits and passes the time. A cache that leaves a query without an answer is given up after a
+//! minute. A cache that speaks version 0 alone is asked again in that version (section 7). If the router holds nothing, the wait for the next
+//! connection is ten seconds at most.
 //!
 //! Each loop is proved to end, so those that run as long as the client does are counted.
 #![tactic(auto)]

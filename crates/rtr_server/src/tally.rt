@@ -56,9 +56,9 @@ const FRONT: usize = 12;
 /// The bytes that are kept of an Error Report behind the PDU that it encapsulates: the length of the text, and the beginning of the text.
 const TAIL: usize = 4 + REPORT_TEXT_LEN;
 
-/// What was counted of bytes that went one way, in whatever pieces: their PDUs by type, the serial of the last End of Data, and what the last
-/// Error Report says. Of a PDU that has not come whole it keeps how many bytes came, and the first of them. Of an Error Report it also keeps
-/// the tail: the bytes behind the PDU that it encapsulates.
+/// What was counted of bytes that went one way, in whatever pieces. It has their PDUs by type, the serial of the last End of Data, and what
+/// the last Error Report says. Of a PDU that has not come whole it keeps how many bytes came, and the first of them. Of an Error Report it
+/// also keeps the tail: the bytes behind the PDU that it encapsulates.
 #[derive(Debug, Drop)]
 pub struct Tally {
     pdus: PdusByKind,

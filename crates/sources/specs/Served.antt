@@ -180,8 +180,8 @@ abbrev pub is_before_end : Option ℕ → ℕ → Bool
 is_before_end None at = true
 is_before_end (Some end) at = nat_lt at end
 
--- At each second before the end the whole set counts, and none of it at the end or later (RFC 8210 section 6). What counted at the first
--- second and does not count any more has expired.
+-- At each second before the end the whole set counts, and none of it at the end or later (RFC 8210 section 6). A payload that counted at the
+-- first second counts, or has expired.
 pub record CountsUntil (set : VrpSet) (end : Option ℕ) (l : Listed) : Type 0 where
   pub counts : (at : ℕ) → at < 2 ^ 64 → counting_at at l ≡ cond (is_before_end end at) set empty
   pub expired : (at : ℕ) → at < 2 ^ 64 → size (counting_at at l) + expired_of at (Some l) ≡ size (counting_at 0 l)

@@ -27,7 +27,7 @@ impl From<ExportFault> for TakeFault {
     }
 }
 
-/// Why a set is not taken.
+/// Why a list is not replaced by a set.
 #[derive(Clone, Copy, Debug, PartialEq, Eq, Error)]
 pub enum TakeSetFault {
     /// No list has this number, counted from 0.

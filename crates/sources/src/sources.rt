@@ -106,7 +106,7 @@ impl Sources {
     }
 
     /// Replaces the list of this number, counted from 0, by a set of another cache. Its records count at each second before `until`, in seconds
-    /// since 1970, and none of them counts at `until` or later, as a router's records end with the Expire Interval (RFC 8210 section 6). Without
+    /// since 1970, and none of them at `until` or later. So a router's records end with the Expire Interval (RFC 8210 section 6). Without
     /// `until` they count until the list is replaced or dropped. If there is no such list, or memory runs out, nothing changes.
     pub fn take_set(
         &mut self,
@@ -125,8 +125,8 @@ impl Sources {
         Ok(())
     }
 
-    /// Empties the list of this number, counted from 0: no record of it counts at any second. It tells whether there is such a list; if there is
-    /// none, nothing changes. It allocates nothing.
+    /// Empties the list of this number, counted from 0: no record of it counts at any second. It returns whether there is such a list; if there
+    /// is none, nothing changes. It allocates nothing.
     pub fn drop_set(&mut self, list: usize) -> bool
         ensures lists { DropsSet list result self.old.lists.items self.new.lists.items }
         ensures rest { (self.new.exceptions ≡ self.old.exceptions) × (self.new.repository ≡ self.old.repository) × (self.new.leaves_out ≡ self.old.leaves_out) }
