@@ -8,6 +8,8 @@ mod chains;
 #[cfg(test)]
 mod faults;
 #[cfg(test)]
+mod lies;
+#[cfg(test)]
 mod polls;
 #[cfg(test)]
 mod streams;

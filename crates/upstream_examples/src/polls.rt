@@ -3,12 +3,12 @@ use crate::streams::{Bad, Script, has_at, is_list, plain, settle, shared};
 use example_values::hex::bytes;
 use example_values::units::{ANSWER, RESET_QUERY, SERIAL_QUERY, W};
 use rtr_ends::Link;
-use rtr_pdu::Version;
+use rtr_pdu::{Kind, Version};
 use rtr_server::ByteCounts;
 use std::alloc::Global;
 use std::process::Abort;
 use std::test::Fail;
-use upstreams::laws::each_holds;
+use upstreams::laws::{counts_received, each_holds};
 use upstreams::{DisconnectReason, PollOutcome, Upstream};
 use vrps::Serial;
 
@@ -23,6 +23,16 @@ fn len_of(upstream: &Upstream<Script<'_>>) -> Option<usize> {
     }
 }
 
+/// Whether one Reset Query went out, and an answer with one record came.
+fn counts_one_record(upstream: &Upstream<Script<'_>>) -> bool {
+    let (received, sent) = (upstream.received(), upstream.sent());
+    received.of(Kind::CacheResponse) == 1
+        && received.of(Kind::Ipv4Prefix) == 1
+        && received.of(Kind::EndOfData) == 1
+        && sent.of(Kind::ResetQuery) == 1
+        && sent.of(Kind::SerialQuery) == 0
+}
+
 #[test]
 fn an_answer_is_committed(rt: HostRuntime) -> Result<(), Fail> {
     let alloc = rt.alloc();
@@ -31,6 +41,7 @@ fn an_answer_is_committed(rt: HostRuntime) -> Result<(), Fail> {
     let stream = plain(answer.as_slice(), &output)?;
     let mut upstream = Upstream::new(alloc, 60);
     each_holds(&upstream);
+    counts_received(&upstream);
     assert!(rt; upstream.poll(7, 8) == PollOutcome::NotConnected);
     assert!(rt; !upstream.is_connected() && upstream.stream().is_none());
     upstream.connect(stream, 7);
@@ -48,7 +59,9 @@ fn an_answer_is_committed(rt: HostRuntime) -> Result<(), Fail> {
     assert!(rt; upstream.committed() == Some((Version::V1, 4660, Serial(5))));
     assert!(rt; len_of(&upstream) == Some(1) && upstream.table().len() == 1);
     assert!(rt; upstream.router().link() == Link::Idle);
+    assert!(rt; counts_one_record(&upstream));
     upstream.disconnect(8);
+    assert!(rt; counts_one_record(&upstream));
     assert!(rt; !upstream.is_connected() && len_of(&upstream) == Some(1));
     assert!(rt;
         upstream.carried()

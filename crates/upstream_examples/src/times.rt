@@ -49,6 +49,23 @@ fn silence_ends_a_connection(rt: HostRuntime) -> Result<(), Fail> {
     Ok(())
 }
 
+/// A connection that cannot be made starts the retry interval, as one that is lost does.
+#[test]
+fn a_failed_connection_is_tried_again_later(rt: HostRuntime) -> Result<(), Fail> {
+    let alloc = rt.alloc();
+    let answer = bytes(ANSWER);
+    let output = shared(alloc)?;
+    let stream = plain(answer.as_slice(), &output)?;
+    let mut upstream = Upstream::new(alloc, 60);
+    upstream.connect_failed(5);
+    assert!(rt; !upstream.is_connected() && upstream.next_due() == Some(605));
+    upstream.connect(stream, 605);
+    assert!(rt; settle(&mut upstream, 605) == PollOutcome::WaitsToRead);
+    upstream.connect_failed(700);
+    assert!(rt; !upstream.is_connected() && upstream.next_due() == Some(1300));
+    Ok(())
+}
+
 /// An idle connection is not dropped, however long nothing comes.
 #[test]
 fn an_idle_connection_stays(rt: HostRuntime) -> Result<(), Fail> {
