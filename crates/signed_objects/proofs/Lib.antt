@@ -1,0 +1,5 @@
+pub mod Loops
+pub mod ExactCombinators
+pub mod ExactObjects
+pub mod ShortAttributes
+pub mod DerObjects

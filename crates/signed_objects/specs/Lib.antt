@@ -1,0 +1,9 @@
+pub mod Combinators
+pub mod CombinatorReading
+pub mod Attributes
+pub mod Certificates
+pub mod Cms
+pub mod Reading
+pub mod Faults
+pub mod Gives
+pub mod Objects

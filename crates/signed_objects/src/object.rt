@@ -1,0 +1,91 @@
+//! Signed objects: what digest and signature say of their parts.
+
+ghost use Rattle.std.specs.Prelude.{◌≡◌, ◌<◌, ◌^◌, ◌↔◌, length, IfOk, IsTrue};
+ghost use Rattle.rsa_sha256.specs.Rsa.{IsSignature};
+ghost use Rattle.signed_objects.specs.Objects.{to_be_signed, Says, Judges, ReadsDer};
+
+use crate::elements::SET;
+use crate::signed_data::{ObjectParts, object_parts};
+use crate::{CmsFaultKind, ObjectFault};
+use der_lite::DerWriter;
+use rsa_sha256::PublicKey;
+use sha2::{Digest, Sha256};
+use std::alloc::{AllocError, Global};
+
+/// A signed object whose digest and signature hold under the key of the certificate inside it (RFC 6488). Who issued that certificate was
+/// not checked.
+#[derive(Clone, Copy, Debug, PartialEq, Eq)]
+pub struct SignedObject<'a> {
+    /// The content of the OBJECT IDENTIFIER eContentType: what kind of object it is.
+    pub content_type: &'a [u8],
+    /// eContent.
+    pub content: &'a [u8],
+    /// The certificate, in DER.
+    pub certificate: &'a [u8],
+    /// The subjectKeyIdentifier of the certificate, which names its key as the signer.
+    pub key_identifier: &'a [u8],
+}
+
+/// The first of what the attributes say that is not so.
+fn disagreement(parts: &ObjectParts) -> Option<CmsFaultKind>
+    ensures { Says result (record { content_type = parts.now.content_type.now; content = parts.now.content.now; certificate = parts.now.certificate.octets.now; key = record { modulus = parts.now.certificate.key.modulus.now; identifier = parts.now.certificate.key.identifier.now }; signer = record { identifier = parts.now.signer.identifier.now; octets = parts.now.signer.attributes.octets.now; said = record { content_type = parts.now.signer.attributes.content_type.now; message_digest = parts.now.signer.attributes.message_digest.now }; signature = parts.now.signer.signature.now } }) }
+{
+    let attributes = &parts.signer.attributes;
+    if parts.signer.identifier != parts.certificate.key.identifier {
+        Some(CmsFaultKind::OtherSigner)
+    } else if attributes.content_type != parts.content_type {
+        Some(CmsFaultKind::OtherContentType)
+    } else if attributes.message_digest != Sha256::digest(parts.content).as_slice() {
+        Some(CmsFaultKind::OtherDigest)
+    } else {
+        None
+    }
+}
+
+/// Whether the signature of these attributes holds under the key. They are signed under the tag of a SET (RFC 5652 section 5.4).
+fn is_signed(
+    alloc: Global,
+    key: &PublicKey,
+    attributes: &[u8],
+    signature: &[u8],
+) -> Result<bool, AllocError>
+    requires { length attributes.now < 2 ^ 32 }
+    ensures { IfOk result (λ holds. IsTrue holds ↔ IsSignature key.now (to_be_signed attributes.now) signature.now) }
+{
+    let mut message = DerWriter::new(alloc);
+    message.tagged(SET, attributes)?;
+    Ok(key.verify(message.as_slice(), signature))
+}
+
+/// Whether the object is what its signer says, or the first fault.
+fn judge(alloc: Global, parts: &ObjectParts) -> Result<(), ObjectFault>
+    requires { length parts.now.signer.attributes.octets.now < 2 ^ 32 }
+    ensures { Judges result (record { content_type = parts.now.content_type.now; content = parts.now.content.now; certificate = parts.now.certificate.octets.now; key = record { modulus = parts.now.certificate.key.modulus.now; identifier = parts.now.certificate.key.identifier.now }; signer = record { identifier = parts.now.signer.identifier.now; octets = parts.now.signer.attributes.octets.now; said = record { content_type = parts.now.signer.attributes.content_type.now; message_digest = parts.now.signer.attributes.message_digest.now }; signature = parts.now.signer.signature.now } }) }
+{
+    if let Some(kind) = disagreement(parts) {
+        return Err(ObjectFault::At(kind.at(0)));
+    }
+    let Ok(key) = PublicKey::new(parts.certificate.key.modulus) else {
+        return Err(ObjectFault::At(CmsFaultKind::Modulus.at(0)));
+    };
+    let signer = &parts.signer;
+    if !is_signed(alloc, &key, signer.attributes.octets, signer.signature)? {
+        return Err(ObjectFault::At(CmsFaultKind::Signature.at(0)));
+    }
+    Ok(())
+}
+
+/// The signed object that the bytes are in DER, or the first fault (RFC 6488 section 3). The elements are judged from the first to the last,
+/// and then digest and signature. Bytes behind the object are a fault. Memory is asked for once the elements are judged.
+pub fn read_der_object(alloc: Global, der: &[u8]) -> Result<SignedObject<'_>, ObjectFault>
+    ensures { ReadsDer (λ o. record { content_type = o.content_type.now; content = o.content.now; certificate = o.certificate.now; key_identifier = o.key_identifier.now }) result der.now }
+{
+    let parts = object_parts(der)?;
+    judge(alloc, &parts)?;
+    Ok(SignedObject {
+        content_type: parts.content_type,
+        content: parts.content,
+        certificate: parts.certificate.octets,
+        key_identifier: parts.signer.identifier,
+    })
+}
