@@ -392,7 +392,7 @@ exact_content_info =
     (exact_told cms.second_of members read
     (exact_member type r.content_type_at exact_content_type (λ _. last cms.wrapped_data) (λ _. last_at r.wrapped_data_at) (λ _. exact_last_at cms.wrapped_data r.wrapped_data_at exact_wrapped))))
 
--- one object, and nothing behind it
+-- one object, and the end
 pub exact_object : ExactMembers cms.object (last_at r.content_info_at)
 unfolding cms.object
 exact_object = exact_last_at cms.content_info r.content_info_at exact_content_info

@@ -3,3 +3,4 @@ pub mod ExactCombinators
 pub mod ExactObjects
 pub mod ShortAttributes
 pub mod DerObjects
+pub mod ObjectLaws

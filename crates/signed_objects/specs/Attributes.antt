@@ -70,11 +70,11 @@ type_rules before content = (23, is_none (type_in content)) ∷ (24, is_among be
 abbrev pub TypeSpells : AttributeType → List ℕ → Type 0
 TypeSpells type content = content ≡ oid_of type
 
--- attrType, behind the attributes before it
+-- attrType, after the attributes before it
 unfoldable pub attribute_type : List Attribute → Element AttributeType
 attribute_type before = element OBJECT_IDENTIFIER (head_rules OBJECT_IDENTIFIER) (primitive TypeSpells (type_rules before))
 
--- an element whose content is taken as it is, or none of its tag is here
+-- an element with its content unchanged, or none of its tag is here
 abbrev pub needed_octets : ℕ → ℕ → Element (List ℕ)
 needed_octets number tag = element_behind (needed number tag) tag (primitive (λ v inner. inner ≡ v) no_rules)
 
@@ -100,7 +100,7 @@ attribute_values type = element SET (head_rules SET) (holding_one 25 (attribute_
 abbrev pub attribute_members : List Attribute → Members Attribute
 attribute_members before = member (attribute_type before) (λ type. last (attribute_values type))
 
--- Attribute, behind those before it
+-- Attribute, after those before it
 unfoldable pub attribute : List Attribute → Element Attribute
 attribute before = element SEQUENCE (head_rules SEQUENCE) (constructed no_rules (attribute_members before) no_rules)
 

@@ -83,7 +83,7 @@ subject_key_identifier = 0x55 ∷ 0x1d ∷ 0x0e ∷ []
 abbrev pub names_key : List ℕ → Bool
 names_key id = bytes_eq id subject_key_identifier
 
--- an extension: its identifier, and what is told of it
+-- an extension: its identifier, and what is kept of it
 abbrev pub Extension : Type 0
 Extension = List ℕ × List ℕ
 
@@ -104,7 +104,7 @@ has_identifier extensions = is_some (identifier_in extensions)
 abbrev pub id_rules : Bool → List ℕ → List (ℕ × Bool)
 id_rules came id = (16, names_key id && came) ∷ []
 
--- extnID, behind the extensions before it
+-- extnID, after the extensions before it
 unfoldable pub extension_id : Bool → Element (List ℕ)
 extension_id came = plain OBJECT_IDENTIFIER (id_rules came)
 
@@ -112,12 +112,12 @@ extension_id came = plain OBJECT_IDENTIFIER (id_rules came)
 unfoldable pub key_identifier : Element (List ℕ)
 key_identifier = element OCTET_STRING (head_rules OCTET_STRING) (constructed no_rules (last (plain OCTET_STRING no_rules)) no_rules)
 
--- The identifier's extension is not critical (RFC 6487 section 4.8.2), and critical FALSE is left out. Others are passed over.
+-- The identifier's extension is not critical (RFC 6487 section 4.8.2), and critical FALSE is left out. Others are skipped.
 abbrev pub extension_value : Bool → Members (List ℕ)
 extension_value true = last key_identifier
 extension_value false = anything
 
--- Extension, behind those before it
+-- Extension, after those before it
 unfoldable pub extension : List Extension → Element Extension
 extension before = element SEQUENCE (head_rules SEQUENCE) (constructed no_rules (member (extension_id (has_identifier before)) (λ id. extension_value (names_key id))) no_rules)
 
@@ -125,7 +125,7 @@ extension before = element SEQUENCE (head_rules SEQUENCE) (constructed no_rules 
 abbrev pub identifier_rules : List Extension → List (ℕ × Bool)
 identifier_rules extensions = (17, is_none (identifier_in extensions)) ∷ []
 
--- the key's identifier that extensions tell
+-- the key's identifier that extensions have
 abbrev pub identifier_told : List Extension → List ℕ
 identifier_told extensions = or_empty (identifier_in extensions)
 
@@ -146,7 +146,7 @@ version_3 = 2 ∷ 1 ∷ 2 ∷ []
 unfoldable pub certificate_version : Element (Unit {0})
 certificate_version = element_behind (needed 12 EXPLICIT_0) EXPLICIT_0 (primitive (FixedSpells version_3) (fixed_rules 12 version_3))
 
--- a SEQUENCE that is passed over
+-- a SEQUENCE that is skipped
 abbrev pub passed : Element (List ℕ)
 passed = plain SEQUENCE no_rules
 

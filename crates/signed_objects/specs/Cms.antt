@@ -56,7 +56,7 @@ signer_identifier = needed_octets 21 IMPLICIT_0
 unfoldable pub signed_attributes : Element (List ℕ × Said)
 signed_attributes = element_behind (needed 22 EXPLICIT_0) EXPLICIT_0 (with_octets attributes_content)
 
--- unsignedAttrs [1] is left out, and nothing is behind it
+-- unsignedAttrs [1] is left out, and nothing follows it
 abbrev pub unsigned_number : List ℕ → ℕ
 unsigned_number bytes = if begins EXPLICIT_1 bytes then 30 else 5
 
@@ -75,7 +75,7 @@ signature_members = told (λ v. v.1.0) (member signature_algorithm (λ _. member
 abbrev pub SignedParts : Type 0
 SignedParts = (List ℕ × Said) × List ℕ
 
--- digestAlgorithm, signedAttrs, and what is behind them
+-- digestAlgorithm, signedAttrs, and what follows them
 abbrev pub signed_members : Members SignedParts
 signed_members = told (λ v. v.1) (member digest_algorithm (λ _. member signed_attributes (λ _. signature_members)))
 
@@ -83,7 +83,7 @@ signed_members = told (λ v. v.1) (member digest_algorithm (λ _. member signed_
 abbrev pub signer_of : Unit {0} × (List ℕ × SignedParts) → Signer
 signer_of v = record { identifier = v.1.0; octets = v.1.1.0.0; said = v.1.1.0.1; signature = v.1.1.1 }
 
--- version 3, sid, and what is behind them
+-- version 3, sid, and what follows them
 abbrev pub signer_members : Members Signer
 signer_members = told signer_of (member (fixed 20 INTEGER (3 ∷ [])) (λ _. member signer_identifier (λ _. signed_members)))
 
@@ -137,7 +137,7 @@ object_of v = record {
   signer = v.1.1.1.1;
 }
 
--- version 3, digestAlgorithms, encapContentInfo, and what is behind them
+-- version 3, digestAlgorithms, encapContentInfo, and what follows them
 abbrev pub signed_data_members : Members ObjectParts
 signed_data_members = told object_of (member (fixed 7 INTEGER (3 ∷ [])) (λ _. member digest_algorithms (λ _. member encapsulated (λ _. signed_by))))
 
@@ -160,6 +160,6 @@ second_of v = v.1
 unfoldable pub content_info : Element ObjectParts
 content_info = element SEQUENCE (head_rules SEQUENCE) (constructed no_rules (told second_of (member (fixed 6 OBJECT_IDENTIFIER id_signed_data) (λ _. last wrapped_data))) no_rules)
 
--- one object, and nothing behind it
+-- one object, and the end
 unfoldable pub object : Members ObjectParts
 object = last content_info

@@ -5,7 +5,7 @@ use Rattle.der_lite.specs.DerReading.{◌>>=◌, judged, element_at}
 use Rattle.der_lite.specs.Decoding.{Read, ReadAll, ReadContent, read_constructed, read_member}
 use Rattle.signed_objects.specs.Combinators.{begins, fault_at, not_empty, no_rules, first_part}
 
--- the places of an element's content and behind it, if these rules are kept
+-- the places of an element's content and after it, if these rules are kept
 abbrev pub found_at : (List ℕ → List (ℕ × Bool)) → ℕ → Place → Result (Place × Place) Fault
 found_at rules tag p = judged (rules p.rest) p.at (element_at tag p)
 
@@ -17,19 +17,19 @@ opened_at found at content = found >>= λ x. content at x.0 >>= λ v. Ok (v, x.1
 abbrev pub nothing_at : (List ℕ → ℕ) → ReadAll (Unit {0})
 nothing_at number p = if length p.rest == 0 then Ok tt else Err (fault_at (number p.rest) p.at)
 
--- members of which only a part is told
+-- members of which only a part is kept
 abbrev pub told_at : {A B : Type 0} → (A → B) → ReadAll A → ReadAll B
 told_at tell m p = m p >>= λ a. Ok (tell a)
 
--- a content of which only a part is told
+-- a content of which only a part is kept
 abbrev pub told_content_at : {A B : Type 0} → (A → B) → ReadContent A → ReadContent B
 told_content_at tell c at p = c at p >>= λ a. Ok (tell a)
 
--- a content, and its octets as they stand
+-- a content, and its octets unchanged
 abbrev pub with_octets_at : {V : Type 0} → ReadContent V → ReadContent (List ℕ × V)
 with_octets_at c at p = c at p >>= λ v. Ok (p.rest, v)
 
--- an element, and its octets as they stand
+-- an element, and its octets unchanged
 abbrev pub standing_at : {V : Type 0} → Read V → Read (List ℕ × V)
 standing_at e p = e p >>= λ x. Ok ((take (length p.rest - length x.1.rest) p.rest, x.0), x.1)
 

@@ -40,14 +40,14 @@ nothing number = record {
   FaultAt = λ p fault. (p.rest ≢ []) × (fault ≡ fault_at (number p.rest) p.at);
 }
 
--- members of which only a part is told
+-- members of which only a part is kept
 abbrev pub told : {A B : Type 0} → (A → B) → Members A → Members B
 told {A} tell m = record {
   Spells = λ b bytes. (a : A) × m.Spells a bytes × (tell a ≡ b);
   FaultAt = m.FaultAt;
 }
 
--- a content of which only a part is told
+-- a content of which only a part is kept
 abbrev pub told_content : {A B : Type 0} → (A → B) → Content A → Content B
 told_content {A} tell c = record {
   Spells = λ b inner. (a : A) × c.Spells a inner × (tell a ≡ b);
@@ -75,14 +75,14 @@ holding_one number e = constructed (not_empty number) (sole number e) no_rules
 abbrev pub anything : Members (List ℕ)
 anything = record { Spells = λ v bytes. bytes ≡ v; FaultAt = λ p fault. ⊥ }
 
--- a content, and its octets as they stand
+-- a content, and its octets unchanged
 abbrev pub with_octets : {V : Type 0} → Content V → Content (List ℕ × V)
 with_octets c = record {
   Spells = λ v inner. (inner ≡ v.0) × c.Spells v.1 inner;
   FaultAt = c.FaultAt;
 }
 
--- an element, and its octets as they stand
+-- an element, and its octets unchanged
 abbrev pub standing : {V : Type 0} → Element V → Element (List ℕ × V)
 standing e = record {
   Spells = λ v bytes. (bytes ≡ v.0) × e.Spells v.1 bytes;

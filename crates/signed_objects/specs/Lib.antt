@@ -7,3 +7,4 @@ pub mod Reading
 pub mod Faults
 pub mod Gives
 pub mod Objects
+pub mod ObjectLaws

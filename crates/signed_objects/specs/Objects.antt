@@ -70,8 +70,8 @@ pub record IsDerObject (der : List ℕ) (value : ObjectValue) : Type 0 where
   pub holds : Holds parts
   pub is : value ≡ value_of_parts parts
 
--- What is at the offset fails with this number, and all that is judged before it holds: the elements from the first to the last, and then
--- the object as a whole.
+-- What is at the offset fails with this number, and all that is judged before it holds. The elements are judged from the first to the last,
+-- and then the object as a whole.
 abbrev pub DerFaultAt : List ℕ → ℕ → ℕ → Type 0
 DerFaultAt der offset number =
     object.FaultAt (place_of 0 der) (fault_at number offset)

@@ -25,7 +25,7 @@ all_octets = read_primitive no_rules (λ content. content)
 unfoldable pub needed_octets_at : ℕ → ℕ → Read (List ℕ)
 needed_octets_at number tag p = opened_at (found_at (needed number tag) tag p) p.at all_octets
 
--- an element that is passed over
+-- an element that is skipped
 abbrev pub octets_of : ℕ → Read (List ℕ)
 octets_of tag = content_at tag no_rules
 
@@ -96,7 +96,7 @@ attribute_values_at type p = opened_at (element_at SET p) p.at (one_of 25 (attri
 unfoldable pub attribute_from : Found → Read Attribute
 attribute_from found p = opened_at (element_at SEQUENCE p) p.at (read_constructed no_rules (read_member (attribute_type_at found) (λ type. last_at (attribute_values_at type))) no_rules)
 
--- an attribute behind those before it
+-- an attribute after those before it
 abbrev pub attribute_at : List Attribute → Read Attribute
 attribute_at before = attribute_from (found_in before)
 
@@ -114,7 +114,7 @@ exponent_at p = fixed_field (content_at INTEGER no_rules p) p.at 14 (1 ∷ 0 ∷
 unfoldable pub rsa_public_key_at : Read (List ℕ)
 rsa_public_key_at p = opened_at (element_at SEQUENCE p) p.at (read_constructed no_rules (told_at first_part (read_member modulus_at (λ _. last_at exponent_at))) no_rules)
 
--- a key, and nothing behind it
+-- a key, and the end
 abbrev pub rsa_public_key_all : List ℕ → Result (List ℕ) Fault
 rsa_public_key_all bytes = last_at rsa_public_key_at (place_of 0 bytes)
 
@@ -151,7 +151,7 @@ extension_value_at false p = anything_at p
 unfoldable pub extension_from : Bool → Read Extension
 extension_from came p = opened_at (element_at SEQUENCE p) p.at (read_constructed no_rules (read_member (extension_id_at came) (λ id. extension_value_at (names_key id))) no_rules)
 
--- an extension behind those before it
+-- an extension after those before it
 abbrev pub extension_at : List Extension → Read Extension
 extension_at before = extension_from (has_identifier before)
 
@@ -164,7 +164,7 @@ extensions_at p = opened_at (found_at (needed 15 EXPLICIT_3) EXPLICIT_3 p) p.at 
 unfoldable pub certificate_version_at : Read (Unit {0})
 certificate_version_at p = opened_at (found_at (needed 12 EXPLICIT_0) EXPLICIT_0 p) p.at (read_primitive (fixed_rules 12 version_3) (λ content. tt))
 
--- an element that is passed over
+-- an element that is skipped
 abbrev pub passed_at : Read (List ℕ)
 passed_at = content_at SEQUENCE no_rules
 

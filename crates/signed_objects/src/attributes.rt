@@ -75,7 +75,7 @@ impl<'a> Attributes<'a> {
     }
 }
 
-/// attrType, behind the attributes before it.
+/// attrType, after the attributes before it.
 #[tactic(auto, unfolding(crate::specs::Reading::attribute_type_at))]
 fn attribute_type(cursor: &mut Cursor, before: &Attributes) -> Result<AttributeType, CmsFault>
     ensures { GivesNext (λ kind. kind) result cursor.new (attribute_type_at before.now cursor.old) }
@@ -130,7 +130,7 @@ fn attribute_values<'a>(cursor: &mut Cursor<'a>, kind: AttributeType) -> Result<
     Ok(value)
 }
 
-/// Attribute, behind those before it: its type, and the content of its value.
+/// Attribute, after those before it: its type, and the content of its value.
 #[tactic(auto, unfolding(crate::specs::Reading::attribute_from))]
 fn attribute<'a>(
     cursor: &mut Cursor<'a>,

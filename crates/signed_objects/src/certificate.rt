@@ -57,7 +57,7 @@ fn exponent(cursor: &mut Cursor) -> Result<(), CmsFault>
     Ok(())
 }
 
-/// RSAPublicKey, and nothing behind it (RFC 8017 section A.1.1): its modulus.
+/// RSAPublicKey, and the end (RFC 8017 section A.1.1): its modulus.
 #[tactic(auto, unfolding(crate::specs::Reading::rsa_public_key_at))]
 fn rsa_public_key(key: &[u8]) -> Result<&[u8], CmsFault>
     ensures { GivesAll (λ modulus. modulus.now) result (rsa_public_key_all key.now) }
@@ -129,7 +129,7 @@ fn names_key(id: &[u8]) -> bool
     id == SUBJECT_KEY_IDENTIFIER.as_slice()
 }
 
-/// extnID, behind extensions among which subjectKeyIdentifier came or not.
+/// extnID, after extensions among which subjectKeyIdentifier came or not.
 #[tactic(auto, unfolding(crate::specs::Reading::extension_id_at))]
 fn extension_id<'a>(cursor: &mut Cursor<'a>, came: bool) -> Result<&'a [u8], CmsFault>
     ensures { GivesNext (λ id. id.now) result cursor.new (extension_id_at came cursor.old) }
@@ -153,7 +153,7 @@ fn key_identifier<'a>(cursor: &mut Cursor<'a>) -> Result<&'a [u8], CmsFault>
     Ok(identifier)
 }
 
-/// The extension's value: of subjectKeyIdentifier, which is not critical, the identifier; others are passed over.
+/// The extension's value: of subjectKeyIdentifier, which is not critical, the identifier; others are skipped.
 fn extension_value<'a>(members: Cursor<'a>, names_key: bool) -> Result<&'a [u8], CmsFault>
     ensures { GivesAll (λ value. value.now) result (extension_value_at names_key members.entry) }
 {
@@ -188,7 +188,7 @@ impl<'a> Extension<'a> {
     }
 }
 
-/// Extension, behind those before it.
+/// Extension, after those before it.
 #[tactic(auto, unfolding(crate::specs::Reading::extension_from))]
 fn next_extension<'a>(cursor: &mut Cursor<'a>, came: bool) -> Result<Extension<'a>, CmsFault>
     ensures { GivesNext (λ e. (e.id.now, e.value.now)) result cursor.new (extension_from came cursor.old) }
@@ -258,7 +258,7 @@ pub(crate) struct Key<'a> {
     pub(crate) identifier: &'a [u8],
 }
 
-/// subjectPublicKeyInfo and extensions, and nothing behind them.
+/// subjectPublicKeyInfo and extensions, and the end.
 #[tactic(auto, unfolding(crate::specs::Reading::key_members_at))]
 fn key_members<'a>(members: Cursor<'a>) -> Result<Key<'a>, CmsFault>
     ensures { GivesAll (λ key. record { modulus = key.modulus.now; identifier = key.identifier.now }) result (key_members_at members.entry) }
@@ -273,7 +273,7 @@ fn key_members<'a>(members: Cursor<'a>) -> Result<Key<'a>, CmsFault>
     })
 }
 
-/// issuer, validity and subject, which are passed over, and what is behind them.
+/// issuer, validity and subject, which are skipped, and what follows them.
 #[tactic(auto, unfolding(crate::specs::Reading::names_members_at, der_lite::specs::DerReading::content_at))]
 fn names_members<'a>(members: Cursor<'a>) -> Result<Key<'a>, CmsFault>
     ensures { GivesAll (λ key. record { modulus = key.modulus.now; identifier = key.identifier.now }) result (names_members_at members.entry) }
@@ -285,7 +285,7 @@ fn names_members<'a>(members: Cursor<'a>) -> Result<Key<'a>, CmsFault>
     key_members(members)
 }
 
-/// version, serialNumber and signature, and what is behind them.
+/// version, serialNumber and signature, and what follows them.
 #[tactic(auto, unfolding(crate::specs::Reading::tbs_members_at, der_lite::specs::DerReading::content_at))]
 fn tbs_members<'a>(members: Cursor<'a>) -> Result<Key<'a>, CmsFault>
     ensures { GivesAll (λ key. record { modulus = key.modulus.now; identifier = key.identifier.now }) result (tbs_members_at members.entry) }

@@ -39,7 +39,7 @@ pub enum CmsFaultKind {
     /// 14: the certificate's key is no RSAPublicKey in DER with the exponent 65537 (RFC 7935 section 3).
     #[error("the public key is not an RSAPublicKey with the exponent 65537 (fault 14)")]
     PublicKey,
-    /// 15: the certificate has no extensions where they should be (RFC 6487 section 4.8).
+    /// 15: the certificate has no extensions after its key (RFC 6487 section 4.8).
     #[error("the certificate has no extensions behind its key (fault 15)")]
     NoExtensions,
     /// 16: the certificate has two subjectKeyIdentifiers (RFC 5280 section 4.2).
@@ -155,7 +155,7 @@ impl CmsFaultKind {
     }
 }
 
-/// What is wrong with a signed object, and where.
+/// What is wrong with a signed object, and at which offset.
 #[derive(Clone, Copy, Debug, PartialEq, Eq, Error)]
 #[error("at byte {offset}: {kind}")]
 pub struct CmsFault {

@@ -1,5 +1,16 @@
-//! Signed objects of the RPKI (RFC 6488): CMS SignedData (RFC 5652) that encapsulates a content, such as that of a ROA or a manifest, and
-//! holds the certificate of the key that signed it.
+//! Signed objects of the RPKI (RFC 6488) in DER. Each is CMS SignedData (RFC 5652), which encapsulates a content, such as that of a ROA or a
+//! manifest. It also has the certificate of the key that signed it. [`read_der_object`] reads one, and verifies its digest and signature.
+//!
+//! For example, where `rt` is the runtime that `main` is handed:
+//!
+//! ```rust
+//! use signed_objects::{ObjectFault, read_der_object};
+//!
+//! match read_der_object(rt.alloc(), b"\x30\x03\x06\x01\x00") {
+//!     Err(ObjectFault::At(fault)) => assert!(rt; fault.kind.number() == 6 && fault.offset == 2),
+//!     _ => assert!(rt; false),
+//! }
+//! ```
 #![tactic(auto)]
 
 mod attribute;
@@ -7,6 +18,7 @@ mod attributes;
 mod certificate;
 mod elements;
 mod fault;
+pub mod laws;
 mod object;
 mod signed_data;
 mod signer;

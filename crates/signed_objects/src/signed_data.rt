@@ -113,7 +113,7 @@ struct SignedBy<'a> {
     signer: Signer<'a>,
 }
 
-/// certificates and signerInfos, and nothing behind them.
+/// certificates and signerInfos, and the end.
 #[tactic(auto, unfolding(crate::specs::Reading::signed_by_at))]
 fn read_signed_by<'a>(members: Cursor<'a>) -> Result<SignedBy<'a>, CmsFault>
     ensures { GivesAll (λ b. ((b.certificate.octets.now, record { modulus = b.certificate.key.modulus.now; identifier = b.certificate.key.identifier.now }), record { identifier = b.signer.identifier.now; octets = b.signer.attributes.octets.now; said = record { content_type = b.signer.attributes.content_type.now; message_digest = b.signer.attributes.message_digest.now }; signature = b.signer.signature.now })) result (signed_by_at members.entry) }
@@ -194,7 +194,7 @@ fn content_info<'a>(cursor: &mut Cursor<'a>) -> Result<ObjectParts<'a>, CmsFault
     Ok(parts)
 }
 
-/// ContentInfo, and nothing behind it.
+/// ContentInfo, and the end.
 #[tactic(auto, unfolding(crate::specs::Reading::object_all))]
 pub(crate) fn object_parts(der: &[u8]) -> Result<ObjectParts<'_>, CmsFault>
     ensures { GivesAll (λ o. record { content_type = o.content_type.now; content = o.content.now; certificate = o.certificate.octets.now; key = record { modulus = o.certificate.key.modulus.now; identifier = o.certificate.key.identifier.now }; signer = record { identifier = o.signer.identifier.now; octets = o.signer.attributes.octets.now; said = record { content_type = o.signer.attributes.content_type.now; message_digest = o.signer.attributes.message_digest.now }; signature = o.signer.signature.now } }) result (object_all der.now) }

@@ -110,7 +110,7 @@ fn signer_end(members: Cursor) -> Result<(), CmsFault>
     Err(kind.at(members.offset()))
 }
 
-/// signatureAlgorithm and signature, and nothing behind them.
+/// signatureAlgorithm and signature, and the end.
 #[tactic(auto, unfolding(crate::specs::Reading::signature_members_at))]
 fn signature_members<'a>(members: Cursor<'a>) -> Result<&'a [u8], CmsFault>
     ensures { GivesAll (λ signature. signature.now) result (signature_members_at members.entry) }
@@ -129,7 +129,7 @@ struct Signed<'a> {
     signature: &'a [u8],
 }
 
-/// digestAlgorithm and signedAttrs, and what is behind them.
+/// digestAlgorithm and signedAttrs, and what follows them.
 #[tactic(auto, unfolding(crate::specs::Reading::signed_members_at))]
 fn signed_members<'a>(members: Cursor<'a>) -> Result<Signed<'a>, CmsFault>
     ensures { GivesAll (λ s. ((s.attributes.octets.now, record { content_type = s.attributes.content_type.now; message_digest = s.attributes.message_digest.now }), s.signature.now)) result (signed_members_at members.entry) }
