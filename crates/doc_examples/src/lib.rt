@@ -56,6 +56,8 @@ mod sd_notify_example;
 #[cfg(test)]
 mod session_names_example;
 #[cfg(test)]
+mod signed_objects_example;
+#[cfg(test)]
 mod slurm_example;
 #[cfg(test)]
 mod sources_example;

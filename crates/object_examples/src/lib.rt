@@ -1,0 +1,7 @@
+//! Examples of signed objects, which are the tests of `signed_objects`. `openssl` accepts the object.
+#![tactic(auto)]
+
+#[cfg(test)]
+mod objects;
+#[cfg(test)]
+mod vectors;
