@@ -1,0 +1,34 @@
+//! Why the program fails.
+use std::alloc::AllocError;
+use std::io::{self, ErrorKind};
+use thiserror::Error;
+
+/// Why the program fails. The text is written on standard error.
+#[derive(Debug, Drop, Error)]
+pub(crate) enum ProgramFault {
+    /// The words do not parse. Status 2.
+    #[error("rpkiobject: bad words: rpkiobject [--content OUT] FILE..")]
+    Words,
+    /// A file or an output failed. Status 3.
+    #[error("rpkiobject: device failed")]
+    Device,
+    /// Out of memory. Status 4.
+    #[error("rpkiobject: out of memory")]
+    Memory,
+}
+
+impl From<AllocError> for ProgramFault {
+    fn from(_error: AllocError) -> ProgramFault {
+        ProgramFault::Memory
+    }
+}
+
+impl From<io::Error> for ProgramFault {
+    fn from(error: io::Error) -> ProgramFault {
+        if error.kind() == ErrorKind::OutOfMemory {
+            ProgramFault::Memory
+        } else {
+            ProgramFault::Device
+        }
+    }
+}
