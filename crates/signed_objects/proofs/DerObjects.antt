@@ -29,7 +29,7 @@ fault_read der fault are e = inl (exact_object.faults (place_of 0 der) (cms_faul
 -- a fault that was judged is the one there
 pub fault_judged : {X : Type 0} (view : X → ObjectValue) (fault : ObjectFault) (der : List ℕ) (o : ObjectParts) → IsBytes der → object_all der ≡ Ok o → Judges (Err fault) o → ReadsDer view (Err fault) der
 fault_judged view (At fault) der o are e h = inr (o, object_read der o are e, h.0, h.1)
-fault_judged view Memory der o are e h = tt
+fault_judged view Memory der o are e h = (o, object_read der o are e, h)
 
 -- an object that holds
 pub object_is : (der : List ℕ) (o : ObjectParts) → IsBytes der → object_all der ≡ Ok o → Holds o → IsDerObject der (value_of_parts o)

@@ -82,14 +82,18 @@ abbrev pub Says : Option CmsFaultKind → ObjectParts → Type 0
 Says None o = HasSigner o × HasType o × HasDigest o
 Says (Some kind) o = Disagrees o (kind_number kind)
 
--- The object is what its signer says; or this is the first that is not; or memory ran out.
+-- All that is judged before the signature holds.
+abbrev pub HoldsBefore : ObjectParts → Type 0
+HoldsBefore o = HasSigner o × HasType o × HasDigest o × IsModulus o.key.modulus
+
+-- The object is what its signer says; or this is the first that is not; or memory ran out before the signature was verified.
 abbrev pub Judges : Result (Unit {0}) ObjectFault → ObjectParts → Type 0
 Judges (Ok _) o = Holds o
 Judges (Err (At fault)) o = Fails o (kind_number fault.kind) × (fault.offset ≡ 0)
-Judges (Err Memory) o = Unit {0}
+Judges (Err Memory) o = HoldsBefore o
 
--- The bytes are this object in DER; or this fault is their first; or memory ran out.
+-- The bytes are this object in DER; or this fault is their first; or memory ran out before the signature was verified, and all else holds.
 abbrev pub ReadsDer : {X : Type 0} → (X → ObjectValue) → Result X ObjectFault → List ℕ → Type 0
 ReadsDer view (Ok x) der = IsDerObject der (view x)
 ReadsDer view (Err (At fault)) der = DerFaultAt der fault.offset (kind_number fault.kind)
-ReadsDer view (Err Memory) der = Unit {0}
+ReadsDer view (Err Memory) der = (parts : ObjectParts) × object.Spells parts der × HoldsBefore parts

@@ -76,7 +76,7 @@ fn judge(alloc: Global, parts: &ObjectParts) -> Result<(), ObjectFault>
 }
 
 /// The signed object that the bytes are in DER, or the first fault (RFC 6488 section 3). The elements are judged from the first to the last,
-/// and then digest and signature. Bytes after the object are a fault. Memory is asked for once the elements are judged.
+/// and then digest and signature. Bytes after the object are a fault. Memory is asked for last, to verify the signature.
 pub fn read_der_object(alloc: Global, der: &[u8]) -> Result<SignedObject<'_>, ObjectFault>
     ensures { ReadsDer (λ o. record { content_type = o.content_type.now; content = o.content.now; certificate = o.certificate.now; key_identifier = o.key_identifier.now }) result der.now }
 {
