@@ -1,0 +1,18 @@
+-- The numbers of a call's answers, as the header has them.
+use Rattle.std.specs.Prelude.{ℤ, pos}
+use Rattle.rpkirtr_c.specs.declared.status.Status.{Status}
+use Rattle.rpkirtr_c.specs.declared.status.Status.TheVariants.{Done, Empty, Live, NoMemory, BadRecord, BadRoute, BadVersion, OutOfRange, NotLinked, Busy, BadPayload}
+
+-- the number of an answer
+abbrev pub number : Status → ℤ
+number Done = pos 0
+number Empty = pos 1
+number Live = pos 2
+number NoMemory = pos 3
+number BadRecord = pos 4
+number BadRoute = pos 5
+number BadVersion = pos 6
+number OutOfRange = pos 7
+number NotLinked = pos 8
+number Busy = pos 9
+number BadPayload = pos 10

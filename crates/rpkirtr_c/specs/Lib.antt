@@ -1,0 +1,5 @@
+pub mod Answers
+pub mod Held
+pub mod Live
+pub mod Sessions
+pub mod Spelled

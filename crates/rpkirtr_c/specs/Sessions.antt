@@ -1,0 +1,41 @@
+-- The calls of a router's handle.
+use Rattle.std.specs.Prelude.{◌≡◌, ◌⊎◌, ℕ, ℤ, Option, List, length, take, drop, ◌++◌, min}
+use Rattle.prefixes.specs.declared.route.Route.{Route}
+use Rattle.rtr_ends.specs.LinkRules as rules
+use Rattle.rtr_ends.specs.Router.{RouterCall, called}
+use Rattle.rtr_ends.specs.Router as model
+use Rattle.rtr_ends.specs.RouterShown.{Calls, IsShown, LeadsOn, ReceivesSo}
+use Rattle.vrps.specs.Origin.{state}
+use Rattle.vrps.specs.VrpSet.{VrpSet}
+use Rattle.vrps.specs.declared.origin.OriginState.TheVariants.{NotFound}
+use Rattle.rpkirtr_c.specs.Answers.{number}
+use Rattle.rpkirtr_c.specs.Spelled.{SpellsRoute, state_number}
+use Rattle.rpkirtr_c.specs.declared.router.Session.{Session}
+use Rattle.rpkirtr_c.specs.declared.status.Status.TheVariants.{Done, BadRoute}
+use Rattle.rpkirtr_c.specs.declared.values.CRoute.{CRoute}
+
+-- The router makes this call. What was taken of its changes stays.
+pub record Makes (call : RouterCall) (s t : Session) : Type 0 where
+  pub rest : t ≡ record s { router = t.router }
+  pub calls : Calls (λ r. (called call r).router) s.router t.router
+  pub leads : LeadsOn call s.router t.router
+
+-- This is so of whatever router the value is.
+abbrev pub Shows : Session → (rules.Router → Type 0) → Type 0
+Shows s P = (r : rules.Router) → IsShown r s.router → P r
+
+-- A route is judged over a set: its state is told. What is no route has none, and is answered so.
+abbrev pub IsJudged : CRoute → VrpSet → ℤ → ℤ → Type 0
+IsJudged q set answer told =
+    ((r : Route) × SpellsRoute q r × (answer ≡ number Done) × (told ≡ state_number (state set r)))
+    ⊎ (((r : Route) → ¬ (SpellsRoute q r)) × (answer ≡ number BadRoute) × (told ≡ state_number NotFound))
+
+-- The router receives these bytes, and takes so many of them. What was taken of its changes stays.
+pub record Receives (now : ℕ) (bytes : List ℕ) (count : ℕ) (s t : Session) : Type 0 where
+  pub rest : t ≡ record s { router = t.router }
+  pub shown : ReceivesSo now bytes count s.router t.router
+  pub leads : (wanting : Option ℕ) × LeadsOn (model.Receives now wanting bytes) s.router t.router
+
+-- What is to be sent fills the room, as far as it fits. The rest of the room stays.
+abbrev pub IsPulled : List ℕ → List ℕ → List ℕ → ℕ → Type 0
+IsPulled out old new count = (count ≡ min (length old) (length out)) × (new ≡ take (length old) out ++ drop (length out) old)

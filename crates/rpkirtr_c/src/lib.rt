@@ -1,0 +1,10 @@
+//! A router and origin validation for C: `include/rpkirtr.h` declares what is here. The caller owns sockets and clocks.
+#![tactic(auto)]
+
+mod loose;
+mod router;
+mod status;
+mod values;
+
+pub use crate::router::RouterHandle;
+pub use crate::values::{CRecord, CRoute};

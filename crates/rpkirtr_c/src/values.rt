@@ -1,0 +1,182 @@
+//! Records, routes and states as C has them.
+ghost use Rattle.std.specs.Prelude.{◌≡◌, ℕ, ◌<◌, ◌^◌, IfSome, IfNone};
+ghost use Rattle.prefixes.specs.Address.{Block, IsPrefix};
+ghost use Rattle.prefixes.specs.Payload.{Payload, IsPayload};
+ghost use Rattle.prefixes.specs.declared.prefix.IpPrefix.{IpPrefix};
+ghost use Rattle.prefixes.specs.declared.route.Route.{Route};
+ghost use Rattle.rpkirtr_c.specs.Spelled.{SpellsPrefix, SpellsRecord, SpellsRoute, address_bytes, family_number, state_number, v4_bytes, v6_bytes};
+
+use byteorder::{BigEndian, ByteOrder};
+use prefixes::{Asn, IpPrefix, Prefix, Route, V4, V6, Vrp};
+use vrps::OriginState;
+
+/// A record. The address is in network order, that of IPv4 in the first four bytes; the family is 4 or 6.
+#[repr(C)]
+#[derive(Clone, Copy, Debug)]
+pub struct CRecord {
+    pub addr: [u8; 16],
+    pub asn: u32,
+    pub family: u8,
+    pub len: u8,
+    pub max_len: u8,
+    pub zero_: u8,
+}
+
+/// A route, with an origin unless `has_origin` is 0.
+#[repr(C)]
+#[derive(Clone, Copy, Debug)]
+pub struct CRoute {
+    pub addr: [u8; 16],
+    pub origin: u32,
+    pub family: u8,
+    pub len: u8,
+    pub has_origin: u8,
+    pub zero_: u8,
+}
+
+/// The IPv4 address in these bytes, if there is one.
+fn v4_number(addr: &[u8; 16]) -> Option<u32>
+    ensures some { IfSome result (λ n. (n < 2 ^ 32) × (addr.now ≡ v4_bytes n)) }
+    ensures none { IfNone result ((n : ℕ) → ¬ (addr.now ≡ v4_bytes n)) }
+{
+    if addr[4..] != [0; 12] {
+        return None;
+    }
+    Some(BigEndian::read_u32(addr))
+}
+
+/// The IPv6 address in these bytes.
+fn v6_number(addr: &[u8; 16]) -> u128
+    ensures { addr.now ≡ v6_bytes result }
+{
+    BigEndian::read_u128(addr)
+}
+
+/// The IPv4 prefix of these, if it is one.
+fn v4_of(addr: &[u8; 16], len: u8) -> Option<Prefix<V4>>
+    ensures some { IfSome result (λ p. IsPrefix 32 p × (addr.now ≡ v4_bytes p.addr) × (len ≡ p.len)) }
+    ensures none { IfNone result ((p : Block) → IsPrefix 32 p → addr.now ≡ v4_bytes p.addr → ¬ (len ≡ p.len)) }
+{
+    let number = v4_number(addr)?;
+    match Prefix::new(u128::from(number), len) {
+        Ok(prefix) => Some(prefix),
+        Err(_) => None,
+    }
+}
+
+/// The IPv6 prefix of these, if it is one.
+fn v6_of(addr: &[u8; 16], len: u8) -> Option<Prefix<V6>>
+    ensures some { IfSome result (λ p. IsPrefix 128 p × (addr.now ≡ v6_bytes p.addr) × (len ≡ p.len)) }
+    ensures none { IfNone result ((p : Block) → IsPrefix 128 p → addr.now ≡ v6_bytes p.addr → ¬ (len ≡ p.len)) }
+{
+    let number = v6_number(addr);
+    match Prefix::new(number, len) {
+        Ok(prefix) => Some(prefix),
+        Err(_) => None,
+    }
+}
+
+/// The prefix of these, if it is one.
+fn prefix_of(family: u8, addr: &[u8; 16], len: u8) -> Option<IpPrefix>
+    ensures some { IfSome result (λ p. SpellsPrefix family addr.now len p) }
+    ensures none { IfNone result ((p : IpPrefix) → ¬ (SpellsPrefix family addr.now len p)) }
+{
+    match family {
+        4 => Some(IpPrefix::V4(v4_of(addr, len)?)),
+        6 => Some(IpPrefix::V6(v6_of(addr, len)?)),
+        _ => None,
+    }
+}
+
+/// The route, if it is one.
+pub fn route_of(route: &CRoute) -> Option<Route>
+    ensures some { IfSome result (λ r. SpellsRoute route.now r) }
+    ensures none { IfNone result ((r : Route) → ¬ (SpellsRoute route.now r)) }
+{
+    let prefix = prefix_of(route.family, &route.addr, route.len)?;
+    let origin = if route.has_origin == 0 {
+        None
+    } else {
+        Some(route.origin)
+    };
+    Some(Route { prefix, origin })
+}
+
+/// The payload of a record, if it is one.
+pub fn vrp_of(record: &CRecord) -> Option<Vrp>
+    ensures some { IfSome result (λ v. SpellsRecord record.now v) }
+    ensures none { IfNone result ((v : Payload) → IsPayload v → ¬ (SpellsRecord record.now v)) }
+{
+    if record.zero_ != 0 {
+        return None;
+    }
+    let prefix = prefix_of(record.family, &record.addr, record.len)?;
+    match Vrp::new(prefix, record.max_len, Asn(record.asn)) {
+        Ok(vrp) => Some(vrp),
+        Err(_) => None,
+    }
+}
+
+/// The bytes of an IPv4 address.
+fn v4_bytes(number: u32) -> [u8; 16]
+    ensures { result ≡ v4_bytes number }
+{
+    let mut addr = [0; 16];
+    BigEndian::write_u32(&mut addr, number);
+    addr
+}
+
+/// The bytes of an IPv6 address.
+fn v6_bytes(number: u128) -> [u8; 16]
+    ensures { result ≡ v6_bytes number }
+{
+    let mut addr = [0; 16];
+    BigEndian::write_u128(&mut addr, number);
+    addr
+}
+
+/// The address of a prefix.
+fn address_of(prefix: &IpPrefix) -> [u8; 16]
+    ensures { result ≡ address_bytes prefix.now }
+{
+    match prefix {
+        IpPrefix::V4(p) => v4_bytes(p.addr() as u32),
+        IpPrefix::V6(p) => v6_bytes(p.addr()),
+    }
+}
+
+/// The number of a prefix's family.
+fn family_of(prefix: &IpPrefix) -> u8
+    ensures { result ≡ family_number prefix.now }
+{
+    match prefix {
+        IpPrefix::V4(_) => 4,
+        IpPrefix::V6(_) => 6,
+    }
+}
+
+/// The record of a payload.
+pub fn record_of(vrp: &Vrp) -> CRecord
+    ensures { SpellsRecord result vrp.now }
+{
+    let prefix = vrp.prefix();
+    CRecord {
+        addr: address_of(&prefix),
+        asn: vrp.asn().0,
+        family: family_of(&prefix),
+        len: prefix.len(),
+        max_len: vrp.max_len(),
+        zero_: 0,
+    }
+}
+
+/// The number of a state.
+pub fn state_number(state: OriginState) -> i32
+    ensures { result ≡ state_number state }
+{
+    match state {
+        OriginState::NotFound => 0,
+        OriginState::Valid => 1,
+        OriginState::Invalid => 2,
+    }
+}
