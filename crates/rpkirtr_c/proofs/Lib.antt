@@ -1,2 +1,3 @@
-pub mod Handles
 pub mod Addresses
+pub mod Calls
+pub mod Handles

@@ -48,7 +48,7 @@ into_loose_spec 𝓤 𝓛 𝓜 𝓡 wired =
     let Post : Val → SProp 𝓤 = (walk_of 𝓛 En hs c).post z in let v = z.0.3.0 in
     let Block : X E → Fml = λ x. box_owns (token E.al v.alloc) (R E) v.at x in
     qed 𝓛 ((raw (alive 𝓛 En.signature z.0.0 z.0.1) ⊛ ‵ (owns (types_at En.signature.params z.0.0) z.0.3 z.0.4)) ∷ raw (fact 𝓤 (is_none v.value ≡ false)) ∷ []) ∵ move ! (1 ∷ []) $ heard ! (is_none v.value ≡ false) (λ on. split ! $ move ! (1 ∷ []) $ fsplit ! $ move ! (1 ∷ []) $ drop ! $
-    use1 𝓛 (‵ ((handle.the_row).own_val v z.0.4.0)) (id⊢ 𝓤 _) $ fsplit ! $ move ! (1 ∷ []) $ use1 𝓛 (‵ (Block (the v.value on))) (live_owns 𝓛 v.at v.value Block on) $ move ! (1 ∷ []) $ fjoin ! $ 
+    use1 𝓛 (‵ ((handle.the_row).own_val v z.0.4.0)) (id⊢ 𝓤 _) $ fsplit ! $ move ! (1 ∷ []) $ use1 𝓛 (‵ (Block (the v.value on))) (live_owns 𝓛 v.at v.value Block on) $ move ! (1 ∷ []) $ fjoin ! $
     let x : X E = the v.value on in
     let d : D E = record { ptr = v.at; alloc = v.alloc; value = x } in let made : To.Denot = record { at = v.at; alloc = v.alloc; value = x } in
     let Says = Some x ≡ v.value in

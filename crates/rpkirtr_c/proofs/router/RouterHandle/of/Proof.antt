@@ -48,7 +48,6 @@ of_spec 𝓤 𝓛 𝓜 𝓡 wired =
     let Post : Val → SProp 𝓤 = (walk_of 𝓛 En hs c).post z in let v = z.0.3.0 in
     let Block : X E → Fml = λ x. box_owns (token E.al v.alloc) (R E) v.at x in
     qed 𝓛 ((raw (alive 𝓛 En.signature z.0.0 z.0.1) ⊛ ‵ (owns (types_at En.signature.params z.0.0) z.0.3 z.0.4)) ∷ ‵ ftrue ∷ []) ∵ move ! (1 ∷ []) $ drop ! $ split ! $ move ! (1 ∷ []) $ fsplit ! $ move ! (1 ∷ []) $ drop ! $
-    
     let x : X E = v.value in
     let d : D E = record { ptr = v.at; alloc = v.alloc; value = x } in let made : To.Denot = record { at = v.at; alloc = v.alloc; value = Some x } in
     let Says = Some x ≡ Some x in
