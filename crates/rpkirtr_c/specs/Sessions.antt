@@ -1,17 +1,24 @@
 -- The calls of a router's handle.
-use Rattle.std.specs.Prelude.{◌≡◌, ◌⊎◌, ℕ, ℤ, Option, List, length, take, drop, ◌++◌, min}
+use Rattle.std.specs.Prelude.{◌≡◌, ◌⊎◌, ℕ, ℤ, Option, Some, None, Result, Ok, Err, ⊤, List, length, take, drop, ◌++◌, min}
 use Rattle.prefixes.specs.declared.route.Route.{Route}
 use Rattle.rtr_ends.specs.LinkRules as rules
 use Rattle.rtr_ends.specs.Router.{RouterCall, called}
 use Rattle.rtr_ends.specs.Router as model
 use Rattle.rtr_ends.specs.RouterShown.{Calls, IsShown, LeadsOn, ReceivesSo}
-use Rattle.vrps.specs.Origin.{state}
+use Rattle.vrps.specs.Origin.{covering, state}
 use Rattle.vrps.specs.VrpSet.{VrpSet}
 use Rattle.vrps.specs.declared.origin.OriginState.TheVariants.{NotFound}
 use Rattle.rpkirtr_c.specs.Answers.{number}
-use Rattle.rpkirtr_c.specs.Spelled.{SpellsRoute, state_number}
+use Rattle.rpkirtr_c.specs.Links.{version_of}
+use Rattle.rpkirtr_c.specs.Spelled.{IsCopied, SpellsRoute, state_number}
+use Rattle.rpkirtr_c.specs.declared.status.Status.{Status}
+use Rattle.rpkirtr_c.specs.declared.values.CRecord.{CRecord}
+use Rattle.rtr_ends.specs.declared.link.AskFault.{AskFault}
+use Rattle.rtr_ends.specs.declared.link.AskFault.TheVariants.{NotConnected}
+use Rattle.rtr_ends.specs.declared.link.AskFault.TheVariants.{Busy as AskBusy}
+use Rattle.rtr_pdu.specs.declared.version.Version.{Version}
 use Rattle.rpkirtr_c.specs.declared.router.Session.{Session}
-use Rattle.rpkirtr_c.specs.declared.status.Status.TheVariants.{Done, BadRoute}
+use Rattle.rpkirtr_c.specs.declared.status.Status.TheVariants.{Done, BadRoute, BadVersion, Busy, NoMemory, NotLinked}
 use Rattle.rpkirtr_c.specs.declared.values.CRoute.{CRoute}
 
 -- The router makes this call. What was taken of its changes stays.
@@ -39,3 +46,25 @@ pub record Receives (now : ℕ) (bytes : List ℕ) (count : ℕ) (s t : Session)
 -- What is to be sent fills the room, as far as it fits. The rest of the room stays.
 abbrev pub IsPulled : List ℕ → List ℕ → List ℕ → ℕ → Type 0
 IsPulled out old new count = (count ≡ min (length old) (length out)) × (new ≡ take (length old) out ++ drop (length out) old)
+
+-- The router speaks the version of a number, if there is one. If there is none, nothing changes, and the answer says so.
+abbrev pub IsSpokenOf : Option Version → ℤ → Session → Session → Type 0
+IsSpokenOf None answer s t = (answer ≡ number BadVersion) × (t ≡ s)
+IsSpokenOf (Some version) answer s t = (answer ≡ number Done) × Makes (model.Speaks version) s t
+
+abbrev pub IsSpoken : ℕ → ℤ → Session → Session → Type 0
+IsSpoken version answer s t = IsSpokenOf (version_of version) answer s t
+
+-- what a question that was to be asked is answered
+abbrev pub ask_answer : Result ⊤ AskFault → Status
+ask_answer (Ok asked) = Done
+ask_answer (Err AskBusy) = Busy
+ask_answer (Err NotConnected) = NotLinked
+
+-- The records of a set that cover a route are copied, as far as they fit, and counted. What is no route has none, and is answered so.
+-- If memory ran out, nothing is told.
+abbrev pub AreCovering : CRoute → VrpSet → ℤ → List CRecord → List CRecord → ℕ → Type 0
+AreCovering q set answer old new count =
+    ((r : Route) × SpellsRoute q r × (answer ≡ number Done) × (count ≡ length (covering set r)) × IsCopied (covering set r) old new (min (length old) count))
+    ⊎ ((((r : Route) → ¬ (SpellsRoute q r)) × (answer ≡ number BadRoute) × (new ≡ old) × (count ≡ 0))
+    ⊎ ((answer ≡ number NoMemory) × (new ≡ old) × (count ≡ 0)))

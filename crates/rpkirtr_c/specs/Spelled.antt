@@ -1,13 +1,15 @@
 -- What records and routes are in C.
-use Rattle.std.specs.Prelude.{◌≡◌, ℕ, ℤ, pos, ◌==◌, List, ◌++◌, replicate, Option, Some, None, if◌then◌else◌}
+use Rattle.std.specs.Prelude.{◌≡◌, ◌⊎◌, ℕ, ◌<◌, ◌≤◌, ℤ, pos, ◌==◌, min, List, ◌++◌, length, map, take, drop, replicate, slice_get, Option, Some, None, if◌then◌else◌}
 use Rattle.byteorder.specs.Endian.{big_bytes}
 use Rattle.prefixes.specs.Address.{IsPrefix}
-use Rattle.prefixes.specs.Payload.{Payload, block_of, width_of}
+use Rattle.prefixes.specs.Payload.{Payload, IsPayload, block_of, width_of}
 use Rattle.prefixes.specs.declared.prefix.IpPrefix.{IpPrefix}
 use Rattle.prefixes.specs.declared.prefix.IpPrefix.TheVariants.{V4, V6}
 use Rattle.prefixes.specs.declared.route.Route.{Route}
 use Rattle.vrps.specs.declared.origin.OriginState.{OriginState}
 use Rattle.vrps.specs.declared.origin.OriginState.TheVariants.{Valid, Invalid, NotFound}
+use Rattle.rpkirtr_c.specs.Answers.{number}
+use Rattle.rpkirtr_c.specs.declared.status.Status.TheVariants.{Done, OutOfRange}
 use Rattle.rpkirtr_c.specs.declared.values.CRecord.{CRecord}
 use Rattle.rpkirtr_c.specs.declared.values.CRoute.{CRoute}
 
@@ -43,12 +45,34 @@ pub record SpellsRoute (q : CRoute) (r : Route) : Type 0 where
   pub prefix : SpellsPrefix q.family q.addr q.len r.prefix
   pub origin : r.origin ≡ origin_of q.has_origin q.origin
 
--- This is a record in C: a payload, and a padding of zero.
-pub record SpellsRecord (q : CRecord) (v : Payload) : Type 0 where
-  pub prefix : SpellsPrefix q.family q.addr q.len v.prefix
-  pub max_len : q.max_len ≡ v.max_len
-  pub asn : q.asn ≡ v.asn
-  pub zero_is : q.zero_ ≡ 0
+-- The record of a payload
+abbrev pub record_of : Payload → CRecord
+record_of v = record {
+  addr = address_bytes v.prefix;
+  asn = v.asn;
+  family = family_number v.prefix;
+  len = (block_of v.prefix).len;
+  max_len = v.max_len;
+  zero_ = 0;
+}
+
+-- The record of a payload that is one
+abbrev pub SpellsRecord : CRecord → Payload → Type 0
+SpellsRecord q v = IsPayload v × (q ≡ record_of v)
+
+-- the record of nothing
+abbrev pub no_record : CRecord
+no_record = record { addr = replicate 16 0; asn = 0; family = 0; len = 0; max_len = 0; zero_ = 0 }
+
+-- Records of a list are copied into a room, as many as fit. The rest of the room stays.
+abbrev pub IsCopied : List Payload → List CRecord → List CRecord → ℕ → Type 0
+IsCopied list old new count = (count ≡ min (length old) (length list)) × (new ≡ map record_of (take count list) ++ drop count old)
+
+-- The record at an index is told. At or past the end there is none, and the answer says so.
+abbrev pub IsRecordAt : List Payload → ℕ → ℤ → CRecord → Type 0
+IsRecordAt list index answer told =
+    ((index < length list) × (answer ≡ number Done) × (v : Payload) × IsPayload v × (slice_get list index ≡ Some v) × (told ≡ record_of v))
+    ⊎ ((length list ≤ index) × (answer ≡ number OutOfRange) × (told ≡ no_record))
 
 -- the number of a state
 abbrev pub state_number : OriginState → ℤ

@@ -1,10 +1,13 @@
 //! A router and origin validation for C: `include/rpkirtr.h` declares what is here. The caller owns sockets and clocks.
 #![tactic(auto)]
 
+mod links;
 mod loose;
+mod records;
 mod router;
 mod status;
 mod values;
 
+pub use crate::links::{CCommitted, CLink};
 pub use crate::router::RouterHandle;
 pub use crate::values::{CRecord, CRoute};

@@ -5,28 +5,29 @@ ghost use Rattle.rpkirtr_c.specs.declared.router.Session.{Session};
 ghost use Rattle.rpkirtr_c.specs.contracts.router.Session as session;
 ghost use Rattle.rpkirtr_c.specs.Answers.{number};
 ghost use Rattle.rpkirtr_c.specs.Live.{Freed, New, On};
-ghost use Rattle.rpkirtr_c.specs.Sessions.{IsJudged, IsPulled, Makes, Receives, Shows};
-ghost use Rattle.rpkirtr_c.specs.Spelled.{state_number};
+ghost use Rattle.rpkirtr_c.specs.Sessions.{IsPulled, IsSpoken, Makes, Receives, Shows, ask_answer};
+ghost use Rattle.rpkirtr_c.specs.Links.{committed_of, link_of, moment_of, never};
+ghost use Rattle.rtr_ends.specs.RouterLink.{asked_on, told_link};
+ghost use Rattle.rtr_ends.specs.declared.link.Link.TheVariants as links;
 ghost use Rattle.rpkirtr_c.specs.declared.status.Status.TheVariants.{Done};
 ghost use Rattle.rtr_ends.specs.LinkRules as rules;
 ghost use Rattle.rtr_ends.specs.Router as model;
 ghost use Rattle.rtr_ends.specs.RouterShown.{IsShown};
-ghost use Rattle.vrps.specs.VrpSet.{empty, size};
-ghost use Rattle.vrps.specs.declared.origin.OriginState.TheVariants.{NotFound};
+ghost use Rattle.vrps.specs.VrpSet.{empty};
 
 use crate::loose::Loose;
 use crate::status::Status;
-use crate::values::{CRoute, route_of, state_number};
-use rtr_ends::Router;
+use crate::links::{CCommitted, CLink, NEVER, committed_of, link_of, version_of};
+use rtr_ends::{AskFault, Link, Router};
 use std::alloc::Global;
 use std::marker::Model;
-use vrps::{OriginState, VrpSet};
+use vrps::VrpSet;
 
 /// What a router's handle stands for: a router, and the records that were taken last.
 #[derive(Debug, Drop)]
 pub struct Session {
-    router: Router,
-    taken: VrpSet,
+    pub(crate) router: Router,
+    pub(crate) taken: VrpSet,
 }
 
 /// A router, as C holds it: all zero before `rpkirtr_router_new` and after `rpkirtr_router_free`.
@@ -88,7 +89,7 @@ impl RouterHandle {
 }
 
 /// The handle of a session.
-fn shut(session: Box<Session>) -> RouterHandle
+pub(crate) fn shut(session: Box<Session>) -> RouterHandle
     ensures { result.value ≡ Some session.value }
 {
     RouterHandle::of(Loose::of(session))
@@ -96,7 +97,7 @@ fn shut(session: Box<Session>) -> RouterHandle
 
 impl RouterHandle {
     /// Takes the session out, if there is one. The handle is empty then.
-    fn take(&mut self, alloc: Global) -> Option<Box<Session>>
+    pub(crate) fn take(&mut self, alloc: Global) -> Option<Box<Session>>
         ensures taken { option_map (λ s. s.value) result ≡ self.old.value }
         ensures empty { self.new.value ≡ None }
     {
@@ -142,6 +143,25 @@ pub extern "C" fn rpkirtr_router_free(alloc: Global, h: &mut RouterHandle) -> i3
     }
 }
 
+/// Sets the version of the protocol for the next connection and those after it: 0 or 1.
+#[unsafe(no_mangle)]
+pub extern "C" fn rpkirtr_router_speak(alloc: Global, h: &mut RouterHandle, version: u8) -> i32
+    ensures { On h.old.value h.new.value result (λ s t. IsSpoken version result s t) }
+{
+    let Some(mut session) = h.take(alloc) else {
+        return Status::Empty.number();
+    };
+    let answer = match version_of(version) {
+        None => Status::BadVersion,
+        Some(version) => {
+            session.router.speak(version);
+            Status::Done
+        }
+    };
+    *h = shut(session);
+    answer.number()
+}
+
 /// A connection is made at the moment `now`, and a query is ready to be pulled.
 #[unsafe(no_mangle)]
 pub extern "C" fn rpkirtr_router_connect(alloc: Global, h: &mut RouterHandle, now: u64) -> i32
@@ -151,6 +171,19 @@ pub extern "C" fn rpkirtr_router_connect(alloc: Global, h: &mut RouterHandle, no
         return Status::Empty.number();
     };
     session.router.connect(now);
+    *h = shut(session);
+    Status::Done.number()
+}
+
+/// The transport closed the connection.
+#[unsafe(no_mangle)]
+pub extern "C" fn rpkirtr_router_connection_closed(alloc: Global, h: &mut RouterHandle, now: u64) -> i32
+    ensures { On h.old.value h.new.value result (λ s t. (result ≡ number Done) × Makes (model.Closes now) s t) }
+{
+    let Some(mut session) = h.take(alloc) else {
+        return Status::Empty.number();
+    };
+    session.router.closed(now);
     *h = shut(session);
     Status::Done.number()
 }
@@ -198,47 +231,89 @@ pub extern "C" fn rpkirtr_router_pull(
     Status::Done.number()
 }
 
-/// Tells how many records are committed.
+/// Advances the clock. A query is sent if it is due, and the records are dropped if they have expired.
 #[unsafe(no_mangle)]
-pub extern "C" fn rpkirtr_router_count(
-    alloc: Global,
-    h: &mut RouterHandle,
-    count: &mut usize,
-) -> i32
-    ensures call { On h.old.value h.new.value result (λ s t. (result ≡ number Done) × (t ≡ s) × Shows s (λ r. count.new ≡ size r.table)) }
-    ensures empty { h.old.value ≡ None → count.new ≡ 0 }
+pub extern "C" fn rpkirtr_router_tick(alloc: Global, h: &mut RouterHandle, now: u64) -> i32
+    ensures { On h.old.value h.new.value result (λ s t. (result ≡ number Done) × Makes (model.Ticks now) s t) }
 {
-    *count = 0;
-    let Some(session) = h.take(alloc) else {
+    let Some(mut session) = h.take(alloc) else {
         return Status::Empty.number();
     };
-    *count = session.router.table().len();
+    session.router.tick(now);
     *h = shut(session);
     Status::Done.number()
 }
 
-/// Tells the state of a route over the committed records: 0 not found, 1 valid, 2 invalid.
+/// Sends a query on an idle link.
 #[unsafe(no_mangle)]
-pub extern "C" fn rpkirtr_router_state(
-    alloc: Global,
-    h: &mut RouterHandle,
-    route: &CRoute,
-    state: &mut i32,
-) -> i32
-    ensures call { On h.old.value h.new.value result (λ s t. (t ≡ s) × Shows s (λ r. IsJudged route.now r.table result state.new)) }
-    ensures empty { h.old.value ≡ None → state.new ≡ state_number NotFound }
+pub extern "C" fn rpkirtr_router_ask(alloc: Global, h: &mut RouterHandle) -> i32
+    ensures { On h.old.value h.new.value result (λ s t. Makes model.AsksNow s t × Shows s (λ r. result ≡ number (ask_answer (asked_on r.link)))) }
 {
-    *state = state_number(OriginState::NotFound);
-    let Some(session) = h.take(alloc) else {
+    let Some(mut session) = h.take(alloc) else {
         return Status::Empty.number();
     };
-    let answer = match route_of(route) {
-        None => Status::BadRoute,
-        Some(route) => {
-            *state = state_number(session.router.route_state(&route));
-            Status::Done
-        }
+    let answer = match session.router.ask() {
+        Ok(()) => Status::Done,
+        Err(AskFault::Busy) => Status::Busy,
+        Err(AskFault::NotConnected) => Status::NotLinked,
     };
     *h = shut(session);
     answer.number()
+}
+
+/// Tells when the next query of an idle link is due, in seconds of the caller's clock: `NEVER` if none is.
+#[unsafe(no_mangle)]
+pub extern "C" fn rpkirtr_router_next_query_at(
+    alloc: Global,
+    h: &mut RouterHandle,
+    at: &mut u64,
+) -> i32
+    ensures call { On h.old.value h.new.value result (λ s t. (result ≡ number Done) × (t ≡ s) × Shows s (λ r. at.new ≡ moment_of r.due)) }
+    ensures empty { h.old.value ≡ None → at.new ≡ never }
+{
+    *at = NEVER;
+    let Some(session) = h.take(alloc) else {
+        return Status::Empty.number();
+    };
+    *at = session.router.due().unwrap_or(NEVER);
+    *h = shut(session);
+    Status::Done.number()
+}
+
+/// Tells the state of the link, and how it ended.
+#[unsafe(no_mangle)]
+pub extern "C" fn rpkirtr_router_link(
+    alloc: Global,
+    h: &mut RouterHandle,
+    link: &mut CLink,
+) -> i32
+    ensures call { On h.old.value h.new.value result (λ s t. (result ≡ number Done) × (t ≡ s) × Shows s (λ r. link.new ≡ link_of (told_link r.link))) }
+    ensures empty { h.old.value ≡ None → link.new ≡ link_of links.Closed }
+{
+    *link = link_of(Link::Closed);
+    let Some(session) = h.take(alloc) else {
+        return Status::Empty.number();
+    };
+    *link = link_of(session.router.link());
+    *h = shut(session);
+    Status::Done.number()
+}
+
+/// Tells the committed version: all zero if nothing is committed.
+#[unsafe(no_mangle)]
+pub extern "C" fn rpkirtr_router_committed(
+    alloc: Global,
+    h: &mut RouterHandle,
+    committed: &mut CCommitted,
+) -> i32
+    ensures call { On h.old.value h.new.value result (λ s t. (result ≡ number Done) × (t ≡ s) × Shows s (λ r. committed.new ≡ committed_of r.version)) }
+    ensures empty { h.old.value ≡ None → committed.new ≡ committed_of None }
+{
+    *committed = committed_of(None);
+    let Some(session) = h.take(alloc) else {
+        return Status::Empty.number();
+    };
+    *committed = committed_of(session.router.committed_version());
+    *h = shut(session);
+    Status::Done.number()
 }

@@ -1,11 +1,13 @@
 //! Records, routes and states as C has them.
-ghost use Rattle.std.specs.Prelude.{◌≡◌, ℕ, ◌<◌, ◌^◌, IfSome, IfNone};
+ghost use Rattle.std.specs.Prelude.{◌≡◌, ℕ, ◌<◌, ◌^◌, drop, IfSome, IfNone};
 ghost use Rattle.prefixes.specs.Address.{Block, IsPrefix};
-ghost use Rattle.prefixes.specs.Payload.{Payload, IsPayload};
+ghost use Rattle.prefixes.specs.Payload.{Payload};
 ghost use Rattle.prefixes.specs.declared.prefix.IpPrefix.{IpPrefix};
 ghost use Rattle.prefixes.specs.declared.route.Route.{Route};
-ghost use Rattle.rpkirtr_c.specs.Spelled.{SpellsPrefix, SpellsRecord, SpellsRoute, address_bytes, family_number, state_number, v4_bytes, v6_bytes};
+ghost use Rattle.rpkirtr_c.specs.Answers.{number};
+ghost use Rattle.rpkirtr_c.specs.Spelled.{IsCopied, IsRecordAt, SpellsPrefix, SpellsRecord, SpellsRoute, address_bytes, family_number, no_record, state_number, v4_bytes, v6_bytes};
 
+use crate::status::Status;
 use byteorder::{BigEndian, ByteOrder};
 use prefixes::{Asn, IpPrefix, Prefix, Route, V4, V6, Vrp};
 use vrps::OriginState;
@@ -103,15 +105,15 @@ pub fn route_of(route: &CRoute) -> Option<Route>
 }
 
 /// The payload of a record, if it is one.
-pub fn vrp_of(record: &CRecord) -> Option<Vrp>
-    ensures some { IfSome result (λ v. SpellsRecord record.now v) }
-    ensures none { IfNone result ((v : Payload) → IsPayload v → ¬ (SpellsRecord record.now v)) }
+pub fn vrp_of(from: &CRecord) -> Option<Vrp>
+    ensures some { IfSome result (λ v. SpellsRecord from.now v) }
+    ensures none { IfNone result ((v : Payload) → ¬ (SpellsRecord from.now v)) }
 {
-    if record.zero_ != 0 {
+    if from.zero_ != 0 {
         return None;
     }
-    let prefix = prefix_of(record.family, &record.addr, record.len)?;
-    match Vrp::new(prefix, record.max_len, Asn(record.asn)) {
+    let prefix = prefix_of(from.family, &from.addr, from.len)?;
+    match Vrp::new(prefix, from.max_len, Asn(from.asn)) {
         Ok(vrp) => Some(vrp),
         Err(_) => None,
     }
@@ -167,6 +169,57 @@ pub fn record_of(vrp: &Vrp) -> CRecord
         len: prefix.len(),
         max_len: vrp.max_len(),
         zero_: 0,
+    }
+}
+
+/// The record of nothing.
+pub fn no_record() -> CRecord
+    ensures { result ≡ no_record }
+{
+    CRecord {
+        addr: [0; 16],
+        asn: 0,
+        family: 0,
+        len: 0,
+        max_len: 0,
+        zero_: 0,
+    }
+}
+
+/// The records from an index on: none if it is at or past the end.
+pub fn from_index(list: &[Vrp], first: usize) -> &[Vrp]
+    ensures { result.now ≡ drop first list.now }
+{
+    match list.get(first..) {
+        None => &[],
+        Some(rest) => rest,
+    }
+}
+
+/// Copies records into the room, as many as fit, and tells how many.
+pub fn copy_records(list: &[Vrp], room: &mut [CRecord]) -> usize
+    ensures { IsCopied list.now room.old room.new result }
+{
+    let count = list.len().min(room.len());
+    for i in 0..count {
+        room[i] = record_of(&list[i]);
+    }
+    count
+}
+
+/// Tells the record at an index.
+pub fn record_at(list: &[Vrp], index: usize, told: &mut CRecord) -> Status
+    ensures { IsRecordAt list.now index (number result) told.new }
+{
+    match list.get(index) {
+        None => {
+            *told = no_record();
+            Status::OutOfRange
+        }
+        Some(vrp) => {
+            *told = record_of(vrp);
+            Status::Done
+        }
     }
 }
 

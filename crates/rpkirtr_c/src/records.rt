@@ -1,0 +1,133 @@
+//! The committed records of a router.
+ghost use Rattle.std.specs.Prelude.{◌≡◌, ◌≤◌, length, drop, Option, Some, None, OnErr};
+ghost use Rattle.prefixes.specs.declared.route.Route.{Route};
+ghost use Rattle.rpkirtr_c.specs.Answers.{number};
+ghost use Rattle.rpkirtr_c.specs.Live.{New, On};
+ghost use Rattle.rpkirtr_c.specs.Sessions.{AreCovering, IsJudged, Shows};
+ghost use Rattle.rpkirtr_c.specs.Spelled.{IsCopied, IsRecordAt, no_record, state_number};
+ghost use Rattle.rpkirtr_c.specs.declared.status.Status.TheVariants.{Done};
+ghost use Rattle.vrps.specs.VrpSet.{listing, size};
+ghost use Rattle.vrps.specs.declared.origin.OriginState.TheVariants.{NotFound};
+
+use crate::router::{RouterHandle, shut};
+use crate::status::Status;
+use crate::values::{CRecord, CRoute, copy_records, from_index, no_record, record_at, route_of, state_number};
+use std::alloc::Global;
+use vrps::OriginState;
+
+/// Tells how many records are committed.
+#[unsafe(no_mangle)]
+pub extern "C" fn rpkirtr_router_count(
+    alloc: Global,
+    h: &mut RouterHandle,
+    count: &mut usize,
+) -> i32
+    ensures call { On h.old.value h.new.value result (λ s t. (result ≡ number Done) × (t ≡ s) × Shows s (λ r. count.new ≡ size r.table)) }
+    ensures empty { h.old.value ≡ None → count.new ≡ 0 }
+{
+    *count = 0;
+    let Some(session) = h.take(alloc) else {
+        return Status::Empty.number();
+    };
+    *count = session.router.table().len();
+    *h = shut(session);
+    Status::Done.number()
+}
+
+/// Tells the state of a route over the committed records: 0 not found, 1 valid, 2 invalid.
+#[unsafe(no_mangle)]
+pub extern "C" fn rpkirtr_router_state(
+    alloc: Global,
+    h: &mut RouterHandle,
+    route: &CRoute,
+    state: &mut i32,
+) -> i32
+    ensures call { On h.old.value h.new.value result (λ s t. (t ≡ s) × Shows s (λ r. IsJudged route.now r.table result state.new)) }
+    ensures empty { h.old.value ≡ None → state.new ≡ state_number NotFound }
+{
+    *state = state_number(OriginState::NotFound);
+    let Some(session) = h.take(alloc) else {
+        return Status::Empty.number();
+    };
+    let answer = match route_of(route) {
+        None => Status::BadRoute,
+        Some(route) => {
+            *state = state_number(session.router.route_state(&route));
+            Status::Done
+        }
+    };
+    *h = shut(session);
+    answer.number()
+}
+
+/// Tells the record at an index of the committed records, in ascending order.
+#[unsafe(no_mangle)]
+pub extern "C" fn rpkirtr_router_record(
+    alloc: Global,
+    h: &mut RouterHandle,
+    index: usize,
+    out: &mut CRecord,
+) -> i32
+    ensures call { On h.old.value h.new.value result (λ s t. (t ≡ s) × Shows s (λ r. IsRecordAt (listing r.table) index result out.new)) }
+    ensures empty { h.old.value ≡ None → out.new ≡ no_record }
+{
+    *out = no_record();
+    let Some(session) = h.take(alloc) else {
+        return Status::Empty.number();
+    };
+    let answer = record_at(session.router.table().as_slice(), index, out);
+    *h = shut(session);
+    answer.number()
+}
+
+/// Copies committed records in ascending order, from an index on, as many as fit, and tells how many.
+#[unsafe(no_mangle)]
+pub extern "C" fn rpkirtr_router_records(
+    alloc: Global,
+    h: &mut RouterHandle,
+    first: usize,
+    room: &mut [CRecord],
+    copied: &mut usize,
+) -> i32
+    ensures call { On h.old.value h.new.value result (λ s t. (result ≡ number Done) × (t ≡ s) × Shows s (λ r. IsCopied (drop first (listing r.table)) room.old room.new copied.new)) }
+    ensures empty { h.old.value ≡ None → (room.new ≡ room.old) × (copied.new ≡ 0) }
+{
+    *copied = 0;
+    let Some(session) = h.take(alloc) else {
+        return Status::Empty.number();
+    };
+    *copied = copy_records(from_index(session.router.table().as_slice(), first), room);
+    *h = shut(session);
+    Status::Done.number()
+}
+
+/// Copies the committed records that cover a route in ascending order, as many as fit, and tells how many there are.
+#[unsafe(no_mangle)]
+pub extern "C" fn rpkirtr_router_covering(
+    alloc: Global,
+    h: &mut RouterHandle,
+    route: &CRoute,
+    room: &mut [CRecord],
+    count: &mut usize,
+) -> i32
+    ensures call { On h.old.value h.new.value result (λ s t. (t ≡ s) × Shows s (λ r. AreCovering route.now r.table result room.old room.new count.new)) }
+    ensures empty { h.old.value ≡ None → (room.new ≡ room.old) × (count.new ≡ 0) }
+{
+    *count = 0;
+    let Some(session) = h.take(alloc) else {
+        return Status::Empty.number();
+    };
+    let answer = match route_of(route) {
+        None => Status::BadRoute,
+        Some(route) => match session.router.covering(&route) {
+            Err(_) => Status::NoMemory,
+            Ok(records) => {
+                *count = records.len();
+                let _copied = copy_records(records.as_slice(), room);
+                Status::Done
+            }
+        },
+    };
+    *h = shut(session);
+    answer.number()
+}
