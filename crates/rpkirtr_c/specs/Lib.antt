@@ -1,5 +1,6 @@
 pub mod Answers
 pub mod Held
+pub mod Indexes
 pub mod Links
 pub mod Live
 pub mod Sessions

@@ -11,7 +11,9 @@ ghost use Rattle.vrps.specs.declared.origin.OriginState.TheVariants.{NotFound};
 
 use crate::router::{RouterHandle, shut};
 use crate::status::Status;
-use crate::values::{CRecord, CRoute, copy_records, from_index, no_record, record_at, route_of, state_number};
+use crate::values::{
+    CRecord, CRoute, copy_records, from_index, no_record, record_at, route_of, state_number,
+};
 use std::alloc::Global;
 use vrps::OriginState;
 

@@ -15,9 +15,9 @@ ghost use Rattle.rtr_ends.specs.Router as model;
 ghost use Rattle.rtr_ends.specs.RouterShown.{IsShown};
 ghost use Rattle.vrps.specs.VrpSet.{empty};
 
+use crate::links::{CCommitted, CLink, NEVER, committed_of, link_of, version_of};
 use crate::loose::Loose;
 use crate::status::Status;
-use crate::links::{CCommitted, CLink, NEVER, committed_of, link_of, version_of};
 use rtr_ends::{AskFault, Link, Router};
 use std::alloc::Global;
 use std::marker::Model;
@@ -177,7 +177,11 @@ pub extern "C" fn rpkirtr_router_connect(alloc: Global, h: &mut RouterHandle, no
 
 /// The transport closed the connection.
 #[unsafe(no_mangle)]
-pub extern "C" fn rpkirtr_router_connection_closed(alloc: Global, h: &mut RouterHandle, now: u64) -> i32
+pub extern "C" fn rpkirtr_router_connection_closed(
+    alloc: Global,
+    h: &mut RouterHandle,
+    now: u64,
+) -> i32
     ensures { On h.old.value h.new.value result (λ s t. (result ≡ number Done) × Makes (model.Closes now) s t) }
 {
     let Some(mut session) = h.take(alloc) else {
@@ -282,11 +286,7 @@ pub extern "C" fn rpkirtr_router_next_query_at(
 
 /// Tells the state of the link, and how it ended.
 #[unsafe(no_mangle)]
-pub extern "C" fn rpkirtr_router_link(
-    alloc: Global,
-    h: &mut RouterHandle,
-    link: &mut CLink,
-) -> i32
+pub extern "C" fn rpkirtr_router_link(alloc: Global, h: &mut RouterHandle, link: &mut CLink) -> i32
     ensures call { On h.old.value h.new.value result (λ s t. (result ≡ number Done) × (t ≡ s) × Shows s (λ r. link.new ≡ link_of (told_link r.link))) }
     ensures empty { h.old.value ≡ None → link.new ≡ link_of links.Closed }
 {

@@ -1,0 +1,48 @@
+-- Indexes over records in C.
+use Rattle.std.specs.Prelude.{◌≡◌, ℕ, ◌<◌, ℤ, List, length, map, get_or, Option, Some, None, ⊤}
+use Rattle.std.specs.List.{All}
+use Rattle.prefixes.specs.Payload.{Payload, IsPayload}
+use Rattle.vrps.specs.VrpSet.{size, set_of}
+use Rattle.rpkirtr_c.specs.Answers.{number}
+use Rattle.rpkirtr_c.specs.Spelled.{SpellsRecord, record_of}
+use Rattle.rpkirtr_c.specs.declared.index.IndexFault.{IndexFault}
+use Rattle.rpkirtr_c.specs.declared.index.IndexFault.TheVariants.{Bad, TooMany, Memory}
+use Rattle.rpkirtr_c.specs.declared.judge.Judge.{Judge}
+use Rattle.rpkirtr_c.specs.declared.status.Status.{Status}
+use Rattle.rpkirtr_c.specs.declared.status.Status.TheVariants.{Done, Live, NoMemory, BadRecord, OutOfRange}
+use Rattle.rpkirtr_c.specs.declared.values.CRecord.{CRecord}
+
+-- the records of these payloads, in their order
+abbrev pub AreRecords : List Payload → List CRecord → Type 0
+AreRecords vs records = All IsPayload vs × (map record_of vs ≡ records)
+
+-- At this index is a record of no payload.
+abbrev pub IsBadAt : List CRecord → ℕ → Type 0
+IsBadAt records i = (q : CRecord) × (i < length records) × (q ≡ get_or records i q) × ((v : Payload) → ¬ (SpellsRecord q v))
+
+-- why there is no index over records
+abbrev pub IsFaultOf : List CRecord → IndexFault → Type 0
+IsFaultOf records (Bad i) = IsBadAt records i
+IsFaultOf records TooMany = (vs : List Payload) × AreRecords vs records × (16777215 < size (set_of vs))
+IsFaultOf records Memory = ⊤
+
+-- The index is over these records: what is listed twice counts once.
+abbrev pub IsOver : List CRecord → Judge → Type 0
+IsOver records t = (vs : List Payload) × AreRecords vs records × (t.index ≡ set_of vs)
+
+abbrev pub fault_status : IndexFault → Status
+fault_status (Bad i) = BadRecord
+fault_status TooMany = OutOfRange
+fault_status Memory = NoMemory
+
+abbrev pub bad_of : IndexFault → ℕ
+bad_of (Bad i) = i
+bad_of TooMany = 0
+bad_of Memory = 0
+
+-- An index over the records is made in an empty handle, or it stays empty for a fault, which is told. A live handle stays as it is.
+abbrev pub NewIndex : List CRecord → Option Judge → Option Judge → ℤ → ℕ → Type 0
+NewIndex records None (Some t) answer bad = (answer ≡ number Done) × IsOver records t × (bad ≡ 0)
+NewIndex records None None answer bad = (fault : IndexFault) × IsFaultOf records fault × (answer ≡ number (fault_status fault)) × (bad ≡ bad_of fault)
+NewIndex records (Some s) (Some t) answer bad = (answer ≡ number Live) × (t ≡ s) × (bad ≡ 0)
+NewIndex records (Some s) None answer bad = ⊥

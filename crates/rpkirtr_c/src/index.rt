@@ -1,0 +1,307 @@
+//! Origin validation over records that C hands in.
+ghost use Rattle.std.specs.Prelude.{◌≡◌, ◌≤◌, length, Option, Some, None, is_none, option_map, false, ◌++◌, ◌∷◌, [], IfOk, IfErr, OnOk};
+ghost use Rattle.std.specs.Coded.{coded_option};
+ghost use Rattle.prefixes.specs.declared.route.Route.{Route};
+ghost use Rattle.rpkirtr_c.specs.Answers.{number};
+ghost use Rattle.rpkirtr_c.specs.Indexes.{AreRecords, IsFaultOf, IsOver, NewIndex, bad_of, fault_status};
+ghost use Rattle.rpkirtr_c.specs.Live.{Freed, On};
+ghost use Rattle.rpkirtr_c.specs.Sessions.{AreCovering, IsJudged};
+ghost use Rattle.rpkirtr_c.specs.Spelled.{state_number};
+ghost use Rattle.rpkirtr_c.specs.declared.judge.Judge.{Judge};
+ghost use Rattle.rpkirtr_c.specs.contracts.judge.Judge as judge;
+ghost use Rattle.rpkirtr_c.specs.declared.status.Status.TheVariants.{Done};
+ghost use Rattle.vrps.specs.VrpSet.{size};
+ghost use Rattle.vrps.specs.declared.origin.OriginState.TheVariants.{NotFound};
+
+use crate::judge::Judge;
+use crate::loose::Loose;
+use crate::status::Status;
+use crate::values::{CRecord, CRoute, copy_records, route_of, state_number, vrp_of};
+use prefixes::Vrp;
+use std::alloc::{AllocError, Global};
+use std::marker::Model;
+use vrps::{OriginIndex, OriginState, SetFault, VrpSet};
+
+/// An index, as C holds it: all zero before `rpkirtr_index_new` and after `rpkirtr_index_free`.
+#[repr(C)]
+#[derive(Drop)]
+pub struct IndexHandle {
+    at: *mut (),
+    alloc: Global,
+    ghost value: { Option Judge } by { coded_option judge.the_row.coded },
+}
+
+impl Model for IndexHandle {
+    ghost use Rattle.rpkirtr_c.specs.Held.{held};
+    ghost use Rattle.rpkirtr_c.specs.contracts.judge.Judge.{the_row};
+    ghost use Rattle.std.specs.Box.Ownership.{box_owns};
+    ghost use Rattle.std.specs.contracts.impls.GlobalAllocator.TheImpl as heap_impl;
+
+    ghost also_owns = { λ h. held h.at h.value (λ s. box_owns (heap_impl.ghosts.dealloc_token h.alloc) the_row h.at s) };
+}
+
+impl IndexHandle {
+    fn of(l: Loose<Judge, Global>) -> IndexHandle
+        ensures { result.value ≡ Some l.value }
+    {
+        let Loose { at, alloc } = l;
+        IndexHandle {
+            at: at as *mut (),
+            alloc,
+        }
+    }
+
+    fn into_loose(self) -> Loose<Judge, Global>
+        requires { is_none self.value ≡ false }
+        ensures { Some result.value ≡ self.value }
+    {
+        let IndexHandle { at, alloc } = self;
+        Loose {
+            at: at as *mut Judge,
+            alloc,
+        }
+    }
+
+    fn empty(alloc: Global) -> IndexHandle
+        ensures { result.value ≡ None }
+    {
+        IndexHandle {
+            at: std::ptr::null_mut(),
+            alloc,
+        }
+    }
+
+    fn looked(self) -> (IndexHandle, bool)
+        ensures { (result.0 ≡ self) × (result.1 ≡ is_none self.value) }
+    {
+        let IndexHandle { at, alloc } = self;
+        let is_null = at.is_null();
+        (IndexHandle { at, alloc }, is_null)
+    }
+
+    /// Takes the index out, if there is one. The handle is empty then.
+    pub(crate) fn take(&mut self, alloc: Global) -> Option<Box<Judge>>
+        ensures taken { option_map (λ s. s.value) result ≡ self.old.value }
+        ensures empty { self.new.value ≡ None }
+    {
+        let old = std::mem::replace(self, IndexHandle::empty(alloc));
+        let (old, is_empty) = old.looked();
+        if is_empty {
+            return None;
+        }
+        Some(old.into_loose().into_box())
+    }
+}
+
+/// The handle of an index.
+pub(crate) fn shut_index(judge: Box<Judge>) -> IndexHandle
+    ensures { result.value ≡ Some judge.value }
+{
+    IndexHandle::of(Loose::of(judge))
+}
+
+/// Why there is no index over records.
+#[derive(Clone, Copy, Debug, PartialEq, Eq)]
+pub(crate) enum IndexFault {
+    /// The record at this index is none.
+    Bad(usize),
+    /// More different records than a set may have.
+    TooMany,
+    /// Out of memory.
+    Memory,
+}
+
+impl From<AllocError> for IndexFault {
+    ghost use Rattle.rpkirtr_c.specs.declared.index.IndexFault.TheVariants.{Memory};
+
+    ghost from_gives = { λ _ e. e ≡ Memory };
+
+    fn from(_error: AllocError) -> IndexFault {
+        IndexFault::Memory
+    }
+}
+
+/// Adds a payload to a list.
+fn push(list: &mut Vec<Vrp>, vrp: Vrp) -> Result<(), AllocError>
+    ensures { OnOk result (list.new.items ≡ list.old.items ++ vrp ∷ []) }
+{
+    list.push(vrp)?;
+    Ok(())
+}
+
+/// The payloads of records, or the first that is none.
+fn vrps_of(alloc: Global, records: &[CRecord]) -> Result<Vec<Vrp>, IndexFault>
+    ensures ok { IfOk result (λ list. AreRecords list.items records.now) }
+    ensures err { IfErr result (IsFaultOf records.now) }
+{
+    let mut list = Vec::new(alloc);
+    for i in 0..records.len() {
+        match vrp_of(&records[i]) {
+            None => return Err(IndexFault::Bad(i)),
+            Some(vrp) => push(&mut list, vrp)?,
+        }
+    }
+    Ok(list)
+}
+
+/// An index over records, or why there is none.
+fn index_over(alloc: Global, records: &[CRecord]) -> Result<Judge, IndexFault>
+    ensures ok { IfOk result (IsOver records.now) }
+    ensures err { IfErr result (IsFaultOf records.now) }
+{
+    let list = vrps_of(alloc, records)?;
+    match VrpSet::from_list(list) {
+        Err(SetFault::TooMany) => Err(IndexFault::TooMany),
+        Err(SetFault::Memory) => Err(IndexFault::Memory),
+        Ok(set) => {
+            let index = OriginIndex::over(alloc, &set)?;
+            Ok(Judge::over(index, set.len()))
+        }
+    }
+}
+
+impl IndexFault {
+    /// What a call answers of it.
+    fn status(self) -> Status
+        ensures { result ≡ fault_status self }
+    {
+        match self {
+            IndexFault::Bad(_) => Status::BadRecord,
+            IndexFault::TooMany => Status::OutOfRange,
+            IndexFault::Memory => Status::NoMemory,
+        }
+    }
+
+    /// The index of the record that is none.
+    fn bad(self) -> usize
+        ensures { result ≡ bad_of self }
+    {
+        match self {
+            IndexFault::Bad(i) => i,
+            IndexFault::TooMany => 0,
+            IndexFault::Memory => 0,
+        }
+    }
+}
+
+/// A block of an index over records, or why there is none.
+fn boxed_over(alloc: Global, records: &[CRecord]) -> Result<Box<Judge>, IndexFault>
+    ensures ok { IfOk result (λ b. IsOver records.now b.value) }
+    ensures err { IfErr result (IsFaultOf records.now) }
+{
+    let judge = index_over(alloc, records)?;
+    match Box::new(alloc, judge) {
+        Err(_) => Err(IndexFault::Memory),
+        Ok(judge) => Ok(judge),
+    }
+}
+
+/// Makes an index over records in an empty handle. If a record is none, its index is told.
+#[unsafe(no_mangle)]
+pub extern "C" fn rpkirtr_index_new(
+    alloc: Global,
+    h: &mut IndexHandle,
+    records: &[CRecord],
+    bad: &mut usize,
+) -> i32
+    ensures { NewIndex records.now h.old.value h.new.value result bad.new }
+{
+    *bad = 0;
+    if let Some(judge) = h.take(alloc) {
+        *h = shut_index(judge);
+        return Status::Live.number();
+    }
+    match boxed_over(alloc, records) {
+        Err(fault) => {
+            *bad = fault.bad();
+            fault.status().number()
+        }
+        Ok(judge) => {
+            *h = shut_index(judge);
+            Status::Done.number()
+        }
+    }
+}
+
+/// Frees the index, and empties the handle.
+#[unsafe(no_mangle)]
+pub extern "C" fn rpkirtr_index_free(alloc: Global, h: &mut IndexHandle) -> i32
+    ensures { Freed h.old.value h.new.value result }
+{
+    match h.take(alloc) {
+        None => Status::Empty.number(),
+        Some(_judge) => Status::Done.number(),
+    }
+}
+
+/// Tells how many different records the index is over.
+#[unsafe(no_mangle)]
+pub extern "C" fn rpkirtr_index_count(alloc: Global, h: &mut IndexHandle, count: &mut usize) -> i32
+    ensures call { On h.old.value h.new.value result (λ s t. (result ≡ number Done) × (t ≡ s) × (count.new ≡ size s.index)) }
+    ensures empty { h.old.value ≡ None → count.new ≡ 0 }
+{
+    *count = 0;
+    let Some(judge) = h.take(alloc) else {
+        return Status::Empty.number();
+    };
+    *count = judge.count;
+    *h = shut_index(judge);
+    Status::Done.number()
+}
+
+/// Tells the state of a route over the index: 0 not found, 1 valid, 2 invalid.
+#[unsafe(no_mangle)]
+pub extern "C" fn rpkirtr_index_state(
+    alloc: Global,
+    h: &mut IndexHandle,
+    route: &CRoute,
+    state: &mut i32,
+) -> i32
+    ensures call { On h.old.value h.new.value result (λ s t. (t ≡ s) × IsJudged route.now s.index result state.new) }
+    ensures empty { h.old.value ≡ None → state.new ≡ state_number NotFound }
+{
+    *state = state_number(OriginState::NotFound);
+    let Some(judge) = h.take(alloc) else {
+        return Status::Empty.number();
+    };
+    let answer = match route_of(route) {
+        None => Status::BadRoute,
+        Some(route) => {
+            *state = state_number(judge.index.state(&route));
+            Status::Done
+        }
+    };
+    *h = shut_index(judge);
+    answer.number()
+}
+
+/// Copies the records that cover a route in ascending order, as many as fit, and tells how many there are.
+#[unsafe(no_mangle)]
+pub extern "C" fn rpkirtr_index_covering(
+    alloc: Global,
+    h: &mut IndexHandle,
+    route: &CRoute,
+    room: &mut [CRecord],
+    count: &mut usize,
+) -> i32
+    ensures call { On h.old.value h.new.value result (λ s t. (t ≡ s) × AreCovering route.now s.index result room.old room.new count.new) }
+    ensures empty { h.old.value ≡ None → (room.new ≡ room.old) × (count.new ≡ 0) }
+{
+    *count = 0;
+    let Some(judge) = h.take(alloc) else {
+        return Status::Empty.number();
+    };
+    let answer = match route_of(route) {
+        None => Status::BadRoute,
+        Some(route) => match judge.index.covering(alloc, &route) {
+            Err(_) => Status::NoMemory,
+            Ok(records) => {
+                *count = records.len();
+                let _copied = copy_records(records.as_slice(), room);
+                Status::Done
+            }
+        },
+    };
+    *h = shut_index(judge);
+    answer.number()
+}

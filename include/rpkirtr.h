@@ -1,0 +1,180 @@
+/* rpkirtr.h: a client of RPKI-to-Router caches (RFC 6810, RFC 8210) and origin validation (RFC 6811). See rpkirtr(3).
+ *
+ * The library does no input or output: the caller owns sockets and clocks. It hands over the bytes that it received, and writes the bytes
+ * that it pulls. Moments are seconds of one clock that the caller chooses, and never go back.
+ *
+ * What the caller must keep, which no proof covers:
+ * - A handle begins as RPKIRTR_EMPTY_INIT and is changed by these functions alone. It is never copied: only its address is passed.
+ * - One call at a time is made on a handle. Calls on different handles may run at once. A handle of a router or of an index may be used by
+ *   one thread after another. No call is made in a signal handler.
+ * - Pointers are not NULL, and point to so many valid elements. A pointer may be NULL if its length is 0. An output does not overlap
+ *   another argument.
+ * - malloc, realloc and free are of one allocator, and align as C wants.
+ *
+ * Each call answers a status, and writes each of its outputs, whatever it answers.
+ */
+#ifndef RPKIRTR_H
+#define RPKIRTR_H
+
+#include <stddef.h>
+#include <stdint.h>
+
+#ifdef __cplusplus
+extern "C" {
+#endif
+
+/* What a call answers. The numbers are fixed. */
+typedef int32_t rpkirtr_status;
+#define RPKIRTR_OK 0           /* the call did what it says */
+#define RPKIRTR_EMPTY 1        /* the handle is empty: it was never made, or was freed */
+#define RPKIRTR_LIVE 2         /* the handle is live: it has to be freed first */
+#define RPKIRTR_NO_MEMORY 3    /* out of memory; nothing changed */
+#define RPKIRTR_BAD_RECORD 4   /* a record that is none */
+#define RPKIRTR_BAD_ROUTE 5    /* a route that is none */
+#define RPKIRTR_BAD_VERSION 6  /* no version of the protocol */
+#define RPKIRTR_RANGE 7        /* an index at or past the end, or more than 16777215 different records */
+#define RPKIRTR_NOT_LINKED 8   /* there is no connection, or it has ended */
+#define RPKIRTR_BUSY 9         /* a query is outstanding */
+
+/* The state of a route (RFC 6811 section 2). It is RPKIRTR_NOT_FOUND whenever the status is not RPKIRTR_OK. */
+typedef int32_t rpkirtr_state;
+#define RPKIRTR_NOT_FOUND 0
+#define RPKIRTR_VALID 1
+#define RPKIRTR_INVALID 2
+
+/* A validated ROA payload. The address is in network order: IPv4 in the first four bytes, and the rest 0. No bit after the first `len` is
+ * set. `family` is 4 or 6, `len` is at most `max_len`, which is at most 32 or 128, and `zero_` is 0. */
+typedef struct rpkirtr_record {
+    uint8_t addr[16];
+    uint32_t asn;
+    uint8_t family;
+    uint8_t len;
+    uint8_t max_len;
+    uint8_t zero_;
+} rpkirtr_record;
+
+/* A route, with the origin NONE if `has_origin` is 0. The prefix is as that of a record. */
+typedef struct rpkirtr_route {
+    uint8_t addr[16];
+    uint32_t origin;
+    uint8_t family;
+    uint8_t len;
+    uint8_t has_origin;
+    uint8_t zero_;
+} rpkirtr_route;
+
+/* The link of a router to its cache. If it ended, `end` says how, and `code` is the code of the Error Report (RFC 8210 section 12), if
+ * there was one. */
+typedef struct rpkirtr_link {
+    uint8_t state;
+    uint8_t end;
+    uint16_t code;
+} rpkirtr_link;
+#define RPKIRTR_CLOSED 0     /* there is no connection */
+#define RPKIRTR_IDLE 1       /* no query is outstanding */
+#define RPKIRTR_ASKED 2      /* a query is outstanding */
+#define RPKIRTR_ANSWERING 3  /* an answer has begun */
+#define RPKIRTR_ENDED 4      /* it has ended, and the connection has yet to be closed */
+#define RPKIRTR_END_REPORTED 1   /* an Error Report of this code was sent */
+#define RPKIRTR_END_TOLD 2       /* an Error Report of this code was received */
+#define RPKIRTR_END_MALFORMED 3  /* a malformed Error Report was received */
+#define RPKIRTR_END_MEMORY 4     /* out of memory */
+#define RPKIRTR_END_EXPIRED 5    /* the committed version expired */
+#define RPKIRTR_END_TOO_MANY 6   /* an answer with more than 16777215 records */
+
+/* The committed version, if `is_committed` is 1; all 0 if nothing is committed. */
+typedef struct rpkirtr_committed {
+    uint64_t moment;   /* when it was committed */
+    uint32_t serial;
+    uint32_t refresh;  /* the intervals in force, in seconds */
+    uint32_t retry;
+    uint32_t expire;
+    uint32_t zero_;
+    uint16_t session;
+    uint8_t version;   /* of the protocol */
+    uint8_t is_committed;
+} rpkirtr_committed;
+
+/* The moment of what never happens */
+#define RPKIRTR_NEVER UINT64_MAX
+
+typedef struct rpkirtr_router { void *opaque_; } rpkirtr_router;
+typedef struct rpkirtr_index { void *opaque_; } rpkirtr_index;
+#define RPKIRTR_EMPTY_INIT {0}
+
+/* ---- a router */
+
+/* Makes a router in an empty handle: nothing is committed, and there is no connection. OK, LIVE, NO_MEMORY */
+rpkirtr_status rpkirtr_router_new(rpkirtr_router *h);
+
+/* Frees the router, and empties the handle. OK, EMPTY */
+rpkirtr_status rpkirtr_router_free(rpkirtr_router *h);
+
+/* Sets the version of the protocol, 0 or 1, for the next connection and those after it. It is 1 at first. OK, EMPTY, BAD_VERSION */
+rpkirtr_status rpkirtr_router_speak(rpkirtr_router *h, uint8_t version);
+
+/* A connection is made, and a query is ready to be pulled. An older connection is closed. OK, EMPTY */
+rpkirtr_status rpkirtr_router_connect(rpkirtr_router *h, uint64_t now);
+
+/* Hands over bytes that were received, and tells how many were taken: none while bytes are to be pulled, or if no link is open. OK, EMPTY */
+rpkirtr_status rpkirtr_router_receive(rpkirtr_router *h, const uint8_t *bytes, size_t bytes_len, uint64_t now, size_t *taken);
+
+/* Moves bytes to be sent into the room, as many as fit, and tells how many. OK, EMPTY */
+rpkirtr_status rpkirtr_router_pull(rpkirtr_router *h, uint8_t *room, size_t room_len, size_t *pulled);
+
+/* The transport closed the connection. OK, EMPTY */
+rpkirtr_status rpkirtr_router_connection_closed(rpkirtr_router *h, uint64_t now);
+
+/* Advances the clock. A query is sent if it is due, and the records are dropped if they have expired. OK, EMPTY */
+rpkirtr_status rpkirtr_router_tick(rpkirtr_router *h, uint64_t now);
+
+/* Sends a query on an idle link. OK, EMPTY, BUSY, NOT_LINKED */
+rpkirtr_status rpkirtr_router_ask(rpkirtr_router *h);
+
+/* Tells when the next query of an idle link is due: RPKIRTR_NEVER if none is. OK, EMPTY */
+rpkirtr_status rpkirtr_router_next_query_at(rpkirtr_router *h, uint64_t *at);
+
+/* Tells the link. OK, EMPTY */
+rpkirtr_status rpkirtr_router_link(rpkirtr_router *h, rpkirtr_link *link);
+
+/* Tells the committed version. OK, EMPTY */
+rpkirtr_status rpkirtr_router_committed(rpkirtr_router *h, rpkirtr_committed *committed);
+
+/* Tells how many records are committed. OK, EMPTY */
+rpkirtr_status rpkirtr_router_count(rpkirtr_router *h, size_t *count);
+
+/* Tells the state of a route over the committed records. OK, EMPTY, BAD_ROUTE */
+rpkirtr_status rpkirtr_router_state(rpkirtr_router *h, const rpkirtr_route *route, rpkirtr_state *state);
+
+/* Tells the record at an index of the committed records, in ascending order: family, address, length, maximum, AS. OK, EMPTY, RANGE */
+rpkirtr_status rpkirtr_router_record(rpkirtr_router *h, size_t index, rpkirtr_record *out);
+
+/* Copies committed records in that order, from an index on, as many as fit, and tells how many. OK, EMPTY */
+rpkirtr_status rpkirtr_router_records(rpkirtr_router *h, size_t first, rpkirtr_record *room, size_t room_len, size_t *copied);
+
+/* Copies the committed records that cover a route, as many as fit, and tells how many there are. OK, EMPTY, BAD_ROUTE, NO_MEMORY */
+rpkirtr_status rpkirtr_router_covering(rpkirtr_router *h, const rpkirtr_route *route, rpkirtr_record *room, size_t room_len, size_t *count);
+
+/* ---- an index over records */
+
+/* Makes an index over records in an empty handle; what is listed twice counts once. If a record is none, its index is told.
+ * OK, LIVE, NO_MEMORY, BAD_RECORD, RANGE */
+rpkirtr_status rpkirtr_index_new(rpkirtr_index *h, const rpkirtr_record *records, size_t records_len, size_t *bad);
+
+/* Frees the index, and empties the handle. OK, EMPTY */
+rpkirtr_status rpkirtr_index_free(rpkirtr_index *h);
+
+/* Tells how many different records the index is over. OK, EMPTY */
+rpkirtr_status rpkirtr_index_count(rpkirtr_index *h, size_t *count);
+
+/* Tells the state of a route. OK, EMPTY, BAD_ROUTE */
+rpkirtr_status rpkirtr_index_state(rpkirtr_index *h, const rpkirtr_route *route, rpkirtr_state *state);
+
+/* Copies the records that cover a route in ascending order, as many as fit, and tells how many there are. OK, EMPTY, BAD_ROUTE, NO_MEMORY */
+rpkirtr_status rpkirtr_index_covering(rpkirtr_index *h, const rpkirtr_route *route, rpkirtr_record *room, size_t room_len, size_t *count);
+
+#ifdef __cplusplus
+}
+#endif
+
+#endif
