@@ -1,0 +1,67 @@
+"""Compares include/rpkirtr.h with the exports of the crate rpkirtr_c: names, types and order of parameters.
+
+c_library.py [ARCHIVE]: with an archive, its symbols too."""
+import pathlib
+import re
+import subprocess
+import sys
+
+TOP = pathlib.Path(__file__).resolve().parent.parent
+C_TYPES = {
+    '&mut RouterHandle': ['rpkirtr_router *'], '&mut IndexHandle': ['rpkirtr_index *'],
+    '&[u8]': ['const uint8_t *', 'size_t'], '&mut [u8]': ['uint8_t *', 'size_t'],
+    '&[CRecord]': ['const rpkirtr_record *', 'size_t'], '&mut [CRecord]': ['rpkirtr_record *', 'size_t'],
+    '&mut CRecord': ['rpkirtr_record *'], '&CRoute': ['const rpkirtr_route *'],
+    '&mut CLink': ['rpkirtr_link *'], '&mut CCommitted': ['rpkirtr_committed *'],
+    '&mut usize': ['size_t *'], '&mut u64': ['uint64_t *'], '&mut i32': ['int32_t *'],
+    'u8': ['uint8_t'], 'u64': ['uint64_t'], 'usize': ['size_t'], 'i32': ['int32_t'], 'Global': [],
+}
+ALIASES = {'rpkirtr_status': 'int32_t', 'rpkirtr_state': 'int32_t'}
+
+
+def exports():
+    """Each export of the crate: its name, its parameters as pairs of a name and a C type, and its result."""
+    found = {}
+    for source in sorted((TOP / 'crates/rpkirtr_c/src').glob('*.rt')):
+        for name, inside, result in re.findall(r'pub extern "C" fn (\w+)\((.*?)\) -> (\w+)', source.read_text(), re.S):
+            parameters = []
+            for part in filter(None, (part.strip() for part in inside.split(','))):
+                parameter, kind = part.split(': ', 1)
+                names = [parameter, parameter + '_len']
+                parameters += list(zip(names, C_TYPES[kind]))
+            found[name] = (parameters, C_TYPES[result][0])
+    return found
+
+
+def declared():
+    """The same of the header."""
+    text = re.sub(r'/\*.*?\*/', '', (TOP / 'include/rpkirtr.h').read_text(), flags=re.S)
+    found = {}
+    for result, name, inside in re.findall(r'^(\w+) (rpkirtr_\w+)\(([^)]*)\);', text, re.M):
+        parameters = []
+        for part in inside.split(','):
+            kind, parameter = re.fullmatch(r'\s*(.*?)(\w+)\s*', part, re.S).groups()
+            kind = kind.strip()
+            for alias, meaning in ALIASES.items():
+                kind = re.sub(rf'\b{alias}\b', meaning, kind)
+            parameters.append((parameter, kind))
+        found[name] = (parameters, ALIASES.get(result, result))
+    return found
+
+
+def main(words):
+    code, header, faults = exports(), declared(), []
+    for name in sorted(code.keys() | header.keys()):
+        if code.get(name) != header.get(name):
+            faults.append(f'{name}: the crate has {code.get(name)}, the header {header.get(name)}')
+    for archive in words:
+        lines = subprocess.run(['nm', '--defined-only', '-g', archive], capture_output=True, text=True, check=True).stdout
+        symbols = {line.split()[2] for line in lines.splitlines() if len(line.split()) == 3 and line.split()[2].startswith('rpkirtr_')}
+        for name in sorted(symbols ^ header.keys()):
+            faults.append(f'{name}: in one of {archive} and the header alone')
+    print('\n'.join(faults) or f'{len(header)} functions agree')
+    return 1 if faults else 0
+
+
+if __name__ == '__main__':
+    sys.exit(main(sys.argv[1:]))

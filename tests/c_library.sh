@@ -1,0 +1,63 @@
+#!/usr/bin/env bash
+# The library for C: its header against the exports, its layout in C and C++, its symbols, and each call and misuse under valgrind and
+# AddressSanitizer, over the archive that the gate builds of crates/rpkirtr_c.
+set -u
+top=$(cd "$(dirname "${BASH_SOURCE[0]}")/.." && pwd)
+archive=$top/crates/rpkirtr_c/out/librpkirtr_c.a
+python3 "$top/tests/c_library.py" || exit 1
+if [ ! -f "$archive" ]; then
+    echo "crates/rpkirtr_c/out/librpkirtr_c.a is not built here: rt lib in crates/rpkirtr_c builds it, with the Rattle kit"
+    exit 77
+fi
+if ! command -v rt >/dev/null 2>&1; then
+    echo "the kit's heap is not here: the library is linked with it"
+    exit 77
+fi
+heap=$(dirname "$(dirname "$(readlink -f "$(command -v rt)")")")/c/liblibc_c.a
+for tool in gcc g++ nm objcopy; do
+    command -v "$tool" >/dev/null 2>&1 || { echo "$tool is not installed"; exit 77; }
+done
+out=$(mktemp -d)
+trap 'rm -rf "$out"' EXIT
+failed=0
+try() { # try WHAT COMMAND..
+    local what=$1
+    shift
+    "$@" >"$out/log" 2>&1 && return
+    echo "$what failed:"
+    head -20 "$out/log"
+    failed=1
+}
+
+python3 "$top/tests/c_library.py" "$archive" || failed=1
+"$top/tools/librpkirtr/build.sh" "$archive" "$heap" "$out/lib" && "$top/tools/librpkirtr/build.sh" "$archive" "$heap" "$out/again" || exit 1
+for file in librpkirtr.a librpkirtr.so.0.0.0; do
+    try "the same bytes again, of $file," cmp "$out/lib/$file" "$out/again/$file"
+done
+nm -D --defined-only --with-symbol-versions "$out/lib/librpkirtr.so.0.0.0" | sed 's/^[0-9a-f]* //' | LC_ALL=C sort >"$out/exports"
+try "the comparison of the shared library's symbols with tools/librpkirtr/exports" diff "$top/tools/librpkirtr/exports" "$out/exports"
+nm -g --defined-only "$out/lib/librpkirtr.a" | awk 'NF == 3 { print $3 }' | grep -v '^rpkirtr_' >"$out/others"
+[ -s "$out/others" ] && { echo "other global names in librpkirtr.a:"; head "$out/others"; failed=1; }
+
+strict=(-Wall -Wextra -Wpedantic -Werror -I"$top/include")
+for cc in gcc clang; do
+    if ! command -v "$cc" >/dev/null 2>&1; then
+        echo "$cc is not installed: it is left out"
+        continue
+    fi
+    try "the layout by $cc" "$cc" "${strict[@]}" -std=c99 -o "$out/layout" "$top/tests/c_library/layout.c"
+    try "calls.c by $cc" "$cc" "${strict[@]}" -std=c99 -g -o "$out/calls_$cc" "$top/tests/c_library/calls.c" "$out/lib/librpkirtr.a"
+    try "calls.c of $cc" "$out/calls_$cc"
+    try "rov.c by $cc" "$cc" "${strict[@]}" -std=c99 -D_POSIX_C_SOURCE=200809L -o "$out/rov" "$top/examples/c/rov.c" "$out/lib/librpkirtr.a"
+done
+try "the layout by g++" g++ "${strict[@]}" -x c++ -o "$out/layout" "$top/tests/c_library/layout.c"
+try "calls.c with the shared library" gcc "${strict[@]}" -std=c99 -o "$out/calls_shared" "$top/tests/c_library/calls.c" -L"$out/lib" -lrpkirtr
+try "calls.c over the shared library" env LD_LIBRARY_PATH="$out/lib" "$out/calls_shared"
+try "calls.c with AddressSanitizer" gcc "${strict[@]}" -std=c99 -g -fsanitize=address,undefined -o "$out/calls_asan" "$top/tests/c_library/calls.c" "$out/lib/librpkirtr.a"
+try "calls.c under AddressSanitizer" "$out/calls_asan"
+if command -v valgrind >/dev/null 2>&1; then
+    try "calls.c under valgrind" valgrind -q --error-exitcode=9 --leak-check=full "$out/calls_gcc"
+else
+    echo "valgrind is not installed: it is left out"
+fi
+exit $failed

@@ -1,0 +1,47 @@
+/* Sizes and offsets of the structs of rpkirtr.h, asserted at compile time by C and C++ compilers. */
+#include "rpkirtr.h"
+
+#define IS(name, condition) typedef char name[(condition) ? 1 : -1]
+#define AT(type, member, place) IS(type##_##member##_at, offsetof(type, member) == (place))
+
+IS(record_size, sizeof(rpkirtr_record) == 24);
+AT(rpkirtr_record, addr, 0);
+AT(rpkirtr_record, asn, 16);
+AT(rpkirtr_record, family, 20);
+AT(rpkirtr_record, len, 21);
+AT(rpkirtr_record, max_len, 22);
+AT(rpkirtr_record, zero_, 23);
+
+IS(route_size, sizeof(rpkirtr_route) == 24);
+AT(rpkirtr_route, addr, 0);
+AT(rpkirtr_route, origin, 16);
+AT(rpkirtr_route, family, 20);
+AT(rpkirtr_route, len, 21);
+AT(rpkirtr_route, has_origin, 22);
+AT(rpkirtr_route, zero_, 23);
+
+IS(link_size, sizeof(rpkirtr_link) == 4);
+AT(rpkirtr_link, state, 0);
+AT(rpkirtr_link, end, 1);
+AT(rpkirtr_link, code, 2);
+
+IS(committed_size, sizeof(rpkirtr_committed) == 32);
+AT(rpkirtr_committed, moment, 0);
+AT(rpkirtr_committed, serial, 8);
+AT(rpkirtr_committed, refresh, 12);
+AT(rpkirtr_committed, retry, 16);
+AT(rpkirtr_committed, expire, 20);
+AT(rpkirtr_committed, zero_, 24);
+AT(rpkirtr_committed, session, 28);
+AT(rpkirtr_committed, version, 30);
+AT(rpkirtr_committed, is_committed, 31);
+
+IS(router_size, sizeof(rpkirtr_router) == sizeof(void *));
+IS(index_size, sizeof(rpkirtr_index) == sizeof(void *));
+IS(status_size, sizeof(rpkirtr_status) == 4);
+IS(state_size, sizeof(rpkirtr_state) == 4);
+
+int main(void)
+{
+    return 0;
+}
