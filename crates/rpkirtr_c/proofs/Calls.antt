@@ -1,11 +1,20 @@
 -- What a router's call shows of the session that it is in.
-use Rattle.std.proofs.Common.{◌≡◌, ℕ, List, Option, refl}
+use Rattle.std.proofs.Common.{◌≡◌, ℕ, List, Option, refl, ap, ◌∙◌}
+use Rattle.rtr_ends.specs.LinkRules as rules
+use Rattle.vrps.specs.Change.{between}
+use Rattle.vrps.specs.VrpSet.{VrpSet}
+use Rattle.rpkirtr_c.specs.Changes.{IsBegun}
+use Rattle.rpkirtr_c.specs.declared.session.Pending.{Pending}
 use Rattle.rtr_ends.specs.Router as model
-use Rattle.rtr_ends.specs.RouterShown.{LeadsOn, ReceivesSo}
+use Rattle.rtr_ends.specs.RouterShown.{IsShown, LeadsOn, ReceivesSo}
 use Rattle.rtr_ends.specs.declared.router.Router.{Router}
-use Rattle.rpkirtr_c.specs.Sessions.{Receives}
-use Rattle.rpkirtr_c.specs.declared.router.Session.{Session}
+use Rattle.rpkirtr_c.specs.Sessions.{Receives, Shows}
+use Rattle.rpkirtr_c.specs.declared.session.Session.{Session}
 
 pub receives : (now : ℕ) (bytes : List ℕ) (count : ℕ) (s : Session) (r : Router)
     → ReceivesSo now bytes count s.router r → ((wanting : Option ℕ) × LeadsOn (model.Receives now wanting bytes) s.router r) → Receives now bytes count s (record s { router = r })
 receives now bytes count s r shown leads = record { rest = refl; shown = shown; leads = leads }
+
+-- The change to the table of a router is one to that of whatever router the value is.
+pub begins : (s : Session) (p : Pending) (table : VrpSet) → IsBegun s.taken table p → ((r : rules.Router) → IsShown r s.router → table ≡ r.table) → Shows s (λ r. IsBegun s.taken r.table p)
+begins s p table begun same r shown = (begun.0 ∙ ap (between s.taken) (same r shown), begun.1 ∙ same r shown)

@@ -17,7 +17,7 @@ use Rattle.rtr_ends.specs.declared.link.AskFault.{AskFault}
 use Rattle.rtr_ends.specs.declared.link.AskFault.TheVariants.{NotConnected}
 use Rattle.rtr_ends.specs.declared.link.AskFault.TheVariants.{Busy as AskBusy}
 use Rattle.rtr_pdu.specs.declared.version.Version.{Version}
-use Rattle.rpkirtr_c.specs.declared.router.Session.{Session}
+use Rattle.rpkirtr_c.specs.declared.session.Session.{Session}
 use Rattle.rpkirtr_c.specs.declared.status.Status.TheVariants.{Done, BadRoute, BadVersion, Busy, NoMemory, NotLinked}
 use Rattle.rpkirtr_c.specs.declared.values.CRoute.{CRoute}
 

@@ -1,8 +1,8 @@
 //! A router for C.
 ghost use Rattle.std.specs.Prelude.{◌≡◌, ◌≤◌, length, Option, Some, None, is_none, option_map, false};
 ghost use Rattle.std.specs.Coded.{coded_option};
-ghost use Rattle.rpkirtr_c.specs.declared.router.Session.{Session};
-ghost use Rattle.rpkirtr_c.specs.contracts.router.Session as session;
+ghost use Rattle.rpkirtr_c.specs.declared.session.Session.{Session};
+ghost use Rattle.rpkirtr_c.specs.contracts.session.Session as session;
 ghost use Rattle.rpkirtr_c.specs.Answers.{number};
 ghost use Rattle.rpkirtr_c.specs.Live.{Freed, New, On};
 ghost use Rattle.rpkirtr_c.specs.Sessions.{IsPulled, IsSpoken, Makes, Receives, Shows, ask_answer};
@@ -17,18 +17,12 @@ ghost use Rattle.vrps.specs.VrpSet.{empty};
 
 use crate::links::{CCommitted, CLink, NEVER, committed_of, link_of, version_of};
 use crate::loose::Loose;
+use crate::session::Session;
 use crate::status::Status;
 use rtr_ends::{AskFault, Link, Router};
 use std::alloc::Global;
 use std::marker::Model;
 use vrps::VrpSet;
-
-/// What a router's handle stands for: a router, and the records that were taken last.
-#[derive(Debug, Drop)]
-pub struct Session {
-    pub(crate) router: Router,
-    pub(crate) taken: VrpSet,
-}
 
 /// A router, as C holds it: all zero before `rpkirtr_router_new` and after `rpkirtr_router_free`.
 #[repr(C)]
@@ -41,7 +35,7 @@ pub struct RouterHandle {
 
 impl Model for RouterHandle {
     ghost use Rattle.rpkirtr_c.specs.Held.{held};
-    ghost use Rattle.rpkirtr_c.specs.contracts.router.Session.{the_row};
+    ghost use Rattle.rpkirtr_c.specs.contracts.session.Session.{the_row};
     ghost use Rattle.std.specs.Box.Ownership.{box_owns};
     ghost use Rattle.std.specs.contracts.impls.GlobalAllocator.TheImpl as heap_impl;
 
@@ -113,7 +107,7 @@ impl RouterHandle {
 /// Makes a router in an empty handle. Nothing is committed, and there is no connection.
 #[unsafe(no_mangle)]
 pub extern "C" fn rpkirtr_router_new(alloc: Global, h: &mut RouterHandle) -> i32
-    ensures { New h.old.value h.new.value result (λ s. IsShown rules.new_router s.router × (s.taken ≡ empty)) }
+    ensures { New h.old.value h.new.value result (λ s. IsShown rules.new_router s.router × (s.taken ≡ empty) × (s.pending ≡ None)) }
 {
     if let Some(session) = h.take(alloc) {
         *h = shut(session);
@@ -122,6 +116,7 @@ pub extern "C" fn rpkirtr_router_new(alloc: Global, h: &mut RouterHandle) -> i32
     let session = Session {
         router: Router::new(alloc),
         taken: VrpSet::empty(alloc),
+        pending: None,
     };
     match Box::new(alloc, session) {
         Err(_) => Status::NoMemory.number(),

@@ -1,0 +1,148 @@
+//! What changed since the changes of a router were taken last.
+ghost use Rattle.std.specs.Prelude.{◌≡◌, ◌≤◌, length, drop, Option, Some, None, IfOk};
+ghost use Rattle.rpkirtr_c.specs.Answers.{number};
+ghost use Rattle.rpkirtr_c.specs.Changes.{Begins, IsBegun, Takes, announced_of, withdrawn_of};
+ghost use Rattle.rpkirtr_c.specs.Live.{On};
+ghost use Rattle.rpkirtr_c.specs.Spelled.{IsCopied};
+ghost use Rattle.rpkirtr_c.specs.declared.status.Status.TheVariants.{Done};
+ghost use Rattle.vrps.specs.Change.{between};
+ghost use Rattle.vrps.specs.VrpSet.{VrpSet as Vrps};
+
+use crate::router::{RouterHandle, shut};
+use crate::session::{Pending, Session};
+use crate::status::Status;
+use crate::values::{CRecord, copy_records, from_index};
+use prefixes::Vrp;
+use std::alloc::{AllocError, Global};
+use vrps::{Change, VrpSet};
+
+/// What leads from the set that was taken last to the table.
+fn pending(alloc: Global, taken: &VrpSet, table: &VrpSet) -> Result<Pending, AllocError>
+    ensures { IfOk result (IsBegun taken.now table.now) }
+{
+    let change = Change::between(alloc, taken, table)?;
+    let table = table.duplicate()?;
+    Ok(Pending { change, table })
+}
+
+/// The records that were withdrawn, if a change has begun.
+fn withdrawn(pending: &Option<Pending>) -> &[Vrp]
+    ensures { result.now ≡ withdrawn_of pending.now }
+{
+    match pending {
+        None => &[],
+        Some(pending) => pending.change.withdraw.as_slice(),
+    }
+}
+
+/// The records that were announced, if a change has begun.
+fn announced(pending: &Option<Pending>) -> &[Vrp]
+    ensures { result.now ≡ announced_of pending.now }
+{
+    match pending {
+        None => &[],
+        Some(pending) => pending.change.announce.as_slice(),
+    }
+}
+
+/// Begins the change from what was taken last to the table, and counts it.
+#[tactic(auto, using(crate::proofs::Calls::begins))]
+fn begin(
+    alloc: Global,
+    session: &mut Session,
+    withdraws: &mut usize,
+    announces: &mut usize,
+) -> Status
+    ensures { Begins (number result) withdraws.new announces.new session.old session.new }
+{
+    *withdraws = 0;
+    *announces = 0;
+    let begun = match pending(alloc, &session.taken, session.router.table()) {
+        Err(_) => return Status::NoMemory,
+        Ok(begun) => begun,
+    };
+    *withdraws = begun.change.withdraw.len();
+    *announces = begun.change.announce.len();
+    session.pending = Some(begun);
+    Status::Done
+}
+
+/// Compares the committed records with those that were taken last, and tells how many were withdrawn and announced. That change is told
+/// until another begins or this one is taken.
+#[unsafe(no_mangle)]
+pub extern "C" fn rpkirtr_router_changes_begin(
+    alloc: Global,
+    h: &mut RouterHandle,
+    withdraws: &mut usize,
+    announces: &mut usize,
+) -> i32
+    ensures call { On h.old.value h.new.value result (λ s t. Begins result withdraws.new announces.new s t) }
+    ensures empty { h.old.value ≡ None → (withdraws.new ≡ 0) × (announces.new ≡ 0) }
+{
+    *withdraws = 0;
+    *announces = 0;
+    let Some(mut session) = h.take(alloc) else {
+        return Status::Empty.number();
+    };
+    let answer = begin(alloc, &mut session, withdraws, announces);
+    *h = shut(session);
+    answer.number()
+}
+
+/// Copies the withdrawn records of the change in ascending order, from an index on, as many as fit, and tells how many.
+#[unsafe(no_mangle)]
+pub extern "C" fn rpkirtr_router_withdrawn(
+    alloc: Global,
+    h: &mut RouterHandle,
+    first: usize,
+    room: &mut [CRecord],
+    copied: &mut usize,
+) -> i32
+    ensures call { On h.old.value h.new.value result (λ s t. (result ≡ number Done) × (t ≡ s) × IsCopied (drop first (withdrawn_of s.pending)) room.old room.new copied.new) }
+    ensures empty { h.old.value ≡ None → (room.new ≡ room.old) × (copied.new ≡ 0) }
+{
+    *copied = 0;
+    let Some(session) = h.take(alloc) else {
+        return Status::Empty.number();
+    };
+    *copied = copy_records(from_index(withdrawn(&session.pending), first), room);
+    *h = shut(session);
+    Status::Done.number()
+}
+
+/// Copies the announced records of the change, in the same way.
+#[unsafe(no_mangle)]
+pub extern "C" fn rpkirtr_router_announced(
+    alloc: Global,
+    h: &mut RouterHandle,
+    first: usize,
+    room: &mut [CRecord],
+    copied: &mut usize,
+) -> i32
+    ensures call { On h.old.value h.new.value result (λ s t. (result ≡ number Done) × (t ≡ s) × IsCopied (drop first (announced_of s.pending)) room.old room.new copied.new) }
+    ensures empty { h.old.value ≡ None → (room.new ≡ room.old) × (copied.new ≡ 0) }
+{
+    *copied = 0;
+    let Some(session) = h.take(alloc) else {
+        return Status::Empty.number();
+    };
+    *copied = copy_records(from_index(announced(&session.pending), first), room);
+    *h = shut(session);
+    Status::Done.number()
+}
+
+/// Takes the change: the next one begins at the records that it led to. If none has begun, nothing changes.
+#[unsafe(no_mangle)]
+pub extern "C" fn rpkirtr_router_changes_taken(alloc: Global, h: &mut RouterHandle) -> i32
+    ensures { On h.old.value h.new.value result (λ s t. (result ≡ number Done) × Takes s t) }
+{
+    let Some(mut session) = h.take(alloc) else {
+        return Status::Empty.number();
+    };
+    let pending = session.pending.take();
+    if let Some(pending) = pending {
+        session.taken = pending.table;
+    }
+    *h = shut(session);
+    Status::Done.number()
+}
