@@ -155,6 +155,21 @@ rpkirtr_status rpkirtr_router_records(rpkirtr_router *h, size_t first, rpkirtr_r
 /* Copies the committed records that cover a route, as many as fit, and tells how many there are. OK, EMPTY, BAD_ROUTE, NO_MEMORY */
 rpkirtr_status rpkirtr_router_covering(rpkirtr_router *h, const rpkirtr_route *route, rpkirtr_record *room, size_t room_len, size_t *count);
 
+/* ---- what changed since it was last taken */
+
+/* Compares the committed records with those that were taken last (none at first), and tells how many were withdrawn and announced. That
+ * change is told until another begins or this one is taken. OK, EMPTY, NO_MEMORY */
+rpkirtr_status rpkirtr_router_changes_begin(rpkirtr_router *h, size_t *withdraws, size_t *announces);
+
+/* Copies the withdrawn records of the change in ascending order, from an index on, as many as fit, and tells how many. OK, EMPTY */
+rpkirtr_status rpkirtr_router_withdrawn(rpkirtr_router *h, size_t first, rpkirtr_record *room, size_t room_len, size_t *copied);
+
+/* Copies the announced records of the change, in the same way. OK, EMPTY */
+rpkirtr_status rpkirtr_router_announced(rpkirtr_router *h, size_t first, rpkirtr_record *room, size_t room_len, size_t *copied);
+
+/* Takes the change: the next one begins at the records that it led to. If none has begun, nothing changes. OK, EMPTY */
+rpkirtr_status rpkirtr_router_changes_taken(rpkirtr_router *h);
+
 /* ---- an index over records */
 
 /* Makes an index over records in an empty handle; what is listed twice counts once. If a record is none, its index is told.

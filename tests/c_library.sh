@@ -55,6 +55,7 @@ try "calls.c with the shared library" gcc "${strict[@]}" -std=c99 -o "$out/calls
 try "calls.c over the shared library" env LD_LIBRARY_PATH="$out/lib" "$out/calls_shared"
 try "calls.c with AddressSanitizer" gcc "${strict[@]}" -std=c99 -g -fsanitize=address,undefined -o "$out/calls_asan" "$top/tests/c_library/calls.c" "$out/lib/librpkirtr.a"
 try "calls.c under AddressSanitizer" "$out/calls_asan"
+try "the Python binding" env LD_LIBRARY_PATH="$out/lib" PYTHONDONTWRITEBYTECODE=1 PYTHONPATH="$top/bindings/python" python3 "$top/tests/c_library/binding.py"
 if command -v valgrind >/dev/null 2>&1; then
     try "calls.c under valgrind" valgrind -q --error-exitcode=9 --leak-check=full "$out/calls_gcc"
 else

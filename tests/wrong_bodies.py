@@ -30,7 +30,7 @@ sys.path.insert(0, f"{TOP}/tools")
 import refused
 from kit import RT
 
-HEAD = re.compile(r"(?m)^(?:    )?(?:pub(?:\([a-z]+\))? )?(?:const )?fn (\w+)|^impl\b[^{;]*|^(?:pub(?:\([a-z]+\))? )?(?:const|static|struct|enum|trait|type|mod)\b")
+HEAD = re.compile(r"(?m)^(?:    )?(?:pub(?:\([a-z]+\))? )?(?:const )?(?:extern .C. )?fn (\w+)|^impl\b[^{;]*|^(?:pub(?:\([a-z]+\))? )?(?:const|static|struct|enum|trait|type|mod)\b")
 
 # What a check says of a function that it found nothing against; of one that it may not have judged, as it refused or passed over one that it calls;
 # and of one in which it found a goal that does not hold.

@@ -40,6 +40,8 @@ impl Model for IndexHandle {
     ghost also_owns = { λ h. held h.at h.value (λ s. box_owns (heap_impl.ghosts.dealloc_token h.alloc) the_row h.at s) };
 }
 
+unsafe impl Send for IndexHandle {}
+
 impl IndexHandle {
     fn of(l: Loose<Judge, Global>) -> IndexHandle
         ensures { result.value ≡ Some l.value }

@@ -42,6 +42,8 @@ impl Model for RouterHandle {
     ghost also_owns = { λ h. held h.at h.value (λ s. box_owns (heap_impl.ghosts.dealloc_token h.alloc) the_row h.at s) };
 }
 
+unsafe impl Send for RouterHandle {}
+
 impl RouterHandle {
     fn of(l: Loose<Session, Global>) -> RouterHandle
         ensures { result.value ≡ Some l.value }

@@ -1,0 +1,212 @@
+"""A client of RPKI-to-Router caches and origin validation, over librpkirtr.so.0.
+
+    with rpkirtr.Index([rpkirtr.Record("192.0.2.0/24", 24, 64496)]) as index:
+        index.state("192.0.2.0/24", 64496)      # State.VALID
+
+A router does no input or output: hand over what was received by `receive`, and send what `pull` gives. Moments are seconds of one clock.
+"""
+from __future__ import annotations
+
+import ctypes
+import enum
+import ipaddress
+from typing import Iterable, List, NamedTuple, Optional, Tuple, Union
+
+Network = Union[ipaddress.IPv4Network, ipaddress.IPv6Network]
+_library = ctypes.CDLL("librpkirtr.so.0")
+NEVER = 2**64 - 1
+
+
+class State(enum.IntEnum):
+    """The state of a route (RFC 6811 section 2)."""
+
+    NOT_FOUND = 0
+    VALID = 1
+    INVALID = 2
+
+
+class Status(enum.IntEnum):
+    """What a call answers."""
+
+    OK = 0
+    EMPTY = 1
+    LIVE = 2
+    NO_MEMORY = 3
+    BAD_RECORD = 4
+    BAD_ROUTE = 5
+    BAD_VERSION = 6
+    RANGE = 7
+    NOT_LINKED = 8
+    BUSY = 9
+
+
+class Error(Exception):
+    """A status other than OK, and the index of the record that is none, if there is one."""
+
+    def __init__(self, status: int, index: Optional[int] = None) -> None:
+        super().__init__(Status(status).name if index is None else f"{Status(status).name} at {index}")
+        self.status = Status(status)
+        self.index = index
+
+
+class Record(NamedTuple):
+    """A validated ROA payload."""
+
+    prefix: Union[str, Network]
+    max_len: int
+    asn: int
+
+
+class _Record(ctypes.Structure):
+    _fields_ = [("addr", ctypes.c_uint8 * 16), ("asn", ctypes.c_uint32), ("family", ctypes.c_uint8), ("len", ctypes.c_uint8),
+                ("max_len", ctypes.c_uint8), ("zero_", ctypes.c_uint8)]
+
+
+class _Route(ctypes.Structure):
+    _fields_ = [("addr", ctypes.c_uint8 * 16), ("origin", ctypes.c_uint32), ("family", ctypes.c_uint8), ("len", ctypes.c_uint8),
+                ("has_origin", ctypes.c_uint8), ("zero_", ctypes.c_uint8)]
+
+
+def _prefix(prefix: Union[str, Network]) -> Tuple[bytes, int, int]:
+    network = ipaddress.ip_network(prefix)
+    return network.network_address.packed.ljust(16, b"\0"), network.version, network.prefixlen
+
+
+def _record(record: Record) -> _Record:
+    addr, family, length = _prefix(record.prefix)
+    return _Record((ctypes.c_uint8 * 16)(*addr), record.asn, family, length, record.max_len, 0)
+
+
+def _route(prefix: Union[str, Network], origin: Optional[int]) -> _Route:
+    addr, family, length = _prefix(prefix)
+    return _Route((ctypes.c_uint8 * 16)(*addr), origin or 0, family, length, 0 if origin is None else 1, 0)
+
+
+def _told(record: _Record) -> Record:
+    addr = bytes(record.addr)[: 4 if record.family == 4 else 16]
+    return Record(ipaddress.ip_network((addr, record.len)), record.max_len, record.asn)
+
+
+def _check(status: int) -> None:
+    if status != Status.OK:
+        raise Error(status)
+
+
+class _Handle:
+    """A handle, which is freed at the end of a `with`."""
+
+    _name = ""
+
+    def __init__(self) -> None:
+        self._handle = ctypes.c_void_p()
+
+    def _call(self, name: str, *arguments: object) -> int:
+        return getattr(_library, f"rpkirtr_{self._name}_{name}")(ctypes.byref(self._handle), *arguments)
+
+    def _size(self, name: str, *arguments: object) -> int:
+        size = ctypes.c_size_t()
+        _check(self._call(name, *arguments, ctypes.byref(size)))
+        return size.value
+
+    def free(self) -> None:
+        """Frees what the handle stands for. A second call does nothing."""
+        self._call("free")
+
+    def __enter__(self):
+        return self
+
+    def __exit__(self, *_: object) -> None:
+        self.free()
+
+    def __len__(self) -> int:
+        return self._size("count")
+
+    def state(self, prefix: Union[str, Network], origin: Optional[int]) -> State:
+        """The state of a route; the origin None is the origin NONE."""
+        state = ctypes.c_int32()
+        _check(self._call("state", ctypes.byref(_route(prefix, origin)), ctypes.byref(state)))
+        return State(state.value)
+
+    def covering(self, prefix: Union[str, Network]) -> List[Record]:
+        """The records that cover a prefix, in ascending order."""
+        route = _route(prefix, None)
+        count = self._size("covering", ctypes.byref(route), None, ctypes.c_size_t(0))
+        room = (_Record * count)()
+        self._size("covering", ctypes.byref(route), room, ctypes.c_size_t(count))
+        return [_told(record) for record in room]
+
+
+class Index(_Handle):
+    """Origin validation over records."""
+
+    _name = "index"
+
+    def __init__(self, records: Iterable[Record]) -> None:
+        super().__init__()
+        given = [_record(record) for record in records]
+        bad = ctypes.c_size_t()
+        status = self._call("new", (_Record * len(given))(*given), ctypes.c_size_t(len(given)), ctypes.byref(bad))
+        if status != Status.OK:
+            raise Error(status, bad.value if status == Status.BAD_RECORD else None)
+
+
+class Router(_Handle):
+    """A router: what it has committed, and at most one connection."""
+
+    _name = "router"
+
+    def __init__(self, version: int = 1) -> None:
+        super().__init__()
+        _check(self._call("new"))
+        _check(self._call("speak", ctypes.c_uint8(version)))
+
+    def connect(self, now: int) -> None:
+        """A connection is made, and a query is ready to be pulled."""
+        _check(self._call("connect", ctypes.c_uint64(now)))
+
+    def connection_closed(self, now: int) -> None:
+        """The transport closed the connection."""
+        _check(self._call("connection_closed", ctypes.c_uint64(now)))
+
+    def tick(self, now: int) -> None:
+        """Advances the clock."""
+        _check(self._call("tick", ctypes.c_uint64(now)))
+
+    def ask(self) -> None:
+        """Sends a query on an idle link."""
+        _check(self._call("ask"))
+
+    def receive(self, received: bytes, now: int) -> int:
+        """Hands over bytes that were received; how many were taken."""
+        return self._size("receive", received, ctypes.c_size_t(len(received)), ctypes.c_uint64(now))
+
+    def pull(self, most: int = 4096) -> bytes:
+        """The bytes to be sent, at most so many."""
+        room = (ctypes.c_uint8 * most)()
+        pulled = self._size("pull", room, ctypes.c_size_t(most))
+        return bytes(room[:pulled])
+
+    def next_query_at(self) -> int:
+        """When the next query of an idle link is due: NEVER if none is."""
+        at = ctypes.c_uint64()
+        _check(self._call("next_query_at", ctypes.byref(at)))
+        return at.value
+
+    def records(self) -> List[Record]:
+        """The committed records, in ascending order."""
+        count = len(self)
+        room = (_Record * count)()
+        self._size("records", ctypes.c_size_t(0), room, ctypes.c_size_t(count))
+        return [_told(record) for record in room]
+
+    def changes(self) -> Tuple[List[Record], List[Record]]:
+        """The records that were withdrawn and announced since the last call, which takes them."""
+        sizes = (ctypes.c_size_t * 2)()
+        _check(self._call("changes_begin", ctypes.byref(sizes, 0), ctypes.byref(sizes, ctypes.sizeof(ctypes.c_size_t))))
+        told = []
+        for name, size in zip(("withdrawn", "announced"), sizes):
+            room = (_Record * size)()
+            self._size(name, ctypes.c_size_t(0), room, ctypes.c_size_t(size))
+            told.append([_told(record) for record in room])
+        _check(self._call("changes_taken"))
+        return told[0], told[1]

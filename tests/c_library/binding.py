@@ -1,0 +1,39 @@
+"""bindings/python over librpkirtr.so.0: an index, and a router that is told two records by a cache."""
+import ipaddress
+
+import rpkirtr
+
+NET = ipaddress.ip_network
+TEN = rpkirtr.Record(NET("10.0.0.0/8"), 16, 64496)
+DB8 = rpkirtr.Record(NET("2001:db8::/32"), 48, 64497)
+ANSWER = bytes.fromhex("0103010200000008" "0104000000000014" "010810000a000000" "0000fbf0"
+                       "0106000000000020" "01203000" "20010db8000000000000000000000000" "0000fbf1"
+                       "0107010200000018" "00000007" "00000e10" "00000258" "00001c20")
+
+with rpkirtr.Index([DB8, TEN, DB8]) as index:
+    assert len(index) == 2
+    assert index.state("10.1.0.0/16", 64496) == rpkirtr.State.VALID
+    assert index.state("10.1.0.0/24", 64496) == rpkirtr.State.INVALID
+    assert index.state("192.0.2.0/24", None) == rpkirtr.State.NOT_FOUND
+    assert index.covering("2001:db8:1::/48") == [DB8]
+index.free()
+try:
+    len(index)
+    raise AssertionError("a freed handle")
+except rpkirtr.Error as error:
+    assert error.status == rpkirtr.Status.EMPTY
+try:
+    rpkirtr.Index([TEN, rpkirtr.Record("10.0.0.0/8", 7, 1)])
+    raise AssertionError("a bad record")
+except rpkirtr.Error as error:
+    assert (error.status, error.index) == (rpkirtr.Status.BAD_RECORD, 1)
+with rpkirtr.Router() as router:
+    router.connect(100)
+    assert router.pull() == bytes.fromhex("0102000000000008")
+    assert router.receive(ANSWER, 101) == len(ANSWER)
+    assert router.records() == [TEN, DB8]
+    assert router.changes() == ([], [TEN, DB8])
+    assert router.changes() == ([], [])
+    assert router.next_query_at() == 101 + 3600
+    router.tick(101 + 7201)
+    assert router.changes() == ([TEN, DB8], [])
