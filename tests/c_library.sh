@@ -55,6 +55,26 @@ try "calls.c with the shared library" gcc "${strict[@]}" -std=c99 -o "$out/calls
 try "calls.c over the shared library" env LD_LIBRARY_PATH="$out/lib" "$out/calls_shared"
 try "calls.c with AddressSanitizer" gcc "${strict[@]}" -std=c99 -g -fsanitize=address,undefined -o "$out/calls_asan" "$top/tests/c_library/calls.c" "$out/lib/librpkirtr.a"
 try "calls.c under AddressSanitizer" "$out/calls_asan"
+try "random_calls.c" gcc "${strict[@]}" -std=c99 -g -O1 -fsanitize=address,undefined -o "$out/random_calls" "$top/tests/c_library/random_calls.c" "$out/lib/librpkirtr.a"
+try "1000000 random calls" "$out/random_calls" "${SEED:-1}" 1000000
+
+# The example fetches from a cache: the delivered one, if it is here.
+served=$top/dist/x86_64-linux/rpkirtr.gz
+if [ -f "$served" ]; then
+    gunzip -c "$served" >"$out/rpkirtr" && chmod +x "$out/rpkirtr"
+    port=$(python3 -c 'import socket; it = socket.socket(); it.bind(("127.0.0.1", 0)); print(it.getsockname()[1])')
+    "$out/rpkirtr" serve --port "$port" --session 4660 --session0 4661 --start 5 --vrps "$top/samples/list.json" --connections 1 >/dev/null 2>&1 &
+    cache=$!
+    for _ in 1 2 3 4 5 6 7 8 9 10; do
+        printf '192.0.2.0/24 64496\n10.0.0.0/8 1\n2001:db8::/32 64496\nno route\n' | timeout 20 "$out/rov" 127.0.0.1 "$port" >"$out/states" 2>/dev/null && break
+        sleep 0.3
+    done
+    printf 'valid\nnot-found\ninvalid\nno route\n' >"$out/wanted"
+    try "the states of rov.c" diff "$out/wanted" "$out/states"
+    kill "$cache" 2>/dev/null
+else
+    echo "dist/x86_64-linux/rpkirtr.gz is not here: rov.c fetches nothing"
+fi
 try "the Python binding" env LD_LIBRARY_PATH="$out/lib" PYTHONDONTWRITEBYTECODE=1 PYTHONPATH="$top/bindings/python" python3 "$top/tests/c_library/binding.py"
 if command -v valgrind >/dev/null 2>&1; then
     try "calls.c under valgrind" valgrind -q --error-exitcode=9 --leak-check=full "$out/calls_gcc"

@@ -1,0 +1,174 @@
+/* random_calls SEED COUNT: so many random calls in random order on handles that are live, empty or freed. Each answers a status of its
+ * own, and none does harm: run it under AddressSanitizer. */
+#include "rpkirtr.h"
+
+#include <stdio.h>
+#include <stdlib.h>
+#include <string.h>
+
+static uint64_t seed;
+
+static uint32_t below(uint32_t most)
+{
+    seed ^= seed << 13;
+    seed ^= seed >> 7;
+    seed ^= seed << 17;
+    return (uint32_t)(seed >> 32) % most;
+}
+
+static void fill(uint8_t *bytes, size_t len)
+{
+    size_t k;
+    for (k = 0; k < len; k++)
+        bytes[k] = below(3) == 0 ? (uint8_t)below(256) : (uint8_t)below(3);
+}
+
+/* A record that is one in three of four cases */
+static rpkirtr_record a_record(void)
+{
+    rpkirtr_record r;
+    memset(&r, 0, sizeof r);
+    r.family = below(2) == 0 ? 4 : 6;
+    r.addr[0] = (uint8_t)below(4);
+    r.len = (uint8_t)(8 + below(3));
+    r.max_len = (uint8_t)(r.len + below(20));
+    r.asn = below(5);
+    if (below(4) == 0)
+        fill((uint8_t *)&r, sizeof r);
+    return r;
+}
+
+static rpkirtr_route a_route(void)
+{
+    rpkirtr_record record = a_record();
+    rpkirtr_route r;
+    memcpy(&r, &record, sizeof r);
+    r.has_origin = (uint8_t)below(2);
+    return r;
+}
+
+/* Bytes of a cache: an answer of a few records, or anything */
+static size_t an_answer(uint8_t *bytes)
+{
+    static const uint8_t begin[] = {1, 3, 0, 1, 0, 0, 0, 8};
+    static const uint8_t end[] = {1, 7, 0, 1, 0, 0, 0, 24, 0, 0, 0, 1, 0, 0, 0, 9, 0, 0, 0, 5, 0, 0, 2, 88};
+    size_t len = 0;
+    uint32_t k, count = below(6);
+    if (below(5) == 0) {
+        len = below(120);
+        fill(bytes, len);
+        return len;
+    }
+    memcpy(bytes, begin, sizeof begin);
+    len += sizeof begin;
+    for (k = 0; k < count; k++) {
+        uint8_t pdu[20] = {1, 4, 0, 0, 0, 0, 0, 20, 1, 8, 16, 0, 0, 0, 0, 0, 0, 0, 0, 0};
+        pdu[8] = below(4) != 0;
+        pdu[12] = (uint8_t)below(6);
+        pdu[19] = (uint8_t)below(4);
+        memcpy(bytes + len, pdu, sizeof pdu);
+        len += sizeof pdu;
+    }
+    memcpy(bytes + len, end, sizeof end);
+    bytes[len + 11] = (uint8_t)below(9);
+    return len + sizeof end;
+}
+
+static void judge(rpkirtr_status status, rpkirtr_status most)
+{
+    if (status < RPKIRTR_OK || status > most) {
+        fprintf(stderr, "status %d\n", (int)status);
+        exit(1);
+    }
+}
+
+static void a_router_call(rpkirtr_router *h, uint64_t now)
+{
+    uint8_t bytes[512];
+    rpkirtr_record room[4];
+    rpkirtr_route route = a_route();
+    rpkirtr_state state;
+    rpkirtr_link link;
+    rpkirtr_committed committed;
+    uint64_t at;
+    size_t n = 99, m = 99, len;
+    switch (below(20)) {
+    case 0: judge(rpkirtr_router_free(h), RPKIRTR_EMPTY); break;
+    case 1: case 2: judge(rpkirtr_router_new(h), RPKIRTR_NO_MEMORY); break;
+    case 3: judge(rpkirtr_router_speak(h, (uint8_t)below(3)), RPKIRTR_BAD_VERSION); break;
+    case 4: judge(rpkirtr_router_connect(h, now), RPKIRTR_EMPTY); break;
+    case 5: case 6: case 7: case 8:
+        len = an_answer(bytes);
+        judge(rpkirtr_router_receive(h, bytes, len, now, &n), RPKIRTR_EMPTY);
+        if (n > len)
+            abort();
+        break;
+    case 9: case 10:
+        len = below(20);
+        judge(rpkirtr_router_pull(h, bytes, len, &n), RPKIRTR_EMPTY);
+        if (n > len)
+            abort();
+        break;
+    case 11: judge(rpkirtr_router_connection_closed(h, now), RPKIRTR_EMPTY); break;
+    case 12: judge(rpkirtr_router_tick(h, now), RPKIRTR_EMPTY); break;
+    case 13: judge(rpkirtr_router_ask(h), RPKIRTR_BUSY); break;
+    case 14: judge(rpkirtr_router_next_query_at(h, &at), RPKIRTR_EMPTY); judge(rpkirtr_router_link(h, &link), RPKIRTR_EMPTY); break;
+    case 15: judge(rpkirtr_router_committed(h, &committed), RPKIRTR_EMPTY); judge(rpkirtr_router_count(h, &n), RPKIRTR_EMPTY); break;
+    case 16:
+        if (rpkirtr_router_state(h, &route, &state) != RPKIRTR_OK && state != RPKIRTR_NOT_FOUND)
+            abort();
+        break;
+    case 17: judge(rpkirtr_router_record(h, below(6), room), RPKIRTR_RANGE); judge(rpkirtr_router_records(h, below(6), room, below(5), &n), RPKIRTR_EMPTY); break;
+    case 18: judge(rpkirtr_router_covering(h, &route, room, below(5), &n), RPKIRTR_BAD_ROUTE); break;
+    default:
+        judge(rpkirtr_router_changes_begin(h, &n, &m), RPKIRTR_NO_MEMORY);
+        judge(rpkirtr_router_withdrawn(h, below(3), room, below(5), &n), RPKIRTR_EMPTY);
+        judge(rpkirtr_router_announced(h, below(3), room, below(5), &n), RPKIRTR_EMPTY);
+        if (below(2) == 0)
+            judge(rpkirtr_router_changes_taken(h), RPKIRTR_EMPTY);
+    }
+}
+
+static void an_index_call(rpkirtr_index *h)
+{
+    rpkirtr_record records[6];
+    rpkirtr_route route = a_route();
+    rpkirtr_state state;
+    size_t n = 99, k, count = below(7);
+    for (k = 0; k < count; k++)
+        records[k] = a_record();
+    switch (below(5)) {
+    case 0: judge(rpkirtr_index_free(h), RPKIRTR_EMPTY); break;
+    case 1: judge(rpkirtr_index_new(h, records, count, &n), RPKIRTR_RANGE); break;
+    case 2: judge(rpkirtr_index_count(h, &n), RPKIRTR_EMPTY); break;
+    case 3:
+        if (rpkirtr_index_state(h, &route, &state) != RPKIRTR_OK && state != RPKIRTR_NOT_FOUND)
+            abort();
+        break;
+    default: judge(rpkirtr_index_covering(h, &route, records, below(7), &n), RPKIRTR_BAD_ROUTE);
+    }
+}
+
+int main(int argc, char **argv)
+{
+    rpkirtr_router routers[3] = {RPKIRTR_EMPTY_INIT, RPKIRTR_EMPTY_INIT, RPKIRTR_EMPTY_INIT};
+    rpkirtr_index indexes[2] = {RPKIRTR_EMPTY_INIT, RPKIRTR_EMPTY_INIT};
+    unsigned long k, count;
+    uint64_t now = 0;
+    if (argc != 3)
+        return 2;
+    seed = strtoull(argv[1], NULL, 10) * 2 + 1;
+    count = strtoul(argv[2], NULL, 10);
+    for (k = 0; k < count; k++) {
+        now += below(100) == 0 ? below(700) : 0;
+        if (below(4) == 0)
+            an_index_call(&indexes[below(2)]);
+        else
+            a_router_call(&routers[below(3)], now);
+    }
+    for (k = 0; k < 3; k++)
+        rpkirtr_router_free(&routers[k]);
+    for (k = 0; k < 2; k++)
+        rpkirtr_index_free(&indexes[k]);
+    return 0;
+}
