@@ -53,8 +53,8 @@ static size_t an_answer(uint8_t *bytes)
     static const uint8_t begin[] = {1, 3, 0, 1, 0, 0, 0, 8};
     static const uint8_t end[] = {1, 7, 0, 1, 0, 0, 0, 24, 0, 0, 0, 1, 0, 0, 0, 9, 0, 0, 0, 5, 0, 0, 2, 88};
     size_t len = 0;
-    uint32_t k, count = below(6);
-    if (below(5) == 0) {
+    uint32_t k, count = below(9);
+    if (below(40) == 0) {
         len = below(120);
         fill(bytes, len);
         return len;
@@ -63,8 +63,8 @@ static size_t an_answer(uint8_t *bytes)
     len += sizeof begin;
     for (k = 0; k < count; k++) {
         uint8_t pdu[20] = {1, 4, 0, 0, 0, 0, 0, 20, 1, 8, 16, 0, 0, 0, 0, 0, 0, 0, 0, 0};
-        pdu[8] = below(4) != 0;
-        pdu[12] = (uint8_t)below(6);
+        pdu[8] = below(30) != 0;
+        pdu[12] = (uint8_t)below(250);
         pdu[19] = (uint8_t)below(4);
         memcpy(bytes + len, pdu, sizeof pdu);
         len += sizeof pdu;
@@ -93,7 +93,10 @@ static void a_router_call(rpkirtr_router *h, uint64_t now)
     uint64_t at;
     size_t n = 99, m = 99, len;
     switch (below(20)) {
-    case 0: judge(rpkirtr_router_free(h), RPKIRTR_EMPTY); break;
+    case 0:
+        if (below(10) == 0)
+            judge(rpkirtr_router_free(h), RPKIRTR_EMPTY);
+        break;
     case 1: case 2: judge(rpkirtr_router_new(h), RPKIRTR_NO_MEMORY); break;
     case 3: judge(rpkirtr_router_speak(h, (uint8_t)below(3)), RPKIRTR_BAD_VERSION); break;
     case 4: judge(rpkirtr_router_connect(h, now), RPKIRTR_EMPTY); break;
@@ -104,7 +107,7 @@ static void a_router_call(rpkirtr_router *h, uint64_t now)
             abort();
         break;
     case 9: case 10:
-        len = below(20);
+        len = below(40);
         judge(rpkirtr_router_pull(h, bytes, len, &n), RPKIRTR_EMPTY);
         if (n > len)
             abort();
