@@ -1,5 +1,5 @@
 -- One more record is copied.
-use Rattle.std.proofs.Common.{◌≡◌, ℕ, zero, suc, ◌+◌, ◌<◌, List, [], ◌∷◌, ◌++◌, length, map, take, drop, set, get_or, refl, sym, ap, ◌∙◌, arith}
+use Rattle.std.proofs.Common.{◌≡◌, ℕ, zero, suc, ◌+◌, ◌<◌, List, [], ◌∷◌, ◌++◌, length, map, take, drop, set, get_or, sym, ap, ◌∙◌, arith}
 
 module _ {A B : Type 0} (f : A → B) where
   next : (i : ℕ) (list : List A) (old : List B) (v : A) → v ≡ get_or list i v → i < length list → i < length old

@@ -1,10 +1,10 @@
 -- What the walks of every handle share: a handle has a value and owns its block, or has none and its address is null.
-use Rattle.std.proofs.Common.{◌≡◌, ℕ, ◌<◌, ◌^◌, refl, Bool, true, false, not, ◌&&◌, lit<}
+use Rattle.std.proofs.Common.{◌≡◌, refl, Bool, true, false, not, ◌&&◌, lit<}
 use Rattle.std.specs.Prelude.{Option, Some, None, is_none}
 use lib.Dec.{T}
 use seplogic.Ra.Ura.{Ura}
-use mir.Syntax.{Ty, ty_ptr, ptr_eq}
-use mir.Val.{Val, vbool, vnull, op2_val, has_ty, WT}
+use mir.Syntax.{ty_ptr, ptr_eq}
+use mir.Val.{vbool, vnull, op2_val, has_ty, WT}
 use base.Logic.{ent, via, id⊢, never_e}
 use base.Fml.{Fml, ftrue}
 use types.Logic.{Logic, sem}

@@ -1,4 +1,4 @@
-use Rattle.std.proofs.Common.{◌≡◌, ℕ, take}
+use Rattle.std.proofs.Common.{take}
 use Rattle.rpkirtr_c.specs.Indexes.{AreRecords}
 use Rattle.rpkirtr_c.proofs.index.vrps_of.Given as goal
 

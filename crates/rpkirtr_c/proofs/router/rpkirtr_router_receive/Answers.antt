@@ -1,4 +1,4 @@
-use Rattle.std.proofs.Common.{rules, ◌≡◌, Some, sym, arith}
+use Rattle.std.proofs.Common.{rules, ◌≡◌, Some, arith}
 use Rattle.rpkirtr_c.proofs.Calls.{receives}
 use Rattle.rpkirtr_c.proofs.router.rpkirtr_router_receive.Goals as goal
 

@@ -1,4 +1,4 @@
-use Rattle.std.proofs.Common.{rules, ◌≡◌, ◌≤◌, ℕ, ◌<◌, ◌++◌, min, length, map, take, drop, set, sym, ap, subst, ◌∙◌, arith}
+use Rattle.std.proofs.Common.{◌≡◌, ◌<◌, ◌++◌, length, map, take, drop, set, ap, subst, ◌∙◌, arith}
 use Rattle.rpkirtr_c.specs.Spelled.{record_of}
 use Rattle.rpkirtr_c.proofs.Copied.{copied_more}
 use Rattle.rpkirtr_c.proofs.values.copy_records.Goals as goal

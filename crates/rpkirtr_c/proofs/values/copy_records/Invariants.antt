@@ -1,4 +1,4 @@
-use Rattle.std.proofs.Common.{◌≡◌, ℕ, ◌++◌, map, take, drop}
+use Rattle.std.proofs.Common.{◌≡◌, ◌++◌, map, take, drop}
 use Rattle.rpkirtr_c.specs.Spelled.{record_of}
 use Rattle.rpkirtr_c.proofs.values.copy_records.Given as goal
 

@@ -1,6 +1,6 @@
-use Rattle.std.proofs.Common.{rules, ◌≡◌, ℕ, ◌+◌, ◌<◌, ◌≤◌, ◌^◌, length, List, [], ◌∷◌, ◌++◌, Bool, true, false, refl, sym, ap, subst, ◌∙◌, arith}
-use Rattle.rpkirtr_c.specs.Spelled.{v4_bytes, v6_bytes}
-use Rattle.rpkirtr_c.proofs.Addresses.{v4_tested, v4_refuted, v6_read, v4_one, v6_one, shown}
+use Rattle.std.proofs.Common.{◌≡◌, sym, subst}
+use Rattle.rpkirtr_c.specs.Spelled.{v4_bytes}
+use Rattle.rpkirtr_c.proofs.Addresses.{v4_tested, v4_refuted}
 use Rattle.rpkirtr_c.proofs.values.v4_number.Goals as goal
 
 pub returns-then-ne-clause-none : goal.returns-then-ne-clause-none

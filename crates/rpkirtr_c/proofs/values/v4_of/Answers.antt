@@ -1,6 +1,5 @@
-use Rattle.std.proofs.Common.{rules, ◌≡◌, ℕ, ◌+◌, ◌<◌, ◌≤◌, ◌^◌, length, List, [], ◌∷◌, ◌++◌, Bool, true, false, refl, sym, ap, subst, ◌∙◌, arith}
-use Rattle.rpkirtr_c.specs.Spelled.{v4_bytes, v6_bytes}
-use Rattle.rpkirtr_c.proofs.Addresses.{v4_tested, v4_refuted, v6_read, v4_one, v6_one, shown}
+use Rattle.std.proofs.Common.{◌≡◌, true, false, sym, ◌∙◌}
+use Rattle.rpkirtr_c.proofs.Addresses.{v4_one, shown}
 use Rattle.rpkirtr_c.proofs.values.v4_of.Goals as goal
 
 pub returns-in-Err-clause-none : goal.returns-in-Err-clause-none

@@ -1,8 +1,6 @@
-use Rattle.std.proofs.Common.{rules, ◌≡◌, ℕ, ◌+◌, ◌<◌, ◌≤◌, ◌^◌, length, take, drop, replicate, List, [], ◌∷◌, ◌++◌, Bool, true, false, not, refl, sym, ap, subst, ◌∙◌, arith}
+use Rattle.std.proofs.Common.{◌∙◌}
 use Rattle.std.proofs.lemmas.List.{append-nil}
-use Rattle.rpkirtr_c.specs.Spelled.{v4_bytes, v6_bytes}
-use Rattle.prefixes.specs.Address.{Block, IsPrefix}
-use Rattle.rpkirtr_c.proofs.Addresses.{v4_read, v6_read, v4_rest, v4_one, v6_one}
+use Rattle.rpkirtr_c.specs.Spelled.{v6_bytes}
 use Rattle.rpkirtr_c.proofs.values.v6_bytes.Goals as goal
 
 pub returns : goal.returns

@@ -1,6 +1,6 @@
-use Rattle.std.proofs.Common.{rules, ◌≡◌, ℕ, ◌+◌, ◌<◌, ◌≤◌, ◌^◌, length, List, [], ◌∷◌, ◌++◌, Bool, true, false, refl, sym, ap, subst, ◌∙◌, arith}
-use Rattle.rpkirtr_c.specs.Spelled.{v4_bytes, v6_bytes}
-use Rattle.rpkirtr_c.proofs.Addresses.{v4_tested, v4_refuted, v6_read, v4_one, v6_one, shown}
+use Rattle.std.proofs.Common.{◌≡◌, sym, subst}
+use Rattle.rpkirtr_c.specs.Spelled.{v6_bytes}
+use Rattle.rpkirtr_c.proofs.Addresses.{v6_read}
 use Rattle.rpkirtr_c.proofs.values.v6_number.Goals as goal
 
 pub returns : goal.returns
