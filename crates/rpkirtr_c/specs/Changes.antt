@@ -1,4 +1,4 @@
--- What changed of a router's records since they were taken last.
+-- What changed of a router's records since they were accepted last.
 use Rattle.std.specs.Prelude.{◌≡◌, ◌⊎◌, ℕ, ℤ, List, [], Option, Some, None}
 use Rattle.prefixes.specs.Payload.{Payload}
 use Rattle.vrps.specs.Change.{between}
@@ -9,7 +9,7 @@ use Rattle.rpkirtr_c.specs.declared.session.Pending.{Pending}
 use Rattle.rpkirtr_c.specs.declared.session.Session.{Session}
 use Rattle.rpkirtr_c.specs.declared.status.Status.TheVariants.{Done, NoMemory}
 
--- the change from what was taken to the table
+-- the change from the accepted records to the table
 abbrev pub IsBegun : VrpSet → VrpSet → Pending → Type 0
 IsBegun taken table p = (p.change ≡ between taken table) × (p.table ≡ table)
 
@@ -22,7 +22,7 @@ abbrev pub announced_of : Option Pending → List Payload
 announced_of None = []
 announced_of (Some p) = listing p.change.announce
 
--- The change from what was taken last to the router's table, counted
+-- The change from the accepted records to the router's table, counted
 abbrev pub IsCounted : Session → ℕ → ℕ → Option Pending → Type 0
 IsCounted s withdraws announces None = ⊥
 IsCounted s withdraws announces (Some p) = Shows s (λ r. IsBegun s.taken r.table p) × (withdraws ≡ size p.change.withdraw) × (announces ≡ size p.change.announce)
@@ -37,6 +37,6 @@ abbrev pub taken_after : Option Pending → VrpSet → VrpSet
 taken_after None taken = taken
 taken_after (Some p) taken = p.table
 
--- What the change leads to is taken, if one has begun.
+-- What the change leads to is accepted, if one has begun.
 abbrev pub Takes : Session → Session → Type 0
 Takes s t = t ≡ record s { taken = taken_after s.pending s.taken; pending = None }

@@ -40,7 +40,7 @@ bad_of (Bad i) = i
 bad_of TooMany = 0
 bad_of Memory = 0
 
--- An index over the records is made in an empty handle, or it stays empty for a fault, which is told. A live handle stays as it is.
+-- An index over the records is made in an empty handle, or it stays empty for a fault, which is written. A live handle stays as it is.
 abbrev pub NewIndex : List CRecord → Option Judge → Option Judge → ℤ → ℕ → Type 0
 NewIndex records None (Some t) answer bad = (answer ≡ number Done) × IsOver records t × (bad ≡ 0)
 NewIndex records None None answer bad = (fault : IndexFault) × IsFaultOf records fault × (answer ≡ number (fault_status fault)) × (bad ≡ bad_of fault)

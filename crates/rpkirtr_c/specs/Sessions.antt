@@ -21,7 +21,7 @@ use Rattle.rpkirtr_c.specs.declared.session.Session.{Session}
 use Rattle.rpkirtr_c.specs.declared.status.Status.TheVariants.{Done, BadRoute, BadVersion, Busy, NoMemory, NotLinked}
 use Rattle.rpkirtr_c.specs.declared.values.CRoute.{CRoute}
 
--- The router makes this call. What was taken of its changes stays.
+-- The router makes this call. The accepted records stay.
 pub record Makes (call : RouterCall) (s t : Session) : Type 0 where
   pub rest : t ≡ record s { router = t.router }
   pub calls : Calls (λ r. (called call r).router) s.router t.router
@@ -31,19 +31,19 @@ pub record Makes (call : RouterCall) (s t : Session) : Type 0 where
 abbrev pub Shows : Session → (rules.Router → Type 0) → Type 0
 Shows s P = (r : rules.Router) → IsShown r s.router → P r
 
--- A route is judged over a set: its state is told. What is no route has none, and is answered so.
+-- A route is judged over a set: its state is written. What is no route has none, and is answered so.
 abbrev pub IsJudged : CRoute → VrpSet → ℤ → ℤ → Type 0
 IsJudged q set answer told =
     ((r : Route) × SpellsRoute q r × (answer ≡ number Done) × (told ≡ state_number (state set r)))
     ⊎ (((r : Route) → ¬ (SpellsRoute q r)) × (answer ≡ number BadRoute) × (told ≡ state_number NotFound))
 
--- The router receives these bytes, and takes so many of them. What was taken of its changes stays.
+-- The router receives these bytes, and consumes this many of them. The accepted records stay.
 pub record Receives (now : ℕ) (bytes : List ℕ) (count : ℕ) (s t : Session) : Type 0 where
   pub rest : t ≡ record s { router = t.router }
   pub shown : ReceivesSo now bytes count s.router t.router
   pub leads : (wanting : Option ℕ) × LeadsOn (model.Receives now wanting bytes) s.router t.router
 
--- What is to be sent fills the room, as far as it fits. The rest of the room stays.
+-- The bytes that are due fill the room, as far as it fits. The rest of the room stays.
 abbrev pub IsPulled : List ℕ → List ℕ → List ℕ → ℕ → Type 0
 IsPulled out old new count = (count ≡ min (length old) (length out)) × (new ≡ take (length old) out ++ drop (length out) old)
 
@@ -55,14 +55,14 @@ IsSpokenOf (Some version) answer s t = (answer ≡ number Done) × Makes (model.
 abbrev pub IsSpoken : ℕ → ℤ → Session → Session → Type 0
 IsSpoken version answer s t = IsSpokenOf (version_of version) answer s t
 
--- what a question that was to be asked is answered
+-- the answer to a call that asks a question
 abbrev pub ask_answer : Result ⊤ AskFault → Status
 ask_answer (Ok asked) = Done
 ask_answer (Err AskBusy) = Busy
 ask_answer (Err NotConnected) = NotLinked
 
 -- The records of a set that cover a route are copied, as far as they fit, and counted. What is no route has none, and is answered so.
--- If memory ran out, nothing is told.
+-- If memory ran out, nothing is written.
 abbrev pub AreCovering : CRoute → VrpSet → ℤ → List CRecord → List CRecord → ℕ → Type 0
 AreCovering q set answer old new count =
     ((r : Route) × SpellsRoute q r × (answer ≡ number Done) × (count ≡ length (covering set r)) × IsCopied (covering set r) old new (min (length old) count))

@@ -68,7 +68,7 @@ no_record = record { addr = replicate 16 0; asn = 0; family = 0; len = 0; max_le
 abbrev pub IsCopied : List Payload → List CRecord → List CRecord → ℕ → Type 0
 IsCopied list old new count = (count ≡ min (length old) (length list)) × (new ≡ map record_of (take count list) ++ drop count old)
 
--- The record at an index is told. At or past the end there is none, and the answer says so.
+-- The record at an index is written. At or past the end there is none, and the answer says so.
 abbrev pub IsRecordAt : List Payload → ℕ → ℤ → CRecord → Type 0
 IsRecordAt list index answer told =
     ((index < length list) × (answer ≡ number Done) × (v : Payload) × IsPayload v × (slice_get list index ≡ Some v) × (told ≡ record_of v))

@@ -1,4 +1,4 @@
-//! What changed since the changes of a router were taken last.
+//! What changed since the records of a router were accepted last.
 ghost use Rattle.std.specs.Prelude.{◌≡◌, ◌≤◌, length, drop, Option, Some, None, IfOk};
 ghost use Rattle.rpkirtr_c.specs.Answers.{number};
 ghost use Rattle.rpkirtr_c.specs.Changes.{Begins, IsBegun, Takes, announced_of, withdrawn_of};
@@ -16,7 +16,7 @@ use prefixes::Vrp;
 use std::alloc::{AllocError, Global};
 use vrps::{Change, VrpSet};
 
-/// What leads from the set that was taken last to the table.
+/// What leads from the accepted set to the table.
 fn pending(alloc: Global, taken: &VrpSet, table: &VrpSet) -> Result<Pending, AllocError>
     ensures { IfOk result (IsBegun taken.now table.now) }
 {
@@ -45,7 +45,7 @@ fn announced(pending: &Option<Pending>) -> &[Vrp]
     }
 }
 
-/// Begins the change from what was taken last to the table, and counts it.
+/// Begins the change from the accepted records to the table, and counts it.
 #[tactic(auto, using(crate::proofs::Calls::begins))]
 fn begin(
     alloc: Global,
@@ -67,8 +67,8 @@ fn begin(
     Status::Done
 }
 
-/// Compares the committed records with those that were taken last, and tells how many were withdrawn and announced. That change is told
-/// until another begins or this one is taken.
+/// Compares the committed records with those accepted last, and counts those withdrawn and announced. That change is
+/// kept until another begins or this one is accepted.
 #[unsafe(no_mangle)]
 pub extern "C" fn rpkirtr_router_changes_begin(
     alloc: Global,
@@ -89,7 +89,7 @@ pub extern "C" fn rpkirtr_router_changes_begin(
     answer.number()
 }
 
-/// Copies the withdrawn records of the change in ascending order, from an index on, as many as fit, and tells how many.
+/// Copies the withdrawn records of the change in ascending order, from an index on, as many as fit, and writes how many.
 #[unsafe(no_mangle)]
 pub extern "C" fn rpkirtr_router_withdrawn(
     alloc: Global,
@@ -131,7 +131,7 @@ pub extern "C" fn rpkirtr_router_announced(
     Status::Done.number()
 }
 
-/// Takes the change: the next one begins at the records that it led to. If none has begun, nothing changes.
+/// Accepts the change: the next one begins at the records that it led to. If none has begun, nothing changes.
 #[unsafe(no_mangle)]
 pub extern "C" fn rpkirtr_router_changes_taken(alloc: Global, h: &mut RouterHandle) -> i32
     ensures { On h.old.value h.new.value result (λ s t. (result ≡ number Done) × Takes s t) }

@@ -1,4 +1,4 @@
-//! Origin validation over records that C hands in.
+//! Origin validation over records of a caller in C.
 ghost use Rattle.std.specs.Prelude.{◌≡◌, ◌≤◌, length, Option, Some, None, is_none, option_map, false, ◌++◌, ◌∷◌, [], IfOk, IfErr, OnOk};
 ghost use Rattle.std.specs.Coded.{coded_option};
 ghost use Rattle.prefixes.specs.declared.route.Route.{Route};
@@ -81,7 +81,7 @@ impl IndexHandle {
         (IndexHandle { at, alloc }, is_null)
     }
 
-    /// Takes the index out, if there is one. The handle is empty then.
+    /// Moves the index out, if there is one. The handle is empty then.
     pub(crate) fn take(&mut self, alloc: Global) -> Option<Box<Judge>>
         ensures taken { option_map (λ s. s.value) result ≡ self.old.value }
         ensures empty { self.new.value ≡ None }
@@ -198,7 +198,7 @@ fn boxed_over(alloc: Global, records: &[CRecord]) -> Result<Box<Judge>, IndexFau
     }
 }
 
-/// Makes an index over records in an empty handle. If a record is none, its index is told.
+/// Makes an index over records in an empty handle. If a record is none, its index is written.
 #[unsafe(no_mangle)]
 pub extern "C" fn rpkirtr_index_new(
     alloc: Global,
@@ -236,7 +236,7 @@ pub extern "C" fn rpkirtr_index_free(alloc: Global, h: &mut IndexHandle) -> i32
     }
 }
 
-/// Tells how many different records the index is over.
+/// Writes how many different records the index is over.
 #[unsafe(no_mangle)]
 pub extern "C" fn rpkirtr_index_count(alloc: Global, h: &mut IndexHandle, count: &mut usize) -> i32
     ensures call { On h.old.value h.new.value result (λ s t. (result ≡ number Done) × (t ≡ s) × (count.new ≡ size s.index)) }
@@ -251,7 +251,7 @@ pub extern "C" fn rpkirtr_index_count(alloc: Global, h: &mut IndexHandle, count:
     Status::Done.number()
 }
 
-/// Tells the state of a route over the index: 0 not found, 1 valid, 2 invalid.
+/// Writes the state of a route over the index: 0 not found, 1 valid, 2 invalid.
 #[unsafe(no_mangle)]
 pub extern "C" fn rpkirtr_index_state(
     alloc: Global,
@@ -277,7 +277,7 @@ pub extern "C" fn rpkirtr_index_state(
     answer.number()
 }
 
-/// Copies the records that cover a route in ascending order, as many as fit, and tells how many there are.
+/// Copies the records that cover a route in ascending order, as many as fit, and writes how many there are.
 #[unsafe(no_mangle)]
 pub extern "C" fn rpkirtr_index_covering(
     alloc: Global,

@@ -1,4 +1,4 @@
-//! What an index's handle stands for.
+//! The value of an index's handle.
 ghost use Rattle.std.specs.Prelude.{◌≡◌};
 ghost use Rattle.vrps.specs.VrpSet.{size};
 
@@ -13,7 +13,7 @@ pub struct Judge {
 }
 
 impl Judge {
-    /// An index over so many records.
+    /// An index over this number of records.
     pub(crate) fn over(index: OriginIndex, count: usize) -> Judge
         requires { count ≡ size index }
         ensures { result.index ≡ index }

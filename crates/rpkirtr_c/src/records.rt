@@ -17,7 +17,7 @@ use crate::values::{
 use std::alloc::Global;
 use vrps::OriginState;
 
-/// Tells how many records are committed.
+/// Writes how many records are committed.
 #[unsafe(no_mangle)]
 pub extern "C" fn rpkirtr_router_count(
     alloc: Global,
@@ -36,7 +36,7 @@ pub extern "C" fn rpkirtr_router_count(
     Status::Done.number()
 }
 
-/// Tells the state of a route over the committed records: 0 not found, 1 valid, 2 invalid.
+/// Writes the state of a route over the committed records: 0 not found, 1 valid, 2 invalid.
 #[unsafe(no_mangle)]
 pub extern "C" fn rpkirtr_router_state(
     alloc: Global,
@@ -62,7 +62,7 @@ pub extern "C" fn rpkirtr_router_state(
     answer.number()
 }
 
-/// Tells the record at an index of the committed records, in ascending order.
+/// Writes the record at an index of the committed records, in ascending order.
 #[unsafe(no_mangle)]
 pub extern "C" fn rpkirtr_router_record(
     alloc: Global,
@@ -82,7 +82,7 @@ pub extern "C" fn rpkirtr_router_record(
     answer.number()
 }
 
-/// Copies committed records in ascending order, from an index on, as many as fit, and tells how many.
+/// Copies committed records in ascending order, from an index on, as many as fit, and writes how many.
 #[unsafe(no_mangle)]
 pub extern "C" fn rpkirtr_router_records(
     alloc: Global,
@@ -103,7 +103,7 @@ pub extern "C" fn rpkirtr_router_records(
     Status::Done.number()
 }
 
-/// Copies the committed records that cover a route in ascending order, as many as fit, and tells how many there are.
+/// Copies the committed records that cover a route in ascending order, as many as fit, and writes how many there are.
 #[unsafe(no_mangle)]
 pub extern "C" fn rpkirtr_router_covering(
     alloc: Global,

@@ -92,7 +92,7 @@ pub(crate) fn shut(session: Box<Session>) -> RouterHandle
 }
 
 impl RouterHandle {
-    /// Takes the session out, if there is one. The handle is empty then.
+    /// Moves the session out, if there is one. The handle is empty then.
     pub(crate) fn take(&mut self, alloc: Global) -> Option<Box<Session>>
         ensures taken { option_map (λ s. s.value) result ≡ self.old.value }
         ensures empty { self.new.value ≡ None }
@@ -189,7 +189,7 @@ pub extern "C" fn rpkirtr_router_connection_closed(
     Status::Done.number()
 }
 
-/// Hands over bytes that were received at the moment `now`, and tells how many were taken.
+/// Hands over bytes that were received at the moment `now`, and writes how many were consumed.
 #[unsafe(no_mangle)]
 pub extern "C" fn rpkirtr_router_receive(
     alloc: Global,
@@ -211,7 +211,7 @@ pub extern "C" fn rpkirtr_router_receive(
     Status::Done.number()
 }
 
-/// Moves bytes to be sent into the room, as many as fit, and tells how many.
+/// Moves bytes to be sent into the room, as many as fit, and writes how many.
 #[unsafe(no_mangle)]
 pub extern "C" fn rpkirtr_router_pull(
     alloc: Global,
@@ -262,7 +262,7 @@ pub extern "C" fn rpkirtr_router_ask(alloc: Global, h: &mut RouterHandle) -> i32
     answer.number()
 }
 
-/// Tells when the next query of an idle link is due, in seconds of the caller's clock: `NEVER` if none is.
+/// Writes when the next query of an idle link is due, in seconds of the caller's clock: `NEVER` if none is.
 #[unsafe(no_mangle)]
 pub extern "C" fn rpkirtr_router_next_query_at(
     alloc: Global,
@@ -281,7 +281,7 @@ pub extern "C" fn rpkirtr_router_next_query_at(
     Status::Done.number()
 }
 
-/// Tells the state of the link, and how it ended.
+/// Writes the state of the link, and how it ended.
 #[unsafe(no_mangle)]
 pub extern "C" fn rpkirtr_router_link(alloc: Global, h: &mut RouterHandle, link: &mut CLink) -> i32
     ensures call { On h.old.value h.new.value result (λ s t. (result ≡ number Done) × (t ≡ s) × Shows s (λ r. link.new ≡ link_of (told_link r.link))) }
@@ -296,7 +296,7 @@ pub extern "C" fn rpkirtr_router_link(alloc: Global, h: &mut RouterHandle, link:
     Status::Done.number()
 }
 
-/// Tells the committed version: all zero if nothing is committed.
+/// Writes the committed version: all zero if nothing is committed.
 #[unsafe(no_mangle)]
 pub extern "C" fn rpkirtr_router_committed(
     alloc: Global,

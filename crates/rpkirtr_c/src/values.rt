@@ -196,7 +196,7 @@ pub fn from_index(list: &[Vrp], first: usize) -> &[Vrp]
     }
 }
 
-/// Copies records into the room, as many as fit, and tells how many.
+/// Copies records into the room, as many as fit, and writes how many.
 pub fn copy_records(list: &[Vrp], room: &mut [CRecord]) -> usize
     ensures { IsCopied list.now room.old room.new result }
 {
@@ -207,7 +207,7 @@ pub fn copy_records(list: &[Vrp], room: &mut [CRecord]) -> usize
     count
 }
 
-/// Tells the record at an index.
+/// Writes the record at an index.
 pub fn record_at(list: &[Vrp], index: usize, told: &mut CRecord) -> Status
     ensures { IsRecordAt list.now index (number result) told.new }
 {
