@@ -1,3 +1,4 @@
 pub mod RoaLines
 pub mod ManifestLines
 pub mod OfferLines
+pub mod Directories

@@ -1,4 +1,7 @@
 //! Directories that hold what is offered to a publication point.
+ghost use Rattle.std.specs.Prelude.{◌≡◌, IfOk};
+ghost use Rattle.payload_commands.specs.Directories.{Supplies};
+
 use command_parts::read_file;
 use points::FileIn;
 use std::alloc::{AllocError, Global};
@@ -24,17 +27,23 @@ pub struct Directory<'a> {
 
 impl<'a> Directory<'a> {
     /// The name by which it was read.
-    pub fn name(&self) -> &str {
+    pub fn name(&self) -> &str
+        ensures { result.now ≡ self.now.name.now }
+    {
         self.name
     }
 
     /// The content of the manifest.
-    pub fn manifest(&self) -> &[u8] {
+    pub fn manifest(&self) -> &[u8]
+        ensures { result.now ≡ self.now.manifest.items }
+    {
         &self.manifest
     }
 
     /// The files, as they are supplied.
-    pub fn files(&self, alloc: Global) -> Result<Vec<FileIn<'_>>, AllocError> {
+    pub fn files(&self, alloc: Global) -> Result<Vec<FileIn<'_>>, AllocError>
+        ensures { IfOk result (λ files. Supplies self.now files.items) }
+    {
         let mut files = Vec::with_capacity(alloc, self.files.len())?;
         for file in self.files.iter() {
             files.push(FileIn {

@@ -1,19 +1,77 @@
 -- What is read of several files.
-use Rattle.std.proofs.Common.{◌≡◌, ℕ, zero, suc, ◌+◌, ◌<◌, List, [], ◌∷◌, ◌++◌, length, take, get_or, arith, subst}
+use Rattle.std.proofs.Common.{◌≡◌, ℕ, zero, suc, ◌+◌, ◌<◌, ◌≤◌, List, [], ◌∷◌, ◌++◌, length, take, get_or, set, arith, subst, sym, ◌∙◌, refl, get_or-set_other}
+use Rattle.std.proofs.Math.Seq.{map-set_same, take-suc}
+use Rattle.std.proofs.Common.{ap}
 use Rattle.std.specs.String.{string_bytes}
-use Rattle.std.specs.Prelude.{slice_get, Some, None}
-use Rattle.rtr_daemon.specs.Files.{AreContents, AreNumbered}
+use Rattle.sources.specs.declared.sources.Sources.{Sources}
+use Rattle.rtr_daemon.specs.DiskAnswers.{DiskAnswers, ReadsWhole}
+use Rattle.rtr_daemon.specs.declared.environment.Stamp.{Stamp}
+use Rattle.std.specs.Prelude.{slice_get, Some, None, Result, Ok, Err}
+use Rattle.std.proofs.Common.{inl}
+use Rattle.rtr_daemon.specs.Serving.{LoadsExport}
+use Rattle.rtr_daemon.specs.declared.refusal.Refusal.{Refusal}
+use Rattle.rtr_daemon.specs.Files.{AreContents, AreNumbered, Follows, FollowsEach, Loads, LoadsEach, names_of, path_of, paths_of}
+use Rattle.rtr_daemon.specs.PointOffers.{OffersEach, OffersPoint, points_of}
+use Rattle.rtr_daemon.specs.declared.polling.WatchedPoint.{WatchedPoint}
 use Rattle.rtr_daemon.specs.declared.watched_file.WatchedExport.{WatchedExport}
 use Rattle.rtr_daemon.specs.declared.watched_file.WatchedFile.{WatchedFile}
 
 -- One file more
-pub contents_more : (can_hold : List ℕ → List ℕ → Type 0) (files : List WatchedFile) (i : ℕ) (file : WatchedFile) (contents : List (List ℕ)) (bytes : List ℕ) → i < length files → file ≡ get_or files i file → AreContents can_hold (take i files) contents → can_hold (string_bytes file.path) bytes
-    → AreContents can_hold (take (suc i) files) (contents ++ bytes ∷ [])
-contents_more can_hold [] i file contents bytes less is so_far held = absurd (omega (arith, less))
-contents_more can_hold (first ∷ files) zero file [] bytes less is so_far held = (subst (λ f. can_hold (string_bytes f.path) bytes) is held, tt)
-contents_more can_hold (first ∷ files) zero file (b ∷ contents) bytes less is so_far held = absurd so_far
-contents_more can_hold (first ∷ files) (suc i) file [] bytes less is so_far held = absurd so_far
-contents_more can_hold (first ∷ files) (suc i) file (b ∷ contents) bytes less is so_far held = (so_far.0, contents_more can_hold files i file contents bytes (omega (arith, less)) is so_far.1 held)
+pub contents_more : {W : Type 0} (answers : DiskAnswers W) (paths : List (List ℕ)) (i : ℕ) (path : List ℕ) (contents : List (List ℕ)) (bytes : List ℕ) → i < length paths → path ≡ get_or paths i path → AreContents answers (take i paths) contents → ((stamp : Stamp) × ReadsWhole answers path stamp bytes)
+    → AreContents answers (take (suc i) paths) (contents ++ bytes ∷ [])
+contents_more answers [] i path contents bytes less is so_far held = absurd (omega (arith, less))
+contents_more answers (first ∷ paths) zero path [] bytes less is so_far held = (subst (λ p. (stamp : Stamp) × ReadsWhole answers p stamp bytes) is held, tt)
+contents_more answers (first ∷ paths) zero path (b ∷ contents) bytes less is so_far held = absurd so_far
+contents_more answers (first ∷ paths) (suc i) path [] bytes less is so_far held = absurd so_far
+contents_more answers (first ∷ paths) (suc i) path (b ∷ contents) bytes less is so_far held = (so_far.0, contents_more answers paths i path contents bytes (omega (arith, less)) is so_far.1 held)
+
+-- One export more was polled.
+follows_then : {W : Type 0} (answers : DiskAnswers W) (clock : ℕ → Type 0) (exports : List WatchedExport) (last : WatchedExport) (old mid new : Sources) (now : ℕ) → clock now → FollowsEach answers clock exports old mid → Follows answers last now mid new → FollowsEach answers clock (exports ++ last ∷ []) old new
+follows_then answers clock [] last old mid new now at so_far follows = (now, new, at, subst (λ s. Follows answers last now s new) so_far follows, refl)
+follows_then answers clock (first ∷ exports) last old mid new now at so_far follows = (so_far.0, so_far.1, so_far.2, so_far.3, follows_then answers clock exports last so_far.1 mid new now at so_far.4 follows)
+
+pub follows_more : {W : Type 0} (answers : DiskAnswers W) (clock : ℕ → Type 0) (exports : List WatchedExport) (i : ℕ) (d : WatchedExport) (old mid new : Sources) (now : ℕ) → i < length exports → clock now → FollowsEach answers clock (take i exports) old mid → Follows answers (get_or exports i d) now mid new
+    → FollowsEach answers clock (take (suc i) exports) old new
+follows_more answers clock exports i d old mid new now less at so_far follows =
+    subst (λ all. FollowsEach answers clock all old new) (sym (take-suc exports i d less)) (follows_then answers clock (take i exports) (get_or exports i d) old mid new now at so_far follows)
+
+-- One export more was loaded.
+loads_then : {W : Type 0} (answers : DiskAnswers W) (now : ℕ) (exports : List WatchedExport) (last : WatchedExport) (old mid new : Sources) (expired : ℕ) → LoadsEach answers now exports old mid → Loads answers last now (Ok expired) mid new → LoadsEach answers now (exports ++ last ∷ []) old new
+loads_then answers now [] last old mid new expired so_far loads = (expired, new, subst (λ s. Loads answers last now (Ok expired) s new) so_far loads, refl)
+loads_then answers now (first ∷ exports) last old mid new expired so_far loads = (so_far.0, so_far.1, so_far.2, loads_then answers now exports last so_far.1 mid new expired so_far.3 loads)
+
+pub loads_more : {W : Type 0} (answers : DiskAnswers W) (now : ℕ) (exports : List WatchedExport) (i : ℕ) (d : WatchedExport) (old mid new : Sources) (expired : ℕ) → i < length exports → LoadsEach answers now (take i exports) old mid → Loads answers (get_or exports i d) now (Ok expired) mid new → LoadsEach answers now (take (suc i) exports) old new
+loads_more answers now exports i d old mid new expired less so_far loads = subst (λ all. LoadsEach answers now all old new) (sym (take-suc exports i d less)) (loads_then answers now (take i exports) (get_or exports i d) old mid new expired so_far loads)
+
+-- One publication point more was offered its directory.
+offers_then : {W : Type 0} (answers : DiskAnswers W) (clock : ℕ → Type 0) (points : List WatchedPoint) (last : WatchedPoint) (old mid new : Sources) (now : ℕ) → clock now → OffersEach answers clock points old mid → OffersPoint answers (string_bytes last.path) now mid new → OffersEach answers clock (points ++ last ∷ []) old new
+offers_then answers clock [] last old mid new now at so_far offers = (now, new, at, subst (λ s. OffersPoint answers (string_bytes last.path) now s new) so_far offers, refl)
+offers_then answers clock (first ∷ points) last old mid new now at so_far offers = (so_far.0, so_far.1, so_far.2, so_far.3, offers_then answers clock points last so_far.1 mid new now at so_far.4 offers)
+
+pub offers_more : {W : Type 0} (answers : DiskAnswers W) (clock : ℕ → Type 0) (points : List WatchedPoint) (i : ℕ) (d : WatchedPoint) (old mid new : Sources) (now : ℕ) → i < length points → clock now → OffersEach answers clock (take i points) old mid → OffersPoint answers (string_bytes (get_or points i d).path) now mid new
+    → OffersEach answers clock (take (suc i) points) old new
+offers_more answers clock points i d old mid new now less at so_far offers =
+    subst (λ all. OffersEach answers clock all old new) (sym (take-suc points i d less)) (offers_then answers clock (take i points) (get_or points i d) old mid new now at so_far offers)
+
+-- What was read is loaded or refused.
+pub loads_on : {W : Type 0} (answers : DiskAnswers W) (export : WatchedExport) (now : ℕ) (stamp : Stamp) (bytes : List ℕ) (result : Result ℕ Refusal) (old new : Sources) → ReadsWhole answers (path_of export.file) stamp bytes → LoadsExport export.number bytes now result old new → Follows answers export now old new
+loads_on answers export now stamp bytes (Ok expired) old new whole loads = inl (Ok expired, (stamp, bytes, whole, loads))
+loads_on answers export now stamp bytes (Err refusal) old new whole loads = inl (Err loads.0, (stamp, bytes, whole, loads.1))
+
+-- An export is written whose path and number are as they were.
+pub names_kept : (exports : List WatchedExport) (i : ℕ) (d new : WatchedExport) → new.file.path ≡ (get_or exports i d).file.path → new.number ≡ (get_or exports i d).number → names_of (set exports i new) ≡ names_of exports
+names_kept exports i d new path number =
+    map-set_same (λ e. (path_of e.file, e.number)) exports i new d (ap (λ p. (string_bytes p, new.number)) path ∙ ap (λ n. (path_of (get_or exports i d).file, n)) number)
+
+pub paths_kept : (files : List WatchedFile) (i : ℕ) (d new : WatchedFile) → new.path ≡ (get_or files i d).path → paths_of (set files i new) ≡ paths_of files
+paths_kept files i d new path = map-set_same path_of files i new d (ap string_bytes path)
+
+pub points_kept : (points : List WatchedPoint) (i : ℕ) (d new : WatchedPoint) → new.path ≡ (get_or points i d).path → points_of (set points i new) ≡ points_of points
+points_kept points i d new path = map-set_same (λ p. string_bytes p.path) points i new d (ap string_bytes path)
+
+-- An element that is written leaves those behind it.
+pub left_more : {A : Type 0} (xs ys : List A) (i : ℕ) (y : A) → ((k : ℕ) (d : A) → i ≤ k → get_or xs k d ≡ get_or ys k d) → (k : ℕ) (d : A) → i + 1 ≤ k → get_or (set xs i y) k d ≡ get_or ys k d
+left_more xs ys i y left k d later = get_or-set_other xs i k y d (λ e. absurd (omega (arith, later, e))) ∙ left k d (omega (arith, later))
 
 numbered_from : (start : ℕ) (exports : List WatchedExport) (last : WatchedExport) → ((i : ℕ) (export : WatchedExport) → slice_get exports i ≡ Some export → export.number ≡ start + i) → last.number ≡ start + length exports
     → (i : ℕ) (export : WatchedExport) → slice_get (exports ++ last ∷ []) i ≡ Some export → export.number ≡ start + i

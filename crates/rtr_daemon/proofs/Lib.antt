@@ -1,5 +1,8 @@
 pub mod ContentLaws
+pub mod DueLaws
 pub mod Expiry
-pub mod OfferLaws
+pub mod OriginLaws
 pub mod PacingLaws
+pub mod QueueLaws
+pub mod Reasons
 pub mod ServiceLaws

@@ -1,35 +1,106 @@
--- What a look at a file answers.
-use Rattle.std.specs.Prelude.{◌≡◌, ◌⊎◌, ℕ, List, [], ◌∷◌, slice_get, ⊤, Ok, Some}
+-- What a poll of the files loads.
+use Rattle.std.specs.Prelude.{◌≡◌, ◌⊎◌, ℕ, Bool, false, List, [], ◌∷◌, map, slice_get, ⊤, Option, None, Some, Result, Ok}
 use Rattle.std.specs.String.{string_bytes}
+use Rattle.sources.specs.Served.{ExportTaken}
+use Rattle.sources.specs.declared.fault.TakeFault.{TakeFault}
 use Rattle.sources.specs.declared.sources.Sources.{Sources}
-use Rattle.rtr_daemon.specs.Serving.{LoadsExport, LoadsSlurms, SameSources}
+use Rattle.rtr_daemon.specs.DiskAnswers.{DiskAnswers, HadStamp, ReadsWhole}
+use Rattle.rtr_daemon.specs.Serving.{LoadsSlurms, SameSources}
+use Rattle.rtr_daemon.specs.declared.environment.Stamp.{Stamp}
+use Rattle.rtr_daemon.specs.declared.refusals.Refused.{Refused}
+use Rattle.rtr_daemon.specs.declared.watched_file.FileState.{FileState}
+use Rattle.rtr_daemon.specs.declared.watched_file.FileState.TheVariants as state
 use Rattle.rtr_daemon.specs.declared.watched_file.Look.{Look}
-use Rattle.rtr_daemon.specs.declared.watched_file.Look.TheVariants.{Read}
+use Rattle.rtr_daemon.specs.declared.watched_file.Look.TheVariants.{Unchanged, Unstable, RefusedBefore, Read, Failed}
 use Rattle.rtr_daemon.specs.declared.watched_file.WatchedExport.{WatchedExport}
 use Rattle.rtr_daemon.specs.declared.watched_file.WatchedFile.{WatchedFile}
 
--- The bytes that a look answers are those that the path answered.
-abbrev pub ReadsFrom : (List ℕ → List ℕ → Type 0) → List ℕ → Look → Type 0
-ReadsFrom can_hold path (Read stamp bytes) = can_hold path bytes.items
-ReadsFrom can_hold path look = ⊤
+-- The path of a file, in bytes
+abbrev pub path_of : WatchedFile → List ℕ
+path_of file = string_bytes file.path
 
--- After a poll of an export the sources are unchanged, or bytes that its path answered were loaded as this export.
-abbrev pub Follows : (List ℕ → List ℕ → Type 0) → List ℕ → ℕ → ℕ → Sources → Sources → Type 0
-Follows can_hold path file now old new = SameSources old new ⊎ ((bytes : List ℕ) × can_hold path bytes × (expired : ℕ) × LoadsExport file bytes now (Ok expired) old new)
+-- the stamp of a refusal
+abbrev pub stamp_of : Option Refused → Option Stamp
+stamp_of None = None
+stamp_of (Some refused) = refused.stamp
 
--- For each file, in their order, bytes that its path answered
-abbrev pub AreContents : (List ℕ → List ℕ → Type 0) → List WatchedFile → List (List ℕ) → Type 0
-AreContents can_hold [] [] = ⊤
-AreContents can_hold (file ∷ files) (bytes ∷ others) = can_hold (string_bytes file.path) bytes × AreContents can_hold files others
-AreContents can_hold files contents = ⊥
+-- The stamp is that with which the file was loaded last.
+abbrev pub WasLoaded : WatchedFile → Stamp → Type 0
+WasLoaded file stamp = file.loaded ≡ Some stamp
 
--- Bytes that the path of each file of local exceptions answered were loaded together.
-abbrev pub ReadsSlurms : (List ℕ → List ℕ → Type 0) → List WatchedFile → Sources → Sources → Type 0
-ReadsSlurms can_hold files old new = (contents : List (List ℕ)) × AreContents can_hold files contents × LoadsSlurms {E = ℕ} contents (Ok tt) old new
+-- The stamp is that with which the file was refused last.
+abbrev pub WasRefused : WatchedFile → Stamp → Type 0
+WasRefused file stamp = stamp_of file.refusals.last ≡ Some stamp
+
+-- The path had two stamps while it was read.
+abbrev pub ChangesWhileRead : {W : Type 0} → DiskAnswers W → List ℕ → Type 0
+ChangesWhileRead answers path = (before : Stamp) × (after : Stamp) × HadStamp answers path before × HadStamp answers path after × (¬ (after ≡ before))
+
+-- The state of a file, by its stamp
+abbrev pub IsStateOf : WatchedFile → Stamp → FileState → Type 0
+IsStateOf file stamp state.Unchanged = WasLoaded file stamp
+IsStateOf file stamp state.RefusedBefore = WasRefused file stamp
+IsStateOf file stamp state.New = ⊤
+
+-- What a read of a path answers right after it had a stamp.
+abbrev pub ReadsAfter : {W : Type 0} → DiskAnswers W → W → Stamp → List ℕ → Look → Type 0
+ReadsAfter {W} answers at before path (Read stamp bytes) = (stamp ≡ before) × (after : W) × (last : W) × answers.reads at path bytes.items after × answers.stamps after path before last
+ReadsAfter answers at before path Unstable = (after : Stamp) × HadStamp answers path after × (¬ (after ≡ before))
+ReadsAfter answers at before path (Failed error) = answers.fails path
+ReadsAfter answers at before path look = ⊥
+
+-- What a look at a file answers. With `anew` it is read even if its stamp is that of the last load.
+abbrev pub Looks : {W : Type 0} → DiskAnswers W → WatchedFile → Bool → Look → Type 0
+Looks answers file anew Unchanged = (stamp : Stamp) × HadStamp answers (path_of file) stamp × WasLoaded file stamp × (anew ≡ false)
+Looks answers file anew RefusedBefore = (stamp : Stamp) × HadStamp answers (path_of file) stamp × WasRefused file stamp
+Looks answers file anew Unstable = ChangesWhileRead answers (path_of file)
+Looks answers file anew (Failed error) = answers.fails (path_of file)
+Looks answers file anew (Read stamp bytes) = ReadsWhole answers (path_of file) stamp bytes.items
+
+-- Why nothing is loaded of a file: it has the stamp with which it was loaded or refused last, it changes while it is read, or it cannot be read.
+abbrev pub HasNoNews : {W : Type 0} → DiskAnswers W → WatchedFile → Type 0
+HasNoNews answers file =
+    ((stamp : Stamp) × HadStamp answers (path_of file) stamp × (WasLoaded file stamp ⊎ WasRefused file stamp)) ⊎ ChangesWhileRead answers (path_of file) ⊎ answers.fails (path_of file)
+
+-- Bytes that were read whole of the path of an export are loaded as this export, or refused.
+abbrev pub Loads : {W : Type 0} → DiskAnswers W → WatchedExport → ℕ → Result ℕ TakeFault → Sources → Sources → Type 0
+Loads answers export now result old new = (stamp : Stamp) × (bytes : List ℕ) × ReadsWhole answers (path_of export.file) stamp bytes × ExportTaken bytes now export.number result old new
+
+-- A poll of an export: what is new of it is loaded or refused, otherwise the sources are unchanged.
+abbrev pub Follows : {W : Type 0} → DiskAnswers W → WatchedExport → ℕ → Sources → Sources → Type 0
+Follows answers export now old new = ((result : Result ℕ TakeFault) × Loads answers export now result old new) ⊎ (HasNoNews answers export.file × (new ≡ old))
+
+-- A poll of each export in its turn, at a second that the clock answered
+abbrev pub FollowsEach : {W : Type 0} → DiskAnswers W → (ℕ → Type 0) → List WatchedExport → Sources → Sources → Type 0
+FollowsEach answers clock [] old new = new ≡ old
+FollowsEach answers clock (export ∷ exports) old new = (now : ℕ) × (between : Sources) × clock now × Follows answers export now old between × FollowsEach answers clock exports between new
+
+-- Each export was loaded, at the second of the start.
+abbrev pub LoadsEach : {W : Type 0} → DiskAnswers W → ℕ → List WatchedExport → Sources → Sources → Type 0
+LoadsEach answers now [] old new = new ≡ old
+LoadsEach answers now (export ∷ exports) old new = (expired : ℕ) × (between : Sources) × Loads answers export now (Ok expired) old between × LoadsEach answers now exports between new
+
+-- The path and the number of each export
+abbrev pub names_of : List WatchedExport → List (List ℕ × ℕ)
+names_of exports = map (λ export. (path_of export.file, export.number)) exports
+
+-- The path of each file
+abbrev pub paths_of : List WatchedFile → List (List ℕ)
+paths_of files = map path_of files
+
+-- For each path, in their order, bytes that were read whole of it
+abbrev pub AreContents : {W : Type 0} → DiskAnswers W → List (List ℕ) → List (List ℕ) → Type 0
+AreContents answers [] [] = ⊤
+AreContents answers (path ∷ paths) (bytes ∷ others) = ((stamp : Stamp) × ReadsWhole answers path stamp bytes) × AreContents answers paths others
+AreContents answers paths contents = ⊥
+
+-- Bytes that were read whole of the path of each file of local exceptions were loaded together.
+abbrev pub ReadsSlurms : {W : Type 0} → DiskAnswers W → List WatchedFile → Sources → Sources → Type 0
+ReadsSlurms answers files old new = (contents : List (List ℕ)) × AreContents answers (paths_of files) contents × LoadsSlurms {E = ℕ} contents (Ok tt) old new
 
 -- After a poll of the files of local exceptions the sources are unchanged, or all were loaded.
-abbrev pub FollowsSlurms : (List ℕ → List ℕ → Type 0) → List WatchedFile → Sources → Sources → Type 0
-FollowsSlurms can_hold files old new = SameSources old new ⊎ ReadsSlurms can_hold files old new
+abbrev pub FollowsSlurms : {W : Type 0} → DiskAnswers W → List WatchedFile → Sources → Sources → Type 0
+FollowsSlurms answers files old new = SameSources old new ⊎ ReadsSlurms answers files old new
 
 -- The number of each export is its place.
 abbrev pub AreNumbered : List WatchedExport → Type 0

@@ -1,8 +1,11 @@
 pub mod DaemonRows
+pub mod DiskAnswers
 pub mod Due
 pub mod Files
+pub mod Origins
 pub mod PointOffers
 pub mod Pacing
+pub mod Queue
 pub mod Serving
 pub mod Stalling
 pub mod Turns

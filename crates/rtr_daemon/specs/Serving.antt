@@ -2,21 +2,25 @@
 use Rattle.std.specs.Prelude.{◌≡◌, ◌⊎◌, ◌<◌, ℕ, slice_get, false, true, List, [], ◌∷◌, ◌++◌, ⊤, length, Option, Some, Result, Ok, Err}
 use Rattle.der_lite.specs.Moments.{CivilMoment}
 use Rattle.der_lite.specs.Seconds.{seconds_of}
+use Rattle.event_log.specs.Clock.{last_second}
 use Rattle.vrps.specs.Instance.{Instance, NumberedSet, versions}
 use Rattle.vrps.specs.Serial.{serial_at}
 use Rattle.vrps.specs.Store.{is_current}
 use Rattle.vrps.specs.Stores.{newest}
 use Rattle.vrps.specs.VrpSet.{VrpSet}
+use Rattle.vrps.specs.declared.set.SetFault.TheVariants.{TooMany, Memory}
 use Rattle.vrps.specs.declared.store.Published.{Published}
 use Rattle.vrps.specs.declared.store.Published.TheVariants.{New, Unchanged}
 use Rattle.rtr_ends.specs.CacheState.{CacheCall, Open}
 use Rattle.rtr_server.specs.Clients.{Past, ShowsServer, present}
 use Rattle.points.specs.InUse.{no_points}
-use Rattle.sources.specs.Served.{ExportTaken, ServesAt, SlurmsTaken, expired_of}
+use Rattle.sources.specs.Served.{ExportTaken, PassesLimit, ServesAt, SlurmsTaken, expired_of}
+use Rattle.sources.specs.declared.fault.TakeFault.{TakeFault}
 use Rattle.sources.specs.declared.listed.Listed.{Listed}
 use Rattle.session_names.specs.Runs.{may_publish}
 use Rattle.sources.specs.declared.sources.Sources.{Sources}
 use Rattle.rtr_daemon.specs.declared.refusal.Refusal.{Refusal}
+use Rattle.rtr_daemon.specs.declared.refusal.Refusal.TheVariants as refused
 use Rattle.rtr_daemon.specs.declared.service.Service.{Service}
 
 -- None of these calls opens a connection of this number.
@@ -107,9 +111,24 @@ abbrev pub TakesSo : {S T A E : Type 0} → Result A E → Service S T → Servi
 TakesSo (Ok x) old new = (new.server ≡ old.server) × (new.is_pending ≡ true)
 TakesSo (Err e) old new = (new.server ≡ old.server) × (new.is_pending ≡ old.is_pending)
 
--- The sources are unchanged, and so is whether a version is pending.
-abbrev pub KeepsSources : {S T : Type 0} → Service S T → Service S T → Type 0
-KeepsSources old new = (new.sources ≡ old.sources) × (new.is_pending ≡ old.is_pending)
+-- Nothing but the server has changed.
+abbrev pub OnlyServer : {S T : Type 0} → Service S T → Service S T → Type 0
+OnlyServer old new = new ≡ record old { server = new.server }
+
+-- The server and the pace are unchanged.
+abbrev pub OnlySources : {S T : Type 0} → Service S T → Service S T → Type 0
+OnlySources old new = new ≡ record old { sources = new.sources; is_pending = new.is_pending; current_at = new.current_at; has_points = new.has_points }
+
+-- Why no version can be published: the sources have too many records at this second, it is not within the years 1970 to 9999, or memory ran out.
+abbrev pub IsReason : ℕ → Sources → Refusal → Type 0
+IsReason now s (refused.Set TooMany) = (at : CivilMoment) × (seconds_of at ≡ now) × PassesLimit s.repository s.lists.items s.exceptions at
+IsReason now s (refused.Set Memory) = ⊤
+IsReason now s refused.Clock = last_second < now
+IsReason now s refusal = ⊥
+
+-- The second of the newest version is unchanged, and so is whether a version is pending; or it is this second.
+abbrev pub StaysFresh : {S T : Type 0} → ℕ → Service S T → Service S T → Type 0
+StaysFresh now old new = ((new.current_at ≡ old.current_at) × (new.is_pending ≡ old.is_pending)) ⊎ (new.current_at ≡ now)
 
 -- A set is published: as a new version of the next serial, or it is that of the newest version already.
 abbrev pub Adds : Published → VrpSet → Instance → Instance → Type 0
@@ -143,10 +162,10 @@ pub record SameSources (old new : Sources) : Type 0 where
   pub repository : new.repository ≡ old.repository
   pub leaves_out : new.leaves_out ≡ old.leaves_out
 
--- An export was loaded at a time. If it was refused, nothing changed.
+-- An export was loaded at a time, or it was refused, and nothing changed.
 abbrev pub LoadsExport : ℕ → List ℕ → ℕ → Result ℕ Refusal → Sources → Sources → Type 0
 LoadsExport file bytes now (Ok expired) old new = ExportTaken bytes now file (Ok expired) old new
-LoadsExport file bytes now (Err refusal) old new = SameSources old new
+LoadsExport file bytes now (Err refusal) old new = (fault : TakeFault) × ExportTaken bytes now file (Err fault) old new
 
 -- The files of local exceptions were loaded together. If they were refused, nothing changed.
 abbrev pub LoadsSlurms : {E : Type 0} → List (List ℕ) → Result (Unit {0}) E → Sources → Sources → Type 0

@@ -1,5 +1,6 @@
 //! Listeners, and the connections that are accepted from them.
 ghost use Rattle.std.specs.Prelude.{◌≡◌, false};
+ghost use Rattle.rtr_daemon.specs.Due.{OnlyClients};
 ghost use Rattle.rtr_daemon.specs.Serving.{Continues};
 
 use crate::daemon::Daemon;
@@ -108,6 +109,7 @@ impl<S: VersionStore, T: Stream + Drop> Daemon<S, T> {
     /// Accepts the pending connections of all listeners, once a version is published.
     pub(crate) fn accept_pending<W: Sockets<T> + Time + EventLog>(&mut self, env: &mut W)
         ensures goes { Continues S.holds T.remaining T.contents self.old.service self.new.service }
+        ensures rest { OnlyClients self.old self.new }
         ensures before { self.old.is_ready ≡ false → self.new.service ≡ self.old.service }
     {
         if !self.is_ready {
@@ -120,7 +122,8 @@ impl<S: VersionStore, T: Stream + Drop> Daemon<S, T> {
 
     /// Accepts the pending connections of one listener.
     fn accept_from<W: Sockets<T> + Time + EventLog>(&mut self, listener: usize, env: &mut W)
-        ensures { Continues S.holds T.remaining T.contents self.old.service self.new.service }
+        ensures goes { Continues S.holds T.remaining T.contents self.old.service self.new.service }
+        ensures rest { OnlyClients self.old self.new }
     {
         for _connection in 0..AT_ONCE {
             if !self.listeners.can_accept(listener, env.millis()) {
@@ -132,7 +135,8 @@ impl<S: VersionStore, T: Stream + Drop> Daemon<S, T> {
 
     /// Accepts one connection, if one is pending.
     fn accept_one<W: Sockets<T> + Time + EventLog>(&mut self, listener: usize, env: &mut W)
-        ensures { Continues S.holds T.remaining T.contents self.old.service self.new.service }
+        ensures goes { Continues S.holds T.remaining T.contents self.old.service self.new.service }
+        ensures rest { OnlyClients self.old self.new }
     {
         match env.accept(listener) {
             AcceptResult::Connection {
@@ -158,7 +162,8 @@ impl<S: VersionStore, T: Stream + Drop> Daemon<S, T> {
         address: SocketAddr,
         env: &mut W,
     )
-        ensures { Continues S.holds T.remaining T.contents self.old.service self.new.service }
+        ensures goes { Continues S.holds T.remaining T.contents self.old.service self.new.service }
+        ensures rest { OnlyClients self.old self.new }
     {
         let clients = self.clients.of_address(address);
         match self.plan.clients_per_address {
@@ -179,7 +184,8 @@ impl<S: VersionStore, T: Stream + Drop> Daemon<S, T> {
         address: SocketAddr,
         env: &mut W,
     )
-        ensures { Continues S.holds T.remaining T.contents self.old.service self.new.service }
+        ensures goes { Continues S.holds T.remaining T.contents self.old.service self.new.service }
+        ensures rest { OnlyClients self.old self.new }
     {
         let now = env.seconds();
         match self.service.admit(stream) {
@@ -207,7 +213,8 @@ impl<S: VersionStore, T: Stream + Drop> Daemon<S, T> {
 
     /// Pauses a listener after a failed accept. The failure is reported once, until a connection is accepted.
     fn pause<W: Time + EventLog>(&mut self, listener: usize, event: &LogEvent<'_>, env: &mut W)
-        ensures { self.new.service ≡ self.old.service }
+        ensures service { self.new.service ≡ self.old.service }
+        ensures rest { OnlyClients self.old self.new }
     {
         self.listeners
             .pause(listener, env.millis().saturating_add(PAUSE));
@@ -224,7 +231,8 @@ impl<S: VersionStore, T: Stream + Drop> Daemon<S, T> {
         error: &io::Error,
         env: &mut W,
     )
-        ensures { self.new.service ≡ self.old.service }
+        ensures service { self.new.service ≡ self.old.service }
+        ensures rest { OnlyClients self.old self.new }
     {
         match error.to_string(self.alloc) {
             Ok(reason) => self.pause(

@@ -1,5 +1,6 @@
 //! The table of connected clients, and the queue of those that are served next.
-ghost use Rattle.std.specs.Prelude.{◌≡◌};
+ghost use Rattle.std.specs.Prelude.{◌≡◌, length};
+ghost use Rattle.rtr_daemon.specs.Queue.{OtherClients, QueuesBehind, SameClients, TakesNext};
 ghost use Rattle.rtr_daemon.specs.Stalling.{is_stalled};
 
 use rtr_server::{ByteCounts, Client, Turn};
@@ -52,7 +53,9 @@ impl ClientTable {
     }
 
     /// The length of the queue.
-    pub(crate) fn queue_len(&self) -> usize {
+    pub(crate) fn queue_len(&self) -> usize
+        ensures { result ≡ length self.now.queue.items }
+    {
         self.queue.len()
     }
 
@@ -105,7 +108,9 @@ impl ClientTable {
     }
 
     /// Counts one client less for an address.
-    fn discount(&mut self, address: SocketAddr) {
+    fn discount(&mut self, address: SocketAddr)
+        ensures { self.new ≡ record self.old { by_address = self.new.by_address } }
+    {
         let key = address.ip().to_canonical();
         let count = self.of_address(address).saturating_sub(1);
         if count == 0 {
@@ -132,7 +137,10 @@ impl ClientTable {
     }
 
     /// Queues the client of a poll token.
-    pub(crate) fn wake(&mut self, token: usize) {
+    pub(crate) fn wake(&mut self, token: usize)
+        ensures clients { SameClients self.old self.new }
+        ensures queue { QueuesBehind self.old.queue.items self.new }
+    {
         if let Some(entry) = self.by_token.get_mut(&token) {
             if !entry.is_queued {
                 entry.is_queued = self.queue.push_back(token).is_ok();
@@ -159,7 +167,9 @@ impl ClientTable {
     }
 
     /// Removes the next client from the queue, with its poll token.
-    pub(crate) fn next(&mut self) -> Option<(usize, Client)> {
+    pub(crate) fn next(&mut self) -> Option<(usize, Client)>
+        ensures { TakesNext self.old.queue.items result self.old self.new }
+    {
         let token = self.queue.pop_front()?;
         let entry = self.by_token.get_mut(&token)?;
         entry.is_queued = false;
@@ -167,7 +177,10 @@ impl ClientTable {
     }
 
     /// Notes the outcome of a turn. A client is blocked from the last byte that was written to it.
-    pub(crate) fn note(&mut self, token: usize, turn: Turn, carried: ByteCounts, now: u64) {
+    pub(crate) fn note(&mut self, token: usize, turn: Turn, carried: ByteCounts, now: u64)
+        ensures clients { SameClients self.old self.new }
+        ensures queue { self.new.queue ≡ self.old.queue }
+    {
         let Some(entry) = self.by_token.get_mut(&token) else {
             return;
         };
@@ -194,11 +207,13 @@ impl ClientTable {
     }
 
     /// Removes the client of a poll token.
-    pub(crate) fn remove(&mut self, token: usize) -> Option<ClientEntry> {
+    pub(crate) fn remove(&mut self, token: usize) -> Option<ClientEntry>
+        ensures clients { OtherClients token self.old self.new }
+        ensures queue { self.new.queue ≡ self.old.queue }
+    {
         let entry = self.by_token.remove(&token)?;
-        if entry.blocked.is_some() {
-            self.blocked = self.blocked.saturating_sub(1);
-        }
+        let was_blocked = if entry.blocked.is_some() { 1 } else { 0 };
+        self.blocked = self.blocked.saturating_sub(was_blocked);
         self.discount(entry.address);
         Some(entry)
     }

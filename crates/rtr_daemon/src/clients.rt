@@ -1,5 +1,7 @@
 //! Serving clients.
 ghost use Rattle.std.specs.Prelude.{◌≡◌};
+ghost use Rattle.rtr_daemon.specs.Due.{OnlyClients};
+ghost use Rattle.rtr_daemon.specs.Queue.{OtherClients, QueuesBehind, ServesEach, ServesNext};
 ghost use Rattle.rtr_daemon.specs.Serving.{Continues};
 ghost use Rattle.rtr_daemon.specs.Turns.{HasTurn};
 
@@ -34,7 +36,8 @@ pub(crate) struct ClientCounters {
 impl<S: VersionStore, T: Stream + Drop> Daemon<S, T> {
     /// Reads which listeners and connections are ready.
     pub(crate) fn take_ready<W: Sockets<T>>(&mut self, env: &mut W)
-        ensures { self.new.service ≡ self.old.service }
+        ensures service { self.new.service ≡ self.old.service }
+        ensures rest { OnlyClients self.old self.new }
     {
         for _ready in 0..READY {
             match env.next() {
@@ -47,7 +50,9 @@ impl<S: VersionStore, T: Stream + Drop> Daemon<S, T> {
 
     /// Serves each queued client once.
     pub(crate) fn serve_all<W: Time + EventLog>(&mut self, env: &mut W)
-        ensures { Continues S.holds T.remaining T.contents self.old.service self.new.service }
+        ensures turns { ServesEach S.holds T.remaining T.contents T.answers self.old.clients.queue.items self.old.clients self.old.service.server self.new.clients self.new.service.server }
+        ensures goes { Continues S.holds T.remaining T.contents self.old.service self.new.service }
+        ensures rest { OnlyClients self.old self.new }
     {
         for _client in 0..self.clients.queue_len() {
             self.serve_next(env);
@@ -56,7 +61,9 @@ impl<S: VersionStore, T: Stream + Drop> Daemon<S, T> {
 
     /// Serves the next client of the queue.
     fn serve_next<W: Time + EventLog>(&mut self, env: &mut W)
-        ensures { Continues S.holds T.remaining T.contents self.old.service self.new.service }
+        ensures turn { ServesNext S.holds T.remaining T.contents T.answers self.old.clients.queue.items self.old.clients self.old.service.server self.new.clients self.new.service.server }
+        ensures goes { Continues S.holds T.remaining T.contents self.old.service self.new.service }
+        ensures rest { OnlyClients self.old self.new }
     {
         if let Some((token, client)) = self.clients.next() {
             self.serve(token, client, env);
@@ -95,6 +102,9 @@ impl<S: VersionStore, T: Stream + Drop> Daemon<S, T> {
     /// One turn of a client.
     fn serve<W: Time + EventLog>(&mut self, token: usize, client: Client, env: &mut W)
         ensures goes { Continues S.holds T.remaining T.contents self.old.service self.new.service }
+        ensures rest { OnlyClients self.old self.new }
+        ensures others { OtherClients token self.old.clients self.new.clients }
+        ensures queue { QueuesBehind self.old.clients.queue.items self.new.clients }
         ensures turn { HasTurn S.holds T.remaining T.contents T.answers 8 client.0.0 self.old.service.server self.new.service.server }
     {
         match self.service.serve(client, BUDGET) {
@@ -113,7 +123,10 @@ impl<S: VersionStore, T: Stream + Drop> Daemon<S, T> {
 
     /// Removes and reports the client that was closed last.
     fn part<W: Time + EventLog>(&mut self, token: usize, why: &str, env: &mut W)
-        ensures { self.new.service ≡ self.old.service }
+        ensures others { OtherClients token self.old.clients self.new.clients }
+        ensures queue { self.new.clients.queue ≡ self.old.clients.queue }
+        ensures service { self.new.service ≡ self.old.service }
+        ensures rest { OnlyClients self.old self.new }
     {
         let Some(entry) = self.clients.remove(token) else {
             return;
@@ -166,7 +179,8 @@ impl<S: VersionStore, T: Stream + Drop> Daemon<S, T> {
 
     /// Closes the clients that sent no whole query within the timeout.
     pub(crate) fn drop_silent<W: Time + EventLog>(&mut self, now: u64, env: &mut W)
-        ensures { Continues S.holds T.remaining T.contents self.old.service self.new.service }
+        ensures goes { Continues S.holds T.remaining T.contents self.old.service self.new.service }
+        ensures rest { OnlyClients self.old self.new }
     {
         for _client in 0..u64::MAX {
             match self.clients.next_overdue(now, FIRST_QUERY) {
@@ -177,7 +191,8 @@ impl<S: VersionStore, T: Stream + Drop> Daemon<S, T> {
     }
 
     fn drop_if_silent<W: Time + EventLog>(&mut self, token: usize, env: &mut W)
-        ensures { Continues S.holds T.remaining T.contents self.old.service self.new.service }
+        ensures goes { Continues S.holds T.remaining T.contents self.old.service self.new.service }
+        ensures rest { OnlyClients self.old self.new }
     {
         if let Some((client, _address)) = self.clients.at(token) {
             if !self.service.server().has_asked(client) {
@@ -188,7 +203,8 @@ impl<S: VersionStore, T: Stream + Drop> Daemon<S, T> {
 
     /// Closes the clients that have been blocked on writing for too long.
     pub(crate) fn drop_stalled<W: Time + EventLog>(&mut self, env: &mut W)
-        ensures { Continues S.holds T.remaining T.contents self.old.service self.new.service }
+        ensures goes { Continues S.holds T.remaining T.contents self.old.service self.new.service }
+        ensures rest { OnlyClients self.old self.new }
     {
         let now = env.millis();
         let Ok(tokens) = self.clients.stalled(self.alloc, now, self.plan.stall) else {
@@ -200,7 +216,8 @@ impl<S: VersionStore, T: Stream + Drop> Daemon<S, T> {
     }
 
     fn drop_stalled_client<W: Time + EventLog>(&mut self, token: usize, env: &mut W)
-        ensures { Continues S.holds T.remaining T.contents self.old.service self.new.service }
+        ensures goes { Continues S.holds T.remaining T.contents self.old.service self.new.service }
+        ensures rest { OnlyClients self.old self.new }
     {
         if let Some((_client, address)) = self.clients.at(token) {
             let now = env.seconds();
@@ -212,7 +229,8 @@ impl<S: VersionStore, T: Stream + Drop> Daemon<S, T> {
 
     /// Closes the client of a poll token, for this reason.
     fn drop_connection<W: Time + EventLog>(&mut self, token: usize, why: &str, env: &mut W)
-        ensures { Continues S.holds T.remaining T.contents self.old.service self.new.service }
+        ensures goes { Continues S.holds T.remaining T.contents self.old.service self.new.service }
+        ensures rest { OnlyClients self.old self.new }
     {
         let Some((client, _address)) = self.clients.at(token) else {
             return;

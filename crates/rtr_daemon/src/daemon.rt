@@ -1,10 +1,13 @@
 //! The daemon: a loop that serves what is ready, and does what is due by the clock.
-ghost use Rattle.std.specs.Prelude.{◌≡◌, ◌≤◌, IfOk, false, map};
+ghost use Rattle.std.specs.Prelude.{◌≡◌, ◌≤◌, ◌<◌, ℕ, IfErr, IfOk, Ok, false, map};
 ghost use Rattle.points.specs.InUse.{no_points};
+ghost use Rattle.sources.specs.Served.{NoneTaken};
 ghost use Rattle.rtr_server.specs.Clients.{Past, ShowsServer};
+ghost use Rattle.rtr_daemon.specs.Due.{DoesWhatIsDue, FailureNoted, IsChecked, JudgesAges, KeepsFiles, OnlyFiles, OnlyNotes, PollsAll, PublishesIfDue, SamePaths, later_by, second_of_pace};
+ghost use Rattle.rtr_daemon.specs.Files.{AreNumbered, Loads, LoadsEach, names_of};
+ghost use Rattle.rtr_daemon.specs.PointOffers.{OffersEach, OffersPoint, points_of};
 ghost use Rattle.std.specs.String.{string_bytes};
-ghost use Rattle.rtr_daemon.specs.Due.{PublishesIfDue, second_of_pace};
-ghost use Rattle.rtr_daemon.specs.Files.{AreNumbered, Follows};
+ghost use Rattle.rtr_daemon.specs.Origins.{SourcesComeFrom};
 ghost use Rattle.rtr_daemon.specs.Serving.{Continues, GoesOn, IsFresh, LeadsToService};
 
 use crate::accepting::Listeners;
@@ -134,6 +137,7 @@ impl<S: VersionStore + Drop, T: Stream + Drop> Daemon<S, T> {
         env: &mut W,
     ) -> Result<Daemon<S, T>, StartFault>
         ensures leads { IfOk result (λ daemon. (p : Past) → ShowsServer S.holds T.remaining T.contents p server → LeadsToService W.can_be S.holds T.remaining T.contents p daemon.service) }
+        ensures comes { IfOk result (λ daemon. SourcesComeFrom W.answers W.can_be daemon) }
         ensures closed { IfOk result (λ daemon. daemon.is_ready ≡ false) }
     {
         let now = env.seconds();
@@ -183,7 +187,9 @@ impl<S: VersionStore + Drop, T: Stream + Drop> Daemon<S, T> {
         &mut self,
         env: &mut W,
     ) -> io::Result<Option<StopReason>>
-        ensures { GoesOn W.can_be S.holds T.remaining T.contents self.old.service self.new.service }
+        ensures goes { GoesOn W.can_be S.holds T.remaining T.contents self.old.service self.new.service }
+        ensures due { IfOk result (λ _. DoesWhatIsDue W.answers W.can_be W.can_tick self.old self.new) }
+        ensures comes { SourcesComeFrom W.answers W.can_be self.old → SourcesComeFrom W.answers W.can_be self.new }
     {
         let wait = self.longest_wait(env.millis());
         env.wait(wait)?;
@@ -219,7 +225,8 @@ impl<S: VersionStore + Drop, T: Stream + Drop> Daemon<S, T> {
 
     /// Does what is due by the clock.
     fn do_what_is_due<W: Disk + Time + EventLog>(&mut self, env: &mut W)
-        ensures { GoesOn W.can_be S.holds T.remaining T.contents self.old.service self.new.service }
+        ensures goes { GoesOn W.can_be S.holds T.remaining T.contents self.old.service self.new.service }
+        ensures due { DoesWhatIsDue W.answers W.can_be W.can_tick self.old self.new }
     {
         let now = env.millis();
         self.check(now, env);
@@ -231,6 +238,9 @@ impl<S: VersionStore + Drop, T: Stream + Drop> Daemon<S, T> {
     fn check<W: Disk + Time + EventLog>(&mut self, now: u64, env: &mut W)
         ensures goes { Continues S.holds T.remaining T.contents self.old.service self.new.service }
         ensures fresh { self.old.next_check ≤ now → IsFresh W.can_be self.new.service }
+        ensures polls { self.old.next_check ≤ now → PollsAll W.answers W.can_be self.old self.new }
+        ensures paths { SamePaths self.old self.new }
+        ensures times { IsChecked now self.old self.new }
     {
         if now < self.next_check {
             return;
@@ -245,7 +255,10 @@ impl<S: VersionStore + Drop, T: Stream + Drop> Daemon<S, T> {
 
     /// Polls all files and publication points, and judges the clock and the ages of the exports.
     fn poll_all<W: Disk + Time + EventLog>(&mut self, now: u64, env: &mut W)
-        ensures { Continues S.holds T.remaining T.contents self.old.service self.new.service }
+        ensures goes { Continues S.holds T.remaining T.contents self.old.service self.new.service }
+        ensures polls { PollsAll W.answers W.can_be self.old self.new }
+        ensures paths { SamePaths self.old self.new }
+        ensures rest { OnlyFiles self.old self.new }
     {
         self.judge_clock(now, env);
         self.follow_all(env);
@@ -256,7 +269,12 @@ impl<S: VersionStore + Drop, T: Stream + Drop> Daemon<S, T> {
 
     /// Closes stalled clients and publishes a pending version, if that is due.
     fn go_round<W: Time + EventLog>(&mut self, now: u64, env: &mut W)
-        ensures { GoesOn W.can_be S.holds T.remaining T.contents self.old.service self.new.service }
+        ensures goes { GoesOn W.can_be S.holds T.remaining T.contents self.old.service self.new.service }
+        ensures fresh { IsFresh W.can_be self.old.service → IsFresh W.can_be self.new.service }
+        ensures due { self.old.next_round ≤ now → PublishesIfDue W.can_be W.can_tick self.old.held_until self.old self.new }
+        ensures round { self.old.next_round ≤ now → self.new.next_round ≡ later_by 1000 now }
+        ensures early { now < self.old.next_round → self.new.next_round ≡ self.old.next_round }
+        ensures kept { KeepsFiles self.old self.new }
     {
         if now < self.next_round {
             return;
@@ -279,7 +297,10 @@ impl<S: VersionStore + Drop, T: Stream + Drop> Daemon<S, T> {
     /// Publishes a pending version, if the last version is of an earlier second.
     fn publish_pending<W: Time + EventLog>(&mut self, env: &mut W)
         ensures goes { GoesOn W.can_be S.holds T.remaining T.contents self.old.service self.new.service }
-        ensures due { PublishesIfDue W.can_tick self.old self.new }
+        ensures due { PublishesIfDue W.can_be W.can_tick self.old.held_until self.old self.new }
+        ensures fresh { IsFresh W.can_be self.old.service → IsFresh W.can_be self.new.service }
+        ensures round { self.new.next_round ≡ self.old.next_round }
+        ensures kept { KeepsFiles self.old self.new }
     {
         let now = env.seconds();
         if !self.service.is_pending() {
@@ -292,8 +313,24 @@ impl<S: VersionStore + Drop, T: Stream + Drop> Daemon<S, T> {
         let second = self.paced(began);
         match self.service.publish_paced(now, second) {
             None => {}
-            Some(Ok(report)) => self.note_published(report, now, began, env),
-            Some(Err(refusal)) => self.note_failure(refusal, now, env),
+            Some(tried) => self.note_tried(tried, now, began, env),
+        }
+    }
+
+    /// Notes that a publication succeeded or failed.
+    fn note_tried<W: Time + EventLog>(
+        &mut self,
+        tried: Result<PublishReport, Refusal>,
+        now: u64,
+        began: u64,
+        env: &mut W,
+    )
+        ensures rest { OnlyNotes self.old self.new }
+        ensures failed { IfErr tried (λ refusal. FailureNoted refusal self.new) }
+    {
+        match tried {
+            Ok(report) => self.note_published(report, now, began, env),
+            Err(refusal) => self.note_failure(refusal, now, env),
         }
     }
 
@@ -305,7 +342,7 @@ impl<S: VersionStore + Drop, T: Stream + Drop> Daemon<S, T> {
         began: u64,
         env: &mut W,
     )
-        ensures { self.new.service ≡ self.old.service }
+        ensures { OnlyNotes self.old self.new }
     {
         self.statistics.end_failure();
         self.note_left_out(report.left_out, now, env);
@@ -334,7 +371,7 @@ impl<S: VersionStore + Drop, T: Stream + Drop> Daemon<S, T> {
 
     /// Reports how many records are left out, if the number has changed.
     fn note_left_out<W: EventLog>(&mut self, records: u64, now: u64, env: &mut W)
-        ensures { self.new.service ≡ self.old.service }
+        ensures { OnlyNotes self.old self.new }
     {
         if self.statistics.set_left_out(records) {
             env.log(now, &LogEvent::LeftOut { records });
@@ -343,7 +380,7 @@ impl<S: VersionStore + Drop, T: Stream + Drop> Daemon<S, T> {
 
     /// Adds a version to the statistics.
     fn note_version(&mut self, serial: Serial, report: PublishReport, now: u64)
-        ensures { self.new.service ≡ self.old.service }
+        ensures { OnlyNotes self.old self.new }
     {
         if let Some((_serial, set)) = self.service.server().current() {
             let families = Families::of(set.as_slice());
@@ -353,8 +390,8 @@ impl<S: VersionStore + Drop, T: Stream + Drop> Daemon<S, T> {
 
     /// Reports that publication failed. It is tried again at the next poll of the files.
     fn note_failure<W: EventLog>(&mut self, refusal: Refusal, now: u64, env: &mut W)
-        ensures service { self.new.service ≡ self.old.service }
-        ensures held { self.new.held_until ≡ self.new.next_check }
+        ensures rest { OnlyNotes self.old self.new }
+        ensures noted { FailureNoted refusal self.new }
     {
         self.held_until = self.next_check;
         log_failure(self.alloc, &refusal, now, env);
@@ -363,7 +400,7 @@ impl<S: VersionStore + Drop, T: Stream + Drop> Daemon<S, T> {
 
     /// Reports that the clock was set back, if it is further back than before.
     fn judge_clock<W: Time + EventLog>(&mut self, millis: u64, env: &mut W)
-        ensures { self.new.service ≡ self.old.service }
+        ensures { self.new ≡ record self.old { clock_behind = self.new.clock_behind } }
     {
         let now = env.seconds();
         let behind = self.paced(millis).saturating_sub(now);
@@ -378,8 +415,7 @@ impl<S: VersionStore + Drop, T: Stream + Drop> Daemon<S, T> {
 
     /// Reports which exports have become older than the maximum age, and which are no longer.
     fn judge_ages<W: Time + EventLog>(&mut self, env: &mut W)
-        ensures service { self.new.service ≡ self.old.service }
-        ensures ready { self.new.is_ready ≡ self.old.is_ready }
+        ensures { JudgesAges self.old self.new }
     {
         let Some(most) = self.plan.max_age else {
             return;
@@ -459,18 +495,37 @@ fn is_any_old<W: EventLog>(
     most: u64,
     now: u64,
     env: &mut W,
-) -> bool {
+) -> bool
+    ensures { names_of exports.new.items ≡ names_of exports.old.items }
+{
     let mut is_old = false;
     for export in exports.iter_mut() {
-        if let Some(built) = built_of(export, sources, now) {
-            let age = now.saturating_sub(built);
-            if export.set_old(age > most) {
-                log_age(export.path(), age, most, now, env);
-            }
-            is_old = is_old || age > most;
+        if judge_age(export, sources, most, now, env) {
+            is_old = true;
         }
     }
     is_old
+}
+
+/// Whether an export is older than this many seconds. A change is reported.
+fn judge_age<W: EventLog>(
+    export: &mut WatchedExport,
+    sources: &Sources,
+    most: u64,
+    now: u64,
+    env: &mut W,
+) -> bool
+    ensures path { export.new.file.path ≡ export.old.file.path }
+    ensures number { export.new.number ≡ export.old.number }
+{
+    let Some(built) = built_of(export, sources, now) else {
+        return false;
+    };
+    let age = now.saturating_sub(built);
+    if export.set_old(age > most) {
+        log_age(export.path(), age, most, now, env);
+    }
+    age > most
 }
 
 /// When the data of an export were made. If the export gives no time, or one too far ahead, the file's modification time counts.
@@ -492,7 +547,7 @@ fn log_age<W: EventLog>(file: &str, age: u64, most: u64, now: u64, env: &mut W) 
 
 /// Sources of this many files, of which none is loaded.
 fn sources_of(alloc: Global, files: usize, leaves_out: bool) -> Result<Sources, AllocError>
-    ensures { IfOk result (λ s. s.repository ≡ no_points) }
+    ensures { IfOk result (λ s. (s.repository ≡ no_points) × NoneTaken files s.lists.items) }
 {
     let mut sources = Sources::new(alloc, files)?;
     if leaves_out {
@@ -541,15 +596,36 @@ fn read_all<S: VersionStore, T: Stream + Drop, W: Disk + EventLog>(
     now: u64,
     env: &mut W,
 ) -> Result<(), StartFault>
-    ensures { Continues S.holds T.remaining T.contents service.old service.new }
+    ensures goes { Continues S.holds T.remaining T.contents service.old service.new }
+    ensures loads { IfOk result (λ _. LoadsEach W.answers now exports.old.items service.old.sources service.new.sources) }
+    ensures names { IfOk result (λ _. names_of exports.new.items ≡ names_of exports.old.items) }
 {
     for export in exports.iter_mut() {
-        match read_one(export, service, alloc, now, env) {
-            Ok(expired) => log_expired(export.path(), expired, now, env),
-            Err(refusal) => return Err(StartFault::of(export.path(), alloc, refusal)),
-        }
+        read_export(export, service, alloc, now, env)?;
     }
     Ok(())
+}
+
+/// Reads and loads an export at the start, and reports how many of its entries had expired.
+fn read_export<S: VersionStore, T: Stream + Drop, W: Disk + EventLog>(
+    export: &mut WatchedExport,
+    service: &mut Service<S, T>,
+    alloc: Global,
+    now: u64,
+    env: &mut W,
+) -> Result<(), StartFault>
+    ensures goes { Continues S.holds T.remaining T.contents service.old service.new }
+    ensures loads { IfOk result (λ _. (expired : ℕ) × Loads W.answers export.old now (Ok expired) service.old.sources service.new.sources) }
+    ensures path { export.new.file.path ≡ export.old.file.path }
+    ensures number { export.new.number ≡ export.old.number }
+{
+    match read_one(export, service, alloc, now, env) {
+        Ok(expired) => {
+            log_expired(export.path(), expired, now, env);
+            Ok(())
+        }
+        Err(refusal) => Err(StartFault::of(export.path(), alloc, refusal)),
+    }
 }
 
 /// Reads and loads an export, and answers how many of its entries had expired. If it changes while it is read, it is read again, up to 16 times.
@@ -561,7 +637,9 @@ fn read_one<S: VersionStore, T: Stream + Drop, W: Disk>(
     env: &mut W,
 ) -> Result<u64, Refusal>
     ensures goes { Continues S.holds T.remaining T.contents service.old service.new }
-    ensures follows { Follows W.can_hold (string_bytes export.old.file.path) export.old.number now service.old.sources service.new.sources }
+    ensures loads { IfOk result (λ expired. Loads W.answers export.old now (Ok expired) service.old.sources service.new.sources) }
+    ensures path { export.new.file.path ≡ export.old.file.path }
+    ensures number { export.new.number ≡ export.old.number }
 {
     for _time in 0..16u8 {
         match export.file.look(env, false) {
@@ -584,15 +662,33 @@ fn read_points<S: VersionStore, T: Stream + Drop, W: Disk>(
     now: u64,
     env: &mut W,
 ) -> Result<(), StartFault>
-    ensures { Continues S.holds T.remaining T.contents service.old service.new }
+    ensures goes { Continues S.holds T.remaining T.contents service.old service.new }
+    ensures offers { IfOk result (λ _. OffersEach W.answers (λ at. at ≡ now) points.old.items service.old.sources service.new.sources) }
+    ensures paths { IfOk result (λ _. points_of points.new.items ≡ points_of points.old.items) }
 {
     for point in points.iter_mut() {
-        match offer(service, point.path.as_str(), alloc, now, env) {
-            Ok(held) => {
-                let _ = point.set_accepted(held, now);
-            }
-            Err(refusal) => return Err(StartFault::of(point.path.as_str(), alloc, refusal)),
-        }
+        read_point(point, service, alloc, now, env)?;
     }
     Ok(())
+}
+
+/// Offers a directory at the start.
+fn read_point<S: VersionStore, T: Stream + Drop, W: Disk>(
+    point: &mut WatchedPoint,
+    service: &mut Service<S, T>,
+    alloc: Global,
+    now: u64,
+    env: &mut W,
+) -> Result<(), StartFault>
+    ensures goes { Continues S.holds T.remaining T.contents service.old service.new }
+    ensures offers { OffersPoint W.answers (string_bytes point.old.path) now service.old.sources service.new.sources }
+    ensures path { point.new.path ≡ point.old.path }
+{
+    match offer(service, point.path.as_str(), alloc, now, env) {
+        Ok(held) => {
+            let _ = point.set_accepted(held, now);
+            Ok(())
+        }
+        Err(refusal) => Err(StartFault::of(point.path.as_str(), alloc, refusal)),
+    }
 }

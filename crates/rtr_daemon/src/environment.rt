@@ -1,4 +1,6 @@
 //! The environment of a daemon: sockets, files, clocks, and the event log. Each trait has two implementations: over the system, and in memory.
+ghost use Rattle.std.specs.Prelude.{◌≡◌, ◌↔◌, IsTrue};
+
 use event_log::LogEvent;
 use payload_commands::Directory;
 use std::io;
@@ -60,22 +62,42 @@ pub struct Stamp {
     pub changed: (i64, i64),
 }
 
+impl Stamp {
+    /// Whether it is the same as another.
+    pub(crate) fn is(&self, other: &Stamp) -> bool
+        ensures { IsTrue result ↔ (self.now ≡ other.now) }
+    {
+        self.len == other.len
+            && self.inode == other.inode
+            && self.modified.0 == other.modified.0
+            && self.modified.1 == other.modified.1
+            && self.changed.0 == other.changed.0
+            && self.changed.1 == other.changed.1
+    }
+}
+
 /// The files.
 pub trait Disk {
-    ghost use Rattle.std.specs.Prelude.{ℕ, List, IfOk};
+    ghost use Rattle.std.specs.Prelude.{IfErr, IfOk};
+    ghost use Rattle.rtr_daemon.specs.DiskAnswers.{DiskAnswers, any_answers};
 
-    /// What a read of a path may answer. Contracts that cite it hold for each such relation, so they speak of bytes that this path answered.
-    ghost can_hold: { List ℕ → List ℕ → Type 0 } = { λ path bytes. Unit {0} };
+    /// What its calls may answer. Contracts that cite it hold for all such relations, so they speak of what the disk answered, and in which order.
+    ghost answers: { DiskAnswers Self } = { any_answers };
 
     /// The current stamp of a file.
-    fn stamp(&mut self, path: &str) -> io::Result<Stamp>;
+    fn stamp(&mut self, path: &str) -> io::Result<Stamp>
+        ensures stamps { IfOk result (λ stamp. answers.stamps self.old path.now stamp self.new) }
+        ensures fails { IfErr result (λ _. answers.fails path.now) };
 
     /// The content of a file.
     fn read(&mut self, path: &str) -> io::Result<Vec<u8>>
-        ensures { IfOk result (λ bytes. can_hold path.now bytes.items) };
+        ensures reads { IfOk result (λ bytes. answers.reads self.old path.now bytes.items self.new) }
+        ensures fails { IfErr result (λ _. answers.fails path.now) };
 
     /// The content of a directory that is a publication point.
-    fn directory<'a>(&mut self, path: &'a str) -> io::Result<Directory<'a>>;
+    fn directory<'a>(&mut self, path: &'a str) -> io::Result<Directory<'a>>
+        ensures directories { IfOk result (λ directory. answers.directories path.now directory) }
+        ensures fails { IfErr result (λ _. answers.fails path.now) };
 }
 
 /// The clocks.

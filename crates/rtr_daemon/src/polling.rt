@@ -1,8 +1,10 @@
 //! Polling the files, and loading those that have changed.
-ghost use Rattle.std.specs.Prelude.{◌≡◌, IfErr, true};
+ghost use Rattle.std.specs.Prelude.{◌≡◌, ℕ, true};
 ghost use Rattle.std.specs.String.{string_bytes};
-ghost use Rattle.rtr_daemon.specs.Files.{Follows};
-ghost use Rattle.rtr_daemon.specs.Serving.{Continues, LoadsExport, SameSources, TakesSo};
+ghost use Rattle.rtr_daemon.specs.Files.{Follows, FollowsEach, names_of};
+ghost use Rattle.rtr_daemon.specs.Due.{OnlyFiles};
+ghost use Rattle.rtr_daemon.specs.PointOffers.{OffersEach, OffersPoint, points_of};
+ghost use Rattle.rtr_daemon.specs.Serving.{Continues, LoadsExport, OnlySources, TakesSo};
 
 use crate::daemon::Daemon;
 use crate::environment::{Disk, EventLog, Stamp, Time};
@@ -50,14 +52,18 @@ impl WatchedPoint {
     }
 
     /// It was accepted, or is what its point holds. It returns whether a refusal was reported before.
-    pub(crate) fn set_accepted(&mut self, held: Option<PointState>, now: u64) -> bool {
+    pub(crate) fn set_accepted(&mut self, held: Option<PointState>, now: u64) -> bool
+        ensures { self.new.path ≡ self.old.path }
+    {
         self.loaded_at = Some(now);
         self.held = held;
         self.refusals.clear()
     }
 
     /// Notes whether the point is past its nextUpdate (RFC 9286 section 6.6), and answers whether it became so.
-    fn note_expired(&mut self, now: u64) -> bool {
+    fn note_expired(&mut self, now: u64) -> bool
+        ensures { self.new.path ≡ self.old.path }
+    {
         let before = self.expired;
         self.expired = match self.held {
             Some(held) if held.next_update < now => held.objects,
@@ -88,6 +94,7 @@ pub(crate) fn take<S: VersionStore, T: Stream + Drop>(
     ensures goes { Continues S.holds T.remaining T.contents service.old service.new }
     ensures takes { TakesSo result service.old service.new }
     ensures loads { LoadsExport number bytes.now now result service.old.sources service.new.sources }
+    ensures rest { OnlySources service.old service.new }
 {
     match service.take_export(number, bytes, now) {
         Ok(expired) => Ok(expired),
@@ -113,8 +120,8 @@ pub(crate) fn offer<S: VersionStore, T: Stream + Drop, W: Disk>(
     env: &mut W,
 ) -> Result<Option<PointState>, Refusal>
     ensures goes { Continues S.holds T.remaining T.contents service.old service.new }
-    ensures server { service.new.server ≡ service.old.server }
-    ensures refused { IfErr result (λ _. SameSources service.old.sources service.new.sources) }
+    ensures rest { OnlySources service.old service.new }
+    ensures offers { OffersPoint W.answers path.now now service.old.sources service.new.sources }
 {
     match env.directory(path) {
         Err(error) => {
@@ -136,8 +143,9 @@ fn note_expired<S: VersionStore, T: Stream + Drop>(
     now: u64,
 ) -> bool
     ensures goes { Continues S.holds T.remaining T.contents service.old service.new }
-    ensures server { service.new.server ≡ service.old.server }
+    ensures rest { service.new ≡ record service.old { is_pending = service.new.is_pending } }
     ensures pending { ¬ (export.new.expired_since ≡ export.old.expired_since) → service.new.is_pending ≡ true }
+    ensures export { export.new ≡ record export.old { expired_since = export.new.expired_since } }
 {
     let expired = service.expired(export.number, now);
     let before = export.expired_since;
@@ -154,7 +162,10 @@ fn note(
     stamp: Stamp,
     taken: Result<u64, Refusal>,
     now: u64,
-) -> PollResult {
+) -> PollResult
+    ensures path { export.new.file.path ≡ export.old.file.path }
+    ensures number { export.new.number ≡ export.old.number }
+{
     match taken {
         Ok(expired) => PollResult::Loaded {
             again: export.set_loaded(stamp, now, expired),
@@ -181,8 +192,10 @@ fn follow<S: VersionStore, T: Stream + Drop, W: Disk>(
     env: &mut W,
 ) -> PollResult
     ensures goes { Continues S.holds T.remaining T.contents service.old service.new }
-    ensures server { service.new.server ≡ service.old.server }
-    ensures follows { Follows W.can_hold (string_bytes export.old.file.path) export.old.number now service.old.sources service.new.sources }
+    ensures rest { OnlySources service.old service.new }
+    ensures follows { Follows W.answers export.old now service.old.sources service.new.sources }
+    ensures path { export.new.file.path ≡ export.old.file.path }
+    ensures number { export.new.number ≡ export.old.number }
 {
     let anew = export.file.is_loaded_after(now);
     match export.file.look(env, anew) {
@@ -203,7 +216,10 @@ impl<S: VersionStore, T: Stream + Drop> Daemon<S, T> {
     /// Polls all exports.
     pub(crate) fn follow_all<W: Disk + Time + EventLog>(&mut self, env: &mut W)
         ensures goes { Continues S.holds T.remaining T.contents self.old.service self.new.service }
-        ensures server { self.new.service.server ≡ self.old.service.server }
+        ensures rest { OnlyFiles self.old self.new }
+        ensures follows { FollowsEach W.answers W.can_be self.old.exports.items self.old.service.sources self.new.service.sources }
+        ensures names { names_of self.new.exports.items ≡ names_of self.old.exports.items }
+        ensures kept { (self.new.slurms ≡ self.old.slurms) × (self.new.points ≡ self.old.points) }
     {
         follow_each(
             &mut self.exports,
@@ -217,7 +233,10 @@ impl<S: VersionStore, T: Stream + Drop> Daemon<S, T> {
     /// Offers all directories.
     pub(crate) fn offer_all<W: Disk + Time + EventLog>(&mut self, env: &mut W)
         ensures goes { Continues S.holds T.remaining T.contents self.old.service self.new.service }
-        ensures server { self.new.service.server ≡ self.old.service.server }
+        ensures rest { OnlyFiles self.old self.new }
+        ensures kept { (self.new.exports ≡ self.old.exports) × (self.new.slurms ≡ self.old.slurms) }
+        ensures offers { OffersEach W.answers W.can_be self.old.points.items self.old.service.sources self.new.service.sources }
+        ensures paths { points_of self.new.points.items ≡ points_of self.old.points.items }
     {
         offer_each(
             &mut self.points,
@@ -238,17 +257,36 @@ fn follow_each<S: VersionStore, T: Stream + Drop, W: Disk + Time + EventLog>(
     env: &mut W,
 )
     ensures goes { Continues S.holds T.remaining T.contents service.old service.new }
-    ensures server { service.new.server ≡ service.old.server }
+    ensures rest { OnlySources service.old service.new }
+    ensures follows { FollowsEach W.answers W.can_be exports.old.items service.old.sources service.new.sources }
+    ensures names { names_of exports.new.items ≡ names_of exports.old.items }
 {
     for export in exports.iter_mut() {
-        let now = env.seconds();
-        let began = env.millis();
-        let polled = follow(export, service, alloc, now, env);
-        count_poll(statistics, &polled, env.millis().saturating_sub(began));
-        log_poll(alloc, export, polled, now, env);
-        if note_expired(export, service, now) {
-            log_expired(export.path(), export.all_expired(), now, env);
-        }
+        follow_one(export, service, statistics, alloc, env);
+    }
+}
+
+/// Polls an export, loads it if it has changed, and reports the result.
+fn follow_one<S: VersionStore, T: Stream + Drop, W: Disk + Time + EventLog>(
+    export: &mut WatchedExport,
+    service: &mut Service<S, T>,
+    statistics: &mut Statistics,
+    alloc: Global,
+    env: &mut W,
+)
+    ensures goes { Continues S.holds T.remaining T.contents service.old service.new }
+    ensures rest { OnlySources service.old service.new }
+    ensures follows { (now : ℕ) × W.can_be now × Follows W.answers export.old now service.old.sources service.new.sources }
+    ensures path { export.new.file.path ≡ export.old.file.path }
+    ensures number { export.new.number ≡ export.old.number }
+{
+    let now = env.seconds();
+    let began = env.millis();
+    let polled = follow(export, service, alloc, now, env);
+    count_poll(statistics, &polled, env.millis().saturating_sub(began));
+    log_poll(alloc, export, polled, now, env);
+    if note_expired(export, service, now) {
+        log_expired(export.path(), export.all_expired(), now, env);
     }
 }
 
@@ -261,15 +299,33 @@ fn offer_each<S: VersionStore, T: Stream + Drop, W: Disk + Time + EventLog>(
     env: &mut W,
 )
     ensures goes { Continues S.holds T.remaining T.contents service.old service.new }
-    ensures server { service.new.server ≡ service.old.server }
+    ensures rest { OnlySources service.old service.new }
+    ensures offers { OffersEach W.answers W.can_be points.old.items service.old.sources service.new.sources }
+    ensures paths { points_of points.new.items ≡ points_of points.old.items }
 {
     for point in points.iter_mut() {
-        let now = env.seconds();
-        let offered = offer(service, point.path.as_str(), alloc, now, env);
-        note_offer(alloc, point, offered, now, statistics, env);
-        if point.note_expired(now) {
-            log_expired(point.path.as_str(), point.expired, now, env);
-        }
+        offer_one(point, service, statistics, alloc, env);
+    }
+}
+
+/// Offers a directory, and reports the result.
+fn offer_one<S: VersionStore, T: Stream + Drop, W: Disk + Time + EventLog>(
+    point: &mut WatchedPoint,
+    service: &mut Service<S, T>,
+    statistics: &mut Statistics,
+    alloc: Global,
+    env: &mut W,
+)
+    ensures goes { Continues S.holds T.remaining T.contents service.old service.new }
+    ensures rest { OnlySources service.old service.new }
+    ensures offers { (now : ℕ) × W.can_be now × OffersPoint W.answers (string_bytes point.old.path) now service.old.sources service.new.sources }
+    ensures path { point.new.path ≡ point.old.path }
+{
+    let now = env.seconds();
+    let offered = offer(service, point.path.as_str(), alloc, now, env);
+    note_offer(alloc, point, offered, now, statistics, env);
+    if point.note_expired(now) {
+        log_expired(point.path.as_str(), point.expired, now, env);
     }
 }
 
@@ -281,7 +337,9 @@ fn note_offer<W: EventLog>(
     now: u64,
     statistics: &mut Statistics,
     env: &mut W,
-) {
+)
+    ensures { point.new.path ≡ point.old.path }
+{
     match offered {
         Ok(held) => {
             if point.set_accepted(held, now) {

@@ -1,4 +1,7 @@
 //! The refusals of a source, and when they are reported.
+ghost use Rattle.std.specs.Prelude.{◌≡◌, true, Some};
+ghost use Rattle.rtr_daemon.specs.Files.{stamp_of};
+
 use crate::environment::Stamp;
 use crate::refusal::Refusal;
 
@@ -10,6 +13,18 @@ const UNREPORTED: u8 = 2;
 struct Refused {
     stamp: Option<Stamp>,
     why: Refusal,
+}
+
+impl Refused {
+    /// Whether the source had this stamp.
+    fn has(&self, stamp: Stamp) -> bool
+        ensures { result ≡ true → self.now.stamp ≡ Some stamp }
+    {
+        match &self.stamp {
+            Some(refused) => refused.is(&stamp),
+            None => false,
+        }
+    }
 }
 
 /// The refusals of a source since it was last loaded.
@@ -69,9 +84,11 @@ impl Refusals {
     }
 
     /// Whether the file need not be read: it was refused with this stamp. If memory ran out then, it is read again.
-    pub(crate) fn is_known(&self, stamp: Stamp) -> bool {
+    pub(crate) fn is_known(&self, stamp: Stamp) -> bool
+        ensures { result ≡ true → stamp_of self.now.last ≡ Some stamp }
+    {
         match &self.last {
-            Some(refused) => refused.stamp == Some(stamp) && !refused.why.is_memory(),
+            Some(refused) => refused.has(stamp) && !refused.why.is_memory(),
             None => false,
         }
     }

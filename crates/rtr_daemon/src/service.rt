@@ -5,9 +5,9 @@ ghost use Rattle.der_lite.specs.Moments.{CivilMoment};
 ghost use Rattle.der_lite.specs.Seconds.{seconds_of};
 ghost use Rattle.points.specs.InUse.{no_points};
 ghost use Rattle.rtr_server.specs.Clients.{AdmitsTo, KeepsOthers, Past, Serves, ShowsServer, is_gone, slot_at};
-ghost use Rattle.sources.specs.Served.{ExportTaken, SlurmTaken, SlurmsTaken};
+ghost use Rattle.sources.specs.Served.{ExportTaken, SetDropped, SetTaken, SlurmTaken, SlurmsTaken};
 ghost use Rattle.rtr_daemon.specs.PointOffers.{OffersTo};
-ghost use Rattle.rtr_daemon.specs.Serving.{Continues, GoesOn, IsFresh, IsOfSecond, IsServedAt, Issues, KeepsSources, SameExpired, ShowsService, TakesSo};
+ghost use Rattle.rtr_daemon.specs.Serving.{Continues, GoesOn, IsFresh, IsOfSecond, IsReason, IsServedAt, Issues, OnlyServer, OnlySources, SameExpired, ShowsService, StaysFresh, TakesSo};
 
 use crate::refusal::Refusal;
 use crate::set_changes::change_counts;
@@ -17,7 +17,7 @@ use points::{Offered, PointFault};
 use rtr_server::{AdmitFault, Client, Server, Stream, Turn};
 use session_names::Pace;
 use slurm::SlurmFault;
-use sources::{ServedSet, SlurmSetFault, Sources, TakeFault};
+use sources::{ServedSet, SlurmSetFault, Sources, TakeFault, TakeSetFault};
 use std::alloc::Global;
 use vrps::{Published, SetFault, VersionStore, VrpSet};
 
@@ -57,6 +57,7 @@ impl<S: VersionStore, T: Stream + Drop> Service<S, T> {
     pub(crate) fn after(start: u64, server: Server<S, T>, sources: Sources) -> Service<S, T>
         ensures shows { sources.repository ≡ no_points → (p : Past) → ShowsServer S.holds T.remaining T.contents p server → ShowsService S.holds T.remaining T.contents p result }
         ensures pace { result.pace ≡ Option.Some start }
+        ensures sources { result.sources ≡ sources }
     {
         let mut service = Service::new(server, sources);
         service.pace = Pace::after(start);
@@ -91,7 +92,7 @@ impl<S: VersionStore, T: Stream + Drop> Service<S, T> {
         ensures others { KeepsOthers client.0.0 self.old.server.slots.items self.new.server.slots.items }
         ensures serves { Serves S.holds T.remaining T.contents T.answers budget client.0.0 (slot_at self.old.server.slots.items client.0.0) self.old.server.cache result (slot_at self.new.server.slots.items client.0.0) self.new.server.cache self.new.server.parted }
         ensures stays { is_gone result ≡ false → self.new.server.parted ≡ self.old.server.parted }
-        ensures rest { KeepsSources self.old self.new }
+        ensures rest { OnlyServer self.old self.new }
     {
         self.server.serve(client, budget)
     }
@@ -100,7 +101,7 @@ impl<S: VersionStore, T: Stream + Drop> Service<S, T> {
     pub fn admit(&mut self, stream: T) -> Result<Client, AdmitFault>
         ensures goes { Continues S.holds T.remaining T.contents self.old self.new }
         ensures admits { (p : Past) → ShowsServer S.holds T.remaining T.contents p self.old.server → AdmitsTo S.holds T.remaining T.contents p stream result self.old.server self.new.server }
-        ensures rest { KeepsSources self.old self.new }
+        ensures rest { OnlyServer self.old self.new }
     {
         self.server.admit(stream)
     }
@@ -110,7 +111,7 @@ impl<S: VersionStore, T: Stream + Drop> Service<S, T> {
         ensures goes { Continues S.holds T.remaining T.contents self.old self.new }
         ensures others { KeepsOthers client.0.0 self.old.server.slots.items self.new.server.slots.items }
         ensures gone { slot_at self.new.server.slots.items client.0.0 ≡ Option.None }
-        ensures rest { KeepsSources self.old self.new }
+        ensures rest { OnlyServer self.old self.new }
     {
         self.server.drop_client(client)
     }
@@ -125,10 +126,39 @@ impl<S: VersionStore, T: Stream + Drop> Service<S, T> {
         ensures goes { Continues S.holds T.remaining T.contents self.old self.new }
         ensures takes { TakesSo result self.old self.new }
         ensures export { ExportTaken bytes.now now file result self.old.sources self.new.sources }
+        ensures rest { OnlySources self.old self.new }
     {
         let expired = self.sources.take_export(file, bytes, now)?;
         self.is_pending = true;
         Ok(expired)
+    }
+
+    /// Replaces the list of a number by a set of another cache, whose records count before `until`, in seconds since 1970.
+    pub fn take_set(
+        &mut self,
+        list: usize,
+        set: &VrpSet,
+        until: Option<u64>,
+    ) -> Result<(), TakeSetFault>
+        ensures goes { Continues S.holds T.remaining T.contents self.old self.new }
+        ensures takes { TakesSo result self.old self.new }
+        ensures set { SetTaken set.now until list result self.old.sources self.new.sources }
+        ensures rest { OnlySources self.old self.new }
+    {
+        self.sources.take_set(list, set, until)?;
+        self.is_pending = true;
+        Ok(())
+    }
+
+    /// Empties the list of a number, and answers whether there is one.
+    pub fn drop_set(&mut self, list: usize) -> bool
+        ensures goes { Continues S.holds T.remaining T.contents self.old self.new }
+        ensures pending { self.new.is_pending ≡ true }
+        ensures drops { SetDropped list result self.old.sources self.new.sources }
+        ensures rest { OnlySources self.old self.new }
+    {
+        self.is_pending = true;
+        self.sources.drop_set(list)
     }
 
     /// Loads local exceptions.
@@ -136,6 +166,7 @@ impl<S: VersionStore, T: Stream + Drop> Service<S, T> {
         ensures goes { Continues S.holds T.remaining T.contents self.old self.new }
         ensures takes { TakesSo result self.old self.new }
         ensures exceptions { SlurmTaken bytes.now result self.old.sources self.new.sources }
+        ensures rest { OnlySources self.old self.new }
     {
         self.sources.take_slurm(bytes)?;
         self.is_pending = true;
@@ -147,6 +178,7 @@ impl<S: VersionStore, T: Stream + Drop> Service<S, T> {
         ensures goes { Continues S.holds T.remaining T.contents self.old self.new }
         ensures takes { TakesSo result self.old self.new }
         ensures exceptions { SlurmsTaken (map (λ f. f.items) files.now) result self.old.sources self.new.sources }
+        ensures rest { OnlySources self.old self.new }
     {
         self.sources.take_slurms(files)?;
         self.is_pending = true;
@@ -156,9 +188,8 @@ impl<S: VersionStore, T: Stream + Drop> Service<S, T> {
     /// Makes a version pending: payloads of publication points expire by the clock, so the set may have changed.
     pub(crate) fn set_pending(&mut self)
         ensures goes { Continues S.holds T.remaining T.contents self.old self.new }
-        ensures server { self.new.server ≡ self.old.server }
         ensures pending { self.new.is_pending ≡ true }
-        ensures sources { self.new.sources ≡ self.old.sources }
+        ensures rest { self.new ≡ record self.old { is_pending = true } }
     {
         self.is_pending = true;
     }
@@ -167,8 +198,8 @@ impl<S: VersionStore, T: Stream + Drop> Service<S, T> {
     /// is pending in any case.
     pub(crate) fn judge_expiry(&mut self, now: u64)
         ensures goes { Continues S.holds T.remaining T.contents self.old self.new }
-        ensures server { self.new.server ≡ self.old.server }
         ensures fresh { IsFresh (λ at. at ≡ now) self.new }
+        ensures rest { self.new ≡ record self.old { is_pending = self.new.is_pending; current_at = self.new.current_at } }
     {
         if self.is_current_at(now) {
             self.current_at = now;
@@ -200,8 +231,8 @@ impl<S: VersionStore, T: Stream + Drop> Service<S, T> {
         now: u64,
     ) -> Result<Offered, Refusal>
         ensures goes { Continues S.holds T.remaining T.contents self.old self.new }
-        ensures rest { self.new.server ≡ self.old.server }
-        ensures offers { OffersTo result self.old.sources self.new.sources }
+        ensures rest { OnlySources self.old self.new }
+        ensures offers { OffersTo directory.now now result self.old.sources self.new.sources }
     {
         self.is_pending = true;
         self.has_points = true;
@@ -224,7 +255,8 @@ impl<S: VersionStore, T: Stream + Drop> Service<S, T> {
 
     /// The set of the sources at a time in seconds since 1970.
     pub(crate) fn served(&self, now: u64) -> Result<ServedSet, Refusal>
-        ensures { IfOk result (λ served. IsServedAt now self.now.sources served.set) }
+        ensures served { IfOk result (λ served. IsServedAt now self.now.sources served.set) }
+        ensures fails { IfErr result (λ refusal. IsReason now self.now.sources refusal) }
     {
         let Some(moment) = moment_at(now) else {
             return Err(Refusal::Clock);
@@ -246,6 +278,8 @@ impl<S: VersionStore, T: Stream + Drop> Service<S, T> {
         ensures pace { self.new.pace ≡ self.old.pace }
         ensures at { IfOk result (λ _. self.new.current_at ≡ now) }
         ensures points { self.new.has_points ≡ self.old.has_points }
+        ensures reason { IfErr result (λ refusal. IsReason now self.old.sources refusal) }
+        ensures current { IfErr result (λ _. self.new.current_at ≡ self.old.current_at) }
     {
         let ServedSet { set, left_out } = self.served(now)?;
         let counts = change_counts(self.set(), &set);
@@ -275,6 +309,9 @@ impl<S: VersionStore, T: Stream + Drop> Service<S, T> {
         ensures goes { GoesOn (λ at. at ≡ now) S.holds T.remaining T.contents self.old self.new }
         ensures waits { IsNone result → may_publish self.old.pace second ≡ false }
         ensures done { IfSome result (λ tried. IfOk tried (λ _. self.new.is_pending ≡ false)) }
+        ensures fails { IfSome result (λ tried. IfErr tried (λ refusal. IsReason now self.old.sources refusal)) }
+        ensures sources { self.new.sources ≡ self.old.sources }
+        ensures fresh { StaysFresh now self.old self.new }
     {
         if !self.pace.may_publish(second) {
             return None;

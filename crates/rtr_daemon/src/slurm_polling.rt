@@ -1,8 +1,10 @@
 //! Polling the files of local exceptions, which are loaded together (RFC 8416 section 4.2).
 ghost use Rattle.std.specs.Prelude.{◌≡◌, ◌∷◌, ◌++◌, [], ℕ, IfErr, IfOk, List, OnOk, map};
-ghost use Rattle.std.specs.String.{string_bytes};
-ghost use Rattle.rtr_daemon.specs.Files.{AreContents, FollowsSlurms, ReadsSlurms};
-ghost use Rattle.rtr_daemon.specs.Serving.{Continues, LoadsSlurms, SameSources, TakesSo};
+ghost use Rattle.rtr_daemon.specs.DiskAnswers.{ReadsWhole};
+ghost use Rattle.rtr_daemon.specs.Files.{AreContents, FollowsSlurms, ReadsSlurms, path_of, paths_of};
+ghost use Rattle.rtr_daemon.specs.declared.environment.Stamp.{Stamp as AStamp};
+ghost use Rattle.rtr_daemon.specs.Due.{OnlyFiles};
+ghost use Rattle.rtr_daemon.specs.Serving.{Continues, LoadsSlurms, OnlySources, SameSources, TakesSo};
 
 use crate::daemon::Daemon;
 use crate::environment::{Disk, EventLog, Stamp, Time};
@@ -46,6 +48,16 @@ impl Contents {
         Ok(())
     }
 
+    /// Notes that the file of this index was loaded, and answers whether a refusal was reported before.
+    fn note_loaded(&self, index: usize, file: &mut WatchedFile, now: u64) -> bool
+        ensures { file.new.path ≡ file.old.path }
+    {
+        match self.stamps.get(index) {
+            Some(stamp) => file.set_loaded(*stamp, now),
+            None => false,
+        }
+    }
+
     /// The refusal of the file of this index.
     fn refused(&self, index: usize, why: Refusal) -> SlurmRefusal {
         SlurmRefusal {
@@ -70,7 +82,7 @@ fn contents_of<W: Disk>(
     alloc: Global,
     env: &mut W,
 ) -> Result<Contents, SlurmRefusal>
-    ensures { IfOk result (λ contents. AreContents W.can_hold slurms.now (map (λ b. b.items) contents.bytes.items)) }
+    ensures { IfOk result (λ contents. AreContents W.answers (paths_of slurms.now) (map (λ b. b.items) contents.bytes.items)) }
 {
     let mut contents = Contents::new(alloc);
     for file in slurms {
@@ -95,7 +107,7 @@ fn add_content<W: Disk>(
     file: &WatchedFile,
     env: &mut W,
 ) -> Result<(), Refusal>
-    ensures { IfOk result (λ _. (read : List ℕ) × W.can_hold (string_bytes file.now.path) read × (map (λ b. b.items) contents.new.bytes.items ≡ map (λ b. b.items) contents.old.bytes.items ++ read ∷ [])) }
+    ensures { IfOk result (λ _. (stamp : AStamp) × (read : List ℕ) × ReadsWhole W.answers (path_of file.now) stamp read × (map (λ b. b.items) contents.new.bytes.items ≡ map (λ b. b.items) contents.old.bytes.items ++ read ∷ [])) }
 {
     let (stamp, bytes) = file.content(env)?;
     if contents.add(stamp, bytes).is_err() {
@@ -110,7 +122,7 @@ fn settled_contents<W: Disk>(
     alloc: Global,
     env: &mut W,
 ) -> Result<Contents, SlurmRefusal>
-    ensures { IfOk result (λ contents. AreContents W.can_hold slurms.now (map (λ b. b.items) contents.bytes.items)) }
+    ensures { IfOk result (λ contents. AreContents W.answers (paths_of slurms.now) (map (λ b. b.items) contents.bytes.items)) }
 {
     let mut last = contents_of(slurms, alloc, env);
     for _time in 1..TRIES {
@@ -140,6 +152,7 @@ fn take<S: VersionStore, T: Stream + Drop>(
     ensures goes { Continues S.holds T.remaining T.contents service.old service.new }
     ensures takes { TakesSo result service.old service.new }
     ensures loads { LoadsSlurms (map (λ b. b.items) contents.now.bytes.items) result service.old.sources service.new.sources }
+    ensures rest { OnlySources service.old service.new }
 {
     match service.take_slurms(contents.bytes.as_slice()) {
         Ok(()) => Ok(()),
@@ -181,7 +194,8 @@ pub(crate) fn read_slurms<S: VersionStore, T: Stream + Drop, W: Disk>(
     env: &mut W,
 ) -> Result<(), StartFault>
     ensures goes { Continues S.holds T.remaining T.contents service.old service.new }
-    ensures reads { IfOk result (λ _. ReadsSlurms W.can_hold slurms.old.items service.old.sources service.new.sources) }
+    ensures reads { IfOk result (λ _. ReadsSlurms W.answers slurms.old.items service.old.sources service.new.sources) }
+    ensures paths { paths_of slurms.new.items ≡ paths_of slurms.old.items }
 {
     let contents = match settled_contents(slurms, alloc, env) {
         Ok(contents) => contents,
@@ -209,9 +223,11 @@ fn start_fault(slurms: &[WatchedFile], alloc: Global, refusal: SlurmRefusal) -> 
 }
 
 /// Notes that all files were loaded.
-fn note_all_loaded(slurms: &mut [WatchedFile], contents: &Contents, now: u64) {
-    for (file, stamp) in slurms.iter_mut().zip(contents.stamps.iter()) {
-        let _ = file.set_loaded(*stamp, now);
+fn note_all_loaded(slurms: &mut [WatchedFile], contents: &Contents, now: u64)
+    ensures { paths_of slurms.new ≡ paths_of slurms.old }
+{
+    for (at, file) in slurms.iter_mut().enumerate() {
+        let _ = contents.note_loaded(at, file, now);
     }
 }
 
@@ -219,8 +235,10 @@ impl<S: VersionStore, T: Stream + Drop> Daemon<S, T> {
     /// Polls the files of local exceptions, and loads all if one has changed.
     pub(crate) fn follow_slurms<W: Disk + Time + EventLog>(&mut self, env: &mut W)
         ensures goes { Continues S.holds T.remaining T.contents self.old.service self.new.service }
-        ensures server { self.new.service.server ≡ self.old.service.server }
-        ensures follows { FollowsSlurms W.can_hold self.old.slurms.items self.old.service.sources self.new.service.sources }
+        ensures rest { OnlyFiles self.old self.new }
+        ensures kept { (self.new.exports ≡ self.old.exports) × (self.new.points ≡ self.old.points) }
+        ensures follows { FollowsSlurms W.answers self.old.slurms.items self.old.service.sources self.new.service.sources }
+        ensures paths { paths_of self.new.slurms.items ≡ paths_of self.old.slurms.items }
     {
         follow(
             &mut self.slurms,
@@ -241,8 +259,9 @@ fn follow<S: VersionStore, T: Stream + Drop, W: Disk + Time + EventLog>(
     env: &mut W,
 )
     ensures goes { Continues S.holds T.remaining T.contents service.old service.new }
-    ensures server { service.new.server ≡ service.old.server }
-    ensures follows { FollowsSlurms W.can_hold slurms.old.items service.old.sources service.new.sources }
+    ensures rest { OnlySources service.old service.new }
+    ensures follows { FollowsSlurms W.answers slurms.old.items service.old.sources service.new.sources }
+    ensures paths { paths_of slurms.new.items ≡ paths_of slurms.old.items }
 {
     let now = env.seconds();
     if !is_any_new(slurms, env) {
@@ -276,8 +295,8 @@ fn load<S: VersionStore, T: Stream + Drop, W: Disk>(
     env: &mut W,
 ) -> Result<Contents, SlurmRefusal>
     ensures goes { Continues S.holds T.remaining T.contents service.old service.new }
-    ensures server { service.new.server ≡ service.old.server }
-    ensures follows { FollowsSlurms W.can_hold slurms.now service.old.sources service.new.sources }
+    ensures rest { OnlySources service.old service.new }
+    ensures follows { FollowsSlurms W.answers slurms.now service.old.sources service.new.sources }
 {
     let contents = contents_of(slurms, alloc, env)?;
     take(service, slurms, &contents, alloc)?;
@@ -291,13 +310,28 @@ fn report_known<W: Disk + EventLog>(
     alloc: Global,
     now: u64,
     env: &mut W,
-) {
+)
+    ensures { paths_of slurms.new ≡ paths_of slurms.old }
+{
     for file in slurms.iter_mut() {
-        let is_known = file.state(env) == FileState::RefusedBefore;
-        if is_known && file.refusals.mark_reported(now) {
-            statistics.count_refusal();
-            log_refused_file(alloc, file, now, env);
-        }
+        report_if_known(file, statistics, alloc, now, env);
+    }
+}
+
+/// Reports a file, if it was refused at the poll before and that was not reported.
+fn report_if_known<W: Disk + EventLog>(
+    file: &mut WatchedFile,
+    statistics: &mut Statistics,
+    alloc: Global,
+    now: u64,
+    env: &mut W,
+)
+    ensures { file.new.path ≡ file.old.path }
+{
+    let is_known = file.state(env) == FileState::RefusedBefore;
+    if is_known && file.refusals.mark_reported(now) {
+        statistics.count_refusal();
+        log_refused_file(alloc, file, now, env);
     }
 }
 
@@ -307,12 +341,27 @@ fn report_loaded<W: EventLog>(
     contents: &Contents,
     now: u64,
     env: &mut W,
-) {
-    for (file, stamp) in slurms.iter_mut().zip(contents.stamps.iter()) {
-        if file.set_loaded(*stamp, now) {
-            let file = file.path.as_str();
-            env.log(now, &LogEvent::Taken { file });
-        }
+)
+    ensures { paths_of slurms.new ≡ paths_of slurms.old }
+{
+    for (at, file) in slurms.iter_mut().enumerate() {
+        report_one_loaded(contents, at, file, now, env);
+    }
+}
+
+/// Notes that the file of an index was loaded, and reports it if it was refused before.
+fn report_one_loaded<W: EventLog>(
+    contents: &Contents,
+    index: usize,
+    file: &mut WatchedFile,
+    now: u64,
+    env: &mut W,
+)
+    ensures { file.new.path ≡ file.old.path }
+{
+    if contents.note_loaded(index, file, now) {
+        let file = file.path.as_str();
+        env.log(now, &LogEvent::Taken { file });
     }
 }
 
@@ -324,27 +373,43 @@ fn report_refused<W: Disk + EventLog>(
     alloc: Global,
     now: u64,
     env: &mut W,
-) {
+)
+    ensures { paths_of slurms.new ≡ paths_of slurms.old }
+{
     let SlurmRefusal { index, stamp, why } = refusal;
     let mut why = Some(why);
     for (at, file) in slurms.iter_mut().enumerate() {
-        let is_due = if at == index {
-            match why.take() {
-                Some(why) => file.refusals.add(stamp, why, now),
-                None => false,
-            }
-        } else {
-            is_due_for_other(file, now, env)
-        };
-        if is_due {
-            statistics.count_refusal();
-            log_refused_file(alloc, file, now, env);
-        }
+        let own = if at == index { why.take() } else { None };
+        report_one_refused(file, stamp, own, statistics, alloc, now, env);
+    }
+}
+
+/// Notes the refusal of a file, or that it is not loaded because of another one. It is reported if that is due.
+fn report_one_refused<W: Disk + EventLog>(
+    file: &mut WatchedFile,
+    stamp: Option<Stamp>,
+    own: Option<Refusal>,
+    statistics: &mut Statistics,
+    alloc: Global,
+    now: u64,
+    env: &mut W,
+)
+    ensures { file.new.path ≡ file.old.path }
+{
+    let is_due = match own {
+        Some(why) => file.refusals.add(stamp, why, now),
+        None => is_due_for_other(file, now, env),
+    };
+    if is_due {
+        statistics.count_refusal();
+        log_refused_file(alloc, file, now, env);
     }
 }
 
 /// Notes that a file is not loaded because of another one, if it has changed. It answers whether that is reported now.
-fn is_due_for_other<W: Disk>(file: &mut WatchedFile, now: u64, env: &mut W) -> bool {
+fn is_due_for_other<W: Disk>(file: &mut WatchedFile, now: u64, env: &mut W) -> bool
+    ensures { file.new.path ≡ file.old.path }
+{
     match env.stamp(file.path.as_str()) {
         Ok(stamp) if !file.was_loaded(stamp) => {
             file.refusals.add(Some(stamp), Refusal::OtherSlurm, now)

@@ -1,4 +1,6 @@
 //! The statistics of a daemon since its start.
+ghost use Rattle.rtr_daemon.specs.Due.{IsKept};
+
 use crate::refusal::Refusal;
 use crate::service::PublishReport;
 use prefixes::{IpPrefix, Vrp};
@@ -195,7 +197,9 @@ impl Statistics {
     }
 
     /// A publication failed at this time.
-    pub(crate) fn note_failure(&mut self, why: Refusal, now: u64) {
+    pub(crate) fn note_failure(&mut self, why: Refusal, now: u64)
+        ensures { IsKept why self.new.failure }
+    {
         let since = match &self.failure {
             Some(failure) => failure.since,
             None => now,

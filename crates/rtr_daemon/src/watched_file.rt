@@ -1,7 +1,7 @@
 //! Watched files.
-ghost use Rattle.std.specs.Prelude.{◌≡◌, IfOk};
-ghost use Rattle.std.specs.String.{string_bytes};
-ghost use Rattle.rtr_daemon.specs.Files.{ReadsFrom};
+ghost use Rattle.std.specs.Prelude.{◌≡◌, true, false, IfOk};
+ghost use Rattle.rtr_daemon.specs.DiskAnswers.{HadStamp, ReadsWhole};
+ghost use Rattle.rtr_daemon.specs.Files.{IsStateOf, Looks, ReadsAfter, WasLoaded, path_of};
 
 use crate::environment::{Disk, Stamp};
 use crate::refusal::Refusal;
@@ -60,7 +60,7 @@ impl WatchedFile {
     /// Reads the file if its stamp has changed. With `anew` it is read even if its stamp is unchanged. A file that changes while it is read is
     /// tried again at the next poll.
     pub(crate) fn look<W: Disk>(&self, env: &mut W, anew: bool) -> Look
-        ensures { ReadsFrom W.can_hold (string_bytes self.now.path) result }
+        ensures { Looks W.answers self.now anew result }
     {
         let before = match env.stamp(self.path.as_str()) {
             Ok(stamp) => stamp,
@@ -73,15 +73,16 @@ impl WatchedFile {
         }
     }
 
+    /// Reads the file, whose stamp was this one just now.
     fn read<W: Disk>(&self, env: &mut W, before: Stamp) -> Look
-        ensures { ReadsFrom W.can_hold (string_bytes self.now.path) result }
+        ensures { ReadsAfter W.answers env.old before (path_of self.now) result }
     {
         let bytes = match env.read(self.path.as_str()) {
             Ok(bytes) => bytes,
             Err(error) => return Look::Failed(error),
         };
         match env.stamp(self.path.as_str()) {
-            Ok(after) if after == before => Look::Read(before, bytes),
+            Ok(after) if after.is(&before) => Look::Read(before, bytes),
             Ok(_) => Look::Unstable,
             Err(error) => Look::Failed(error),
         }
@@ -89,7 +90,7 @@ impl WatchedFile {
 
     /// Reads the file, even if it has not changed.
     pub(crate) fn content<W: Disk>(&self, env: &mut W) -> Result<(Stamp, Vec<u8>), Refusal>
-        ensures { IfOk result (λ read. W.can_hold (string_bytes self.now.path) read.1.items) }
+        ensures { IfOk result (λ read. ReadsWhole W.answers (path_of self.now) read.0 read.1.items) }
     {
         let before = match env.stamp(self.path.as_str()) {
             Ok(stamp) => stamp,
@@ -111,7 +112,9 @@ impl WatchedFile {
     }
 
     /// The state of the file, if it has this stamp.
-    fn state_of(&self, stamp: Stamp) -> FileState {
+    fn state_of(&self, stamp: Stamp) -> FileState
+        ensures { IsStateOf self.now stamp result }
+    {
         if self.was_loaded(stamp) {
             FileState::Unchanged
         } else if self.refusals.is_known(stamp) {
@@ -122,12 +125,20 @@ impl WatchedFile {
     }
 
     /// Whether it was last loaded with this stamp.
-    pub(crate) fn was_loaded(&self, stamp: Stamp) -> bool {
-        self.loaded == Some(stamp)
+    pub(crate) fn was_loaded(&self, stamp: Stamp) -> bool
+        ensures { result ≡ true → WasLoaded self.now stamp }
+    {
+        match &self.loaded {
+            Some(loaded) => loaded.is(&stamp),
+            None => false,
+        }
     }
 
     /// It was loaded with this stamp. It answers whether a refusal was reported before.
-    pub(crate) fn set_loaded(&mut self, stamp: Stamp, now: u64) -> bool {
+    pub(crate) fn set_loaded(&mut self, stamp: Stamp, now: u64) -> bool
+        ensures loaded { WasLoaded self.new stamp }
+        ensures path { self.new.path ≡ self.old.path }
+    {
         self.loaded = Some(stamp);
         self.loaded_at = Some(now);
         self.refusals.clear()
@@ -181,7 +192,11 @@ impl WatchedExport {
     }
 
     /// It was loaded with this stamp, and this many of its entries had expired. It answers whether a refusal was reported before.
-    pub(crate) fn set_loaded(&mut self, stamp: Stamp, now: u64, expired: u64) -> bool {
+    pub(crate) fn set_loaded(&mut self, stamp: Stamp, now: u64, expired: u64) -> bool
+        ensures loaded { WasLoaded self.new.file stamp }
+        ensures path { self.new.file.path ≡ self.old.file.path }
+        ensures number { self.new.number ≡ self.old.number }
+    {
         self.expired = expired;
         self.expired_since = 0;
         self.file.set_loaded(stamp, now)
@@ -193,7 +208,9 @@ impl WatchedExport {
     }
 
     /// Notes whether its data are old, and answers whether that has changed.
-    pub(crate) fn set_old(&mut self, is_old: bool) -> bool {
+    pub(crate) fn set_old(&mut self, is_old: bool) -> bool
+        ensures { self.new ≡ record self.old { is_old = is_old } }
+    {
         let is_news = self.is_old != is_old;
         self.is_old = is_old;
         is_news

@@ -1,11 +1,27 @@
-use Rattle.std.proofs.Common.{◌∙◌}
+use Rattle.std.proofs.Common.{◌≡◌, ◌+◌, ◌∙◌, suc, arith, get_or, length, subst, take, ◌<◌}
+use Rattle.rtr_daemon.specs.Files.{Follows, FollowsEach}
+use Rattle.rtr_daemon.proofs.ContentLaws.{follows_more, left_more, names_kept}
+use Rattle.rtr_daemon.proofs.DueLaws.{sources_on}
 use Rattle.rtr_daemon.proofs.ServiceLaws.{then_on}
 use Rattle.rtr_daemon.proofs.polling.follow_each.Goals as goal
 
 pub loop-export-preserved : goal.loop-export-preserved
 loop-export-preserved g c =
-    let followed = then_on g.S.VersionStore.holds g.T.Stream.remaining g.T.Stream.contents c.args.service.now c.loop-export.service c.follow-polled.new.service c.loop-export.invariant.goes c.follow-polled.ensures.goes in
+    let i = c.loop-export.export-index in
+    let item = c.export-item.result in
+    let initial = c.deref_mut-export-items.result.now in
+    let before = c.loop-export.invariant in
+    let one = c.follow_one.ensures in
+    let less : i < length initial = omega (arith, c.loop-export-test.true) in
+    let more : suc i ≡ i + 1 = omega arith in
+    let here : get_or c.loop-export.export-items i item ≡ get_or initial i item = before.left i item (omega arith) in
     record {
-      goes = then_on g.S.VersionStore.holds g.T.Stream.remaining g.T.Stream.contents c.args.service.now c.follow-polled.new.service c.note_expired.new.service followed c.note_expired.ensures.goes;
-      server = c.note_expired.ensures.server ∙ c.follow-polled.ensures.server ∙ c.loop-export.invariant.server;
+      goes = then_on g.S.VersionStore.holds g.T.Stream.remaining g.T.Stream.contents c.args.service.now c.loop-export.service c.follow_one.new.service before.goes one.goes;
+      rest = sources_on c.args.service.now c.loop-export.service c.follow_one.new.service before.rest one.rest;
+      follows =
+          subst (λ n. FollowsEach g.W.Disk.answers g.W.Time.can_be (take n initial) c.args.service.now.sources c.follow_one.new.service.sources) more
+          (follows_more g.W.Disk.answers g.W.Time.can_be initial i item c.args.service.now.sources c.loop-export.service.sources c.follow_one.new.service.sources one.follows.0 less one.follows.1 before.follows
+          (subst (λ e. Follows g.W.Disk.answers e one.follows.0 c.loop-export.service.sources c.follow_one.new.service.sources) here one.follows.2));
+      names = names_kept c.loop-export.export-items i item c.follow_one.new.export one.path one.number ∙ before.names;
+      left = left_more c.loop-export.export-items initial i c.follow_one.new.export before.left;
     }

@@ -1,6 +1,10 @@
--- So far the service went on.
+-- So far the service went on, and only clients have changed.
+use Rattle.rtr_daemon.specs.Due.{OnlyClients}
 use Rattle.rtr_daemon.specs.Serving.{Continues}
 use Rattle.rtr_daemon.proofs.daemon.Daemon.accept_from.Given as goal
 
 abbrev pub invariant-loop-connection : goal.invariant-loop-connection
-invariant-loop-connection g l = Continues g.S.VersionStore.holds g.T.Stream.remaining g.T.Stream.contents l.initial.self.service l.self.service
+invariant-loop-connection g l = record {
+  goes : Continues g.S.VersionStore.holds g.T.Stream.remaining g.T.Stream.contents l.initial.self.service l.self.service;
+  rest : OnlyClients l.initial.self l.self;
+}

@@ -1,6 +1,23 @@
+use Rattle.std.proofs.Common.{ap, subst}
+use Rattle.rtr_daemon.specs.Due.{PublishesIfDue}
+use Rattle.rtr_daemon.proofs.DueLaws.{clients_fresh, clients_kept, publishes_from}
 use Rattle.rtr_daemon.proofs.ServiceLaws.{then_goes}
 use Rattle.rtr_daemon.proofs.daemon.Daemon.go_round.Goals as goal
 
-pub returns : goal.returns
-returns g c =
-    then_goes g.W.Time.can_be g.S.VersionStore.holds g.T.Stream.remaining g.T.Stream.contents c.args.self.now.service c.drop_stalled.new.self.service c.publish_pending.new.self.service c.drop_stalled.ensures c.publish_pending.ensures.goes
+pub returns-clause-goes : goal.returns-clause-goes
+returns-clause-goes g c =
+    then_goes g.W.Time.can_be g.S.VersionStore.holds g.T.Stream.remaining g.T.Stream.contents c.args.self.now.service c.drop_stalled.new.self.service c.publish_pending.new.self.service c.drop_stalled.ensures.goes c.publish_pending.ensures.goes
+
+pub returns-clause-fresh : goal.returns-clause-fresh
+returns-clause-fresh g c = λ fresh. c.publish_pending.ensures.fresh (clients_fresh g.W.Time.can_be (record c.args.self.now { next_round = c.saturating_add-self.result; clients = c.wake_blocked.new.self }) c.drop_stalled.new.self c.drop_stalled.ensures.rest fresh)
+
+pub returns-clause-due : goal.returns-clause-due
+returns-clause-due g c = λ due.
+    let only = c.drop_stalled.ensures.rest in
+    publishes_from g.W.Time.can_be g.W.Time.can_tick c.args.self.now.held_until c.args.self.now c.drop_stalled.new.self c.publish_pending.new.self (ap (λ d. d.service.pace) only) (ap (λ d. d.started) only) (ap (λ d. d.opened) only)
+    (subst (λ held. PublishesIfDue g.W.Time.can_be g.W.Time.can_tick held c.drop_stalled.new.self c.publish_pending.new.self) (ap (λ d. d.held_until) only) c.publish_pending.ensures.due)
+
+pub returns-clause-kept : goal.returns-clause-kept
+returns-clause-kept g c =
+    let k = clients_kept (record c.args.self.now { next_round = c.saturating_add-self.result; clients = c.wake_blocked.new.self }) c.drop_stalled.new.self c.publish_pending.new.self c.drop_stalled.ensures.rest c.publish_pending.ensures.kept in
+    record { sources = k.sources; exports = k.exports; slurms = k.slurms; points = k.points; next_check = k.next_check; rest = k.rest }

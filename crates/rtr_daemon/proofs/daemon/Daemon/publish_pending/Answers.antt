@@ -1,17 +1,23 @@
-use Rattle.std.proofs.Common.{subst, sym}
+use Rattle.std.proofs.Common.{ap, subst, sym}
 use Rattle.rtr_daemon.specs.Serving.{GoesOn}
+use Rattle.rtr_daemon.proofs.DueLaws.{published_fresh, published_kept, tried_due}
 use Rattle.rtr_daemon.proofs.ServiceLaws.{at_clock}
 use Rattle.rtr_daemon.proofs.daemon.Daemon.publish_pending.Goals as goal
 
 pub returns-in-None-clause-goes : goal.returns-in-None-clause-goes
 returns-in-None-clause-goes g c = at_clock g.W.Time.can_be g.S.VersionStore.holds g.T.Stream.remaining g.T.Stream.contents c.args.self.now.service c.publish_paced.new.self c.seconds-now.result c.seconds-now.ensures c.publish_paced.ensures.goes
 
-pub returns-in-Some-Ok-clause-goes : goal.returns-in-Some-Ok-clause-goes
-returns-in-Some-Ok-clause-goes g c =
-    subst (λ s. GoesOn g.W.Time.can_be g.S.VersionStore.holds g.T.Stream.remaining g.T.Stream.contents c.args.self.now.service s) (sym c.note_published.ensures)
+pub returns-in-Some-clause-goes : goal.returns-in-Some-clause-goes
+returns-in-Some-clause-goes g c =
+    subst (λ s. GoesOn g.W.Time.can_be g.S.VersionStore.holds g.T.Stream.remaining g.T.Stream.contents c.args.self.now.service s) (sym (ap (λ d. d.service) c.note_tried.ensures.rest))
     (at_clock g.W.Time.can_be g.S.VersionStore.holds g.T.Stream.remaining g.T.Stream.contents c.args.self.now.service c.publish_paced.new.self c.seconds-now.result c.seconds-now.ensures c.publish_paced.ensures.goes)
 
-pub returns-in-Some-Err-clause-goes : goal.returns-in-Some-Err-clause-goes
-returns-in-Some-Err-clause-goes g c =
-    subst (λ s. GoesOn g.W.Time.can_be g.S.VersionStore.holds g.T.Stream.remaining g.T.Stream.contents c.args.self.now.service s) (sym c.note_failure.ensures.service)
-    (at_clock g.W.Time.can_be g.S.VersionStore.holds g.T.Stream.remaining g.T.Stream.contents c.args.self.now.service c.publish_paced.new.self c.seconds-now.result c.seconds-now.ensures c.publish_paced.ensures.goes)
+pub returns-in-Some-clause-due : goal.returns-in-Some-clause-due
+returns-in-Some-clause-due g c =
+    tried_due g.W.Time.can_be g.W.Time.can_tick c.args.self.now.held_until c.args.self.now c.note_tried.new.self c.publish_paced.new.self c.seconds-now.result c.in-Some.tried c.seconds-now.ensures c.publish_paced.ensures.sources c.in-Some.ensures.done c.in-Some.ensures.fails c.note_tried.ensures.rest c.note_tried.ensures.failed
+
+pub returns-in-Some-clause-fresh : goal.returns-in-Some-clause-fresh
+returns-in-Some-clause-fresh g c = λ fresh. published_fresh g.W.Time.can_be c.args.self.now c.note_tried.new.self c.publish_paced.new.self c.seconds-now.result c.seconds-now.ensures c.publish_paced.ensures.fresh c.note_tried.ensures.rest fresh
+
+pub returns-in-Some-clause-kept : goal.returns-in-Some-clause-kept
+returns-in-Some-clause-kept g c = published_kept c.args.self.now c.note_tried.new.self c.publish_paced.new.self c.publish_paced.ensures.sources c.note_tried.ensures.rest

@@ -1,0 +1,231 @@
+-- The parts of a turn, and what it does by the clock.
+use Rattle.std.proofs.Common.{◌≡◌, ℕ, ◌≤◌, ◌<◌, ◌⊎◌, inl, inr, subst, sym, ◌∙◌, ap, refl, arith}
+use Rattle.std.specs.Prelude.{false, IfErr, IfOk, Option, None, Some, Result, Ok, Err}
+use Rattle.rtr_daemon.specs.declared.service.PublishReport.{PublishReport}
+use Rattle.rtr_daemon.specs.declared.refusal.Refusal.{Refusal}
+use Rattle.rtr_daemon.specs.declared.statistics.Failure.{Failure}
+use Rattle.session_names.specs.Runs.{may_publish}
+use Rattle.rtr_daemon.specs.Files.{FollowsEach, FollowsSlurms, names_of, paths_of}
+use Rattle.rtr_daemon.specs.DiskAnswers.{DiskAnswers}
+use Rattle.rtr_daemon.specs.Due.{DoesWhatIsDue, FailsToPublish, FailureNoted, IsBetween, IsChecked, IsKept, JudgesAges, KeepsFiles, OnlyClients, OnlyFiles, OnlyNotes, PollsAll, PublishesIfDue, SamePaths, later_by, second_of_pace}
+use Rattle.rtr_daemon.specs.PointOffers.{OffersEach, points_of}
+use Rattle.rtr_daemon.specs.Serving.{IsFresh, IsReason, OnlySources, StaysFresh}
+use Rattle.rtr_daemon.specs.declared.daemon.Daemon.{Daemon}
+use Rattle.rtr_daemon.specs.declared.service.Service.{Service}
+
+-- old with the clients of new
+abbrev pub with_clients : {S T : Type 0} → Daemon S T → Daemon S T → Daemon S T
+with_clients old new = record old { service = record old.service { server = new.service.server }; clients = new.clients; listeners = new.listeners; statistics = new.statistics; has_parted = new.has_parted }
+
+-- One part after another changes only clients.
+pub only_on : {S T : Type 0} (a b c : Daemon S T) → OnlyClients a b → OnlyClients b c → OnlyClients a c
+only_on a b c first second = subst (λ z. c ≡ with_clients z c) first second
+
+-- One part after another changes only the sources.
+pub sources_on : {S T : Type 0} (a b c : Service S T) → OnlySources a b → OnlySources b c → OnlySources a c
+sources_on a b c first second = subst (λ z. c ≡ record z { sources = c.sources; is_pending = c.is_pending; current_at = c.current_at; has_points = c.has_points }) first second
+
+-- Only whether a version is pending has changed.
+pub pending_only : {S T : Type 0} (a b : Service S T) → b ≡ record a { is_pending = b.is_pending } → OnlySources a b
+pending_only a b h = subst (λ z. z ≡ record a { sources = z.sources; is_pending = z.is_pending; current_at = z.current_at; has_points = z.has_points }) (sym h) refl
+
+-- When a version is published depends on the pace alone, and on when the daemon was opened.
+pub publishes_from : {S T : Type 0} (clock ticks : ℕ → Type 0) (held : ℕ) (a b c : Daemon S T) → b.service.pace ≡ a.service.pace → b.started ≡ a.started → b.opened ≡ a.opened → PublishesIfDue clock ticks held b c → PublishesIfDue clock ticks held a c
+publishes_from clock ticks held a b c pace started opened (inl done) = inl done
+publishes_from clock ticks held a b c pace started opened (inr (inl fails)) = inr (inl fails)
+publishes_from clock ticks held a b c pace started opened (inr (inr waits)) = inr (inr (record { millis = waits.millis; ticked = waits.ticked; reason = by waits.reason })) where
+  by : (waits.millis < held) ⊎ (may_publish b.service.pace (second_of_pace b.started b.opened waits.millis) ≡ false) → (waits.millis < held) ⊎ (may_publish a.service.pace (second_of_pace a.started a.opened waits.millis) ≡ false)
+  by (inl early) = inl early
+  by (inr same) = inr (rw (sym pace, sym started, sym opened) same)
+
+polls_to : {S T W : Type 0} (answers : DiskAnswers W) (clock : ℕ → Type 0) (a b c : Daemon S T) → c.service.sources ≡ b.service.sources → PollsAll answers clock a b → PollsAll answers clock a c
+polls_to answers clock a b c same p = record { followed = p.followed; excepted = p.excepted; exports = p.exports; slurms = p.slurms; points = subst (OffersEach answers clock a.points.items p.excepted) (sym same) p.points }
+
+-- A round of publication, after a check and a turn of clients
+pub record Round {S T : Type 0} (clock ticks : ℕ → Type 0) (now : ℕ) (c d : Daemon S T) : Type 0 where
+  pub fresh : IsFresh clock c.service → IsFresh clock d.service
+  pub due : c.next_round ≤ now → PublishesIfDue clock ticks c.held_until c d
+  pub round : c.next_round ≤ now → d.next_round ≡ later_by 1000 now
+  pub early : now < c.next_round → d.next_round ≡ c.next_round
+  pub kept : KeepsFiles c d
+
+-- What is due: a check, clients, and a round of publication.
+pub due_of : {S T W : Type 0} (answers : DiskAnswers W) (clock ticks : ℕ → Type 0) (now : ℕ) (a b c d : Daemon S T) → ticks now → (a.next_check ≤ now → PollsAll answers clock a b) → (a.next_check ≤ now → IsFresh clock b.service) → SamePaths a b → IsChecked now a b → OnlyClients b c → Round clock ticks now c d
+    → DoesWhatIsDue answers clock ticks a d
+due_of {S} {T} answers clock ticks now a b c d ticked polls fresh paths checked only round = on (subst (λ z. Round clock ticks now z d) only round) where
+  on : Round clock ticks now (with_clients b c) d → DoesWhatIsDue answers clock ticks a d
+  on r = record {
+    now = now;
+    ticked = ticked;
+    due = λ is. record {
+      polls = polls_to answers clock a b d r.kept.sources (polls is);
+      fresh = r.fresh (fresh is);
+      publishes =
+          publishes_from clock ticks now a (with_clients b c) d checked.pace checked.rest.1 checked.rest.2
+          (subst (λ held. PublishesIfDue clock ticks held (with_clients b c) d) (checked.held_until is) (r.due (early_enough is)));
+      next_check = r.kept.next_check ∙ checked.next_check is;
+      next_round = r.round (early_enough is);
+      paths = record {
+        exports = ap (λ e. names_of e.items) r.kept.exports ∙ paths.exports;
+        slurms = ap (λ e. paths_of e.items) r.kept.slurms ∙ paths.slurms;
+        points = ap (λ e. points_of e.items) r.kept.points ∙ paths.points;
+      };
+    };
+    between = λ is. between_of (checked.between is);
+    rest = (r.kept.rest.0 ∙ checked.rest.0, r.kept.rest.1 ∙ checked.rest.1, r.kept.rest.2 ∙ checked.rest.2);
+  } where
+    early_enough : a.next_check ≤ now → b.next_round ≤ now
+    early_enough is = let at : b.next_round ≡ now = checked.next_round is in omega (arith, at)
+
+    between_of : b ≡ a → IsBetween clock ticks now a d
+    between_of same = again (subst (λ z. Round clock ticks now (with_clients z c) d) same r) where
+      again : Round clock ticks now (with_clients a c) d → IsBetween clock ticks now a d
+      again s = record {
+        kept = record { sources = s.kept.sources; exports = s.kept.exports; slurms = s.kept.slurms; points = s.kept.points; next_check = s.kept.next_check; rest = s.kept.rest };
+        publishes = λ is. publishes_from clock ticks a.held_until a (with_clients a c) d refl refl refl (s.due is);
+        next_round = s.round;
+        early = s.early;
+      }
+
+-- A turn of clients, and then what is due by the clock
+pub due_after : {S T W : Type 0} (answers : DiskAnswers W) (clock ticks : ℕ → Type 0) (a b c : Daemon S T) → OnlyClients a b → DoesWhatIsDue answers clock ticks b c → DoesWhatIsDue answers clock ticks a c
+due_after {S} {T} answers clock ticks a b c only h = again (subst (λ z. DoesWhatIsDue answers clock ticks z c) only h) where
+  again : DoesWhatIsDue answers clock ticks (with_clients a b) c → DoesWhatIsDue answers clock ticks a c
+  again d = record {
+    now = d.now;
+    ticked = d.ticked;
+    due = λ is. let p = d.due is in record {
+      polls = record { followed = p.polls.followed; excepted = p.polls.excepted; exports = p.polls.exports; slurms = p.polls.slurms; points = p.polls.points };
+      fresh = p.fresh;
+      publishes = publishes_from clock ticks d.now a (with_clients a b) c refl refl refl p.publishes;
+      next_check = p.next_check;
+      next_round = p.next_round;
+      paths = record { exports = p.paths.exports; slurms = p.paths.slurms; points = p.paths.points };
+    };
+    between = λ is. let p = d.between is in record {
+      kept = record { sources = p.kept.sources; exports = p.kept.exports; slurms = p.kept.slurms; points = p.kept.points; next_check = p.kept.next_check; rest = p.kept.rest };
+      publishes = λ due. publishes_from clock ticks a.held_until a (with_clients a b) c refl refl refl (p.publishes due);
+      next_round = p.next_round;
+      early = p.early;
+    };
+    rest = d.rest;
+  }
+
+-- old with the files of new, and what is noted of them
+abbrev pub with_files : {S T : Type 0} → Daemon S T → Daemon S T → Daemon S T
+with_files old new = record old {
+  service = record old.service { sources = new.service.sources; is_pending = new.service.is_pending; current_at = new.service.current_at; has_points = new.service.has_points };
+  exports = new.exports;
+  slurms = new.slurms;
+  points = new.points;
+  statistics = new.statistics;
+  clock_behind = new.clock_behind;
+  is_old = new.is_old;
+}
+
+-- One part after another changes only files.
+pub files_on : {S T : Type 0} (a b c : Daemon S T) → OnlyFiles a b → OnlyFiles b c → OnlyFiles a c
+files_on a b c first second = subst (λ z. c ≡ with_files z c) first second
+
+-- What was judged of the clock, and of ages
+pub clock_only : {S T : Type 0} (a b : Daemon S T) → b ≡ record a { clock_behind = b.clock_behind } → OnlyFiles a b
+clock_only a b h = subst (λ z. z ≡ with_files a z) (sym h) refl
+
+pub ages_only : {S T : Type 0} (a b : Daemon S T) → JudgesAges a b → OnlyFiles a b
+ages_only a b h = subst (λ z. z ≡ with_files a z) (sym h.rest) refl
+
+-- A poll by its parts: the clock, exports, local exceptions, publication points, and ages
+pub record Parts {S T W : Type 0} (answers : DiskAnswers W) (clock : ℕ → Type 0) (a b c d e f : Daemon S T) : Type 0 where
+  pub judged : b ≡ record a { clock_behind = b.clock_behind }
+  pub exports : FollowsEach answers clock b.exports.items b.service.sources c.service.sources
+  pub names : names_of c.exports.items ≡ names_of b.exports.items
+  pub after_exports : (c.slurms ≡ b.slurms) × (c.points ≡ b.points)
+  pub slurms : FollowsSlurms answers c.slurms.items c.service.sources d.service.sources
+  pub slurm_paths : paths_of d.slurms.items ≡ paths_of c.slurms.items
+  pub after_slurms : (d.exports ≡ c.exports) × (d.points ≡ c.points)
+  pub points : OffersEach answers clock d.points.items d.service.sources e.service.sources
+  pub point_paths : points_of e.points.items ≡ points_of d.points.items
+  pub after_points : (e.exports ≡ d.exports) × (e.slurms ≡ d.slurms)
+  pub ages : JudgesAges e f
+
+pub polls_of : {S T W : Type 0} (answers : DiskAnswers W) (clock : ℕ → Type 0) (a b c d e f : Daemon S T) → Parts answers clock a b c d e f → PollsAll answers clock a f
+polls_of answers clock a b c d e f p =
+    let at_start : FollowsEach answers clock a.exports.items a.service.sources c.service.sources = subst (λ z. FollowsEach answers clock z.exports.items z.service.sources c.service.sources) p.judged p.exports in
+    let slurms : c.slurms ≡ a.slurms = p.after_exports.0 ∙ ap (λ z. z.slurms) p.judged in
+    let points : d.points ≡ a.points = p.after_slurms.1 ∙ p.after_exports.1 ∙ ap (λ z. z.points) p.judged in
+    let last : f.service.sources ≡ e.service.sources = ap (λ z. z.service.sources) p.ages.rest in
+    record {
+      followed = c.service.sources;
+      excepted = d.service.sources;
+      exports = at_start;
+      slurms = subst (λ z. FollowsSlurms answers z.items c.service.sources d.service.sources) slurms p.slurms;
+      points = subst (OffersEach answers clock a.points.items d.service.sources) (sym last) (subst (λ z. OffersEach answers clock z.items d.service.sources e.service.sources) points p.points);
+    }
+
+pub same_paths_of : {S T W : Type 0} (answers : DiskAnswers W) (clock : ℕ → Type 0) (a b c d e f : Daemon S T) → Parts answers clock a b c d e f → SamePaths a f
+same_paths_of answers clock a b c d e f p = record {
+  exports =
+      p.ages.names ∙ ap (λ z. names_of z.items) p.after_points.0 ∙ ap (λ z. names_of z.items) p.after_slurms.0 ∙ p.names
+      ∙ ap (λ z. names_of z.exports.items) p.judged;
+  slurms =
+      ap (λ z. paths_of z.slurms.items) p.ages.rest ∙ ap (λ z. paths_of z.items) p.after_points.1 ∙ p.slurm_paths ∙ ap (λ z. paths_of z.items) p.after_exports.0
+      ∙ ap (λ z. paths_of z.slurms.items) p.judged;
+  points =
+      ap (λ z. points_of z.points.items) p.ages.rest ∙ p.point_paths ∙ ap (λ z. points_of z.items) p.after_slurms.1 ∙ ap (λ z. points_of z.items) p.after_exports.1
+      ∙ ap (λ z. points_of z.points.items) p.judged;
+}
+
+-- The reason of a failure that is kept
+kept_failure : (refusal : Refusal) (failure : Option Failure) → IsKept refusal failure → (f : Failure) × (failure ≡ Some f) × (f.why ≡ refusal)
+kept_failure refusal None kept = absurd kept
+kept_failure refusal (Some f) kept = (f, refl, kept)
+
+-- Publication failed, and that was noted.
+pub fails_on : {S T : Type 0} (clock : ℕ → Type 0) (a new : Daemon S T) (s : Service S T) (now : ℕ) (refusal : Refusal) → clock now → s.sources ≡ a.service.sources → IsReason now a.service.sources refusal → OnlyNotes (record a { service = s }) new → new.held_until ≡ new.next_check → IsKept refusal new.statistics.failure → FailsToPublish clock new
+fails_on clock a new s now refusal answered same reason only held kept =
+    let f = kept_failure refusal new.statistics.failure kept in
+    let sources : new.service.sources ≡ a.service.sources = ap (λ d. d.service.sources) only ∙ same in
+    record { now = now; answered = answered; failure = f.0; kept = f.1; reason = subst (λ r. IsReason now new.service.sources r) (sym f.2) (subst (λ z. IsReason now z refusal) (sym sources) reason); held = held }
+
+-- A publication was tried: no version is pending, or it failed.
+pub tried_due : {S T : Type 0} (clock ticks : ℕ → Type 0) (held : ℕ) (a new : Daemon S T) (s : Service S T) (now : ℕ) (tried : Result PublishReport Refusal) → clock now → s.sources ≡ a.service.sources → IfOk tried (λ x. s.is_pending ≡ false) → IfErr tried (λ r. IsReason now a.service.sources r) → OnlyNotes (record a { service = s }) new
+    → IfErr tried (λ r. FailureNoted r new) → PublishesIfDue clock ticks held a new
+tried_due clock ticks held a new s now (Ok report) answered same done fails only noted = inl (ap (λ d. d.service.is_pending) only ∙ done)
+tried_due clock ticks held a new s now (Err refusal) answered same done fails only noted = inr (inl (fails_on clock a new s now refusal answered same fails only noted.held noted.kept))
+
+-- What was published, and what was noted of it, leaves the files.
+pub published_kept : {S T : Type 0} (a new : Daemon S T) (s : Service S T) → s.sources ≡ a.service.sources → OnlyNotes (record a { service = s }) new → KeepsFiles a new
+published_kept a new s same only = record {
+  sources = ap (λ d. d.service.sources) only ∙ same;
+  exports = ap (λ d. d.exports) only;
+  slurms = ap (λ d. d.slurms) only;
+  points = ap (λ d. d.points) only;
+  next_check = ap (λ d. d.next_check) only;
+  rest = (ap (λ d. d.plan) only, ap (λ d. d.started) only, ap (λ d. d.opened) only);
+}
+
+fresh_on : {S T : Type 0} (clock : ℕ → Type 0) (a b : Service S T) (now : ℕ) → clock now → StaysFresh now a b → IsFresh clock a → IsFresh clock b
+fresh_on clock a b now answered (inl (at, pending)) (inl waits) = inl (pending ∙ waits)
+fresh_on clock a b now answered (inl (at, pending)) (inr known) = inr (subst clock (sym at) known)
+fresh_on clock a b now answered (inr at) fresh = inr (subst clock (sym at) answered)
+
+pub published_fresh : {S T : Type 0} (clock : ℕ → Type 0) (a new : Daemon S T) (s : Service S T) (now : ℕ) → clock now → StaysFresh now a.service s → OnlyNotes (record a { service = s }) new → IsFresh clock a.service → IsFresh clock new.service
+published_fresh clock a new s now answered stays only fresh = subst (IsFresh clock) (sym (ap (λ d. d.service) only)) (fresh_on clock a.service s now answered stays fresh)
+
+pub clients_fresh : {S T : Type 0} (clock : ℕ → Type 0) (a b : Daemon S T) → OnlyClients a b → IsFresh clock a.service → IsFresh clock b.service
+clients_fresh clock a b only fresh = subst (λ z. IsFresh clock z.service) (sym only) (again fresh) where
+  again : IsFresh clock a.service → IsFresh clock (with_clients a b).service
+  again (inl waits) = inl waits
+  again (inr known) = inr known
+
+-- Clients, and then what leaves the files
+pub clients_kept : {S T : Type 0} (a b c : Daemon S T) → OnlyClients a b → KeepsFiles b c → KeepsFiles a c
+clients_kept a b c only kept = again (subst (λ z. KeepsFiles z c) only kept) where
+  again : KeepsFiles (with_clients a b) c → KeepsFiles a c
+  again k = record { sources = k.sources; exports = k.exports; slurms = k.slurms; points = k.points; next_check = k.next_check; rest = k.rest }
+
+-- A poll, when the next one was noted, and what has expired
+pub polled_then : {S T W : Type 0} (answers : DiskAnswers W) (clock : ℕ → Type 0) (a b c d : Daemon S T) → b ≡ record a { next_check = b.next_check; next_round = b.next_round; held_until = b.held_until } → PollsAll answers clock b c → d.service.sources ≡ c.service.sources → PollsAll answers clock a d
+polled_then answers clock a b c d times polls same =
+    let p = subst (λ z. PollsAll answers clock z c) times polls in
+    record { followed = p.followed; excepted = p.excepted; exports = p.exports; slurms = p.slurms; points = subst (OffersEach answers clock a.points.items p.excepted) (sym same) p.points }

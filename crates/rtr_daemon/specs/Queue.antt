@@ -1,0 +1,51 @@
+-- The queue of clients, and their turns.
+use Rattle.std.specs.Prelude.{◌≡◌, ℕ, List, [], ◌∷◌, ◌++◌, Option, None, Some, option_map}
+use Rattle.std.specs.BTreeMap.{get}
+use Rattle.std.specs.Ordering.{nat_cmp}
+use Rattle.vrps.specs.Instance.{Instance}
+use Rattle.rtr_server.specs.declared.server.Client.{Client}
+use Rattle.rtr_server.specs.declared.server.Server.{Server}
+use Rattle.rtr_server.specs.declared.stream.Call.{Call}
+use Rattle.rtr_daemon.specs.Turns.{HasTurn}
+use Rattle.rtr_daemon.specs.declared.client_table.ClientTable.{ClientTable}
+
+-- the client of a poll token
+abbrev pub client_at : ClientTable → ℕ → Option Client
+client_at table token = option_map (λ entry. entry.client) (get nat_cmp table.by_token token)
+
+-- The clients of all tokens are unchanged.
+abbrev pub SameClients : ClientTable → ClientTable → Type 0
+SameClients old new = (token : ℕ) → client_at new token ≡ client_at old token
+
+-- The clients of all other tokens are unchanged.
+abbrev pub OtherClients : ℕ → ClientTable → ClientTable → Type 0
+OtherClients token old new = (other : ℕ) → ¬ (other ≡ token) → client_at new other ≡ client_at old other
+
+-- The queue is unchanged, or tokens were added at its end.
+abbrev pub QueuesBehind : List ℕ → ClientTable → Type 0
+QueuesBehind queue table = (more : List ℕ) × (table.queue.items ≡ queue ++ more)
+
+-- a client under its token
+abbrev pub under : ℕ → Option Client → Option (ℕ × Client)
+under token client = option_map (λ c. (token, c)) client
+
+-- The first token leaves the queue, and its client is the next one. No client is changed.
+abbrev pub TakesNext : List ℕ → Option (ℕ × Client) → ClientTable → ClientTable → Type 0
+TakesNext [] next old new = (next ≡ None) × (new.queue.items ≡ []) × SameClients old new
+TakesNext (token ∷ tokens) next old new = (next ≡ under token (client_at old token)) × (new.queue.items ≡ tokens) × SameClients old new
+
+-- The client had a turn of at most 8 calls. If there is none, nothing changes.
+abbrev pub TurnOf : {S T : Type 0} → (ℕ → Instance → S → Type 0) → (T → Option (List ℕ)) → (T → Option (List ℕ)) → (T → Option (List Call)) → Option Client → Server S T → Server S T → Type 0
+TurnOf holds remaining contents answers None old new = new ≡ old
+TurnOf holds remaining contents answers (Some client) old new = HasTurn holds remaining contents answers 8 client.0.0 old new
+
+-- The client at the front of the queue had its turn, and left the front. All others are unchanged.
+abbrev pub ServesNext : {S T : Type 0} → (ℕ → Instance → S → Type 0) → (T → Option (List ℕ)) → (T → Option (List ℕ)) → (T → Option (List Call)) → List ℕ → ClientTable → Server S T → ClientTable → Server S T → Type 0
+ServesNext holds remaining contents answers [] table old served new = SameClients table served × (new ≡ old)
+ServesNext holds remaining contents answers (token ∷ tokens) table old served new = TurnOf holds remaining contents answers (client_at table token) old new × OtherClients token table served × QueuesBehind tokens served
+
+-- The client of each of these tokens had its turn, in this order.
+abbrev pub ServesEach : {S T : Type 0} → (ℕ → Instance → S → Type 0) → (T → Option (List ℕ)) → (T → Option (List ℕ)) → (T → Option (List Call)) → List ℕ → ClientTable → Server S T → ClientTable → Server S T → Type 0
+ServesEach holds remaining contents answers [] table old served new = (served ≡ table) × (new ≡ old)
+ServesEach {S} {T} holds remaining contents answers (token ∷ tokens) table old served new =
+    (between : ClientTable) × (mid : Server S T) × TurnOf holds remaining contents answers (client_at table token) old mid × OtherClients token table between × ServesEach holds remaining contents answers tokens between mid served new
