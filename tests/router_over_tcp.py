@@ -4,8 +4,9 @@
 usage: tests/router_over_tcp.py CLIENT RPKIRTRD [SHIM] [--changes N]
 
 The parts run one after another, each in a folder of its own with its own port. A part waits for lines of the client, never for a time. A
-cache in Python speaks version 0 alone. StayRTR is a cache too, if it is installed. SHIM is what tests/hurrying.c was compiled to: data
-then expire, by a clock that runs fast. N is how many changes of each cache are followed (6 unless said otherwise). The last line says how many parts passed and failed; the exit status is 0 if none failed."""
+cache in Python speaks version 0 alone. StayRTR and FORT are caches too, if they are installed. SHIM is what tests/hurrying.c was compiled to:
+data then expire, by a clock that runs fast. N is how many changes of each cache are followed (6 unless said otherwise). The last line says
+how many parts passed and failed; the exit status is 0 if none failed."""
 import argparse
 import contextlib
 import json
@@ -32,6 +33,10 @@ UNSUPPORTED_VERSION = 4
 
 # Records of which each change draws some.
 POOL = [(f"10.{place}.0.0/16", 16 + place % 9, 64496 + place) for place in range(50)]
+
+
+# What the repository of tests/signed.py gives.
+FORT = [("192.0.2.0/24", 24, 64496), ("198.51.100.0/24", 26, 64497), ("2001:db8::/32", 48, 64497)]
 
 
 def lines_of(sign, records):
@@ -203,6 +208,36 @@ def stayrtr(client, *_):
             expect("another session", it.session != session, True)
 
 
+def fort_words(port, folder):
+    """The command line of FORT over the repository of a folder, without any transfer."""
+    words = ["--mode=server", f"--tal={folder}/test.tal", f"--local-repository={folder}/repository", f"--slurm={folder}/local.slurm"]
+    words += ["--rsync.enabled=false", "--http.enabled=false", "--server.address=127.0.0.1", f"--server.port={port}"]
+    return [*words, "--server.interval.refresh=1", "--server.interval.retry=1"]
+
+
+def put_slurm(records):
+    asserted = [{"asn": asn, "prefix": prefix, "maxPrefixLength": most} for prefix, most, asn in records]
+    filters = {"prefixFilters": [], "bgpsecFilters": []}
+    slurm = {"slurmVersion": 1, "validationOutputFilters": filters, "locallyAddedAssertions": {"prefixAssertions": asserted, "bgpsecAssertions": []}}
+    put("local.slurm", json.dumps(slurm))
+
+
+def fort(client, *_):
+    """FORT over a small repository, which restarts with one local assertion more. (It validates once a minute at most.)"""
+    subprocess.run([sys.executable, f"{os.path.dirname(os.path.abspath(__file__))}/signed.py", os.getcwd()], check=True)
+    port, folder, added = free_port(), os.getcwd(), ("10.0.0.0/8", 8, 64500)
+    put_slurm([])
+    with client_of(client, port) as it:
+        with running("fort", *fort_words(port, folder)):
+            it.commit(FORT)
+            session = it.session
+        it.until("ended: (the cache closed the connection|the connection was reset)")
+        put_slurm([added])
+        with running("fort", *fort_words(port, folder)):
+            it.commit([*FORT, added])
+            expect("another session", it.session != session, True)
+
+
 def put_export(records):
     put("export.json", exported(records))
     return os.path.abspath("export.json")
@@ -258,7 +293,7 @@ def main():
     given = words.parse_args()
     programs = [it and os.path.abspath(it) for it in (given.client, given.rpkirtrd, given.shim)]
     has_stayrtr = shutil.which("stayrtr")
-    parts = [changes, restarts, version_0, *([expiry] if given.shim else []), *([stayrtr] if has_stayrtr else [])]
+    parts = [changes, restarts, version_0, *([expiry] if given.shim else []), *([stayrtr] if has_stayrtr else []), *([fort] if shutil.which("fort") else [])]
     longer = [many_changes, *([many_changes_of_stayrtr] if has_stayrtr else [])]
     failed = sum(play(part, programs) for part in parts) + sum(play(part, [*programs, given.changes]) for part in longer)
     print(f"{len(parts) + len(longer) - failed} passed, {failed} failed")

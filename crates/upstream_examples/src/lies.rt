@@ -121,6 +121,50 @@ fn reports_are_told(rt: HostRuntime) -> Result<(), Fail> {
     Ok(())
 }
 
+/// What a cache sends to a Serial Query, what the poll comes to, and how many records are left.
+type Refusal = (&'static str, PollOutcome, usize);
+
+const REFUSALS: &[Refusal] = &[
+    // No Data Available: the connection and the records stay (section 12).
+    (
+        "01 0a 0002 00000010 00000000 00000000",
+        PollOutcome::WaitsToRead,
+        1,
+    ),
+    // A Cache Reset, after which the router sends a Reset Query (section 5.9).
+    ("01 08 0000 00000008", PollOutcome::WaitsToRead, 1),
+    // Another session: Corrupt Data, and all records are dropped (section 5.1).
+    (
+        "01 03 1235 00000008",
+        PollOutcome::Disconnected(DisconnectReason::LinkEnded(End::Reported(
+            error_code::CORRUPT_DATA,
+        ))),
+        0,
+    ),
+];
+
+/// Whether a Serial Query that is refused so ends so.
+fn is_refused(alloc: Global, refusal: &Refusal) -> Result<bool, Fail> {
+    let (answer, sent) = (bytes(ANSWER), bytes(refusal.0));
+    let output = shared(alloc)?;
+    let first = plain(answer.as_slice(), &output)?;
+    let second = plain(sent.as_slice(), &output)?;
+    let mut upstream = Upstream::new(alloc, 60);
+    upstream.connect(first, 0);
+    let is_first = settle(&mut upstream, 0) == PollOutcome::WaitsToRead;
+    upstream.connect(second, 1);
+    let is_second = settle(&mut upstream, 1) == refusal.1;
+    Ok(is_first && is_second && upstream.table().len() == refusal.2)
+}
+
+#[test]
+fn refusals_keep_the_records_or_not(rt: HostRuntime) -> Result<(), Fail> {
+    for refusal in REFUSALS {
+        assert!(rt; is_refused(rt.alloc(), refusal)?);
+    }
+    Ok(())
+}
+
 /// Whether twelve bytes each half a minute keep the connection, from time 6000 to 7170.
 fn trickles(upstream: &mut Upstream<Script<'_>>) -> bool {
     for step in 0..40 {
