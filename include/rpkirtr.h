@@ -1,4 +1,4 @@
-/* rpkirtr.h: a client of RPKI-to-Router caches (RFC 6810, RFC 8210) and origin validation (RFC 6811). See rpkirtr(3).
+/* rpkirtr.h: a client of RPKI-to-Router caches (RFC 6810, RFC 8210) and origin validation (RFC 6811).
  *
  * The library does no input or output: the caller owns sockets and clocks. It hands over the bytes that it received, and writes the bytes
  * that it pulls. Moments are seconds of one clock that the caller chooses, and never go back.
