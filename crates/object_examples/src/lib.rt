@@ -2,6 +2,8 @@
 #![tactic(auto)]
 
 #[cfg(test)]
+mod ber;
+#[cfg(test)]
 mod objects;
 #[cfg(test)]
 mod vectors;

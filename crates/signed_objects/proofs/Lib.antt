@@ -4,3 +4,9 @@ pub mod ExactObjects
 pub mod ShortAttributes
 pub mod DerObjects
 pub mod ObjectLaws
+pub mod ExactParts
+pub mod ExactBer
+pub mod LongLengths
+pub mod BerLaws
+pub mod Going
+pub mod BerSteps

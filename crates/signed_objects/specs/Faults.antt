@@ -3,7 +3,7 @@ use Rattle.std.specs.Prelude.{ℕ}
 use Rattle.der_lite.specs.Place.{Fault}
 use Rattle.der_lite.specs.Cursors.{der_kind_number as element_number}
 use Rattle.signed_objects.specs.declared.fault.CmsFaultKind.{CmsFaultKind}
-use Rattle.signed_objects.specs.declared.fault.CmsFaultKind.TheVariants.{Element, NoSignedData, Version, DigestAlgorithms, DigestAlgorithm, NoContent, Certificates, CertificateVersion, KeyAlgorithm, PublicKey, NoExtensions, KeyIdentifierTwice, NoKeyIdentifier, Crls, SignerInfos, SignerVersion, SignerIdentifier, NoSignedAttributes, UnknownAttribute, AttributeTwice, AttributeValues, SigningTime, NoContentType, NoMessageDigest, SignatureAlgorithm, UnsignedAttributes, OtherSigner, OtherContentType, OtherDigest, Modulus, Signature}
+use Rattle.signed_objects.specs.declared.fault.CmsFaultKind.TheVariants.{Element, NoSignedData, Version, DigestAlgorithms, DigestAlgorithm, NoContent, Certificates, CertificateVersion, KeyAlgorithm, PublicKey, NoExtensions, KeyIdentifierTwice, NoKeyIdentifier, Crls, SignerInfos, SignerVersion, SignerIdentifier, NoSignedAttributes, UnknownAttribute, AttributeTwice, AttributeValues, SigningTime, NoContentType, NoMessageDigest, SignatureAlgorithm, UnsignedAttributes, OtherSigner, OtherContentType, OtherDigest, Modulus, Signature, LongTag, EndOfContents, Piece, LongLength, PrimitiveIndefinite, DerIndefinite, LongContent, TooDeep}
 use Rattle.signed_objects.specs.declared.fault.CmsFault.{CmsFault}
 
 -- the number of each kind of fault
@@ -39,6 +39,14 @@ kind_number OtherContentType = 32
 kind_number OtherDigest = 33
 kind_number Modulus = 34
 kind_number Signature = 35
+kind_number LongTag = 36
+kind_number EndOfContents = 37
+kind_number Piece = 38
+kind_number LongLength = 39
+kind_number PrimitiveIndefinite = 40
+kind_number DerIndefinite = 41
+kind_number LongContent = 42
+kind_number TooDeep = 43
 
 -- a fault by its number
 abbrev pub cms_fault_of : CmsFault → Fault

@@ -8,3 +8,8 @@ pub mod Faults
 pub mod Gives
 pub mod Objects
 pub mod ObjectLaws
+pub mod Parts
+pub mod PartReading
+pub mod Ber
+pub mod BerReading
+pub mod BerObjects

@@ -103,12 +103,36 @@ pub enum CmsFaultKind {
     /// 35: the signature of the attributes does not hold under the certificate's key (RFC 5652 section 5.6).
     #[error("the signature does not hold under the key of the certificate (fault 35)")]
     Signature,
+    /// 36: a tag has a number of 31 or more, which needs more than one octet (X.690 section 8.1.2.4).
+    #[error("a tag of more than one octet (fault 36)")]
+    LongTag,
+    /// 37: the tag is that of end-of-contents octets, and none are here (X.690 section 8.1.5).
+    #[error("end-of-contents octets where none belong (fault 37)")]
+    EndOfContents,
+    /// 38: an OCTET STRING in pieces has a piece that is no OCTET STRING (X.690 section 8.7.3.2).
+    #[error("a piece of an OCTET STRING is no OCTET STRING (fault 38)")]
+    Piece,
+    /// 39: the first length octet is 255, or the length is 2^32 or more (X.690 section 8.1.3.5).
+    #[error("a first length octet of 255, or a length of 2^32 or more (fault 39)")]
+    LongLength,
+    /// 40: a primitive element has an indefinite length (X.690 section 8.1.3.2).
+    #[error("a primitive element has an indefinite length (fault 40)")]
+    PrimitiveIndefinite,
+    /// 41: a certificate or a signed attribute has an indefinite length (RFC 6488 section 3, 1.l).
+    #[error("a certificate or a signed attribute has an indefinite length (fault 41)")]
+    DerIndefinite,
+    /// 42: the content of an element has 2^32 octets or more in DER.
+    #[error("the content has 2^32 octets or more in DER (fault 42)")]
+    LongContent,
+    /// 43: the element is in more than 15 others.
+    #[error("an element in more than 15 others (fault 43)")]
+    TooDeep,
 }
 
 impl CmsFaultKind {
     ghost use Rattle.signed_objects.specs.Faults.{kind_number};
 
-    /// The number of the kind, 1 to 35.
+    /// The number of the kind, 1 to 43.
     pub fn number(self) -> u8
         ensures { result ≡ kind_number self }
     {
@@ -144,6 +168,14 @@ impl CmsFaultKind {
             CmsFaultKind::OtherDigest => 33,
             CmsFaultKind::Modulus => 34,
             CmsFaultKind::Signature => 35,
+            CmsFaultKind::LongTag => 36,
+            CmsFaultKind::EndOfContents => 37,
+            CmsFaultKind::Piece => 38,
+            CmsFaultKind::LongLength => 39,
+            CmsFaultKind::PrimitiveIndefinite => 40,
+            CmsFaultKind::DerIndefinite => 41,
+            CmsFaultKind::LongContent => 42,
+            CmsFaultKind::TooDeep => 43,
         }
     }
 

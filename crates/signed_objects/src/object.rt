@@ -3,7 +3,9 @@
 ghost use Rattle.std.specs.Prelude.{◌≡◌, ◌<◌, ◌^◌, ◌↔◌, length, IfOk, IsTrue};
 ghost use Rattle.rsa_sha256.specs.Rsa.{IsSignature};
 ghost use Rattle.signed_objects.specs.Objects.{to_be_signed, Says, Judges, ReadsDer};
+ghost use Rattle.signed_objects.specs.BerObjects.{SameContent, ReadsObject, Owns};
 
+use crate::ber::to_der;
 use crate::elements::SET;
 use crate::signed_data::{ObjectParts, object_parts};
 use crate::{CmsFaultKind, ObjectFault};
@@ -88,4 +90,63 @@ pub fn read_der_object(alloc: Global, der: &[u8]) -> Result<SignedObject<'_>, Ob
         certificate: parts.certificate.octets,
         key_identifier: parts.signer.identifier,
     })
+}
+
+/// A signed object like [`SignedObject`], with parts of its own.
+#[derive(Debug, Drop, PartialEq, Eq)]
+pub struct OwnedObject {
+    /// The content of the OBJECT IDENTIFIER eContentType: what kind of object it is.
+    pub content_type: Vec<u8>,
+    /// eContent.
+    pub content: Vec<u8>,
+    /// The certificate, in DER.
+    pub certificate: Vec<u8>,
+    /// The subjectKeyIdentifier of the certificate, which names its key as the signer.
+    pub key_identifier: Vec<u8>,
+    /// Whether the file is in DER, as RFC 6488 section 3, 1.l asks.
+    pub is_der: bool,
+}
+
+impl OwnedObject {
+    /// The same object, whose parts are borrowed.
+    pub fn as_object(&self) -> SignedObject<'_>
+        ensures its_type { result.content_type.now ≡ self.now.content_type.items }
+        ensures content { result.content.now ≡ self.now.content.items }
+        ensures certificate { result.certificate.now ≡ self.now.certificate.items }
+        ensures key { result.key_identifier.now ≡ self.now.key_identifier.items }
+    {
+        SignedObject {
+            content_type: &self.content_type,
+            content: &self.content,
+            certificate: &self.certificate,
+            key_identifier: &self.key_identifier,
+        }
+    }
+}
+
+/// The object with copies of its parts.
+fn owned(alloc: Global, object: &SignedObject, is_der: bool) -> Result<OwnedObject, AllocError>
+    ensures { Owns (λ o. record { content_type = o.content_type.items; content = o.content.items; certificate = o.certificate.items; key_identifier = o.key_identifier.items }) (λ o. o.is_der) result (record { content_type = object.now.content_type.now; content = object.now.content.now; certificate = object.now.certificate.now; key_identifier = object.now.key_identifier.now }) is_der }
+{
+    Ok(OwnedObject {
+        content_type: object.content_type.to_vec(alloc)?,
+        content: object.content.to_vec(alloc)?,
+        certificate: object.certificate.to_vec(alloc)?,
+        key_identifier: object.key_identifier.to_vec(alloc)?,
+        is_der,
+    })
+}
+
+/// The signed object that the bytes of a file are, or the first fault. Lengths and OCTET STRINGs may be in BER: [`to_der`] writes the bytes
+/// anew, and [`read_der_object`] reads what it wrote. The offset of a fault 36 to 43 is one of the file. That of a fault 2 to 35 is one of what
+/// was written, which is the file itself if that is in DER.
+#[tactic(auto, using(crate::proofs::BerSteps::no_content, crate::proofs::BerSteps::no_object, crate::proofs::BerSteps::object_of_file))]
+pub fn read_signed_object(alloc: Global, bytes: &[u8]) -> Result<OwnedObject, ObjectFault>
+    ensures exact { ReadsObject (λ o. record { content_type = o.content_type.items; content = o.content.items; certificate = o.certificate.items; key_identifier = o.key_identifier.items }) result bytes.now }
+    ensures der { IfOk result (λ o. IsTrue o.is_der ↔ SameContent bytes.now bytes.now) }
+{
+    let der = to_der(alloc, bytes)?;
+    let is_der = der.as_slice() == bytes;
+    let object = read_der_object(alloc, &der)?;
+    Ok(owned(alloc, &object, is_der)?)
 }
