@@ -3,11 +3,12 @@
 
 usage: tests/signed_objects.py PROGRAM [--seed N] [--count N] [--openssl N] [--bytes]
 
-PROGRAM is rpkiobject. COUNT objects have random contents, keys and attributes, and are to be accepted. COUNT others have something wrong: a
-rule of RFC 6488 that is broken by name, or random octets that are changed. Each is judged by `judge`, which knows the rules and nothing of
-the program: the fault's number and offset must be the same. Of both, N are also given to `openssl cms -verify -noverify`: what the program
-accepts, it accepts too. With --bytes each octet of three objects is replaced by each other value. It exits with 1 at the first that
-differs, and leaves the object in a file."""
+PROGRAM is rpkiobject. COUNT objects have random contents, keys and attributes, and are to be accepted. Half of them are in BER: lengths are
+indefinite or long, and OCTET STRINGs in pieces. COUNT others have something wrong: a rule of RFC 6488 that is broken by name, or random
+octets that are changed. Each is judged by `judge`, which knows the rules and nothing of the program: the fault's number and offset must be
+the same, with --strict too. Of both, N are also given to `openssl cms -verify -noverify`: what the program accepts, it accepts too. With
+--bytes each octet of three objects, one of them in BER, is replaced by each other value. It exits with 1 at the first that differs, and
+leaves the object in a file."""
 import argparse
 import hashlib
 import os
@@ -19,6 +20,7 @@ import tempfile
 from cryptography.hazmat.primitives import hashes
 from cryptography.hazmat.primitives.asymmetric import padding, rsa
 
+from ber import Forms, Refused, to_der
 from der import element, integer
 
 SHA_256 = bytes.fromhex("608648016503040201")
@@ -187,10 +189,6 @@ def spoil(it, what):
     return it
 
 
-class Refused(Exception):
-    """A fault: its number and its offset."""
-
-
 class Reader:
     """The elements of an enclosing one."""
 
@@ -355,10 +353,10 @@ def is_signature(modulus, message, signature):
     return len(signature) == size and s < n and pow(s, 65537, n) == int.from_bytes(padded, "big")
 
 
-def judge(octets):
-    """The number and the offset of the first fault, or None."""
+def judge(octets, is_strict):
+    """The number and the offset of the first fault, or None. If it is not strict, BER is read."""
     try:
-        whole = Reader(0, octets)
+        whole = Reader(0, octets if is_strict else to_der(octets))
         info = whole.open(0x30)
         info.fixed(info.open(6), 6, SIGNED_DATA)
         wrapped = info.open(0xA0)
@@ -400,7 +398,8 @@ class Program:
         self.waiting, self.faults = [], {}
 
     def add(self, octets, what, certificate):
-        """An object to be judged. If it is accepted and has this certificate, openssl is asked too: it also reads what is passed over."""
+        """An object to be judged. If it is accepted and has this certificate, openssl is asked too: it also reads what is passed over. If
+        none is given, it is not."""
         self.waiting.append((octets, what, certificate))
         if len(self.waiting) == 400:
             self.flush()
@@ -411,29 +410,52 @@ class Program:
             names.append(f"{self.folder.name}/{at}")
             with open(names[-1], "wb") as out:
                 out.write(octets)
-        done = subprocess.run([self.program, *names], capture_output=True, text=True, timeout=600)
-        told = done.stdout.split("file ")[1:]
-        if len(told) != len(names):
-            raise SystemExit(f"{len(told)} answers to {len(names)} files, status {done.returncode}: {done.stderr}")
-        for (octets, what, certificate), name, lines in zip(self.waiting, names, told):
-            expected = judge(octets)
+        plain, strict = self.answers(names), self.answers(["--strict", *names])
+        for (octets, what, certificate), name, *lines in zip(self.waiting, names, plain, strict):
+            expected = judge(octets, False)
             number = expected[0] if expected else 0
             self.faults[number] = self.faults.get(number, 0) + 1
-            first = lines.split("\n")[1]
-            right = first == f"refused {expected[0]} at {expected[1]}" if expected else first.startswith("type ")
-            if self.openssl > 0 and not expected and certificate in octets:
+            is_der = expected or octets == to_der(octets)
+            right = self.says(lines[0], expected, is_der) and self.says(lines[1], judge(octets, True), True)
+            if self.openssl > 0 and not expected and certificate and certificate in octets:
                 self.openssl -= 1
                 right = right and self.verified(name)
             if not right:
                 with open("object", "wb") as out:
                     out.write(octets)
-                raise SystemExit(f"{what}: {lines[:300]!r}, expected {expected}: see the file `object`")
+                raise SystemExit(f"{what}: {lines!r}, expected {expected}: see the file `object`")
         self.waiting = []
+
+    def answers(self, words):
+        """What the program says of each file."""
+        done = subprocess.run([self.program, *words], capture_output=True, text=True, timeout=600)
+        told = done.stdout.split("file ")[1:]
+        if len(told) != len(self.waiting):
+            raise SystemExit(f"{len(told)} answers to {len(self.waiting)} files, status {done.returncode}: {done.stderr}")
+        return told
+
+    @staticmethod
+    def says(text, expected, is_der):
+        """Whether this is what is said of an object with this fault, or with none."""
+        lines = text.split("\n")[1:]
+        if expected:
+            return lines[0] == f"refused {expected[0]} at {expected[1]}"
+        if not is_der:
+            return lines[0].startswith("not DER") and lines[1].startswith("type ")
+        return lines[0].startswith("type ")
 
     @staticmethod
     def verified(name):
         done = subprocess.run(["openssl", "cms", "-verify", "-noverify", "-inform", "DER", "-in", name, "-out", "/dev/null"], capture_output=True, timeout=60)
         return done.returncode == 0
+
+
+def in_ber(rng, octets):
+    """The object in BER, or as it is if its elements are not in DER."""
+    try:
+        return Forms(rng, True).elements(octets)
+    except Refused:
+        return octets
 
 
 def changed(rng, octets):
@@ -456,9 +478,14 @@ def main():
     print(f"seed {words.seed}", flush=True)
     keys = [Key(bits) for bits in (2048, 2048, 2048, 3072, 4096)]
     program = Program(os.path.abspath(words.program), words.openssl)
-    for _ in range(words.count):
+    for at in range(words.count):
         it = Object(rng, rng.choice(keys))
-        program.add(it.octets(), "a good object", it.certificate())
+        octets = it.octets()
+        if at % 2:
+            are_few = at % 4 == 1
+            program.add(Forms(rng, are_few).elements(octets), "a good object in BER", it.certificate() if are_few else None)
+        else:
+            program.add(octets, "a good object", it.certificate())
     program.flush()
     good = dict(program.faults)
     if set(good) != {0}:
@@ -467,18 +494,23 @@ def main():
     ways = spoil(Object(rng, keys[0]), None)
     for at in range(words.count):
         it = Object(rng, rng.choice(keys[:3]))
+        form = (lambda octets: in_ber(rng, octets)) if rng.randrange(2) else bytes
         if at % 2:
             what = ways[at // 2 % len(ways)]
-            program.add(spoil(it, what).octets(), what, it.certificate())
+            spoiled = spoil(it, what)
+            behind, spoiled.behind = spoiled.behind, b""
+            program.add(form(spoiled.octets()) + behind, what, it.certificate())
         else:
             it.content = it.content[:300]
-            program.add(changed(rng, it.octets()), "octets changed", it.certificate())
+            program.add(changed(rng, form(it.octets())), "octets changed", it.certificate())
     if words.bytes:
-        for _ in range(3):
+        for kind in (b"\x18", b"\x1a", None):
             it = Object(rng, keys[0])
             it.content = b"content"
+            it.content_type = PKCS_9 + b"\x10\1" + (kind or b"\x18")
             it.attributes = [it.attribute(MESSAGE_DIGEST, element(4, hashlib.sha256(it.content).digest())) if MESSAGE_DIGEST in a else a for a in it.attributes]
-            whole = it.octets()
+            it.attributes = [it.attribute(CONTENT_TYPE, oid(it.content_type)) if CONTENT_TYPE in a else a for a in it.attributes]
+            whole = it.octets() if kind else Forms(rng, True).elements(it.octets())
             for at in range(len(whole)):
                 for value in range(256):
                     if value != whole[at]:

@@ -1,15 +1,14 @@
 #!/usr/bin/env bash
 # Signed objects made at random, and spoiled ones: tests/signed_objects.py knows the rules of the profile in Python. It drives the program
-# rpkiobject, which the gate builds; without it, or without Python's `cryptography` or `openssl`, this is skipped.
+# rpkiobject; without Python's `cryptography` or `openssl` this is skipped.
 set -u
 top=$(cd "$(dirname "${BASH_SOURCE[0]}")/.." && pwd) || exit 1
-. "$top/tests/built.bash"
 if ! python3 -c 'import cryptography' 2>/dev/null || ! command -v openssl >/dev/null; then
     echo 'signed_objects: needs python3 with cryptography, and openssl' >&2
     exit 77
 fi
-built rpkiobject rpkiobject rt run -- data/a.roa || exit
+program=$(bash "$top/tools/start.sh" --path rpkiobject) || exit 1
 folder=$(mktemp -d) || exit 1
 trap 'rm -rf "$folder"' EXIT
 cd "$folder" || exit 1
-exec python3 "$top/tests/signed_objects.py" "$top/crates/rpkiobject/out/rpkiobject" --count 400 --openssl 40
+exec python3 "$top/tests/signed_objects.py" "$program" --count 400 --openssl 40

@@ -7,7 +7,7 @@ use thiserror::Error;
 #[derive(Debug, Drop, Error)]
 pub(crate) enum ProgramFault {
     /// The words do not parse. Status 2.
-    #[error("rpkiobject: bad words: rpkiobject [--content OUT] FILE..")]
+    #[error("rpkiobject: bad words: rpkiobject [--strict] [--content OUT] FILE..")]
     Words,
     /// A file or an output failed. Status 3.
     #[error("rpkiobject: device failed")]

@@ -5,7 +5,7 @@ use crate::fault::ProgramFault;
 use crate::printing::print_object;
 use crate::words::{Words, read_words};
 use command_parts::read_file;
-use signed_objects::{ObjectFault, read_der_object};
+use signed_objects::{ObjectFault, SignedObject, read_der_object, read_signed_object};
 use std::fs;
 use std::io::{BufWriter, Write};
 use std::rt::Files;
@@ -74,7 +74,7 @@ fn run_files<R: Files + AllocGlobal, W: Write>(
 ) -> Result<bool, ProgramFault> {
     let mut all_right = true;
     for file in &words.files {
-        let is_right = run_file(rt, file, words.content, out)?;
+        let is_right = run_file(rt, file, words, out)?;
         all_right = all_right && is_right;
     }
     Ok(all_right)
@@ -84,22 +84,58 @@ fn run_files<R: Files + AllocGlobal, W: Write>(
 fn run_file<R: Files + AllocGlobal, W: Write>(
     rt: &R,
     file: &str,
-    content: Option<&str>,
+    words: &Words<'_>,
     out: &mut W,
 ) -> Result<bool, ProgramFault> {
     let bytes = read_file(rt, file)?;
     writeln!(out, "file {file}")?;
-    match read_der_object(rt.alloc(), bytes.as_slice()) {
+    if words.is_strict {
+        return run_der(rt, bytes.as_slice(), words.content, out);
+    }
+    match read_signed_object(rt.alloc(), bytes.as_slice()) {
         Ok(object) => {
-            if let Some(path) = content {
-                fs::write(rt, path, object.content)?;
+            if !object.is_der {
+                writeln!(out, "not DER: lengths or OCTET STRINGs are in BER")?;
             }
-            print_object(rt.alloc(), &object, out)
+            run_object(rt, &object.as_object(), words.content, out)
         }
-        Err(ObjectFault::At(fault)) => {
+        Err(fault) => refuse(fault, out),
+    }
+}
+
+/// The same of a file that is in DER, or is refused.
+fn run_der<R: Files + AllocGlobal, W: Write>(
+    rt: &R,
+    bytes: &[u8],
+    content: Option<&str>,
+    out: &mut W,
+) -> Result<bool, ProgramFault> {
+    match read_der_object(rt.alloc(), bytes) {
+        Ok(object) => run_object(rt, &object, content, out),
+        Err(fault) => refuse(fault, out),
+    }
+}
+
+/// Prints an object, and writes its content to the file that is named.
+fn run_object<R: Files + AllocGlobal, W: Write>(
+    rt: &R,
+    object: &SignedObject,
+    content: Option<&str>,
+    out: &mut W,
+) -> Result<bool, ProgramFault> {
+    if let Some(path) = content {
+        fs::write(rt, path, object.content)?;
+    }
+    print_object(rt.alloc(), object, out)
+}
+
+/// Prints why a file is refused.
+fn refuse<W: Write>(fault: ObjectFault, out: &mut W) -> Result<bool, ProgramFault> {
+    match fault {
+        ObjectFault::At(fault) => {
             writeln!(out, "refused {} at {}", fault.kind.number(), fault.offset)?;
             Ok(false)
         }
-        Err(ObjectFault::Memory) => Err(ProgramFault::Memory),
+        ObjectFault::Memory => Err(ProgramFault::Memory),
     }
 }

@@ -7,6 +7,8 @@ use std::alloc::{AllocError, Global};
 /// What the program is asked for.
 #[derive(Debug, Drop)]
 pub(crate) struct Words<'a> {
+    /// Whether a file that is not in DER is refused.
+    pub(crate) is_strict: bool,
     /// The file to which the content is written, if one is named.
     pub(crate) content: Option<&'a str>,
     /// The files, at least one.
@@ -18,6 +20,9 @@ fn command_line<'a>(alloc: Global) -> Result<Command<'a>, AllocError> {
     let content = Arg::new(alloc, "content")
         .long("content")
         .action(ArgAction::Set);
+    let strict = Arg::new(alloc, "strict")
+        .long("strict")
+        .action(ArgAction::SetTrue);
     let files = Arg::new(alloc, "FILE")
         .required(true)
         .num_args(1..)
@@ -26,6 +31,7 @@ fn command_line<'a>(alloc: Global) -> Result<Command<'a>, AllocError> {
         .no_binary_name(true)
         .disable_help_flag(true)
         .disable_version_flag(true)
+        .arg(strict)?
         .arg(content)?
         .arg(files)
 }
@@ -53,5 +59,9 @@ pub(crate) fn read_words(alloc: Global, words: &[String]) -> Result<Words<'_>, P
     if content.is_some() && files.len() > 1 {
         return Err(ProgramFault::Words);
     }
-    Ok(Words { content, files })
+    Ok(Words {
+        is_strict: matches.get_flag("strict"),
+        content,
+        files,
+    })
 }
