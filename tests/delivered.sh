@@ -15,7 +15,7 @@ fail() { # fail MESSAGE
 }
 
 # SOURCES is that of this checkout.
-for name in rpkirtr rpkirtrd; do
+for name in "${programs[@]}" "${libraries[@]}"; do
     read_delivery $name || fail "$delivery/SOURCES names no $name"
     source_sum $name || fail "the sources of $name cannot be read"
     [ "$sum" = "$wanted_sources" ] && continue
@@ -33,15 +33,18 @@ if delivered_kit && [ -z "${QUICK:-}" ] && command -v rt >/dev/null 2>&1; then
     compared="the kit here is another than $kit, so no bytes are compared"
     if [ "$(rt version)" = "$kit" ]; then
         compared='the same bytes as built here'
-        for name in rpkirtr rpkirtrd; do
-            gzip -dc "$delivery/$name.gz" | cmp - "$top/crates/$name/out/$name" || fail "$name is not the program that was built here"
+        for name in "${programs[@]}" "${libraries[@]}"; do
+            built_path "$name"
+            # (the library is not built each time, and other linkers may write another one)
+            [[ $name != librpkirtr.* ]] || { [ -f "$built" ] && is_newest "$built" "$name" && same_linkers; } || continue
+            gzip -dc "$delivery/$name.gz" | cmp - "$built" || fail "$name is not the program that was built here"
         done
     fi
 fi
 
 # A copy of what a start reads, which has no program built in it.
 cd "$folder" || exit 1
-mkdir repo && cp -p "$top/run" "$top/rpkirtrd" "$top/build" "$top/crates.txt" repo && cp -rp "$top/dist" "$top/samples" repo && mkdir repo/tools repo/crates &&
+mkdir repo && cp -p "$top/run" "$top/rpkirtrd" "$top/rpkiobject" "$top/build" "$top/crates.txt" repo && cp -rp "$top/dist" "$top/samples" repo && mkdir repo/tools repo/crates &&
     cp -p "$top"/tools/*.sh "$top"/tools/*.bash repo/tools || exit 1
 for crate in "$top"/crates/*/; do
     crate=${crate%/}
@@ -168,6 +171,7 @@ done
 start 1 'the command rt is not on the PATH' repo/build
 start 1 'usage: ./build' repo/build all
 start 3 'usage: tools/start.sh' repo/tools/start.sh rpkirtx
+start 3 'usage: tools/start.sh' repo/tools/start.sh
 start 0 '' repo/tools/start.sh --path rpkirtr
 [ "$(cat printed)" = "$folder/repo/out/rpkirtr" ] || fail "the program is said to lie at $(cat printed)"
 
@@ -181,11 +185,14 @@ deliver() { # deliver STATUS PART
 in_git() {
     git -C repo -c user.name=test -c user.email=test@example.net "$@" >/dev/null 2>&1 || fail "git $* failed"
 }
-if [ "$compared" = 'the same bytes as built here' ]; then
+if [ "$compared" = 'the same bytes as built here' ] && same_linkers; then
     cp -p "$top/.gitignore" repo
-    for name in rpkirtr rpkirtrd; do
-        mkdir repo/crates/$name/out && cp -p "$top/crates/$name/out/$name" repo/crates/$name/out
+    for name in "${programs[@]}" "${libraries[@]}"; do
+        built_path "$name"
+        path=repo/${built#"$top/"}
+        mkdir -p "${path%/*}" && if [ -f "$built" ]; then cp -p "$built" "$path"; else gzip -dc "$delivery/$name.gz" >"$path"; fi || exit 1
     done
+    cp -rp "$top/include" repo && mkdir -p repo/tools/librpkirtr && cp -p "$top"/tools/librpkirtr/* repo/tools/librpkirtr || exit 1
     cp -p "$top/crates/pdu_examples/src/lib.rt" repo/crates/pdu_examples/src
     in_git init
     in_git add -A
@@ -193,6 +200,8 @@ if [ "$compared" = 'the same bytes as built here' ]; then
     rm -rf repo/dist repo/out
     deliver 1 'the gate has not passed here'
     bash repo/tools/proved.sh note "$(bash repo/tools/proved.sh sources)" || fail 'tools/proved.sh failed'
+    deliver 1 'the gate has not proved librpkirtr.a here'
+    bash repo/tools/proved.sh note-library "$(bash repo/tools/proved.sh library)" || fail 'tools/proved.sh failed'
     deliver 0 "rpkirtrd $version"
     diff -r "$top/dist" repo/dist >&2 || fail 'tools/deliver.sh makes another dist/ of the same programs'
     spoil repo/crates/rpkirtr/out/rpkirtr 100000

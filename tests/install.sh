@@ -7,30 +7,19 @@ top=$(cd "$(dirname "${BASH_SOURCE[0]}")/.." && pwd) || exit 1
 folder=$(mktemp -d) || exit 1
 trap 'rm -rf "$folder"' EXIT
 cd "$folder" || exit 1
-for name in rpkirtr rpkirtrd; do
+. "$top/tools/programs.bash" || exit 1
+for name in "${programs[@]}"; do
     bash "$top/tools/start.sh" --path $name >/dev/null || exit 1
 done
-# (the newest version of the changelog is the program's)
-version=$(sed -n 's/^## \[\([0-9][0-9.]*\)\].*$/\1/p' "$top/CHANGELOG.md" | head -n 1)
+test=install
+. "$top/tests/installed.bash" || exit 1
 
-fail() { # fail MESSAGE
-    echo "install: $1" >&2
-    exit 1
-}
-
-# The files and links below a folder are these lines.
-holds() { # holds FOLDER WANTED
-    find "$1" ! -type d | sed "s|^$1/||" | sort >found
-    sort "$2" | cmp -s - found && return
-    sort "$2" | diff - found >&2
-    fail "$1 holds other files"
-}
-
-# Both programs below a folder start, and print what they are.
-run_both() { # run_both FOLDER
+# The programs below a folder start, and print what they are.
+run_all() { # run_all FOLDER
     [ "$("$1/rpkirtrd" --version)" = "rpkirtrd $version" ] || fail "$1/rpkirtrd --version prints something else"
     "$1/rpkirtr" 2>errors
     [ $? -eq 2 ] && [ "$(cat errors)" = 'rpkirtr: bad words' ] || fail "$1/rpkirtr does not refuse to do nothing"
+    "$1/rpkiobject" "$top/crates/rpkiobject/data/a.roa" | grep -q '^digest and signature hold' || fail "$1/rpkiobject does not print an object"
 }
 
 install_it() { # install_it STATUS WORD..
@@ -45,8 +34,8 @@ install_it() { # install_it STATUS WORD..
 
 # What is installed below a prefix, but for the list of it.
 wanted_files() { # wanted_files PREFIX OPTIONS
-    printf '%s\n' "$2" "$1/bin/rpkirtr" "$1/bin/rpkirtrd" "$1/lib/systemd/system/rpkirtrd.service"
-    (cd "$top" && ls README.md CHANGELOG.md SECURITY.md docs/*.md docs/alerts.yml docs/grafana.json docs/Containerfile && find samples docs/figures -type f) | sed "s|^|$1/share/doc/rpkirtr/|"
+    printf '%s\n' "$2" "$1/bin/rpkirtr" "$1/bin/rpkirtrd" "$1/bin/rpkiobject" "$1/lib/systemd/system/rpkirtrd.service"
+    (cd "$top" && ls README.md CHANGELOG.md SECURITY.md docs/*.md docs/alerts.yml docs/grafana.json docs/Containerfile && find samples examples docs/figures -type f) | sed "s|^|$1/share/doc/rpkirtr/|"
 }
 
 # Each link of a page below a folder that is no address leads to a file.
@@ -63,13 +52,13 @@ links_lead() { # links_lead FOLDER
 # Below /usr/local, where a folder was there, and stays with what it holds.
 over_others() {
     { wanted_files usr/local etc/default/rpkirtrd
-        printf 'usr/local/share/%s\n' man/man1/rpkirtr.1 man/man8/rpkirtrd.8 doc/rpkirtr/LICENSE doc/rpkirtr/installed; } >wanted
+        printf 'usr/local/share/%s\n' man/man1/rpkirtr.1 man/man1/rpkiobject.1 man/man8/rpkirtrd.8 doc/rpkirtr/LICENSE doc/rpkirtr/installed; } >wanted
     mkdir -p tree/usr/local/bin && echo other >tree/usr/local/bin/other
     install_it 0 --destdir tree
     echo usr/local/bin/other >>wanted
     holds tree wanted
     links_lead tree/usr/local/share/doc/rpkirtr
-    run_both tree/usr/local/bin
+    run_all tree/usr/local/bin
     cmp -s "$top/tools/rpkirtrd.service" tree/usr/local/lib/systemd/system/rpkirtrd.service || fail 'the unit below /usr/local is another'
     # Again, over what is there, with options that were changed: they stay.
     echo 'OPTIONS=--once' >tree/etc/default/rpkirtrd
@@ -86,9 +75,9 @@ over_others() {
 # Below another prefix, in a folder that is made for it: nothing at all is left.
 below_another() {
     install_it 0 --destdir other --prefix /opt/rpkirtr
-    run_both other/opt/rpkirtr/bin
+    run_all other/opt/rpkirtr/bin
     { wanted_files opt/rpkirtr opt/rpkirtr/etc/default/rpkirtrd
-        printf 'opt/rpkirtr/share/%s\n' man/man1/rpkirtr.1 man/man8/rpkirtrd.8 doc/rpkirtr/LICENSE doc/rpkirtr/installed; } >wanted
+        printf 'opt/rpkirtr/share/%s\n' man/man1/rpkirtr.1 man/man1/rpkiobject.1 man/man8/rpkirtrd.8 doc/rpkirtr/LICENSE doc/rpkirtr/installed; } >wanted
     holds other wanted
     grep -q '^ExecStart=/opt/rpkirtr/bin/rpkirtrd \$OPTIONS$' other/opt/rpkirtr/lib/systemd/system/rpkirtrd.service || fail 'the unit starts another program'
     grep -q '^EnvironmentFile=-/opt/rpkirtr/etc/default/rpkirtrd$' other/opt/rpkirtr/lib/systemd/system/rpkirtrd.service || fail 'the unit reads other options'
@@ -119,14 +108,14 @@ as_package() {
     [ "$(dpkg-deb --field "$package" Package Version Maintainer | tr '\n' ' ')" = \
         "Package: rpkirtr Version: $version Maintainer: rpkirtr developers <rpkirtr@example.net> " ] || fail 'the package is described otherwise'
     { wanted_files usr etc/default/rpkirtrd
-        printf 'usr/share/%s\n' man/man1/rpkirtr.1.gz man/man8/rpkirtrd.8.gz doc/rpkirtr/copyright doc/rpkirtr/changelog.gz; } >wanted
+        printf 'usr/share/%s\n' man/man1/rpkirtr.1.gz man/man1/rpkiobject.1.gz man/man8/rpkirtrd.8.gz doc/rpkirtr/copyright doc/rpkirtr/changelog.gz; } >wanted
     dpkg-deb --contents "$package" >contents || fail 'the contents of the package cannot be listed'
     grep -q -v ' root/root ' contents && fail 'the package has files of another user'
     [[ $(head -n 1 contents) == 'drwxr-xr-x root/root '*' ./' ]] || fail 'the package closes the root to others'
     dpkg-deb -x "$package" tree.deb || fail 'the package cannot be unpacked'
     holds tree.deb wanted
     links_lead tree.deb/usr/share/doc/rpkirtr
-    run_both tree.deb/usr/bin
+    run_all tree.deb/usr/bin
     if [ "$(id -u)" -eq 0 ]; then
         install_package "$package"
     fi
@@ -147,7 +136,7 @@ install_package() { # install_package FILE
         -i*)
             (cd root && find . -path ./var -prune -o ! -type d -print | sed 's|^\./||' | sort) >found
             sort wanted | cmp -s - found || fail 'dpkg installs other files'
-            run_both root/usr/bin
+            run_all root/usr/bin
             ;;
         -r*) [ -e root/etc/default/rpkirtrd ] && [ ! -e root/usr ] || fail 'dpkg -r leaves something, or removes options' ;;
         -P*) [ -z "$(find root -path root/var/lib/dpkg -prune -o ! -type d -print)" ] || fail 'dpkg -P leaves something' ;;

@@ -1,7 +1,8 @@
 #!/usr/bin/env bash
 # The manual pages say what the programs take: each option of the daemon with its value, its range and its default, each command of the page
 # of commands with its options, in the same order and no other, and each event of the log. Where mandoc is there, it finds nothing to warn of.
-# The unit on the page of operating is the one that is installed, and the options that count without a file are told in that file.
+# The page of the library for C is that of its header. The unit on the page of operating is the one that is installed, and the options that
+# count without a file are told in that file.
 set -u
 top=$(cd "$(dirname "${BASH_SOURCE[0]}")/.." && pwd) || exit 1
 folder=$(mktemp -d) || exit 1
@@ -75,7 +76,9 @@ sed -n 's/^Environment="\(OPTIONS=.*\)"$/\1/p' wanted >options
 sed -n 's/^#\(OPTIONS=\)"\(.*\)"$/\1\2/p' "$top/tools/rpkirtrd.default" >found
 same 'options of tools/rpkirtrd.service and of tools/rpkirtrd.default' options found
 
+python3 "$top/tools/library_page.py" --check || failed=1
+
 if command -v mandoc >/dev/null 2>&1; then
-    mandoc -T lint -W warning "$top/docs/man/rpkirtr.1" "$top/docs/man/rpkirtrd.8" >&2 || failed=1
+    mandoc -T lint -W warning "$top"/docs/man/*.[138] >&2 || failed=1
 fi
 exit "$failed"

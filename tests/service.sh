@@ -7,8 +7,9 @@ set -u
 export LC_ALL=C
 top=$(cd "$(dirname "${BASH_SOURCE[0]}")/.." && pwd) || exit 1
 . "$top/tests/clean_debian.bash"
+. "$top/tools/programs.bash" || exit 1
 clean_debian service systemd,systemd-sysv,dbus,bird2,man-db "$@"
-for name in rpkirtr rpkirtrd; do
+for name in "${programs[@]}"; do
     bash "$top/tools/start.sh" --path $name >/dev/null || exit 1
 done
 bash "$top/tools/package.sh" "$folder/out" >/dev/null || exit 1

@@ -1,7 +1,7 @@
 #!/usr/bin/env python3
 """Proves and builds a program, `rpkirtr` or the one that is named, and tells on standard error what it is at.
 
-usage: tools/build.py [rpkirtr | rpkirtrd]
+usage: tools/build.py [rpkirtr | rpkirtrd | rpkiobject]
 
 Its libraries are proved side by side, each as soon as those below it stand, and then the program. What stands already is taken as it
 is. It tells how long a crate took last time: that is kept in its out/, and tools/took.txt has what it took where these figures were last
@@ -22,7 +22,7 @@ from kit import RT
 TOP = os.path.realpath(f"{os.path.dirname(os.path.abspath(__file__))}/..")
 
 # The programs, with the words that each is run with, as no command only builds one, and what it answers then.
-PROGRAMS = {"rpkirtr": ([], "rpkirtr: bad words"), "rpkirtrd": (["--version"], "rpkirtrd ")}
+PROGRAMS = {"rpkirtr": ([], "rpkirtr: bad words"), "rpkirtrd": (["--version"], "rpkirtrd "), "rpkiobject": ([], "rpkiobject: bad words")}
 TOOK = f"{TOP}/tools/took.txt"
 
 # How many seconds pass at most without a word.
@@ -141,7 +141,7 @@ class Build:
 def main(words):
     name = words[0] if words else "rpkirtr"
     if len(words) > 1 or name not in PROGRAMS:
-        print("usage: tools/build.py [rpkirtr | rpkirtrd]", file=sys.stderr)
+        print("usage: tools/build.py [rpkirtr | rpkirtrd | rpkiobject]", file=sys.stderr)
         return 1
     RT.rtlib.guarded()
     build = Build(RT.rtlib.crates_below(f"{TOP}/crates/{name}"))

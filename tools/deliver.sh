@@ -24,28 +24,38 @@ changed=$(git -C "$top" status --porcelain -- . ':!dist') || fail 'git status fa
 [ -z "$changed" ] || refuse "the tree has changes that are not committed: commit them first"$'\n'"$changed"
 [ -f "$top/out/proved" ] || refuse 'the gate has not passed here: run ./test first'
 kit=$(rt version) || fail 'rt version failed: the Rattle kit is needed'
+linkers_here || fail 'cc --version or ld --version failed: a C compiler and binutils are needed'
 read -r version < <("$top/crates/rpkirtrd/out/rpkirtrd" --version) && version=${version#rpkirtrd }
 [[ $version =~ ^[0-9]+\.[0-9]+\.[0-9]+$ ]] || fail "rpkirtrd --version prints no version: $version"
 
-# What the gate noted of a program (tools/proved.sh): the sums of its sources and of its bytes.
-for name in rpkirtr rpkirtrd; do
+# What the gate noted of a program, or of a file of the library (tools/proved.sh): the sums of its sources and of its bytes.
+for name in "${programs[@]}" "${libraries[@]}"; do
+    if [[ $name == librpkirtr.* ]] && is_delivered "$name"; then
+        lines_of_programs+=("$(grep "^$name " "$delivery/SOURCES")")
+        read_noted linkers && linkers=$noted
+        continue
+    fi
     read -r noted_sources noted < <(sed -n "s/^$name //p" "$top/out/proved") || refuse "the gate has not proved $name here: run ./test first"
     source_sum "$name" || fail "the sources of $name cannot be read"
     [ "$sum" = "$noted_sources" ] || refuse "the sources of $name are not those that the gate proved: run ./test again"
     sources=$sum
-    file_sum "$top/crates/$name/out/$name" || fail "$name is not built"
-    [ "$sum" = "$noted" ] || refuse "crates/$name/out/$name is not the program that the gate built: run ./test again"
+    built_path "$name"
+    file_sum "$built" || fail "$name is not built"
+    [ "$sum" = "$noted" ] || refuse "${built#"$top/"} is not the program that the gate built: run ./test again"
     lines_of_programs+=("$name $version $sources $sum")
 done
 
 mkdir -p "$delivery" || fail "$delivery cannot be made"
-for name in rpkirtr rpkirtrd; do
-    gzip -9nc "$top/crates/$name/out/$name" >"$delivery/$name.gz.new" && mv "$delivery/$name.gz.new" "$delivery/$name.gz" || fail "$delivery/$name.gz cannot be written"
+for name in "${programs[@]}" "${libraries[@]}"; do
+    ! { [[ $name == librpkirtr.* ]] && is_delivered "$name"; } || continue
+    built_path "$name"
+    gzip -9nc "$built" >"$delivery/$name.gz.new" && mv "$delivery/$name.gz.new" "$delivery/$name.gz" || fail "$delivery/$name.gz cannot be written"
 done
 {
-    echo '# The delivered programs, written by tools/deliver.sh: the kit that proved and built them, and of each program its version, the SHA-256'
-    echo '# of its sources and the SHA-256 of the program. SECURITY.md says how to check them.'
+    echo '# What is delivered, written by tools/deliver.sh: the kit that proved and built it, the linkers of the library for C, and of each file its version,'
+    echo '# the SHA-256 of its sources and its own. SECURITY.md says how to check them.'
     echo "kit $kit"
+    echo "linkers $linkers"
     printf '%s\n' "${lines_of_programs[@]}"
 } >"$delivery/SOURCES.new" && mv "$delivery/SOURCES.new" "$delivery/SOURCES" || fail "$delivery/SOURCES cannot be written"
 cat "$delivery/SOURCES"

@@ -1,7 +1,8 @@
 #!/usr/bin/env bash
-# Installs both programs, their manual pages, the systemd unit, the pages that a user reads, the samples and the licence: tools/install.sh
-# below /usr/local, or below another folder with --prefix. With --destdir all goes below that folder, as a package wants it. With --remove
-# what was installed there is removed again, and so are the folders that were made for it, where they are empty.
+# Installs the programs, their manual pages, the systemd unit, the pages that a user reads, the samples and the licence: tools/install.sh
+# below /usr/local, or below another folder with --prefix. With --dev it installs the library for C in their place: header, static and shared
+# library, pkg-config file, manual page and examples; --libdir names the folder of the library. With --destdir all goes below that folder, as a
+# package wants it. With --remove what was installed there is removed again, and so are the folders that were made for it, where they are empty.
 # The status is 0 where all is done, 1 where a program is not built or nothing is installed, 2 where the words are wrong, and 3 where a file
 # or a folder failed.
 set -u
@@ -11,29 +12,37 @@ top=$(cd "$(dirname "${BASH_SOURCE[0]}")/.." && pwd) || exit 3
 . "$top/tools/programs.bash" || exit 3
 prefix=/usr/local
 destdir=
+libdir=
 removes=no
+dev=no
 
 usage() {
-    echo 'usage: tools/install.sh [--prefix DIR] [--destdir DIR] [--remove]' >&2
+    echo 'usage: tools/install.sh [--dev [--libdir DIR]] [--prefix DIR] [--destdir DIR] [--remove]' >&2
     exit 2
 }
 
 while [ $# -gt 0 ]; do
     case $1 in
-    --prefix | --destdir)
+    --prefix | --destdir | --libdir)
         [ -n "${2:-}" ] || usage
-        if [ "$1" = --prefix ]; then prefix=${2%/}; else destdir=${2%/}; fi
+        printf -v "${1#--}" %s "${2%/}"
         shift 2
         ;;
+    --dev) dev=yes && shift ;;
     --remove) removes=yes && shift ;;
     *) usage ;;
     esac
 done
 # (the unit names the prefix, and systemd reads blanks and other signs there in its own way)
-if ! [[ $prefix =~ ^(/[A-Za-z0-9._+-]+)+$ ]]; then
-    echo "install: --prefix $prefix: must be the path of a folder, from / on, of letters, digits and . _ + - alone" >&2
+is_path() { # is_path OPTION PATH
+    [[ $2 =~ ^(/[A-Za-z0-9._+-]+)+$ ]] && return
+    echo "install: $1 $2: must be the path of a folder, from / on, of letters, digits and . _ + - alone" >&2
     exit 2
-fi
+}
+is_path --prefix "$prefix"
+[ -z "$libdir" ] || [ $dev = yes ] || usage
+libdir=${libdir:-$prefix/lib}
+is_path --libdir "$libdir"
 case $destdir in
 *$'\n'*) usage ;;
 esac
@@ -44,8 +53,10 @@ case $prefix in
 esac
 pages=$prefix/share/doc/rpkirtr
 unit=$prefix/lib/systemd/system/rpkirtrd.service
+[ $dev = no ] || pages=$prefix/share/doc/librpkirtr
 record=$pages/installed
 made=()
+declare -A ready=()
 
 # Keeps what was installed and made so far: a line for each file and folder, without the destdir, each once.
 write_record() {
@@ -94,7 +105,7 @@ put_unit() { # put_unit SOURCE TARGET
 
 # A page is read where there are no sources: what leads to them is a name there, and no link. The programs have their installed names.
 put_page() { # put_page SOURCE TARGET
-    put_text "$1" "$2" 's|\[\([^]]*\)\]([./]*crates/[^)]*)|\1|g' 's|\./rpkirtrd\b|rpkirtrd|g' 's|\./run\b|rpkirtr|g'
+    put_text "$1" "$2" 's|\[\([^]]*\)\]([./]*crates/[^)]*)|\1|g' 's|\./\(rpkirtrd\|rpkiobject\)\b|\1|g' 's|\./run\b|rpkirtr|g'
 }
 
 # The options are the user's: where the file is there already, it stays.
@@ -109,38 +120,69 @@ put_options() {
 put_all() {
     local name
     make_folder "$pages"
-    put 755 "$rpkirtr" "$prefix/bin/rpkirtr"
-    put 755 "$rpkirtrd" "$prefix/bin/rpkirtrd"
+    for name in "${programs[@]}"; do
+        put 755 "${ready[$name]}" "$prefix/bin/$name"
+    done
     put 644 "$top/docs/man/rpkirtr.1" "$prefix/share/man/man1/rpkirtr.1"
+    put 644 "$top/docs/man/rpkiobject.1" "$prefix/share/man/man1/rpkiobject.1"
     put 644 "$top/docs/man/rpkirtrd.8" "$prefix/share/man/man8/rpkirtrd.8"
     put_unit "$top/tools/rpkirtrd.service" "$unit"
     put_options
     put 644 "$top/LICENSE" "$pages/LICENSE"
     while IFS= read -r name; do
         put_page "$top/$name" "$pages/$name"
-    done < <(cd "$top" && ls README.md CHANGELOG.md SECURITY.md docs/*.md samples/README.md)
+    done < <(cd "$top" && ls README.md CHANGELOG.md SECURITY.md docs/*.md samples/README.md examples/README.md)
     while IFS= read -r name; do
         put 644 "$top/$name" "$pages/$name"
-    done < <(cd "$top" && find samples docs/figures docs/alerts.yml docs/grafana.json docs/Containerfile -type f ! -name README.md | sort)
+    done < <(cd "$top" && find samples examples docs/figures docs/alerts.yml docs/grafana.json docs/Containerfile -type f ! -name README.md | sort)
+}
+
+# A link to a file beside it.
+put_link() { # put_link TARGET LINK
+    make_folder "${2%/*}"
+    ln -sfn "$1" "$destdir$2" || fail "$destdir$2 could not be made"
+    made+=("file $2")
+}
+
+# The library for C, with what belongs to it. The newest version of the changelog is its version.
+put_dev() {
+    local name version
+    version=$(sed -n 's/^## \[\([0-9][0-9.]*\)\].*$/\1/p' "$top/CHANGELOG.md" | head -n 1)
+    put 644 "$top/include/rpkirtr.h" "$prefix/include/rpkirtr.h"
+    put 644 "${ready[librpkirtr.a]}" "$libdir/librpkirtr.a"
+    put 644 "${ready[librpkirtr.so.0.0.0]}" "$libdir/librpkirtr.so.0.0.0"
+    put_link librpkirtr.so.0.0.0 "$libdir/librpkirtr.so.0"
+    put_link librpkirtr.so.0 "$libdir/librpkirtr.so"
+    put_text "$top/tools/librpkirtr/rpkirtr.pc.in" "$libdir/pkgconfig/rpkirtr.pc" "s|@prefix@|$prefix|; s|@libdir@|$libdir|; s|@version@|$version|"
+    put 644 "$top/docs/man/rpkirtr.3" "$prefix/share/man/man3/rpkirtr.3"
+    while IFS= read -r name; do
+        put 644 "$top/$name" "$pages/$name"
+    done < <(cd "$top" && find examples -type f | sort)
 }
 
 # The program that ./run starts: the one that was built here, or the delivered one.
 ready_program() { # ready_program NAME, into `program`
     find_program "$1" && return
-    [ $? -eq 3 ] || echo "install: $1 is not built: ./build $1 builds it, in $top" >&2
+    [ $? -eq 3 ] || echo "install: $1 is not built: ./build ${1/#librpkirtr.*/librpkirtr} builds it, in $top" >&2
     return 1
 }
 
 install_all() {
-    local program rpkirtr='' rpkirtrd=''
-    ready_program rpkirtr && rpkirtr=$program
-    ready_program rpkirtrd && rpkirtrd=$program
-    [ -n "$rpkirtr" ] && [ -n "$rpkirtrd" ] || exit 1
+    local name program wanted=("${programs[@]}")
+    [ $dev = no ] || wanted=("${libraries[@]}")
+    for name in "${wanted[@]}"; do
+        ready_program "$name" && ready[$name]=$program
+    done
+    [ ${#ready[@]} -eq ${#wanted[@]} ] || exit 1
     [ -z "$destdir" ] || make_folder ''
-    put_all
+    if [ $dev = yes ]; then put_dev; else put_all; fi
     write_record || fail "$destdir$record could not be written"
     echo "installed $(grep -c '^file ' "$destdir$record") files below ${destdir:-/}; $destdir$record lists them"
     [ -n "$destdir" ] && return
+    if [ $dev = yes ]; then
+        echo "next: ldconfig, and cc \$(pkg-config --cflags --libs rpkirtr) .."
+        return
+    fi
     case $prefix in
     /usr | /usr/local) echo "next: systemctl daemon-reload && systemctl enable --now rpkirtrd (its options: $options_file)" ;;
     *) echo "next: systemctl enable --now $unit (its options: $options_file)" ;;

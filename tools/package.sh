@@ -3,22 +3,9 @@
 # the caller's, and prints its path. Its version is the program's. It enables and starts nothing: a user does, once the options are right.
 # The status is 0 where it is made, 1 where a program is not built, 2 where the words are wrong, and 3 where a file or a command failed.
 set -u
-umask 022
-export LC_ALL=C
 top=$(cd "$(dirname "${BASH_SOURCE[0]}")/.." && pwd) || exit 3
-if [ $# -gt 1 ] || [[ ${1:-.} == -* ]]; then
-    echo 'usage: tools/package.sh [FOLDER]' >&2
-    exit 2
-fi
-fail() { # fail MESSAGE
-    echo "package: $1" >&2
-    exit 3
-}
-
-target=$(cd "${1:-.}" && pwd) || fail "${1:-.} is no folder"
-for command in dpkg dpkg-deb gzip; do
-    command -v "$command" >/dev/null 2>&1 || fail "the command $command is not on the PATH"
-done
+script=tools/package.sh
+. "$top/tools/packages.bash" || exit 3
 tree=$(mktemp -d) || fail 'no temporary folder could be made'
 trap 'rm -rf "$tree"' EXIT
 chmod 755 "$tree" || fail "$tree could not be made a folder for all"
@@ -28,12 +15,10 @@ rm "$tree/usr/share/doc/rpkirtr/installed" || fail 'the list of the files could 
 printed=$("$tree/usr/bin/rpkirtrd" --version)
 version=${printed#rpkirtrd }
 [[ $version =~ ^[0-9][0-9.]*$ ]] || fail "rpkirtrd --version prints no version: $printed"
-# (the same programs at the same commit make the same package)
-export SOURCE_DATE_EPOCH=${SOURCE_DATE_EPOCH:-$(git -C "$top" log -1 --format=%ct 2>/dev/null || date +%s)}
 
 # Makes of the tree what Debian wants of each package (Debian policy, sections 12.1, 12.5 and 12.7).
 for_debian() {
-    gzip -9n usr/share/man/man1/rpkirtr.1 usr/share/man/man8/rpkirtrd.8 &&
+    gzip -9n usr/share/man/man1/*.1 usr/share/man/man8/*.8 &&
         mv usr/share/doc/rpkirtr/LICENSE usr/share/doc/rpkirtr/copyright &&
         gzip -9nc usr/share/doc/rpkirtr/CHANGELOG.md >usr/share/doc/rpkirtr/changelog.gz &&
         mkdir DEBIAN &&
@@ -43,9 +28,7 @@ for_debian() {
 cd "$tree" || fail "$tree is not there"
 size=$(du -k -s --apparent-size etc usr | awk '{ sum += $1 } END { print sum }')
 for_debian || fail 'the tree could not be made'
-architecture=$(dpkg --print-architecture) || fail 'dpkg --print-architecture prints none'
-# (the newest version of the C library that a program names)
-glibc=$(grep -aoh 'GLIBC_2\.[0-9]*' usr/bin/rpkirtr usr/bin/rpkirtrd | sed 's/^GLIBC_//' | sort -uV | tail -n 1)
+glibc=$(newest_glibc usr/bin/*)
 
 cat >DEBIAN/control <<CONTROL
 Package: rpkirtr
@@ -64,7 +47,9 @@ Description: proved RPKI-to-Router cache, and commands for RPKI data
  (RFC 8416). It runs under systemd as a user that systemd makes for it.
  .
  rpkirtr shows what ROAs and manifests say, how routes are judged (RFC 6811)
- and what a cache sends. Both are proved against their contracts.
+ and what a cache sends. rpkiobject verifies the digest and the signature of
+ a signed object, and prints what it says. All are proved against their
+ contracts.
 CONTROL
 echo /etc/default/rpkirtrd >DEBIAN/conffiles
 

@@ -1,7 +1,15 @@
-# Which program ./run and ./rpkirtrd start: the one that was built here, or else the delivered one of dist/. To be sourced by bash, with the
+# Which program ./run, ./rpkirtrd and ./rpkiobject start: the one that was built here, or else the delivered one of dist/. To be sourced by bash, with the
 # top folder of the repository in `top`. It calls nothing but bash, gzip and the tools that come with sha256sum (coreutils), and getconf.
 
 delivery=$top/dist/x86_64-linux
+# The programs that are built, delivered and installed, and the files of the library for C.
+programs=(rpkirtr rpkirtrd rpkiobject)
+libraries=(librpkirtr.a librpkirtr.so.0.0.0)
+
+# Whether a word is the name of a program.
+is_program() { # is_program NAME
+    [[ " ${programs[*]} " == *" $1 "* && $1 != *' '* && -n $1 ]]
+}
 
 say() { # say MESSAGE
     printf '%s\n' "$1" >&2
@@ -51,11 +59,16 @@ in_order() { # in_order WORD..
     done
 }
 
-# The sources of a program: the files of src/ of each crate that it is built from, in a fixed order.
+# The sources of a program: the files of src/ of each crate that it is built from, in a fixed order. Those of the library for C are also its
+# header and what links it.
 source_files() { # source_files NAME, into the arrays `lines`, `crates` and `files`
-    local crate path LC_ALL=C
-    crate_lines "$1" || return
+    local crate path name=$1 LC_ALL=C
     files=()
+    if [[ $name == librpkirtr.* ]]; then
+        name=rpkirtr_c
+        files=(include/rpkirtr.h tools/librpkirtr/build.sh tools/librpkirtr/rpkirtr.map)
+    fi
+    crate_lines "$name" || return
     shopt -s globstar nullglob
     for crate in "${crates[@]}"; do
         for path in "$top/crates/$crate"/src/**; do
@@ -100,14 +113,43 @@ read_delivery() { # read_delivery NAME, into `version`, `wanted_sources` and `wa
     return 1
 }
 
-# The kit that the delivered programs were built with, as `rt version` prints it.
-delivered_kit() { # delivered_kit, into `kit`
-    local name
+# What SOURCES says behind a word.
+read_noted() { # read_noted WORD, into `noted`
+    local word
     [ -f "$delivery/SOURCES" ] || return
-    while read -r name kit; do
-        [ "$name" != kit ] || return 0
+    while read -r word noted; do
+        [ "$word" != "$1" ] || return 0
     done <"$delivery/SOURCES"
     return 1
+}
+
+# The kit that the delivered programs were built with, as `rt version` prints it.
+delivered_kit() { # delivered_kit, into `kit`
+    local noted
+    read_noted kit && kit=$noted
+}
+
+# The linkers here, which write the library for C, and those that wrote the delivered one.
+linkers_here() { # linkers_here, into `linkers`
+    local compiler linker
+    read -r compiler < <(cc --version 2>/dev/null) && read -r linker < <(ld --version 2>/dev/null) && linkers="$compiler, $linker"
+}
+
+delivered_linkers() { # delivered_linkers, into `linkers`
+    local noted
+    read_noted linkers && linkers=$noted
+}
+
+# Whether the library that is built here is to have the bytes of the delivered one.
+same_linkers() {
+    local linkers here
+    linkers_here && here=$linkers && delivered_linkers && [ "$linkers" = "$here" ]
+}
+
+# Whether the delivered file is of the sources here.
+is_delivered() { # is_delivered NAME
+    local version wanted_sources wanted sum
+    read_delivery "$1" && source_sum "$1" && [ "$sum" = "$wanted_sources" ]
 }
 
 # The SHA-256 of a file.
@@ -208,9 +250,17 @@ delivered_program() { # delivered_program NAME, into `program`; status 1 if the 
     return 3
 }
 
-# The program that is started: the one built here if no source is newer, else the delivered one.
+# Where a program, or a file of the library for C, is built here.
+built_path() { # built_path NAME, into `built`
+    built=$top/crates/$1/out/$1
+    [[ $1 != librpkirtr.* ]] || built=$top/crates/rpkirtr_c/out/lib/$1
+}
+
+# The program that is started, or the file of the library: the one built here if no source is newer, else the delivered one.
 find_program() { # find_program NAME, into `program`; status 1 if it has to be built, and 3 if it is refused
-    program=$top/crates/$1/out/$1
+    local built
+    built_path "$1"
+    program=$built
     [ -x "$program" ] && is_newest "$program" "$1" && return
     delivered_program "$1"
 }

@@ -11,13 +11,11 @@ if [ "${1:-}" = --path ]; then
     prints=yes
     shift
 fi
-case ${1:-} in
-rpkirtr | rpkirtrd) name=$1 && shift ;;
-*)
-    echo 'usage: tools/start.sh [--path] rpkirtr|rpkirtrd [WORD..]' >&2
+if ! is_program "${1:-}"; then
+    echo 'usage: tools/start.sh [--path] rpkirtr|rpkirtrd|rpkiobject [WORD..]' >&2
     exit 3
-    ;;
-esac
+fi
+name=$1 && shift
 
 build() {
     if ! command -v rt >/dev/null 2>&1; then

@@ -1,0 +1,167 @@
+#!/usr/bin/env python3
+"""Writes the manual page of the library for C, docs/man/rpkirtr.3, from its header: each function with its comment.
+
+usage: tools/library_page.py [--check]
+
+With --check nothing is written; the status is 1 if the page is another."""
+import datetime
+import os
+import re
+import sys
+import textwrap
+
+TOP = os.path.realpath(f"{os.path.dirname(os.path.abspath(__file__))}/..")
+HEADER, PAGE = f"{TOP}/include/rpkirtr.h", f"{TOP}/docs/man/rpkirtr.3"
+
+FRONT = r""".\" Written by tools/library_page.py from include/rpkirtr.h.
+.Dd {date}
+.Dt RPKIRTR 3
+.Os
+.Sh NAME
+.Nm rpkirtr
+.Nd RPKI-to-Router client and route origin validation
+.Sh LIBRARY
+librpkirtr (\-lrpkirtr)
+.Sh SYNOPSIS
+.In rpkirtr.h
+.Sh DESCRIPTION
+"""
+
+BACK = r""".Sh EXAMPLES
+The route of 192.0.2.0/24 with the origin AS 64496 is valid over one record:
+.Bd -literal -offset indent
+rpkirtr_index index = RPKIRTR_EMPTY_INIT;
+rpkirtr_record record = {{192, 0, 2}, 64496, 4, 24, 24, 0};
+rpkirtr_route route = {{192, 0, 2}, 64496, 4, 24, 1, 0};
+rpkirtr_state state;
+size_t bad;
+
+if (rpkirtr_index_new(&index, &record, 1, &bad) == RPKIRTR_OK) {
+	rpkirtr_index_state(&index, &route, &state);
+	/* state is RPKIRTR_VALID */
+	rpkirtr_index_free(&index);
+}
+.Ed
+.Pp
+Compile and link with
+.Li cc rov.c $(pkg-config --cflags --libs rpkirtr) .
+A whole client is
+.Pa examples/c/rov.c
+among the documents of the installation.
+.Sh SEE ALSO
+.Xr rpkirtr 1 ,
+.Xr rpkirtrd 8
+.Sh STANDARDS
+.Bl -tag -width "RFC 8210" -compact
+.It RFC 6810
+the RPKI-to-Router protocol, version 0
+.It RFC 6811
+the state of a route
+.It RFC 8210
+the RPKI-to-Router protocol, version 1
+.El
+"""
+
+
+def plain(comment):
+    """The text of a comment, each paragraph and item on a line."""
+    lines = [re.sub(r"^ ?\* ?", "", it.strip()) for it in comment.strip().removeprefix("/*").removesuffix("*/").split("\n")]
+    paragraphs, last = [], ""
+    for line in map(str.strip, lines):
+        if line.startswith("- ") or not line or not last:
+            paragraphs.append(line)
+        else:
+            paragraphs[-1] += " " + line
+        last = line
+    return [it for it in paragraphs if it]
+
+
+def escaped(text):
+    """A text as mdoc takes it, a sentence on a line."""
+    text = text.replace("\\", r"\e").replace("-", r"\-")
+    lines = re.sub(r"(?<=[.:;]) (?=[A-Z])", "\n", text).split("\n")
+    return "\n".join(r"\&" + it if it[:1] in ".'" else it for line in lines for it in textwrap.wrap(line, 78, break_long_words=False, break_on_hyphens=False))
+
+
+def paragraphs_of(comment):
+    """Paragraphs, with the items among them as a list."""
+    out, in_list = [], False
+    for text in plain(comment):
+        if text.startswith("- "):
+            out += [] if in_list else [".Bl -bullet"]
+            out += [".It", escaped(text[2:])]
+        else:
+            out += ([".El"] if in_list else []) + ([".Pp"] if out else []) + [escaped(text)]
+        in_list = text.startswith("- ")
+    return "\n".join(out + ([".El"] if in_list else []))
+
+
+def declared(function):
+    """The declaration of a function, in mdoc's words."""
+    result, name, parameters = re.match(r"([\w \*]+?)\s*\b(\w+)\((.*)\);", re.sub(r"\s+", " ", function)).groups()
+    names = "".join(f' "{it.strip()}"' for it in parameters.split(","))
+    return f".Ft {result.strip()}\n.Fn {name}{names}"
+
+
+def sections(header):
+    """The parts of the header, each from a line `/* ---- NAME */` on, or from the first type."""
+    parts = re.split(r"^/\* ---- (.*) \*/$", header, flags=re.M)
+    return parts[0], list(zip(parts[1::2], parts[2::2]))
+
+
+TYPE = re.compile(r"^(/\*(?:(?!\*/).)*\*/)\n(typedef (?:struct \w+ \{\n(?:(?!\n\}).)*\n\} \w+|int32_t rpkirtr_state);(?:\n#define [^\n]*)*)", re.M | re.S)
+FUNCTION = re.compile(r"^(/\*(?:(?!\*/).)*\*/)\n((?:const )?\w+ \*?rpkirtr_\w+\([^;]*\);)", re.M | re.S)
+CONSTANT = re.compile(r"^#define (RPKIRTR_\w+) +(\d+) +/\* (.*) \*/$", re.M)
+
+
+def statuses(front):
+    """The statuses, as a list."""
+    part = front[front.index("typedef int32_t rpkirtr_status"):front.index("typedef int32_t rpkirtr_state")]
+    items = "\n".join(f".It Dv {name} Pq {number}\n{escaped(text)}" for name, number, text in CONSTANT.findall(part))
+    return f".Bl -tag -width Ds\n{items}\n.El\n"
+
+
+def types(header):
+    """The types, each with its comment."""
+    out = [".Sh TYPES"]
+    for number, (comment, declaration) in enumerate(TYPE.findall(header)):
+        text = re.sub("^ +", "\t", declaration, flags=re.M).replace("\\", r"\e").replace("-", r"\-")
+        out += [".Pp"] * (number > 0) + [paragraphs_of(comment), ".Bd -literal -offset indent", text, ".Ed"]
+    return "\n".join(out)
+
+
+def page(header, date):
+    front, parts = sections(header)
+    head = header[:header.index("*/") + 2]
+    out = [FRONT.format(date=date), paragraphs_of(re.sub(r"^/\* rpkirtr\.h: a client", "/* A client", head)), ".Sh RETURN VALUES", "Each call answers a status:", statuses(front), types(header)]
+    for name, part in parts:
+        out.append(f".Sh {name.upper()}")
+        for number, (comment, function) in enumerate(FUNCTION.findall(part)):
+            out += [".Pp"] * (number > 0) + [declared(function), ".Pp", paragraphs_of(comment)]
+    return "\n".join(it.strip("\n") for it in [*out, BACK]) + "\n"
+
+
+def main(words):
+    if words not in ([], ["--check"]):
+        print("usage: tools/library_page.py [--check]", file=sys.stderr)
+        return 2
+    with open(HEADER, encoding="utf-8") as it:
+        header = it.read()
+    old = ""
+    if os.path.isfile(PAGE):
+        with open(PAGE, encoding="utf-8") as it:
+            old = it.read()
+    date = re.search(r"^\.Dd (.*)$", old, re.M)
+    # (the date is that of the last change)
+    if date and page(header, date[1]) == old:
+        return 0
+    if words:
+        print("docs/man/rpkirtr.3 is not that of include/rpkirtr.h: tools/library_page.py writes it", file=sys.stderr)
+        return 1
+    with open(PAGE, "w", encoding="utf-8") as it:
+        it.write(page(header, datetime.date.today().strftime("%B %-d, %Y")))
+    return 0
+
+
+if __name__ == "__main__":
+    sys.exit(main(sys.argv[1:]))
