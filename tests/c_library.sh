@@ -1,25 +1,25 @@
 #!/usr/bin/env bash
-# The library for C: its header against the exports, its layout in C and C++, its symbols, and each call and misuse under valgrind and
-# AddressSanitizer, over the archive that the gate builds of crates/rpkirtr_c.
+# The library for C: its header against the exports, its layout in C and C++, its symbols, each call and misuse under valgrind and
+# AddressSanitizer, and the bindings for Python and Rust. The library is the one that is built here, or else the delivered one. It is proved
+# and built here first, with the Rattle kit, if none is delivered of these sources, and in ./test --all.
 set -u
-top=$(cd "$(dirname "${BASH_SOURCE[0]}")/.." && pwd)
-archive=$top/crates/rpkirtr_c/out/librpkirtr_c.a
+top=$(cd "$(dirname "${BASH_SOURCE[0]}")/.." && pwd) || exit 1
+. "$top/tests/library.bash" || exit 1
 python3 "$top/tests/c_library.py" || exit 1
-if [ ! -f "$archive" ]; then
-    echo "crates/rpkirtr_c/out/librpkirtr_c.a is not built here: rt lib in crates/rpkirtr_c builds it, with the Rattle kit"
-    exit 77
-fi
-if ! command -v rt >/dev/null 2>&1; then
-    echo "the kit's heap is not here: the library is linked with it"
-    exit 77
-fi
-heap=$(dirname "$(dirname "$(readlink -f "$(command -v rt)")")")/c/liblibc_c.a
 for tool in gcc g++ nm objcopy; do
     command -v "$tool" >/dev/null 2>&1 || { echo "$tool is not installed"; exit 77; }
 done
 out=$(mktemp -d)
 trap 'rm -rf "$out"' EXIT
 failed=0
+archive=
+if [ -z "${QUICK:-}" ] && command -v rt >/dev/null 2>&1 && { [ -n "${ALL:-}" ] || ! is_delivered "${libraries[0]}"; }; then
+    sources=$(bash "$top/tools/proved.sh" library) && bash "$top/tools/librpkirtr/make.sh" >"$out/log" 2>&1 || { tail -20 "$out/log"; exit 1; }
+    [ ! -f "$top/out/proved" ] || bash "$top/tools/proved.sh" note-library "$sources" || exit 1
+    archive=$top/crates/rpkirtr_c/out/librpkirtr_c.a
+    heap=$(dirname "$(dirname "$(readlink -f "$(command -v rt)")")")/c/liblibc_c.a
+fi
+copy_library
 try() { # try WHAT COMMAND..
     local what=$1
     shift
@@ -29,11 +29,13 @@ try() { # try WHAT COMMAND..
     failed=1
 }
 
-python3 "$top/tests/c_library.py" "$archive" || failed=1
-"$top/tools/librpkirtr/build.sh" "$archive" "$heap" "$out/lib" && "$top/tools/librpkirtr/build.sh" "$archive" "$heap" "$out/again" || exit 1
-for file in librpkirtr.a librpkirtr.so.0.0.0; do
-    try "the same bytes again, of $file," cmp "$out/lib/$file" "$out/again/$file"
-done
+if [ -n "$archive" ]; then
+    python3 "$top/tests/c_library.py" "$archive" || failed=1
+    "$top/tools/librpkirtr/build.sh" "$archive" "$heap" "$out/again" || exit 1
+    for file in "${libraries[@]}"; do
+        try "the same bytes again, of $file," cmp "$out/lib/$file" "$out/again/$file"
+    done
+fi
 nm -D --defined-only --with-symbol-versions "$out/lib/librpkirtr.so.0.0.0" | sed 's/^[0-9a-f]* //' | LC_ALL=C sort >"$out/exports"
 try "the comparison of the shared library's symbols with tools/librpkirtr/exports" diff "$top/tools/librpkirtr/exports" "$out/exports"
 nm -g --defined-only "$out/lib/librpkirtr.a" | awk 'NF == 3 { print $3 }' | grep -v '^rpkirtr_' >"$out/others"
@@ -76,6 +78,12 @@ else
     echo "dist/x86_64-linux/rpkirtr.gz is not here: rov.c fetches nothing"
 fi
 try "the Python binding" env LD_LIBRARY_PATH="$out/lib" PYTHONDONTWRITEBYTECODE=1 PYTHONPATH="$top/bindings/python" python3 "$top/tests/c_library/binding.py"
+if command -v cargo >/dev/null 2>&1; then
+    try "the Rust binding" env RPKIRTR_LIB_DIR="$out/lib" LD_LIBRARY_PATH="$out/lib" CARGO_TARGET_DIR="$out/target" \
+        cargo test --offline --locked --quiet --manifest-path "$top/bindings/rust/Cargo.toml"
+else
+    echo "cargo is not installed: the Rust binding is left out"
+fi
 if command -v valgrind >/dev/null 2>&1; then
     try "calls.c under valgrind" valgrind -q --error-exitcode=9 --leak-check=full "$out/calls_gcc"
 else

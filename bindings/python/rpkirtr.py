@@ -40,6 +40,48 @@ class Status(enum.IntEnum):
     BUSY = 9
 
 
+class LinkState(enum.IntEnum):
+    """The state of a router's link to its cache."""
+
+    CLOSED = 0
+    IDLE = 1
+    ASKED = 2
+    ANSWERING = 3
+    ENDED = 4
+
+
+class End(enum.IntEnum):
+    """How a link ended."""
+
+    NONE = 0
+    REPORTED = 1
+    TOLD = 2
+    MALFORMED = 3
+    MEMORY = 4
+    EXPIRED = 5
+    TOO_MANY = 6
+
+
+class Link(NamedTuple):
+    """A router's link: how it ended, if it did, and the code of the Error Report, if there was one (RFC 8210 section 12)."""
+
+    state: LinkState
+    end: End
+    code: int
+
+
+class Committed(NamedTuple):
+    """The committed version. `moment` is when it was committed; the intervals are in seconds."""
+
+    version: int
+    session: int
+    serial: int
+    moment: int
+    refresh: int
+    retry: int
+    expire: int
+
+
 class Error(Exception):
     """A status other than OK, and the index of the record that is none, if there is one."""
 
@@ -65,6 +107,16 @@ class _Record(ctypes.Structure):
 class _Route(ctypes.Structure):
     _fields_ = [("addr", ctypes.c_uint8 * 16), ("origin", ctypes.c_uint32), ("family", ctypes.c_uint8), ("len", ctypes.c_uint8),
                 ("has_origin", ctypes.c_uint8), ("zero_", ctypes.c_uint8)]
+
+
+class _Link(ctypes.Structure):
+    _fields_ = [("state", ctypes.c_uint8), ("end", ctypes.c_uint8), ("code", ctypes.c_uint16)]
+
+
+class _Committed(ctypes.Structure):
+    _fields_ = [("moment", ctypes.c_uint64), ("serial", ctypes.c_uint32), ("refresh", ctypes.c_uint32), ("retry", ctypes.c_uint32),
+                ("expire", ctypes.c_uint32), ("zero_", ctypes.c_uint32), ("session", ctypes.c_uint16), ("version", ctypes.c_uint8),
+                ("is_committed", ctypes.c_uint8)]
 
 
 def _prefix(prefix: Union[str, Network]) -> Tuple[bytes, int, int]:
@@ -191,6 +243,24 @@ class Router(_Handle):
         at = ctypes.c_uint64()
         _check(self._call("next_query_at", ctypes.byref(at)))
         return at.value
+
+    def link(self) -> Link:
+        """The link to the cache."""
+        it = _Link()
+        _check(self._call("link", ctypes.byref(it)))
+        return Link(LinkState(it.state), End(it.end), it.code)
+
+    def committed(self) -> Optional[Committed]:
+        """The committed version, if there is one."""
+        it = _Committed()
+        _check(self._call("committed", ctypes.byref(it)))
+        return Committed(*(getattr(it, name) for name in Committed._fields)) if it.is_committed else None
+
+    def wake_at(self) -> int:
+        """The least moment at which `tick` does something: the query of an idle link is due, or the records expire. NEVER if there is none."""
+        query = self.next_query_at() if self.link().state == LinkState.IDLE else NEVER
+        committed = self.committed()
+        return min(query, committed.moment + committed.expire + 1 if committed else NEVER)
 
     def records(self) -> List[Record]:
         """The committed records, in ascending order."""

@@ -34,6 +34,10 @@ with rpkirtr.Router() as router:
     assert router.records() == [TEN, DB8]
     assert router.changes() == ([], [TEN, DB8])
     assert router.changes() == ([], [])
-    assert router.next_query_at() == 101 + 3600
+    assert router.link() == (rpkirtr.LinkState.IDLE, rpkirtr.End.NONE, 0)
+    assert router.committed() == (1, 258, 7, 101, 3600, 600, 7200)
+    assert router.next_query_at() == router.wake_at() == 101 + 3600
+    router.connection_closed(102)
+    assert (router.link().state, router.wake_at()) == (rpkirtr.LinkState.CLOSED, 101 + 7200 + 1)
     router.tick(101 + 7201)
     assert router.changes() == ([TEN, DB8], [])

@@ -1,0 +1,63 @@
+//! Why a call fails.
+use crate::ffi;
+use std::fmt;
+
+/// Why a call fails.
+#[derive(Clone, Copy, Debug, PartialEq, Eq)]
+#[non_exhaustive]
+pub enum Error {
+    /// Memory ran out; nothing changed.
+    OutOfMemory,
+    /// The record at this place is none: host bits, a length or a maximum out of range.
+    BadRecord(usize),
+    /// The route is none: host bits, or a length out of range.
+    BadRoute,
+    /// No version of the protocol.
+    BadVersion,
+    /// More than 16,777,215 different records.
+    TooMany,
+    /// There is no connection, or it has ended.
+    NotLinked,
+    /// A query is outstanding.
+    Busy,
+    /// A status that this version of the binding does not know.
+    Other(i32),
+}
+
+impl fmt::Display for Error {
+    fn fmt(&self, f: &mut fmt::Formatter<'_>) -> fmt::Result {
+        match self {
+            Error::OutOfMemory => f.write_str("out of memory"),
+            Error::BadRecord(place) => write!(f, "record {place} is none: its prefix has host bits, or a length is out of range"),
+            Error::BadRoute => f.write_str("the route's prefix has host bits, or its length is out of range"),
+            Error::BadVersion => f.write_str("no version of the protocol"),
+            Error::TooMany => f.write_str("more than 16777215 different records"),
+            Error::NotLinked => f.write_str("there is no connection, or it has ended"),
+            Error::Busy => f.write_str("a query is outstanding"),
+            Error::Other(status) => write!(f, "status {status}"),
+        }
+    }
+}
+
+impl std::error::Error for Error {}
+
+/// What a status says.
+pub(crate) fn check(status: ffi::rpkirtr_status) -> Result<(), Error> {
+    Err(match status {
+        ffi::OK => return Ok(()),
+        ffi::NO_MEMORY => Error::OutOfMemory,
+        ffi::BAD_ROUTE => Error::BadRoute,
+        ffi::BAD_VERSION => Error::BadVersion,
+        ffi::RANGE => Error::TooMany,
+        ffi::NOT_LINKED => Error::NotLinked,
+        ffi::BUSY => Error::Busy,
+        other => Error::Other(other),
+    })
+}
+
+/// The same of a call that fails on no live handle.
+pub(crate) fn done(status: ffi::rpkirtr_status) {
+    if let Err(error) = check(status) {
+        unreachable!("librpkirtr: {error}");
+    }
+}

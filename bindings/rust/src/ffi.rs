@@ -1,0 +1,111 @@
+//! What `rpkirtr.h` declares.
+#![allow(non_camel_case_types)]
+
+use std::os::raw::c_void;
+
+pub type rpkirtr_status = i32;
+pub type rpkirtr_state = i32;
+
+pub const OK: rpkirtr_status = 0;
+pub const NO_MEMORY: rpkirtr_status = 3;
+pub const BAD_RECORD: rpkirtr_status = 4;
+pub const BAD_ROUTE: rpkirtr_status = 5;
+pub const BAD_VERSION: rpkirtr_status = 6;
+pub const RANGE: rpkirtr_status = 7;
+pub const NOT_LINKED: rpkirtr_status = 8;
+pub const BUSY: rpkirtr_status = 9;
+
+/// The moment of what never happens
+pub const NEVER: u64 = u64::MAX;
+
+#[repr(C)]
+#[derive(Clone, Copy, Debug, Default)]
+pub struct rpkirtr_record {
+    pub addr: [u8; 16],
+    pub asn: u32,
+    pub family: u8,
+    pub len: u8,
+    pub max_len: u8,
+    pub zero_: u8,
+}
+
+#[repr(C)]
+#[derive(Clone, Copy, Debug, Default)]
+pub struct rpkirtr_route {
+    pub addr: [u8; 16],
+    pub origin: u32,
+    pub family: u8,
+    pub len: u8,
+    pub has_origin: u8,
+    pub zero_: u8,
+}
+
+#[repr(C)]
+#[derive(Clone, Copy, Debug, Default)]
+pub struct rpkirtr_link {
+    pub state: u8,
+    pub end: u8,
+    pub code: u16,
+}
+
+#[repr(C)]
+#[derive(Clone, Copy, Debug, Default)]
+pub struct rpkirtr_committed {
+    pub moment: u64,
+    pub serial: u32,
+    pub refresh: u32,
+    pub retry: u32,
+    pub expire: u32,
+    pub zero_: u32,
+    pub session: u16,
+    pub version: u8,
+    pub is_committed: u8,
+}
+
+/// A handle of a router or of an index
+#[repr(C)]
+#[derive(Debug)]
+pub struct handle {
+    pub opaque_: *mut c_void,
+}
+
+extern "C" {
+    pub fn rpkirtr_router_new(h: *mut handle) -> rpkirtr_status;
+    pub fn rpkirtr_router_free(h: *mut handle) -> rpkirtr_status;
+    pub fn rpkirtr_router_speak(h: *mut handle, version: u8) -> rpkirtr_status;
+    pub fn rpkirtr_router_connect(h: *mut handle, now: u64) -> rpkirtr_status;
+    pub fn rpkirtr_router_receive(h: *mut handle, bytes: *const u8, bytes_len: usize, now: u64, taken: *mut usize) -> rpkirtr_status;
+    pub fn rpkirtr_router_pull(h: *mut handle, room: *mut u8, room_len: usize, pulled: *mut usize) -> rpkirtr_status;
+    pub fn rpkirtr_router_connection_closed(h: *mut handle, now: u64) -> rpkirtr_status;
+    pub fn rpkirtr_router_tick(h: *mut handle, now: u64) -> rpkirtr_status;
+    pub fn rpkirtr_router_ask(h: *mut handle) -> rpkirtr_status;
+    pub fn rpkirtr_router_next_query_at(h: *mut handle, at: *mut u64) -> rpkirtr_status;
+    pub fn rpkirtr_router_link(h: *mut handle, link: *mut rpkirtr_link) -> rpkirtr_status;
+    pub fn rpkirtr_router_committed(h: *mut handle, committed: *mut rpkirtr_committed) -> rpkirtr_status;
+    pub fn rpkirtr_router_count(h: *mut handle, count: *mut usize) -> rpkirtr_status;
+    pub fn rpkirtr_router_state(h: *mut handle, route: *const rpkirtr_route, state: *mut rpkirtr_state) -> rpkirtr_status;
+    pub fn rpkirtr_router_records(h: *mut handle, first: usize, room: *mut rpkirtr_record, room_len: usize, copied: *mut usize) -> rpkirtr_status;
+    pub fn rpkirtr_router_covering(
+        h: *mut handle,
+        route: *const rpkirtr_route,
+        room: *mut rpkirtr_record,
+        room_len: usize,
+        count: *mut usize,
+    ) -> rpkirtr_status;
+    pub fn rpkirtr_router_changes_begin(h: *mut handle, withdraws: *mut usize, announces: *mut usize) -> rpkirtr_status;
+    pub fn rpkirtr_router_withdrawn(h: *mut handle, first: usize, room: *mut rpkirtr_record, room_len: usize, copied: *mut usize) -> rpkirtr_status;
+    pub fn rpkirtr_router_announced(h: *mut handle, first: usize, room: *mut rpkirtr_record, room_len: usize, copied: *mut usize) -> rpkirtr_status;
+    pub fn rpkirtr_router_changes_taken(h: *mut handle) -> rpkirtr_status;
+
+    pub fn rpkirtr_index_new(h: *mut handle, records: *const rpkirtr_record, records_len: usize, bad: *mut usize) -> rpkirtr_status;
+    pub fn rpkirtr_index_free(h: *mut handle) -> rpkirtr_status;
+    pub fn rpkirtr_index_count(h: *mut handle, count: *mut usize) -> rpkirtr_status;
+    pub fn rpkirtr_index_state(h: *mut handle, route: *const rpkirtr_route, state: *mut rpkirtr_state) -> rpkirtr_status;
+    pub fn rpkirtr_index_covering(
+        h: *mut handle,
+        route: *const rpkirtr_route,
+        room: *mut rpkirtr_record,
+        room_len: usize,
+        count: *mut usize,
+    ) -> rpkirtr_status;
+}

@@ -1,0 +1,26 @@
+//! A client of RPKI-to-Router caches (RFC 6810, RFC 8210) and origin validation (RFC 6811), over `librpkirtr`.
+//!
+//! The library does no input or output: the caller owns sockets and clocks. It hands over the bytes that it received, and sends the bytes that
+//! it pulls. Moments are seconds of one clock that the caller chooses.
+//!
+//! ```
+//! use rpkirtr::{Index, OriginState, Route, Vrp};
+//!
+//! let vrp = Vrp { prefix: "192.0.2.0/24".parse()?, max_len: 24, asn: 64496 };
+//! let index = Index::new(&[vrp])?;
+//! let route = Route { prefix: "192.0.2.0/24".parse()?, origin: Some(64496) };
+//! assert_eq!(index.state(&route)?, OriginState::Valid);
+//! # Ok::<(), Box<dyn std::error::Error>>(())
+//! ```
+#![warn(missing_docs)]
+
+mod error;
+mod ffi;
+mod index;
+mod router;
+mod values;
+
+pub use error::Error;
+pub use index::Index;
+pub use router::{Changes, Committed, End, Link, Records, Router, Version};
+pub use values::{OriginState, Prefix, PrefixError, Route, Vrp};

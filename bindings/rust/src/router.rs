@@ -1,0 +1,311 @@
+//! A router: what it has committed, and at most one connection to a cache.
+use crate::error::{check, done};
+use crate::ffi::{self, handle};
+use crate::index::covering;
+use crate::values::{OriginState, Route, Vrp};
+use crate::Error;
+use std::cell::UnsafeCell;
+use std::fmt;
+use std::ptr::null_mut;
+
+/// A version of the protocol.
+#[derive(Clone, Copy, Debug, PartialEq, Eq, Hash)]
+pub enum Version {
+    /// RFC 6810
+    V0,
+    /// RFC 8210
+    V1,
+}
+
+/// The link to the cache.
+#[derive(Clone, Copy, Debug, PartialEq, Eq)]
+pub enum Link {
+    /// There is no connection.
+    Closed,
+    /// No query is outstanding.
+    Idle,
+    /// A query is outstanding.
+    Asked,
+    /// An answer has begun.
+    Answering,
+    /// It has ended, and the connection has yet to be closed.
+    Ended(End),
+}
+
+/// How a link ended.
+#[derive(Clone, Copy, Debug, PartialEq, Eq)]
+pub enum End {
+    /// An Error Report of this code was sent (RFC 8210 section 12).
+    Reported(u16),
+    /// An Error Report of this code was received.
+    Told(u16),
+    /// A malformed Error Report was received.
+    Malformed,
+    /// Out of memory.
+    OutOfMemory,
+    /// The committed version expired.
+    Expired,
+    /// An answer has more than 16,777,215 records.
+    TooMany,
+}
+
+impl fmt::Display for End {
+    fn fmt(&self, f: &mut fmt::Formatter<'_>) -> fmt::Result {
+        match self {
+            End::Reported(code) => write!(f, "an Error Report of code {code} was sent"),
+            End::Told(code) => write!(f, "an Error Report of code {code} was received"),
+            End::Malformed => f.write_str("a malformed Error Report was received"),
+            End::OutOfMemory => f.write_str("out of memory"),
+            End::Expired => f.write_str("the committed version expired"),
+            End::TooMany => f.write_str("an answer has more than 16777215 records"),
+        }
+    }
+}
+
+/// The committed version.
+#[derive(Clone, Copy, Debug, PartialEq, Eq)]
+pub struct Committed {
+    /// The version of the protocol.
+    pub version: Version,
+    /// The session.
+    pub session: u16,
+    /// The serial.
+    pub serial: u32,
+    /// When it was committed, in seconds of the caller's clock.
+    pub moment: u64,
+    /// When to send a query again, in seconds after the commit.
+    pub refresh: u32,
+    /// When to try again after a failure, in seconds.
+    pub retry: u32,
+    /// When the records are dropped, in seconds after the commit.
+    pub expire: u32,
+}
+
+/// A router: what it has committed, and at most one connection to a cache.
+#[derive(Debug)]
+pub struct Router {
+    handle: UnsafeCell<handle>,
+}
+
+// SAFETY: a router may be used by one thread after another. It is not `Sync`, as each call takes the handle for itself.
+unsafe impl Send for Router {}
+
+impl Router {
+    /// Nothing is committed, and there is no connection.
+    pub fn new() -> Result<Router, Error> {
+        let router = Router { handle: UnsafeCell::new(handle { opaque_: null_mut() }) };
+        // SAFETY: the handle is empty.
+        check(unsafe { ffi::rpkirtr_router_new(router.at()) })?;
+        Ok(router)
+    }
+
+    // Each call below is on the handle of a router, on which no other call is made meanwhile.
+    fn at(&self) -> *mut handle {
+        self.handle.get()
+    }
+
+    /// Sets the version of the protocol for the next connection and those after it. It is version 1 at first.
+    pub fn speak(&mut self, version: Version) {
+        done(unsafe { ffi::rpkirtr_router_speak(self.at(), version as u8) });
+    }
+
+    /// A connection is made, and a query is ready to be pulled. An older connection is closed.
+    pub fn connect(&mut self, now: u64) {
+        done(unsafe { ffi::rpkirtr_router_connect(self.at(), now) });
+    }
+
+    /// The transport closed the connection.
+    pub fn connection_closed(&mut self, now: u64) {
+        done(unsafe { ffi::rpkirtr_router_connection_closed(self.at(), now) });
+    }
+
+    /// Advances the clock. A query is sent if it is due, and the records are dropped if they have expired.
+    pub fn tick(&mut self, now: u64) {
+        done(unsafe { ffi::rpkirtr_router_tick(self.at(), now) });
+    }
+
+    /// Sends a query on an idle link.
+    pub fn ask(&mut self) -> Result<(), Error> {
+        check(unsafe { ffi::rpkirtr_router_ask(self.at()) })
+    }
+
+    /// Hands over bytes that were received, and returns how many were taken: none while bytes are to be pulled, or if no link is open.
+    pub fn receive(&mut self, bytes: &[u8], now: u64) -> usize {
+        let mut taken = 0;
+        done(unsafe { ffi::rpkirtr_router_receive(self.at(), bytes.as_ptr(), bytes.len(), now, &mut taken) });
+        taken
+    }
+
+    /// Moves bytes to be sent into the room, as many as fit, and returns how many.
+    pub fn pull(&mut self, room: &mut [u8]) -> usize {
+        let mut pulled = 0;
+        done(unsafe { ffi::rpkirtr_router_pull(self.at(), room.as_mut_ptr(), room.len(), &mut pulled) });
+        pulled
+    }
+
+    /// When the next query of an idle link is due, if ever.
+    pub fn next_query_at(&self) -> Option<u64> {
+        let mut moment = 0;
+        done(unsafe { ffi::rpkirtr_router_next_query_at(self.at(), &mut moment) });
+        (moment != ffi::NEVER).then_some(moment)
+    }
+
+    /// The least moment at which `tick` does something, if any: the query of an idle link is due, or the records expire.
+    pub fn wake_at(&self) -> Option<u64> {
+        let query = if self.link() == Link::Idle { self.next_query_at() } else { None };
+        let expiry = self.committed().and_then(|it| it.moment.checked_add(u64::from(it.expire))?.checked_add(1));
+        query.into_iter().chain(expiry).min()
+    }
+
+    /// The link.
+    pub fn link(&self) -> Link {
+        let mut link = ffi::rpkirtr_link::default();
+        done(unsafe { ffi::rpkirtr_router_link(self.at(), &mut link) });
+        match link.state {
+            0 => Link::Closed,
+            1 => Link::Idle,
+            2 => Link::Asked,
+            3 => Link::Answering,
+            _ => Link::Ended(match link.end {
+                1 => End::Reported(link.code),
+                2 => End::Told(link.code),
+                3 => End::Malformed,
+                4 => End::OutOfMemory,
+                5 => End::Expired,
+                _ => End::TooMany,
+            }),
+        }
+    }
+
+    /// The committed version, if there is one.
+    pub fn committed(&self) -> Option<Committed> {
+        let mut it = ffi::rpkirtr_committed::default();
+        done(unsafe { ffi::rpkirtr_router_committed(self.at(), &mut it) });
+        (it.is_committed == 1).then_some(Committed {
+            version: if it.version == 0 { Version::V0 } else { Version::V1 },
+            session: it.session,
+            serial: it.serial,
+            moment: it.moment,
+            refresh: it.refresh,
+            retry: it.retry,
+            expire: it.expire,
+        })
+    }
+
+    /// How many records are committed.
+    pub fn len(&self) -> usize {
+        let mut count = 0;
+        done(unsafe { ffi::rpkirtr_router_count(self.at(), &mut count) });
+        count
+    }
+
+    /// Whether no record is committed.
+    pub fn is_empty(&self) -> bool {
+        self.len() == 0
+    }
+
+    /// The state of a route over the committed records.
+    pub fn state(&self, route: &Route) -> Result<OriginState, Error> {
+        let mut state = 0;
+        check(unsafe { ffi::rpkirtr_router_state(self.at(), &route.to_route(), &mut state) })?;
+        Ok(OriginState::of_number(state))
+    }
+
+    /// The committed records that cover a route, in ascending order.
+    pub fn covering(&self, route: &Route) -> Result<Vec<Vrp>, Error> {
+        covering(|room, count| unsafe {
+            ffi::rpkirtr_router_covering(self.at(), &route.to_route(), room.as_mut_ptr(), room.len(), count)
+        })
+    }
+
+    /// The committed records, in ascending order: family, address, length, maximum, AS.
+    pub fn records(&self) -> Records<'_> {
+        Records::of(self, ffi::rpkirtr_router_records)
+    }
+
+    /// What changed between the records that were taken last, none at first, and those committed now.
+    pub fn changes(&mut self) -> Result<Changes<'_>, Error> {
+        let (mut withdraws, mut announces) = (0, 0);
+        check(unsafe { ffi::rpkirtr_router_changes_begin(self.at(), &mut withdraws, &mut announces) })?;
+        Ok(Changes { router: self, withdraws, announces })
+    }
+}
+
+impl Drop for Router {
+    fn drop(&mut self) {
+        // SAFETY: the handle is not used again.
+        unsafe { ffi::rpkirtr_router_free(self.at()) };
+    }
+}
+
+/// A change between two sets of records.
+#[derive(Debug)]
+pub struct Changes<'a> {
+    router: &'a mut Router,
+    withdraws: usize,
+    announces: usize,
+}
+
+impl Changes<'_> {
+    /// How many records were withdrawn.
+    pub fn withdraws(&self) -> usize {
+        self.withdraws
+    }
+
+    /// How many records were announced.
+    pub fn announces(&self) -> usize {
+        self.announces
+    }
+
+    /// The withdrawn records, in ascending order.
+    pub fn withdrawn(&self) -> Records<'_> {
+        Records::of(self.router, ffi::rpkirtr_router_withdrawn)
+    }
+
+    /// The announced records, in ascending order.
+    pub fn announced(&self) -> Records<'_> {
+        Records::of(self.router, ffi::rpkirtr_router_announced)
+    }
+
+    /// Takes the change: the next one begins at the records that it led to. A change that is dropped is told again.
+    pub fn take(self) {
+        done(unsafe { ffi::rpkirtr_router_changes_taken(self.router.at()) });
+    }
+}
+
+type Copy = unsafe extern "C" fn(*mut handle, usize, *mut ffi::rpkirtr_record, usize, *mut usize) -> ffi::rpkirtr_status;
+
+/// How many records are copied at once.
+const ROOM: usize = 1024;
+
+/// Records of a router, in ascending order.
+#[derive(Debug)]
+pub struct Records<'a> {
+    router: &'a Router,
+    copy: Copy,
+    /// How many were copied so far, and those of the last copy that are still to come.
+    copied: usize,
+    room: std::vec::IntoIter<ffi::rpkirtr_record>,
+}
+
+impl Records<'_> {
+    fn of(router: &Router, copy: Copy) -> Records<'_> {
+        Records { router, copy, copied: 0, room: Vec::new().into_iter() }
+    }
+}
+
+impl Iterator for Records<'_> {
+    type Item = Vrp;
+
+    fn next(&mut self) -> Option<Vrp> {
+        if self.room.as_slice().is_empty() {
+            let mut room = vec![ffi::rpkirtr_record::default(); ROOM];
+            let mut copied = 0;
+            done(unsafe { (self.copy)(self.router.at(), self.copied, room.as_mut_ptr(), room.len(), &mut copied) });
+            room.truncate(copied);
+            self.copied += copied;
+            self.room = room.into_iter();
+        }
+        self.room.next().as_ref().map(Vrp::of_record)
+    }
+}

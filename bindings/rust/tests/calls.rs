@@ -1,0 +1,82 @@
+//! A router that is told two records by a cache, and an index.
+use rpkirtr::{Error, Index, Link, OriginState, Route, Router, Version, Vrp};
+
+const ANSWER: [u8; 84] = [
+    1, 3, 1, 2, 0, 0, 0, 8, // Cache Response of session 258
+    1, 4, 0, 0, 0, 0, 0, 20, 1, 8, 16, 0, 10, 0, 0, 0, 0, 0, 0xfb, 0xf0, // 10.0.0.0/8-16 AS64496
+    1, 6, 0, 0, 0, 0, 0, 32, 1, 32, 48, 0, 0x20, 1, 0xd, 0xb8, 0, 0, 0, 0, 0, 0, 0, 0, 0, 0, 0, 0, 0, 0, 0xfb, 0xf1,
+    1, 7, 1, 2, 0, 0, 0, 24, 0, 0, 0, 7, 0, 0, 0xe, 0x10, 0, 0, 2, 0x58, 0, 0, 0x1c, 0x20, // End of Data of serial 7
+];
+
+fn vrp(prefix: &str, max_len: u8, asn: u32) -> Vrp {
+    Vrp { prefix: prefix.parse().unwrap(), max_len, asn }
+}
+
+fn route(prefix: &str, origin: Option<u32>) -> Route {
+    Route { prefix: prefix.parse().unwrap(), origin }
+}
+
+#[test]
+fn a_router_commits_an_answer() {
+    let (ten, db8) = (vrp("10.0.0.0/8", 16, 64496), vrp("2001:db8::/32", 48, 64497));
+    let mut router = Router::new().unwrap();
+    assert_eq!(router.link(), Link::Closed);
+    assert_eq!(router.ask(), Err(Error::NotLinked));
+    assert_eq!(router.wake_at(), None);
+    router.connect(100);
+    let mut room = [0; 16];
+    let pulled = router.pull(&mut room);
+    assert_eq!(room[..pulled], [1, 2, 0, 0, 0, 0, 0, 8]);
+    assert_eq!(router.ask(), Err(Error::Busy));
+    assert_eq!(router.receive(&ANSWER[..60], 101), 60);
+    assert_eq!((router.link(), router.len()), (Link::Answering, 0));
+    assert_eq!(router.receive(&ANSWER[60..], 101), 24);
+    let committed = router.committed().unwrap();
+    assert_eq!((committed.version, committed.session, committed.serial, committed.moment), (Version::V1, 258, 7, 101));
+    assert_eq!(router.records().collect::<Vec<_>>(), [ten, db8]);
+    assert_eq!(router.next_query_at(), Some(101 + 3600));
+    assert_eq!(router.wake_at(), Some(101 + 3600));
+    assert_eq!(router.state(&route("10.1.0.0/16", Some(64496))), Ok(OriginState::Valid));
+    assert_eq!(router.state(&route("10.1.0.0/17", Some(64496))), Ok(OriginState::Invalid));
+    assert_eq!(router.state(&route("192.0.2.0/24", None)), Ok(OriginState::NotFound));
+    assert_eq!(router.state(&route("10.0.0.1/8", None)), Err(Error::BadRoute));
+    assert_eq!(router.covering(&route("2001:db8:1::/48", None)).unwrap(), [db8]);
+}
+
+#[test]
+fn changes_are_told_until_they_are_taken() {
+    let mut router = Router::new().unwrap();
+    router.connect(100);
+    router.pull(&mut [0; 16]);
+    router.receive(&ANSWER, 101);
+    for _ in 0..2 {
+        let changes = router.changes().unwrap();
+        assert_eq!((changes.withdraws(), changes.announces()), (0, 2));
+    }
+    router.changes().unwrap().take();
+    assert_eq!(router.changes().unwrap().announced().count(), 0);
+    router.connection_closed(200);
+    assert_eq!(router.wake_at(), Some(101 + 7200 + 1));
+    router.tick(101 + 7200);
+    assert_eq!(router.len(), 2);
+    router.tick(101 + 7201);
+    let changes = router.changes().unwrap();
+    assert_eq!(changes.withdrawn().map(|vrp| vrp.asn).collect::<Vec<_>>(), [64496, 64497]);
+}
+
+#[test]
+fn an_index_judges() {
+    let ten = vrp("10.0.0.0/8", 16, 64496);
+    let index = Index::new(&[ten, ten]).unwrap();
+    assert_eq!(index.len(), 1);
+    assert_eq!(index.state(&route("10.0.0.0/8", Some(64496))), Ok(OriginState::Valid));
+    assert_eq!(Index::new(&[ten, vrp("10.0.0.0/8", 7, 1)]).unwrap_err(), Error::BadRecord(1));
+    let many: Vec<Vrp> = (8..=32).map(|len| vrp(&format!("10.0.0.0/{len}"), 32, 1)).collect();
+    assert_eq!(Index::new(&many).unwrap().covering(&route("10.0.0.0/32", None)).unwrap(), many);
+}
+
+#[test]
+fn handles_go_to_other_threads() {
+    let index = Index::new(&[]).unwrap();
+    std::thread::spawn(move || assert!(index.is_empty())).join().unwrap();
+}
