@@ -10,6 +10,7 @@ the same, with --strict too. Of both, N are also given to `openssl cms -verify -
 --bytes each octet of three objects, one of them in BER, is replaced by each other value. It exits with 1 at the first that differs, and
 leaves the object in a file."""
 import argparse
+import functools
 import hashlib
 import os
 import random
@@ -346,6 +347,7 @@ def one_member(members, number, read):
     return value
 
 
+@functools.lru_cache(1000)
 def is_signature(modulus, message, signature):
     n, s, size = int.from_bytes(modulus, "big"), int.from_bytes(signature, "big"), len(modulus)
     info = bytes.fromhex("3031300d060960864801650304020105000420") + hashlib.sha256(message).digest()
@@ -466,6 +468,22 @@ def changed(rng, octets):
     return bytes(octets)
 
 
+def replace_each_octet(program, rng, key):
+    """Replaces each octet of three objects by each other value."""
+    for number, kind in enumerate((b"\x18", b"\x1a", None), 1):
+        it = Object(rng, key)
+        it.content = b"content"
+        it.content_type = PKCS_9 + b"\x10\1" + (kind or b"\x18")
+        it.attributes = [it.attribute(MESSAGE_DIGEST, element(4, hashlib.sha256(it.content).digest())) if MESSAGE_DIGEST in a else a for a in it.attributes]
+        it.attributes = [it.attribute(CONTENT_TYPE, oid(it.content_type)) if CONTENT_TYPE in a else a for a in it.attributes]
+        whole = it.octets() if kind else Forms(rng, True).elements(it.octets())
+        for at in range(len(whole)):
+            if at % 100 == 0:
+                print(f"object {number} of 3: octet {at} of {len(whole)}", flush=True)
+            for value in set(range(256)) - {whole[at]}:
+                program.add(whole[:at] + bytes([value]) + whole[at + 1:], f"octet {at} is {value}", it.certificate())
+
+
 def main():
     words = argparse.ArgumentParser()
     words.add_argument("program")
@@ -504,17 +522,7 @@ def main():
             it.content = it.content[:300]
             program.add(changed(rng, form(it.octets())), "octets changed", it.certificate())
     if words.bytes:
-        for kind in (b"\x18", b"\x1a", None):
-            it = Object(rng, keys[0])
-            it.content = b"content"
-            it.content_type = PKCS_9 + b"\x10\1" + (kind or b"\x18")
-            it.attributes = [it.attribute(MESSAGE_DIGEST, element(4, hashlib.sha256(it.content).digest())) if MESSAGE_DIGEST in a else a for a in it.attributes]
-            it.attributes = [it.attribute(CONTENT_TYPE, oid(it.content_type)) if CONTENT_TYPE in a else a for a in it.attributes]
-            whole = it.octets() if kind else Forms(rng, True).elements(it.octets())
-            for at in range(len(whole)):
-                for value in range(256):
-                    if value != whole[at]:
-                        program.add(whole[:at] + bytes([value]) + whole[at + 1:], f"octet {at} is {value}", it.certificate())
+        replace_each_octet(program, rng, keys[0])
     program.flush()
     print(f"{good[0]} objects accepted; of the others by fault (0: accepted):")
     print(", ".join(f"{number}: {count - (good[0] if number == 0 else 0)}" for number, count in sorted(program.faults.items())))

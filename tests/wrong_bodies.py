@@ -74,6 +74,9 @@ class Edit:
             # (a pair that applies to what an earlier one made stands in no function of the text as it is: such an edit goes alone)
             self.places = {function_at(crate, *it[:2]) for it in self.pairs}
             self.goes_alone = None in self.places
+        # (functions of one cycle are proved together, so each may be refused for a fault in another)
+        cycles = {crate.cycles[it] for it in self.places if it in crate.cycles}
+        self.reach = self.places | {it for it, cycle in crate.cycles.items() if cycle in cycles}
 
 
 def text_of(crate, path):
@@ -100,7 +103,7 @@ def cycles_of(crate):
     for path in sources(crate):
         text = text_of(crate, path)
         for at, name in heads_in(crate, path):
-            cycle = re.search(r"#\[cycle\((\w+)\)\]\s*\Z", text[:at])
+            cycle = re.search(r"#\[cycle\((\w+)\)\]\s*(?:#\[.*\]\s*)*\Z", text[:at])
             if name and cycle:
                 found[name] = cycle[1]
     return found
@@ -149,7 +152,7 @@ def packed(edits):
     """Packs edits so that no two of a pack change one function."""
     packs = []
     for edit in edits:
-        place = next((it for it in packs if not edit.goes_alone and not it[0].goes_alone and all(not edit.places & other.places for other in it)), None)
+        place = next((it for it in packs if not edit.goes_alone and not it[0].goes_alone and all(not edit.reach & other.reach for other in it)), None)
         if place is None:
             packs.append([edit])
         else:
@@ -175,12 +178,11 @@ def with_holes(crate, places, room):
     for part in RT.rtlib.PARTS:
         if os.path.isdir(f"{crate.folder}/{part}"):
             shutil.copytree(f"{crate.folder}/{part}", f"{room}/{part}")
-    cycles = cycles_of(crate)
     for place in {name for path in sources(crate) for _, name in heads_in(crate, path) if name} - places:
         names = place.split("::")[1:]
         folder = "/".join([room, "proofs", *names])
         # (a function that calls itself, also by way of others, is proved in a folder of its cycle, and keeps its proof)
-        if os.path.isdir("/".join([room, "proofs", *names[:-1], f"+{cycles.get(place, names[-1])}"])):
+        if os.path.isdir("/".join([room, "proofs", *names[:-1], f"+{crate.cycles.get(place, names[-1])}"])):
             continue
         os.makedirs(folder, exist_ok=True)
         for it in ("Invariants.antt", "Answers.antt"):
@@ -229,7 +231,7 @@ def judged_alone(crate, edit, kept):
         return False, "NOT REFUSED: the crate is still proved with this edit"
     if None in edit.places:
         return False, f"BAD EDIT: it changes no function, so a line 'by: FUNCTION' must name who refuses it: {', '.join(sorted(own)[:3])}"
-    by, others = shared(own, edit.places)
+    by, others = shared(own, edit)
     if not by:
         return False, f"REFUSED ELSEWHERE: by {', '.join(others[:4])}, and not by {', '.join(sorted(edit.places))}"
     if others and not edit.goes_alone:
@@ -237,10 +239,10 @@ def judged_alone(crate, edit, kept):
     return True, f"refused by {', '.join(by)}"
 
 
-def shared(own, places):
-    """The places that are among the refused functions, and the refused functions that belong to none of them."""
-    by = sorted(it for it in places if any(belongs(name, it) for name in own))
-    return by, sorted(name for name in own if not any(belongs(name, it) for it in places))
+def shared(own, edit):
+    """The places of an edit that are among the refused functions, and the refused functions that it does not reach."""
+    by = sorted(it for it in edit.places if any(belongs(name, it) for name in own))
+    return by, sorted(name for name in own if not any(belongs(name, it) for it in edit.reach))
 
 
 def judged(crate, edits, kept):
@@ -249,9 +251,9 @@ def judged(crate, edits, kept):
     while left and not left[0].message and None not in left[0].places:
         places = {place for edit in left for place in edit.places}
         own, _ = refused_in(crate, texts_of(crate, left), places, kept)
-        if own is None or shared(own, places)[1]:
+        if own is None or set.intersection(*(set(shared(own, edit)[1]) for edit in left)):
             break
-        by = {edit.name: shared(own, edit.places)[0] for edit in left}
+        by = {edit.name: shared(own, edit)[0] for edit in left}
         well = [edit for edit in left if by[edit.name]]
         if not well:
             break
@@ -297,6 +299,7 @@ def in_parts(crate, edits):
 def edits_of(crate, words):
     """The edits of a crate that the words name."""
     crate.homes, folder = homes_of(crate), f"{crate.folder}/wrong"
+    crate.cycles = cycles_of(crate)
     files = sorted(os.listdir(folder)) if os.path.isdir(folder) else []
     chosen = [it for it in files if not words or crate.name in words or f"{crate.name}/{it}" in words or f"{crate.name}/{it[: -len('.edit')]}" in words]
     return [Edit(crate, f"{folder}/{it}") for it in chosen if it.endswith(".edit")]
