@@ -3,9 +3,9 @@
 
 usage: tests/bindings.py LIBRARY_FOLDER DAEMON PROGRAM CLIENT.. [--routes N]
 
-Each CLIENT is a command line that is given the cache's address and port as its last words, joined by a colon, or apart after a `+`. The
-daemon serves records at random; each client judges N routes (400 unless said otherwise) in one run, before the daemon publishes another list
-and after it. The state of each route is that of `PROGRAM route` over the same list."""
+Each CLIENT is a command line that is given the cache's address and port as its last words. The daemon serves records at random; each client
+judges N routes (400 unless said otherwise) in one run, before the daemon publishes another list and after it. The state of each route is that
+of `PROGRAM route` over the same list, and all three states occur."""
 import argparse
 import concurrent.futures
 import ipaddress
@@ -22,7 +22,7 @@ import log
 
 
 def drawn(rolled, count):
-    """Records: few of the first bits differ, so that many routes are covered."""
+    """Records: few of the first bits differ, so that many routes are covered, and not all."""
     found = set()
     while len(found) < count:
         net, longest = prefix(rolled)
@@ -32,9 +32,9 @@ def drawn(rolled, count):
 
 def prefix(rolled):
     if rolled.random() < 0.6:
-        length = rolled.randint(8, 28)
+        length = rolled.randint(12, 28)
         return str(ipaddress.ip_network((10 << 24 | rolled.getrandbits(24) & 0xF0F0FF, length), strict=False)), length
-    length = rolled.randint(16, 64)
+    length = rolled.randint(20, 64)
     return str(ipaddress.ip_network((0x2001 << 112 | rolled.getrandbits(112) & ~(0xFFFF << 80), length), strict=False)), length
 
 
@@ -49,7 +49,7 @@ def routes_of(rolled, records, count):
             length = rolled.randint(above.prefixlen, min(longest + 2, above.max_prefixlen))
             address = int(above.network_address) | rolled.getrandbits(above.max_prefixlen - above.prefixlen)
             net = str(ipaddress.ip_network((address if above.version == 4 else ipaddress.IPv6Address(address), length), strict=False))
-        routes.append((net, rolled.choice([64496, 64497, 64498, 64499])))
+        routes.append((net, rolled.choice([64496, 64497, 64498, 64499, "none"])))
     return routes
 
 
@@ -63,10 +63,9 @@ def states_of(program, file, routes):
 
 
 def told_by(client, port, routes, folder):
-    words = shlex.split(client)
-    words = [*words[:-1], "127.0.0.1", str(port)] if words[-1] == "+" else [*words, f"127.0.0.1:{port}"]
+    words = [*shlex.split(client), "127.0.0.1", str(port)]
     text = "".join(f"{net} {origin}\n" for net, origin in routes)
-    return subprocess.run(words, input=text, stdout=subprocess.PIPE, text=True, timeout=120, env={**os.environ, "LD_LIBRARY_PATH": folder}).stdout.split("\n")[:-1]
+    return subprocess.run(words, input=text, stdout=subprocess.PIPE, text=True, timeout=300, env={**os.environ, "LD_LIBRARY_PATH": folder}).stdout.split("\n")[:-1]
 
 
 def compare(words, client, port, routes, wanted):
@@ -98,7 +97,7 @@ def main():
                 daemon.wait("published", records=len(records))
                 routes = routes_of(rolled, records, words.routes)
                 wanted = states_of(words.program, "list.json", routes)
-                well = all([compare(words, client, port, routes, wanted) for client in words.clients]) and well
+                well = all([compare(words, client, port, routes, wanted) for client in words.clients]) and len(set(wanted)) == 3 and well
                 print(f"{len(words.clients)} clients judge {len(routes)} routes as route does: {', '.join(f'{wanted.count(it)} {it}' for it in sorted(set(wanted)))}")
     return 0 if well else 1
 

@@ -10,8 +10,8 @@ copy_library
 daemon=$(bash "$top/tools/start.sh" --path rpkirtrd) && route=$(bash "$top/tools/start.sh" --path rpkirtr) || exit 1
 clients=("env PYTHONPATH=$top/bindings/python PYTHONDONTWRITEBYTECODE=1 python3 $top/examples/python/rov.py")
 if command -v gcc >/dev/null 2>&1; then
-    gcc -std=c99 -D_POSIX_C_SOURCE=200809L -O2 -I"$top/include" -o "$out/rov" "$top/examples/c/rov.c" -L"$out/lib" -lrpkirtr || exit 1
-    clients+=("$out/rov +")
+    gcc -std=c99 -O2 -I"$top/include" -o "$out/rov" "$top/examples/c/rov.c" -L"$out/lib" -lrpkirtr || exit 1
+    clients+=("$out/rov")
 else
     echo 'gcc is not installed: the client in C is left out'
 fi

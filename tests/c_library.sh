@@ -50,7 +50,7 @@ for cc in gcc clang; do
     try "the layout by $cc" "$cc" "${strict[@]}" -std=c99 -o "$out/layout" "$top/tests/c_library/layout.c"
     try "calls.c by $cc" "$cc" "${strict[@]}" -std=c99 -g -o "$out/calls_$cc" "$top/tests/c_library/calls.c" "$out/lib/librpkirtr.a"
     try "calls.c of $cc" "$out/calls_$cc"
-    try "rov.c by $cc" "$cc" "${strict[@]}" -std=c99 -D_POSIX_C_SOURCE=200809L -o "$out/rov" "$top/examples/c/rov.c" "$out/lib/librpkirtr.a"
+    try "rov.c by $cc" "$cc" "${strict[@]}" -std=c99 -o "$out/rov" "$top/examples/c/rov.c" "$out/lib/librpkirtr.a"
 done
 try "the layout by g++" g++ "${strict[@]}" -x c++ -o "$out/layout" "$top/tests/c_library/layout.c"
 try "calls.c with the shared library" gcc "${strict[@]}" -std=c99 -o "$out/calls_shared" "$top/tests/c_library/calls.c" -L"$out/lib" -lrpkirtr
@@ -68,10 +68,10 @@ if [ -f "$served" ]; then
     "$out/rpkirtr" serve --port "$port" --session 4660 --session0 4661 --start 5 --vrps "$top/samples/list.json" --connections 1 >/dev/null 2>&1 &
     cache=$!
     for _ in 1 2 3 4 5 6 7 8 9 10; do
-        printf '192.0.2.0/24 64496\n10.0.0.0/8 1\n2001:db8::/32 64496\nno route\n' | timeout 20 "$out/rov" 127.0.0.1 "$port" >"$out/states" 2>/dev/null && break
+        printf '192.0.2.0/24 64496\n192.0.2.0/24 none\n10.0.0.0/8 1\n2001:db8::/32 64496\n192.0.2.0/24 \n' | timeout 20 "$out/rov" 127.0.0.1 "$port" >"$out/states" 2>/dev/null && break
         sleep 0.3
     done
-    printf 'valid\nnot-found\ninvalid\nno route\n' >"$out/wanted"
+    printf 'valid\ninvalid\nnot-found\ninvalid\nbad route\n' >"$out/wanted"
     try "the states of rov.c" diff "$out/wanted" "$out/states"
     kill "$cache" 2>/dev/null
 else

@@ -24,7 +24,7 @@ builds() { # builds FOLDER LIBDIR
     words=$(PKG_CONFIG_PATH=$1/$2/pkgconfig PKG_CONFIG_SYSROOT_DIR=$1 PKG_CONFIG_ALLOW_SYSTEM_CFLAGS=1 PKG_CONFIG_ALLOW_SYSTEM_LIBS=1 \
         pkg-config --cflags --libs rpkirtr) || fail 'pkg-config knows no rpkirtr'
     # shellcheck disable=SC2086
-    cc -std=c99 -D_POSIX_C_SOURCE=200809L -o rov "$top/examples/c/rov.c" $words || fail 'rov.c is not built'
+    cc -std=c99 -o rov "$top/examples/c/rov.c" $words || fail 'rov.c is not built'
     # shellcheck disable=SC2086
     cc -std=c99 -o calls "$top/tests/c_library/calls.c" $words || fail 'calls.c is not built'
     LD_LIBRARY_PATH=$1/$2 ./calls || fail 'calls.c does not pass'

@@ -3,7 +3,9 @@
     with rpkirtr.Index([rpkirtr.Record("192.0.2.0/24", 24, 64496)]) as index:
         index.state("192.0.2.0/24", 64496)      # State.VALID
 
-A router does no input or output: hand over what was received by `receive`, and send what `pull` gives. Moments are seconds of one clock.
+A router does no input or output: hand over what was received by `receive`, and send what `pull` gives. Moments are whole seconds of one clock.
+
+A text that is no prefix, and a number that does not fit, are a ValueError. What the library refuses is an `Error`.
 """
 from __future__ import annotations
 
@@ -119,6 +121,17 @@ class _Committed(ctypes.Structure):
                 ("is_committed", ctypes.c_uint8)]
 
 
+def _within(bits: int, number: int) -> int:
+    """A number of so many bits. (ctypes would cut a larger one off.)"""
+    if not 0 <= number < 1 << bits:
+        raise ValueError(f"{number} is not from 0 to {(1 << bits) - 1}")
+    return number
+
+
+def _moment(now: int) -> ctypes.c_uint64:
+    return ctypes.c_uint64(_within(64, now))
+
+
 def _prefix(prefix: Union[str, Network]) -> Tuple[bytes, int, int]:
     network = ipaddress.ip_network(prefix)
     return network.network_address.packed.ljust(16, b"\0"), network.version, network.prefixlen
@@ -126,12 +139,12 @@ def _prefix(prefix: Union[str, Network]) -> Tuple[bytes, int, int]:
 
 def _record(record: Record) -> _Record:
     addr, family, length = _prefix(record.prefix)
-    return _Record((ctypes.c_uint8 * 16)(*addr), record.asn, family, length, record.max_len, 0)
+    return _Record((ctypes.c_uint8 * 16)(*addr), _within(32, record.asn), family, length, _within(8, record.max_len), 0)
 
 
 def _route(prefix: Union[str, Network], origin: Optional[int]) -> _Route:
     addr, family, length = _prefix(prefix)
-    return _Route((ctypes.c_uint8 * 16)(*addr), origin or 0, family, length, 0 if origin is None else 1, 0)
+    return _Route((ctypes.c_uint8 * 16)(*addr), _within(32, origin or 0), family, length, 0 if origin is None else 1, 0)
 
 
 def _told(record: _Record) -> Record:
@@ -145,7 +158,7 @@ def _check(status: int) -> None:
 
 
 class _Handle:
-    """A handle, which is freed at the end of a `with`."""
+    """A handle. It is freed at the end of a `with`, at the latest with the object."""
 
     _name = ""
 
@@ -168,6 +181,9 @@ class _Handle:
         return self
 
     def __exit__(self, *_: object) -> None:
+        self.free()
+
+    def __del__(self) -> None:
         self.free()
 
     def __len__(self) -> int:
@@ -210,27 +226,32 @@ class Router(_Handle):
     def __init__(self, version: int = 1) -> None:
         super().__init__()
         _check(self._call("new"))
-        _check(self._call("speak", ctypes.c_uint8(version)))
+        self.speak(version)
+
+    def speak(self, version: int) -> None:
+        """Sets the version of the protocol, 0 or 1, for the next connection and those after it."""
+        _check(self._call("speak", ctypes.c_uint8(_within(8, version))))
 
     def connect(self, now: int) -> None:
         """A connection is made, and a query is ready to be pulled."""
-        _check(self._call("connect", ctypes.c_uint64(now)))
+        _check(self._call("connect", _moment(now)))
 
     def connection_closed(self, now: int) -> None:
         """The transport closed the connection."""
-        _check(self._call("connection_closed", ctypes.c_uint64(now)))
+        _check(self._call("connection_closed", _moment(now)))
 
     def tick(self, now: int) -> None:
         """Advances the clock."""
-        _check(self._call("tick", ctypes.c_uint64(now)))
+        _check(self._call("tick", _moment(now)))
 
     def ask(self) -> None:
         """Sends a query on an idle link."""
         _check(self._call("ask"))
 
     def receive(self, received: bytes, now: int) -> int:
-        """Hands over bytes that were received; how many were taken."""
-        return self._size("receive", received, ctypes.c_size_t(len(received)), ctypes.c_uint64(now))
+        """Hands over bytes that were received; how many were taken: none while bytes are to be pulled, or if no link is open."""
+        piece = bytes(memoryview(received))
+        return self._size("receive", piece, ctypes.c_size_t(len(piece)), _moment(now))
 
     def pull(self, most: int = 4096) -> bytes:
         """The bytes to be sent, at most so many."""

@@ -9,10 +9,8 @@ fn main() {
         println!("cargo:rustc-link-search=native={folder}");
         return;
     }
-    let Ok(told) = Command::new("pkg-config").args(["--libs-only-L", "rpkirtr"]).output() else {
-        return;
-    };
-    for word in String::from_utf8_lossy(&told.stdout).split_whitespace() {
+    let told = Command::new("pkg-config").args(["--libs-only-L", "rpkirtr"]).output().map_or(Vec::new(), |it| it.stdout);
+    for word in String::from_utf8_lossy(&told).split_whitespace() {
         if let Some(folder) = word.strip_prefix("-L") {
             println!("cargo:rustc-link-search=native={folder}");
         }

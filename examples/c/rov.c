@@ -1,8 +1,10 @@
 /* rov ADDR PORT: fetches the records of a cache, follows it, and judges the routes of standard input, each a line `PREFIX/LENGTH ORIGIN`,
- * by the records that are committed then. */
+ * by the records that are committed then. ORIGIN is the number of an AS, or `none`. */
+#define _POSIX_C_SOURCE 200809L
 #include "rpkirtr.h"
 
 #include <arpa/inet.h>
+#include <ctype.h>
 #include <errno.h>
 #include <netdb.h>
 #include <poll.h>
@@ -20,23 +22,38 @@ static uint64_t now(void)
     return (uint64_t)t.tv_sec;
 }
 
+/* A connection to the first address that answers; -1 if none does. */
 static int dial(const char *host, const char *port)
 {
     struct addrinfo hints, *found, *a;
-    int fd = -1;
+    int fd = -1, error;
     memset(&hints, 0, sizeof hints);
     hints.ai_socktype = SOCK_STREAM;
-    if (getaddrinfo(host, port, &hints, &found) != 0)
+    error = getaddrinfo(host, port, &hints, &found);
+    if (error != 0) {
+        fprintf(stderr, "rov: %s port %s has no address: %s\n", host, port, gai_strerror(error));
         return -1;
+    }
     for (a = found; a != NULL && fd < 0; a = a->ai_next) {
         fd = socket(a->ai_family, a->ai_socktype, a->ai_protocol);
-        if (fd >= 0 && connect(fd, a->ai_addr, a->ai_addrlen) != 0) {
-            close(fd);
+        if (fd < 0 || connect(fd, a->ai_addr, a->ai_addrlen) != 0) {
+            error = errno;
+            if (fd >= 0)
+                close(fd);
             fd = -1;
         }
     }
     freeaddrinfo(found);
+    if (fd < 0)
+        fprintf(stderr, "rov: no connection to %s port %s: %s\n", host, port, strerror(error));
     return fd;
+}
+
+/* Says why the connection has ended; 0. */
+static int ended(const char *why)
+{
+    fprintf(stderr, "rov: %s\n", why);
+    return 0;
 }
 
 /* Sends what is to be sent; 0 if the connection failed. */
@@ -47,59 +64,79 @@ static int send_all(rpkirtr_router *h, int fd)
     while (rpkirtr_router_pull(h, room, sizeof room, &pulled) == RPKIRTR_OK && pulled > 0) {
         size_t sent = 0;
         while (sent < pulled) {
-            ssize_t n = write(fd, room + sent, pulled - sent);
-            if (n <= 0)
-                return 0;
+            ssize_t n = send(fd, room + sent, pulled - sent, MSG_NOSIGNAL);
+            if (n < 0)
+                return ended(strerror(errno));
             sent += (size_t)n;
         }
     }
     return 1;
 }
 
-/* Reads once and hands over what came; 0 if the connection ended. */
+/* 1 unless the link has ended. */
+static int is_linked(rpkirtr_router *h)
+{
+    static const char *const ends[] = {"", "an Error Report was sent", "an Error Report was received",
+        "a malformed Error Report was received", "out of memory", "the records expired", "the cache has too many records"};
+    rpkirtr_link link;
+    rpkirtr_router_link(h, &link);
+    if (link.state == RPKIRTR_ENDED)
+        fprintf(stderr, "rov: the link ended: %s (code %d)\n", ends[link.end], link.code);
+    return link.state != RPKIRTR_ENDED;
+}
+
+/* Reads once and hands over what came; 0 if the connection ended. No more is taken before what is to be sent is pulled. */
 static int read_some(rpkirtr_router *h, int fd)
 {
     uint8_t bytes[65536];
-    ssize_t n = read(fd, bytes, sizeof bytes);
+    ssize_t n = recv(fd, bytes, sizeof bytes, 0);
     size_t at = 0, taken;
-    rpkirtr_link link;
     if (n <= 0)
-        return 0;
+        return ended(n == 0 ? "the cache closed the connection" : strerror(errno));
     while (at < (size_t)n) {
-        if (rpkirtr_router_receive(h, bytes + at, (size_t)n - at, now(), &taken) != RPKIRTR_OK || !send_all(h, fd))
-            return 0;
+        rpkirtr_router_receive(h, bytes + at, (size_t)n - at, now(), &taken);
         at += taken;
-        if (rpkirtr_router_link(h, &link) != RPKIRTR_OK || link.state == RPKIRTR_ENDED)
+        if (!send_all(h, fd) || !is_linked(h))
             return 0;
     }
     return 1;
 }
 
+/* Reads a number, and moves past it; 0 if there is none, or one that is too large. */
+static int read_number(char **at, unsigned long most, unsigned long *number)
+{
+    if (!isdigit((unsigned char)**at))
+        return 0;
+    errno = 0;
+    *number = strtoul(*at, at, 10);
+    return errno == 0 && *number <= most;
+}
+
 /* A route of a line `PREFIX/LENGTH ORIGIN`; 0 if it is none. */
 static int read_route(char *line, rpkirtr_route *route)
 {
-    char *slash = strchr(line, '/'), *end;
-    unsigned long len, origin;
+    char *at = strchr(line, '/');
+    unsigned long len, origin = 0;
     memset(route, 0, sizeof *route);
-    if (slash == NULL)
+    if (at == NULL)
         return 0;
-    *slash = 0;
+    *at++ = 0;
     if (inet_pton(AF_INET, line, route->addr) == 1)
         route->family = 4;
     else if (inet_pton(AF_INET6, line, route->addr) == 1)
         route->family = 6;
     else
         return 0;
-    len = strtoul(slash + 1, &end, 10);
-    if (end == slash + 1 || len > 128 || *end != ' ')
+    if (!read_number(&at, 128, &len) || *at++ != ' ')
         return 0;
-    origin = strtoul(end + 1, &end, 10);
-    if (origin > 0xffffffffUL)
+    route->has_origin = strncmp(at, "none", 4) != 0;
+    if (route->has_origin && !read_number(&at, 0xffffffffUL, &origin))
         return 0;
+    if (!route->has_origin)
+        at += 4;
     route->len = (uint8_t)len;
     route->origin = (uint32_t)origin;
-    route->has_origin = 1;
-    return *end == '\n' || *end == 0;
+    return *at == '\n' || *at == 0;
 }
 
 static void judge(rpkirtr_router *h, char *line)
@@ -108,7 +145,7 @@ static void judge(rpkirtr_router *h, char *line)
     rpkirtr_route route;
     rpkirtr_state state;
     if (!read_route(line, &route) || rpkirtr_router_state(h, &route, &state) != RPKIRTR_OK)
-        puts("no route");
+        puts("bad route");
     else
         puts(words[state]);
     fflush(stdout);
@@ -123,14 +160,13 @@ static int follow(rpkirtr_router *h, int fd)
         struct pollfd fds[2];
         rpkirtr_router_committed(h, &committed);
         fds[0].fd = fd;
-        fds[0].events = POLLIN;
-        fds[1].fd = committed.is_committed ? 0 : -1;
-        fds[1].events = POLLIN;
-        fds[1].revents = 0;
+        fds[1].fd = committed.is_committed ? STDIN_FILENO : -1;
+        fds[0].events = fds[1].events = POLLIN;
+        fds[0].revents = fds[1].revents = 0;
         if (poll(fds, 2, 1000) < 0 && errno != EINTR)
-            return 0;
+            return ended(strerror(errno));
         rpkirtr_router_tick(h, now());
-        if (!send_all(h, fd) || (fds[0].revents != 0 && !read_some(h, fd)))
+        if (!send_all(h, fd) || !is_linked(h) || (fds[0].revents != 0 && !read_some(h, fd)))
             return 0;
         if (fds[1].revents != 0) {
             if (fgets(line, sizeof line, stdin) == NULL)
@@ -148,12 +184,11 @@ int main(int argc, char **argv)
         fprintf(stderr, "usage: rov ADDR PORT\n");
         return 2;
     }
+    /* (poll does not see a line that stdio has read already) */
     setvbuf(stdin, NULL, _IONBF, 0);
     fd = dial(argv[1], argv[2]);
-    if (fd < 0) {
-        fprintf(stderr, "rov: no connection to %s port %s\n", argv[1], argv[2]);
+    if (fd < 0)
         return 1;
-    }
     if (rpkirtr_router_new(&h) != RPKIRTR_OK) {
         fprintf(stderr, "rov: out of memory\n");
         return 4;

@@ -1,5 +1,5 @@
-"""rov.py ADDR:PORT: fetches the records of a cache, follows it, and judges the routes of standard input, each a line `PREFIX/LENGTH ORIGIN`, by
-the records that are committed then."""
+"""rov.py ADDR PORT: fetches the records of a cache, follows it, and judges the routes of standard input, each a line `PREFIX/LENGTH ORIGIN`, by
+the records that are committed then. ORIGIN is the number of an AS, or `none`."""
 import os
 import selectors
 import socket
@@ -14,7 +14,8 @@ class Client:
 
     def __init__(self, router: rpkirtr.Router, cache: socket.socket) -> None:
         self.router, self.cache, self.began, self.text, self.ends = router, cache, time.monotonic(), b"", False
-        self.selector = selectors.DefaultSelector()
+        # (standard input may be a file, which epoll refuses)
+        self.selector = selectors.PollSelector()
         self.selector.register(cache, selectors.EVENT_READ, self.receive)
 
     def now(self) -> int:
@@ -42,16 +43,18 @@ class Client:
         piece = os.read(sys.stdin.fileno(), 65536)
         self.ends = not piece
         *lines, self.text = (self.text + piece).split(b"\n")
+        if self.ends and self.text:
+            lines.append(self.text)
         for line in lines:
-            print(self.judged(line.decode()))
+            print(self.judged(line.decode(errors="replace")))
         sys.stdout.flush()
 
     def judged(self, line: str) -> str:
         try:
             prefix, origin = line.split()
-            return self.router.state(prefix, int(origin)).name.lower().replace("_", "-")
+            return self.router.state(prefix, None if origin == "none" else int(origin)).name.lower().replace("_", "-")
         except (ValueError, rpkirtr.Error):
-            return "no route"
+            return "bad route"
 
     def follow(self) -> None:
         """Follows the cache until standard input ends."""
@@ -64,12 +67,11 @@ class Client:
 
 
 def main(words: list) -> int:
-    if len(words) != 1 or ":" not in words[0]:
-        print("usage: rov.py ADDR:PORT", file=sys.stderr)
+    if len(words) != 2:
+        print("usage: rov.py ADDR PORT", file=sys.stderr)
         return 2
-    host, port = words[0].rsplit(":", 1)
     try:
-        with socket.create_connection((host, int(port)), 30) as cache, rpkirtr.Router() as router:
+        with socket.create_connection(tuple(words), 30) as cache, rpkirtr.Router() as router:
             client = Client(router, cache)
             router.connect(0)
             client.send()

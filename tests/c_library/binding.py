@@ -27,6 +27,19 @@ try:
     raise AssertionError("a bad record")
 except rpkirtr.Error as error:
     assert (error.status, error.index) == (rpkirtr.Status.BAD_RECORD, 1)
+for route in (("10.1.0.0/16", 64496 + 2**32), ("10.1.0.0/16", -1), ("10.0.0.1/8", 64496), ("10.0.0.0/33", 64496)):
+    with rpkirtr.Index([TEN]) as index:
+        try:
+            index.state(*route)
+            raise AssertionError(f"a state of {route}")
+        except ValueError:
+            pass
+for record in (rpkirtr.Record("10.0.0.0/8", 256 + 16, 64496), rpkirtr.Record("10.0.0.0/8", 16, 2**32)):
+    try:
+        rpkirtr.Index([record])
+        raise AssertionError(f"an index over {record}")
+    except ValueError:
+        pass
 with rpkirtr.Router() as router:
     router.connect(100)
     assert router.pull() == bytes.fromhex("0102000000000008")

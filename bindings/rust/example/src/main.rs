@@ -1,5 +1,5 @@
-//! rov ADDR:PORT: fetches the records of a cache, follows it, and judges the routes of standard input, each a line `PREFIX/LENGTH ORIGIN`, by
-//! the records that are committed then.
+//! rov ADDR PORT: fetches the records of a cache, follows it, and judges the routes of standard input, each a line `PREFIX/LENGTH ORIGIN`, by
+//! the records that are committed then. ORIGIN is the number of an AS, or `none`.
 use rpkirtr::{Link, Route, Router};
 use std::error::Error;
 use std::io::{self, BufRead, Read, Write};
@@ -85,7 +85,7 @@ impl Client {
         for line in self.waiting.drain(..) {
             match read_route(&line).and_then(|route| self.router.state(&route).ok()) {
                 Some(state) => writeln!(out, "{state}")?,
-                None => writeln!(out, "no route")?,
+                None => writeln!(out, "bad route")?,
             }
         }
         out.flush()?;
@@ -123,11 +123,12 @@ impl Client {
 /// A route of a line `PREFIX/LENGTH ORIGIN`.
 fn read_route(line: &str) -> Option<Route> {
     let (prefix, origin) = line.split_once(' ')?;
-    Some(Route { prefix: prefix.parse().ok()?, origin: Some(origin.parse().ok()?) })
+    let origin = if origin == "none" { None } else { Some(origin.parse().ok()?) };
+    Some(Route { prefix: prefix.parse().ok()?, origin })
 }
 
-fn run(cache: &str) -> Result<(), Box<dyn Error>> {
-    let socket = TcpStream::connect(cache).map_err(|error| format!("no connection to {cache}: {error}"))?;
+fn run(host: &str, port: u16) -> Result<(), Box<dyn Error>> {
+    let socket = TcpStream::connect((host, port)).map_err(|error| format!("no connection to {host} port {port}: {error}"))?;
     let events = readers(socket.try_clone()?);
     let mut client = Client { router: Router::new()?, socket, began: Instant::now(), waiting: Vec::new() };
     client.router.connect(0);
@@ -137,13 +138,17 @@ fn run(cache: &str) -> Result<(), Box<dyn Error>> {
 
 fn main() -> ExitCode {
     let words: Vec<String> = std::env::args().skip(1).collect();
-    let [cache] = words.as_slice() else {
-        eprintln!("usage: rov ADDR:PORT");
-        return ExitCode::from(2);
+    let cache = match words.as_slice() {
+        [host, port] => port.parse().ok().map(|port| (host, port)),
+        _ => None,
     };
-    match run(cache) {
-        Ok(()) => ExitCode::SUCCESS,
-        Err(error) => {
+    match cache.map(|(host, port)| run(host, port)) {
+        None => {
+            eprintln!("usage: rov ADDR PORT");
+            ExitCode::from(2)
+        }
+        Some(Ok(())) => ExitCode::SUCCESS,
+        Some(Err(error)) => {
             eprintln!("rov: {error}");
             ExitCode::FAILURE
         }
