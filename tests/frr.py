@@ -6,8 +6,8 @@ usage: tests/frr.py FOLDER DAEMON [--changes N]
 FOLDER has librtr.so.0 of examples/frr. Both bgpds follow the same cache: DAEMON, StayRTR if it is installed, and DAEMON started anew for each
 change. After each of N changes in all (9 if none is given) both must hold the records that are served, and answer for prefixes with the same
 lines. Then, over examples/frr alone: a route map that drops invalid routes of a BGP session, before and after a change; two caches of which
-one fails, returns, is removed and is added again; records for 0.0.0.0/0 and ::/0, at which rtrlib aborts. All is on loopback and bounded in
-time. The status is 1 if anything differs."""
+one fails, returns, is removed and is added again; records for 0.0.0.0/0 and ::/0, at which rtrlib aborts; a cache that knows version 0 alone.
+All is on loopback and bounded in time. The status is 1 if anything differs."""
 import argparse
 import contextlib
 import ipaddress
@@ -21,6 +21,7 @@ import struct
 import subprocess
 import sys
 import tempfile
+import threading
 import time
 
 from common import free_port, put, write
@@ -236,9 +237,45 @@ class Test:
         print("records for 0.0.0.0/0 and ::/0", flush=True)
         bgpd.end()
 
+    def version_0(self):
+        """A cache that knows version 0 alone."""
+        cache = self.begin(OldCache())
+        bgpd = self.bgpd("version_0", [cache.port], self.folder)
+        self.until("records over version 0", lambda: bgpd.records() == [("192.0.2.0/24", 24, 64496)], bgpd)
+        print("a cache that knows version 0 alone", flush=True)
+        bgpd.end()
+
     def end(self):
         for it in self.started:
             it.end()
+
+
+class OldCache:
+    """A cache of RFC 6810 with one record. It answers a query of version 1 with an Error Report of its own version (RFC 8210 section 7)."""
+
+    def __init__(self):
+        self.it = socket.create_server(("127.0.0.1", 0))
+        self.port, self.open = self.it.getsockname()[1], []
+
+    def start(self):
+        threading.Thread(target=self.serve, daemon=True).start()
+
+    def serve(self):
+        with contextlib.suppress(OSError):
+            while True:
+                router = self.it.accept()[0]
+                query = router.recv(8, socket.MSG_WAITALL)
+                if query == bytes([0, 2, 0, 0, 0, 0, 0, 8]):
+                    record = struct.pack(">BBHIBBBB4sI", 0, 4, 0, 20, 1, 24, 24, 0, socket.inet_aton("192.0.2.0"), 64496)
+                    router.sendall(struct.pack(">BBHI", 0, 3, 1, 8) + record + struct.pack(">BBHII", 0, 7, 1, 12, 1))
+                    self.open.append(router)
+                else:
+                    router.sendall(struct.pack(">BBHII", 0, 10, 4, 24, 8) + query + bytes(4))
+                    router.close()
+
+    def end(self):
+        for it in [self.it, *self.open]:
+            it.close()
 
 
 class Speaker:
@@ -303,6 +340,7 @@ def main():
             test.route_map()
             test.preference()
             test.zero()
+            test.version_0()
         finally:
             test.end()
     return 1 if test.failed else 0

@@ -328,7 +328,8 @@ static void begin(struct manager *m, struct cache *cache)
     send_all(m, cache);
 }
 
-/* What the link says now. A cache that knows no version 1 is called again at once, in version 0 (RFC 8210 section 7). */
+/* What the link says now. A cache that knows no version 1 is called again at once, in version 0 (RFC 8210 section 7). Its own Error Report is
+ * malformed in version 1. */
 static void look(struct manager *m, struct cache *cache)
 {
     rpkirtr_link link;
@@ -338,7 +339,8 @@ static void look(struct manager *m, struct cache *cache)
         cache->sockets[0]->last_update = (time_t)now();
         set_states(cache, RTR_ESTABLISHED, RTR_MGR_ESTABLISHED);
     } else if (link.state == RPKIRTR_ENDED) {
-        int calls_again = !cache->is_version_0 && link.code == UNSUPPORTED_VERSION;
+        int is_report_of_0 = link.end == RPKIRTR_END_MALFORMED && !has_committed(cache);
+        int calls_again = !cache->is_version_0 && (link.code == UNSUPPORTED_VERSION || is_report_of_0);
         hang_up(m, cache);
         if (calls_again) {
             cache->is_version_0 = 1;
