@@ -27,7 +27,58 @@ librpkirtr (\-lrpkirtr)
 .Sh DESCRIPTION
 """
 
-BACK = r""".Sh EXAMPLES
+BACK = r""".Sh A CLIENT
+The calls of a client that owns a socket:
+.Bl -enum
+.It
+Declare
+.Li rpkirtr_router h = RPKIRTR_EMPTY_INIT;
+and make the router by
+.Fn rpkirtr_router_new ,
+once.
+.It
+When the socket is connected to the cache, call
+.Fn rpkirtr_router_connect .
+.It
+Call
+.Fn rpkirtr_router_pull
+until no byte is left, and send what it gives.
+Do so after each call of connect, receive, tick and ask: each may have
+something to send.
+.It
+When bytes have come, hand them over by
+.Fn rpkirtr_router_receive .
+If fewer are taken than were given, pull and send, and then hand over the
+rest.
+.It
+Call
+.Fn rpkirtr_router_tick
+each second, or whenever the next query is due or the records expire.
+.It
+Look at
+.Fn rpkirtr_router_link
+after bytes and ticks.
+If it is RPKIRTR_ENDED, send what is left and close the socket.
+.It
+Whoever closed the socket, call
+.Fn rpkirtr_router_connection_closed ,
+and connect again after the retry interval of the committed version.
+The committed records stay in use until they expire.
+.It
+Once
+.Fn rpkirtr_router_committed
+says that records are committed,
+.Fn rpkirtr_router_state
+judges routes.
+Before that each route is RPKIRTR_NOT_FOUND.
+.El
+.Pp
+A cache that knows version 0 alone ends the first link with code 4, as
+RPKIRTR_END_MALFORMED, or by closing the connection.
+Then call
+.Fn rpkirtr_router_speak
+with 0, and connect again (RFC 8210 section 7).
+.Sh EXAMPLES
 The route of 192.0.2.0/24 with the origin AS 64496 is valid over one record:
 .Bd -literal -offset indent
 rpkirtr_index index = RPKIRTR_EMPTY_INIT;
@@ -43,11 +94,15 @@ if (rpkirtr_index_new(&index, &record, 1, &bad) == RPKIRTR_OK) {
 }
 .Ed
 .Pp
-Compile and link with
-.Li cc rov.c $(pkg-config --cflags --libs rpkirtr) .
 A whole client is
-.Pa examples/c/rov.c
-among the documents of the installation.
+.Pa /usr/share/doc/librpkirtr\-dev/examples/c/rov.c
+of the Debian package, or
+.Pa share/doc/librpkirtr/examples/c/rov.c
+below the prefix of the installation.
+Compile and link it with
+.Dl cc rov.c $(pkg-config \-\-cflags \-\-libs rpkirtr)
+and let it judge a route by the records of a cache:
+.Dl echo 192.0.2.0/24 64496 | ./a.out 127.0.0.1 3323
 .Sh SEE ALSO
 .Xr rpkirtr 1 ,
 .Xr rpkirtrd 8
@@ -61,6 +116,11 @@ the state of a route
 the RPKI-to-Router protocol, version 1
 .El
 """
+
+
+RESULTS = """Each call answers a status.
+Its description ends with those that it may answer, without RPKIRTR_ before
+them:"""
 
 
 def plain(comment):
@@ -97,10 +157,12 @@ def paragraphs_of(comment):
 
 
 def declared(function):
-    """The declaration of a function, in mdoc's words."""
+    """The declaration of a function, in mdoc's words, and the constants that precede it."""
+    constants = re.match(r"(?:#.*\n)*", function)[0]
+    function = function.removeprefix(constants)
     result, name, parameters = re.match(r"([\w \*]+?)\s*\b(\w+)\((.*)\);", re.sub(r"\s+", " ", function)).groups()
     names = "".join(f' "{it.strip()}"' for it in parameters.split(","))
-    return f".Ft {result.strip()}\n.Fn {name}{names}"
+    return f".Ft {result.strip()}\n.Fn {name}{names}" + (f"\n.Bd -literal -offset indent\n{constants}.Ed" if constants else "")
 
 
 def sections(header):
@@ -110,7 +172,7 @@ def sections(header):
 
 
 TYPE = re.compile(r"^(/\*(?:(?!\*/).)*\*/)\n(typedef (?:struct \w+ \{\n(?:(?!\n\}).)*\n\} \w+|int32_t rpkirtr_state);(?:\n#define [^\n]*)*)", re.M | re.S)
-FUNCTION = re.compile(r"^(/\*(?:(?!\*/).)*\*/)\n((?:const )?\w+ \*?rpkirtr_\w+\([^;]*\);)", re.M | re.S)
+FUNCTION = re.compile(r"^(/\*(?:(?!\*/).)*\*/)\n((?:#define [^\n]*\n)*(?:const )?\w+ \*?rpkirtr_\w+\([^;]*\);)", re.M | re.S)
 CONSTANT = re.compile(r"^#define (RPKIRTR_\w+) +(\d+) +/\* (.*) \*/$", re.M)
 
 
@@ -133,7 +195,7 @@ def types(header):
 def page(header, date):
     front, parts = sections(header)
     head = header[:header.index("*/") + 2]
-    out = [FRONT.format(date=date), paragraphs_of(re.sub(r"^/\* rpkirtr\.h: a client", "/* A client", head)), ".Sh RETURN VALUES", "Each call answers a status:", statuses(front), types(header)]
+    out = [FRONT.format(date=date), paragraphs_of(re.sub(r"^/\* rpkirtr\.h: a client", "/* A client", head)), ".Sh RETURN VALUES", RESULTS, statuses(front), types(header)]
     for name, part in parts:
         out.append(f".Sh {name.upper()}")
         for number, (comment, function) in enumerate(FUNCTION.findall(part)):
