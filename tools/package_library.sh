@@ -79,8 +79,15 @@ Description: proved RPKI-to-Router client and origin validation (development)
  validation of BGP routes (RFC 6811).
 CONTROL
 
-mkdir -p "$work/python3-rpkirtr/usr/lib/python3/dist-packages" &&
+mkdir -p "$work/python3-rpkirtr/DEBIAN" "$work/python3-rpkirtr/usr/lib/python3/dist-packages" &&
     install -m 644 "$top/bindings/python/rpkirtr.py" "$work/python3-rpkirtr/usr/lib/python3/dist-packages/rpkirtr.py" || fail 'the module could not be copied'
+# (what Python compiles from the module is removed with it)
+maintainer_script() { # maintainer_script NAME COMMAND
+    printf '#!/bin/sh\nset -e\nif command -v %s >/dev/null; then %s -p python3-rpkirtr; fi\n' "$2" "$2" >"$work/python3-rpkirtr/DEBIAN/$1" &&
+        chmod 755 "$work/python3-rpkirtr/DEBIAN/$1" || fail "$1 could not be written"
+}
+maintainer_script postinst py3compile
+maintainer_script prerm py3clean
 pack python3-rpkirtr all <<CONTROL
 Section: python
 Depends: librpkirtr0 (>= $version), python3
