@@ -4,9 +4,10 @@ than 30 words.
 
 usage: tests/prose.py [--list [PAGE]]
 
-The pages are README.md, SECURITY.md, docs/*.md but the generated DEFINITIONS.md, and the manual pages. The comments are those of crates/*/src
-and crates/*/specs. Code, examples and output do not count. The status is 1 if a count over all pages, or over all comments, is above its
-bound. With --list each place is printed: of all pages and comments, of one page, or of the comments of one file or crate."""
+The pages are README.md, SECURITY.md, examples/README.md, docs/*.md but the generated DEFINITIONS.md, and the manual pages. The comments are
+those of crates/*/src and crates/*/specs. Code, examples and output do not count. The status is 1 if a count over all pages, or over all
+comments, is above its bound. With --list each place is printed: of all pages and comments, of one page, or of the comments of one file or
+crate."""
 import glob
 import os
 import re
@@ -46,7 +47,8 @@ def read(path):
 
 
 def pages():
-    found = [f"{TOP}/README.md", f"{TOP}/SECURITY.md", *sorted(glob.glob(f"{TOP}/docs/*.md")), *sorted(glob.glob(f"{TOP}/docs/man/*.[18]"))]
+    found = [f"{TOP}/{it}" for it in ("README.md", "SECURITY.md", "examples/README.md")]
+    found += sorted(glob.glob(f"{TOP}/docs/*.md")) + sorted(glob.glob(f"{TOP}/docs/man/*.[18]"))
     return [it for it in found if not it.endswith("/DEFINITIONS.md")]
 
 
