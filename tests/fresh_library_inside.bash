@@ -16,12 +16,16 @@ block() { # block HEADING NUMBER
         on && at == number' examples/README.md | sed 's/^sudo //'
 }
 
+# The blocks that were run.
+declare -A followed
+
 # Runs the commands of a block. All succeed, and the last lines that they print are these.
 follow() { # follow HEADING NUMBER LINE..
     local commands found heading=$1 number=$2
     shift 2
     commands=$(block "$heading" "$number")
     [ -n "$commands" ] || fail "the page has no block $number below $heading"
+    followed["$heading $number"]=yes
     found=$(bash -eu -o pipefail -c "$commands" 2>/tmp/errors) || fail "a command of block $number below $heading fails: $(cat /tmp/errors)"
     [ $# -eq 0 ] || [ "$(tail -n $# <<<"$found")" = "$(printf '%s\n' "$@")" ] || fail "block $number below $heading prints $found"
     echo "$heading, block $number: ${*:-done}"
@@ -49,6 +53,7 @@ follow Install 1
 [ "$(pkg-config --modversion rpkirtr)" = "$version" ] || fail 'pkg-config has another version'
 [ -f /usr/share/doc/librpkirtr-dev/examples/c/rov.c ] || fail 'the examples are not where the page says'
 bash -c "$(block C 1)" >/tmp/log 2>&1
+followed["C 1"]=yes
 for _ in $(seq 100); do
     grep -q ' ready$' /tmp/log && break
     sleep 0.1
@@ -97,5 +102,6 @@ bash -c "$(sed -n 's/.*`sudo \(tools\/install.sh --dev --remove\)`.*/\1/p' examp
 is_clean
 echo 'removed: nothing is left'
 kill "$(pidof rpkirtrd)"
+[ "$(grep -c '^```sh$' examples/README.md)" -eq ${#followed[@]} ] || fail 'the page has other blocks'
 [ -z "$(git status --porcelain)" ] || fail "the clone is changed: $(git status --porcelain)"
 echo 'all as it should be'
