@@ -12,3 +12,5 @@ mod routers;
 mod scripts;
 #[cfg(test)]
 mod scripts_v0;
+#[cfg(test)]
+mod scripts_wake;

@@ -30,6 +30,8 @@ pub(crate) enum Step {
     Closes(u64),
     /// It wants to be called again at this moment.
     IsDue(u64),
+    /// It has nothing to do before this moment, if ever.
+    WakesAt(Option<u64>),
     HasBytes(bool),
     HasLink(Link),
     /// This many records are committed, under this session and serial of this version.
@@ -96,6 +98,7 @@ fn judges(router: &Router, text: &str, asn: u32, state: OriginState) -> bool {
 fn stands(router: &Router, step: &Step) -> bool {
     match step {
         Step::IsDue(moment) => router.due() == Some(*moment),
+        Step::WakesAt(moment) => router.wake_at() == *moment,
         Step::HasBytes(has) => router.has_bytes() == *has,
         Step::HasLink(link) => router.link() == *link,
         Step::Holds(records, version, session, serial) => {

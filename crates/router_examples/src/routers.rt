@@ -4,6 +4,7 @@ use crate::scripts::{
     ASKED, ASKED_AT_100, ASKED_SINCE, AT_CALLS, AT_MOMENTS, AT_UNITS, SCRIPTS, Script,
 };
 use crate::scripts_v0::IN_VERSION_0;
+use crate::scripts_wake::WAKING;
 use example_values::hex::{Bytes, bytes};
 use example_values::units::{ANSWER, END_5, RESET_QUERY, RESPONSE, bytes_in};
 use prefixes::{IpPrefix, Route};
@@ -65,6 +66,11 @@ fn routers_go_by_the_clock(rt: HostRuntime) {
 #[test]
 fn routers_go_by_calls(rt: HostRuntime) {
     play_each(&rt, AT_CALLS);
+}
+
+#[test]
+fn routers_wake_when_there_is_something_to_do(rt: HostRuntime) {
+    play_each(&rt, WAKING);
 }
 
 #[test]

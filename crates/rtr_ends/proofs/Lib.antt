@@ -39,4 +39,5 @@ pub mod TakenLaws
 pub mod TranscriptRows
 pub mod UnitByUnit
 pub mod WholeAnswerRows
+pub mod WakeLaws
 pub mod Words

@@ -20,3 +20,4 @@ pub mod Staging
 pub mod Streams
 pub mod Timing
 pub mod Transcript
+pub mod Wake

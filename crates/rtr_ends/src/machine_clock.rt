@@ -1,16 +1,31 @@
 //! What a router does at a moment, and as a connection is made or closed (RFC 8210 sections 6 and 8).
-ghost use Rattle.std.specs.Prelude.{◌≡◌, [], Option};
+ghost use Rattle.std.specs.Prelude.{◌≡◌, ◌<◌, ◌^◌, ◌||◌, ℕ, [], Option};
+ghost use Rattle.rtr_ends.specs.LinkRules as rules;
 ghost use Rattle.rtr_ends.specs.Router as model;
 ghost use Rattle.rtr_ends.specs.RouterLink as linked;
 ghost use Rattle.rtr_ends.specs.Seen.{seen_versions};
 ghost use Rattle.rtr_ends.specs.Transcript.{is_over, retry_of, sum_of};
+ghost use Rattle.rtr_ends.specs.Wake.{WakesAt, is_reached};
 
 use crate::link::End;
 use crate::machine::{Machine, State};
 use crate::staging::Staging;
 
+/// The first of two moments.
+fn first(one: Option<u64>, other: Option<u64>) -> Option<u64>
+    ensures { (now : ℕ) → is_reached result now ≡ (is_reached one now || is_reached other now) }
+{
+    match one {
+        None => other,
+        Some(one) => match other {
+            None => Some(one),
+            Some(other) => Some(one.min(other)),
+        },
+    }
+}
+
 impl Machine {
-    ghost use Rattle.rtr_ends.specs.Seen.{Does, seen_link};
+    ghost use Rattle.rtr_ends.specs.Seen.{Does, ShowsRouter, seen_link};
     ghost use Rattle.rtr_ends.specs.declared.machine.State.TheVariants as states;
     ghost use Rattle.rtr_ends.specs.declared.link.End.TheVariants as ends;
 
@@ -124,6 +139,34 @@ impl Machine {
             },
             _ => false,
         }
+    }
+
+    /// When what is committed expires, if ever.
+    fn expires_at(&self) -> Option<u64>
+        ensures { (now : ℕ) → now < 2 ^ 64 → is_over (seen_versions self.now.version) now ≡ is_reached result now }
+    {
+        match &self.version {
+            Some(version) => version.over_at(),
+            None => None,
+        }
+    }
+
+    /// When an idle link is due to ask, if ever.
+    fn asks_at(&self) -> Option<u64>
+        ensures { (now : ℕ) → linked.is_due (seen_link self.now.state [] []) self.now.due now ≡ is_reached result now }
+    {
+        match self.state {
+            State::Idle => self.due,
+            _ => None,
+        }
+    }
+
+    /// The first moment at which `tick` does more than advance the clock, if there is one.
+    pub fn wake_at(&self) -> Option<u64>
+        ensures { (r : rules.Router) → ShowsRouter r self.now → WakesAt result r }
+    {
+        let _clock = self.clock;
+        first(self.expires_at(), self.asks_at())
     }
 
     /// Sends a query if the link is idle, and returns whether it did.

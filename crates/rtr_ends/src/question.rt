@@ -1,7 +1,8 @@
 //! What a router asks for, and what it has committed.
-ghost use Rattle.std.specs.Prelude.{◌≡◌, ℕ, Option, Some, None};
+ghost use Rattle.std.specs.Prelude.{◌≡◌, ◌<◌, ◌^◌, ℕ, Option, Some, None};
 ghost use Rattle.vrps.specs.Serial.{is_before};
 ghost use Rattle.rtr_ends.specs.Transcript.{is_over, is_same, is_serial, within};
+ghost use Rattle.rtr_ends.specs.Wake.{is_reached};
 
 use rtr_pdu::Version;
 use vrps::Serial;
@@ -72,6 +73,16 @@ impl CommittedVersion {
         ensures { result ≡ is_over (Some (seen_version self.now)) now }
     {
         u64::from(self.expire) < now.saturating_sub(self.moment)
+    }
+
+    /// The first moment at which more than expire has passed since the commit, if there is one.
+    pub(crate) fn over_at(&self) -> Option<u64>
+        ensures { (now : ℕ) → now < 2 ^ 64 → is_over (Some (seen_version self.now)) now ≡ is_reached result now }
+    {
+        match self.moment.checked_add(u64::from(self.expire)) {
+            Some(last) => last.checked_add(1),
+            None => None,
+        }
     }
 
     /// Whether this serial is one of a later version (RFC 1982).

@@ -8,6 +8,7 @@ ghost use Rattle.rtr_ends.specs.LinkRules as rules;
 ghost use Rattle.rtr_ends.specs.Router.{called};
 ghost use Rattle.rtr_ends.specs.Seen.{ShowsRouter, seen_link, seen_versions};
 ghost use Rattle.rtr_ends.specs.Transcript.{due, kept, last_change};
+ghost use Rattle.rtr_ends.specs.Wake.{WakesAt};
 ghost use Rattle.rtr_ends.specs.Peer.{HasBufferRoom};
 ghost use Rattle.rtr_ends.specs.RouterLink.{asked_on, name_of, told_link};
 ghost use Rattle.vrps.specs.Origin.{covering, state};
@@ -173,6 +174,15 @@ impl Router {
         ensures kept { (calls : List model.RouterCall) → CallsLead calls self.now → result ≡ due (model.played calls).items }
     {
         self.machine.due
+    }
+
+    /// The moment from which on `tick` has something to do, in seconds of the caller's clock. The next query of an idle link is due then, or
+    /// what is committed expires (RFC 8210 section 6). Before it, `tick` only advances the clock. If it has passed, `tick` is due at once.
+    /// `None` if there is no such moment. Each other call may change it.
+    pub fn wake_at(&self) -> Option<u64>
+        ensures { (r : rules.Router) → IsShown r self.now → WakesAt result r }
+    {
+        self.machine.wake_at()
     }
 
     /// The link.
