@@ -1,17 +1,17 @@
-/* rpkirtr.h: a client of RPKI-to-Router caches (RFC 6810, RFC 8210) and origin validation (RFC 6811).
+/* rpkirtr.h: a client of RPKI-to-Router caches (RFC 6810, RFC 8210), origin validation (RFC 6811) and the payloads of ROAs (RFC 9582).
  *
  * The library does no input or output: the caller owns sockets and clocks. It hands over the bytes that it received, and writes the bytes
  * that it pulls. Moments are seconds of one clock that the caller chooses, and never go back.
  *
  * What the caller must keep, which no proof covers:
  * - A handle begins as RPKIRTR_EMPTY_INIT and is changed by these functions alone. It is never copied: only its address is passed.
- * - One call at a time is made on a handle. Calls on different handles may run at once. A handle of a router or of an index may be used by
- *   one thread after another. No call is made in a signal handler.
- * - Pointers are not NULL, and point to so many valid elements. A pointer may be NULL if its length is 0. An output does not overlap
- *   another argument.
+ * - One call at a time is made on a handle. Calls on different handles may run at once. A handle may be used by one thread after
+ *   another. No call is made in a signal handler.
+ * - Pointers are not NULL, and point to as many valid elements as the length beside them says. A pointer may be NULL if its length is 0. An
+ *   output does not overlap another argument.
  * - malloc, realloc and free are of one allocator, and align as C wants.
  *
- * Each call answers a status, and writes each of its outputs, whatever it answers.
+ * Each call but rpkirtr_abi_version answers a status, and writes each of its outputs, whatever it answers.
  */
 #ifndef RPKIRTR_H
 #define RPKIRTR_H
@@ -29,12 +29,18 @@ typedef int32_t rpkirtr_status;
 #define RPKIRTR_EMPTY 1        /* the handle is empty: it was never made, or was freed */
 #define RPKIRTR_LIVE 2         /* the handle is live: it has to be freed first */
 #define RPKIRTR_NO_MEMORY 3    /* out of memory; nothing changed */
-#define RPKIRTR_BAD_RECORD 4   /* a record that is none */
-#define RPKIRTR_BAD_ROUTE 5    /* a route that is none */
-#define RPKIRTR_BAD_VERSION 6  /* no version of the protocol */
+#define RPKIRTR_BAD_RECORD 4   /* a malformed record */
+#define RPKIRTR_BAD_ROUTE 5    /* a malformed route */
+#define RPKIRTR_BAD_VERSION 6  /* not a version of the protocol */
 #define RPKIRTR_RANGE 7        /* an index at or past the end, or more than 16777215 different records */
 #define RPKIRTR_NOT_LINKED 8   /* there is no connection, or it has ended */
 #define RPKIRTR_BUSY 9         /* a query is outstanding */
+#define RPKIRTR_BAD_PAYLOAD 10 /* a malformed payload: the fault says why */
+
+/* A text that ends with a zero byte. The rest of its room is zero. */
+typedef struct rpkirtr_text {
+    char text[64];
+} rpkirtr_text;
 
 /* The state of a route (RFC 6811 section 2). It is RPKIRTR_NOT_FOUND whenever the status is not RPKIRTR_OK. */
 typedef int32_t rpkirtr_state;
@@ -98,9 +104,52 @@ typedef struct rpkirtr_committed {
 /* The moment of what never happens */
 #define RPKIRTR_NEVER UINT64_MAX
 
+/* A list of records. The pointer may be NULL if the length is 0. */
+typedef struct rpkirtr_list {
+    const rpkirtr_record *records;
+    size_t records_len;
+} rpkirtr_list;
+
+/* What is at fault in a payload: the number of the fault, and the offset of the byte at which it shows. All is 0 if nothing is at fault. The
+ * numbers of a ROA are:
+ * - 1: an element is longer than what holds it.
+ * - 2: another element was expected.
+ * - 3: a length is indefinite, or not in its shortest form.
+ * - 4: the content of an element is not valid.
+ * - 5: bytes remain.
+ * - 6: a version is encoded, which may only be left out.
+ * - 7: the AS number is negative or greater than 4294967295.
+ * - 8: the address family is neither IPv4 nor IPv6, or it occurs twice.
+ * - 9: no address family, or a family without addresses.
+ * - 10: the prefix is longer than an address of its family.
+ * - 11: the maximum length is below the prefix length, or greater than the width of the family.
+ * - 12: the entries are not in strictly ascending order.
+ * - 19: more than 65536 entries.
+ * - 20: the maximum length equals the prefix length, so it has to be left out. */
+typedef struct rpkirtr_fault {
+    uint64_t offset;
+    uint32_t kind;
+    uint32_t zero_;
+} rpkirtr_fault;
+
 typedef struct rpkirtr_router { void *opaque_; } rpkirtr_router;
 typedef struct rpkirtr_index { void *opaque_; } rpkirtr_index;
+typedef struct rpkirtr_roa { void *opaque_; } rpkirtr_roa;
 #define RPKIRTR_EMPTY_INIT {0}
+
+/* ---- texts and versions */
+
+/* Tells what a status means in English. Any number may be asked for. OK */
+rpkirtr_status rpkirtr_strerror(rpkirtr_status status, rpkirtr_text *text);
+
+/* Tells the version of the release: "1.0.0". OK */
+rpkirtr_status rpkirtr_version(rpkirtr_text *text);
+
+/* The version of this header. It changes if a program that was compiled with an older header no longer works. */
+#define RPKIRTR_ABI_VERSION 0
+
+/* Returns the RPKIRTR_ABI_VERSION of the header that the library was made with. A program needs the one that it was compiled with. */
+uint32_t rpkirtr_abi_version(void);
 
 /* ---- a router */
 
@@ -125,14 +174,19 @@ rpkirtr_status rpkirtr_router_pull(rpkirtr_router *h, uint8_t *room, size_t room
 /* The transport closed the connection. OK, EMPTY */
 rpkirtr_status rpkirtr_router_connection_closed(rpkirtr_router *h, uint64_t now);
 
-/* Advances the clock. A query is sent if it is due, and the records are dropped if they have expired. OK, EMPTY */
+/* Advances the clock. A query is ready to be pulled if it is due, and the records are dropped if they have expired. OK, EMPTY */
 rpkirtr_status rpkirtr_router_tick(rpkirtr_router *h, uint64_t now);
 
-/* Sends a query on an idle link. OK, EMPTY, BUSY, NOT_LINKED */
+/* Makes a query ready to be pulled, on an idle link. OK, EMPTY, BUSY, NOT_LINKED */
 rpkirtr_status rpkirtr_router_ask(rpkirtr_router *h);
 
 /* Tells when the next query of an idle link is due: RPKIRTR_NEVER if none is. OK, EMPTY */
 rpkirtr_status rpkirtr_router_next_query_at(rpkirtr_router *h, uint64_t *at);
+
+/* Tells the moment from which on a tick has something to do: the next query of an idle link is due, or the committed records expire. An event
+ * loop calls rpkirtr_router_tick at this moment, at once if it has passed, and asks again after each call on the router. Before it, a tick
+ * only advances the clock. RPKIRTR_NEVER if there is no such moment. OK, EMPTY */
+rpkirtr_status rpkirtr_router_wake_at(rpkirtr_router *h, uint64_t *at);
 
 /* Tells the link. OK, EMPTY */
 rpkirtr_status rpkirtr_router_link(rpkirtr_router *h, rpkirtr_link *link);
@@ -155,6 +209,10 @@ rpkirtr_status rpkirtr_router_records(rpkirtr_router *h, size_t first, rpkirtr_r
 /* Copies the committed records that cover a route, as many as fit, and tells how many there are. OK, EMPTY, BAD_ROUTE, NO_MEMORY */
 rpkirtr_status rpkirtr_router_covering(rpkirtr_router *h, const rpkirtr_route *route, rpkirtr_record *room, size_t room_len, size_t *count);
 
+/* Makes an index over the committed records in an empty handle of an index. It stays as it is if the router changes or is freed.
+ * OK, EMPTY if there is no router, LIVE if there is an index, NO_MEMORY */
+rpkirtr_status rpkirtr_router_index(rpkirtr_router *h, rpkirtr_index *index);
+
 /* ---- what changed since it was last taken */
 
 /* Compares the committed records with those that were taken last (none at first), and tells how many were withdrawn and announced. That
@@ -172,9 +230,13 @@ rpkirtr_status rpkirtr_router_changes_taken(rpkirtr_router *h);
 
 /* ---- an index over records */
 
-/* Makes an index over records in an empty handle; what is listed twice counts once. If a record is none, its index is told.
- * OK, LIVE, NO_MEMORY, BAD_RECORD, RANGE */
+/* Makes an index over records in an empty handle; what is listed twice counts once. If a record is malformed, the index of the first
+ * such is told. OK, LIVE, NO_MEMORY, BAD_RECORD, RANGE */
 rpkirtr_status rpkirtr_index_new(rpkirtr_index *h, const rpkirtr_record *records, size_t records_len, size_t *bad);
+
+/* Makes an index over the records of several lists in an empty handle; what is listed twice counts once. If a record is malformed, the list
+ * of the first such is told, and its index there. OK, LIVE, NO_MEMORY, BAD_RECORD, RANGE */
+rpkirtr_status rpkirtr_index_new_of(rpkirtr_index *h, const rpkirtr_list *lists, size_t lists_len, size_t *list, size_t *bad);
 
 /* Frees the index, and empties the handle. OK, EMPTY */
 rpkirtr_status rpkirtr_index_free(rpkirtr_index *h);
@@ -187,6 +249,24 @@ rpkirtr_status rpkirtr_index_state(rpkirtr_index *h, const rpkirtr_route *route,
 
 /* Copies the records that cover a route in ascending order, as many as fit, and tells how many there are. OK, EMPTY, BAD_ROUTE, NO_MEMORY */
 rpkirtr_status rpkirtr_index_covering(rpkirtr_index *h, const rpkirtr_route *route, rpkirtr_record *room, size_t room_len, size_t *count);
+
+/* ---- payloads of ROAs */
+
+/* Decodes the payload of a ROA in an empty handle (RFC 9582 section 4). Whether the object around it is valid is for the caller to judge. If
+ * it is malformed, the first fault is told. OK, LIVE, NO_MEMORY, BAD_PAYLOAD */
+rpkirtr_status rpkirtr_roa_new(rpkirtr_roa *h, const uint8_t *bytes, size_t bytes_len, rpkirtr_fault *fault);
+
+/* Frees the ROA, and empties the handle. OK, EMPTY */
+rpkirtr_status rpkirtr_roa_free(rpkirtr_roa *h);
+
+/* Tells the AS that may originate the prefixes. OK, EMPTY */
+rpkirtr_status rpkirtr_roa_asn(rpkirtr_roa *h, uint32_t *asn);
+
+/* Tells how many prefixes the ROA lists. OK, EMPTY */
+rpkirtr_status rpkirtr_roa_count(rpkirtr_roa *h, size_t *count);
+
+/* Copies the records that the ROA authorizes in its order, from an index on, as many as fit, and tells how many. OK, EMPTY */
+rpkirtr_status rpkirtr_roa_records(rpkirtr_roa *h, size_t first, rpkirtr_record *room, size_t room_len, size_t *copied);
 
 #ifdef __cplusplus
 }

@@ -8,13 +8,14 @@ import sys
 
 TOP = pathlib.Path(__file__).resolve().parent.parent
 C_TYPES = {
-    '&mut RouterHandle': ['rpkirtr_router *'], '&mut IndexHandle': ['rpkirtr_index *'],
+    '&mut RouterHandle': ['rpkirtr_router *'], '&mut IndexHandle': ['rpkirtr_index *'], '&mut RoaHandle': ['rpkirtr_roa *'],
     '&[u8]': ['const uint8_t *', 'size_t'], '&mut [u8]': ['uint8_t *', 'size_t'],
     '&[CRecord]': ['const rpkirtr_record *', 'size_t'], '&mut [CRecord]': ['rpkirtr_record *', 'size_t'],
     '&mut CRecord': ['rpkirtr_record *'], '&CRoute': ['const rpkirtr_route *'],
+    '&[CList]': ['const rpkirtr_list *', 'size_t'], '&mut CText': ['rpkirtr_text *'],
     '&mut CLink': ['rpkirtr_link *'], '&mut CCommitted': ['rpkirtr_committed *'],
-    '&mut usize': ['size_t *'], '&mut u64': ['uint64_t *'], '&mut i32': ['int32_t *'],
-    'u8': ['uint8_t'], 'u64': ['uint64_t'], 'usize': ['size_t'], 'i32': ['int32_t'], 'Global': [],
+    '&mut CFault': ['rpkirtr_fault *'], '&mut usize': ['size_t *'], '&mut u32': ['uint32_t *'], '&mut u64': ['uint64_t *'], '&mut i32': ['int32_t *'],
+    'u8': ['uint8_t'], 'u32': ['uint32_t'], 'u64': ['uint64_t'], 'usize': ['size_t'], 'i32': ['int32_t'], 'Global': [],
 }
 ALIASES = {'rpkirtr_status': 'int32_t', 'rpkirtr_state': 'int32_t'}
 
@@ -39,7 +40,7 @@ def declared():
     found = {}
     for result, name, inside in re.findall(r'^(\w+) (rpkirtr_\w+)\(([^)]*)\);', text, re.M):
         parameters = []
-        for part in inside.split(','):
+        for part in inside.split(',') if inside != 'void' else []:
             kind, parameter = re.fullmatch(r'\s*(.*?)(\w+)\s*', part, re.S).groups()
             kind = kind.strip()
             for alias, meaning in ALIASES.items():

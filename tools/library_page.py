@@ -53,7 +53,8 @@ rest.
 .It
 Call
 .Fn rpkirtr_router_tick
-each second, or whenever the next query is due or the records expire.
+each second, or at the moment of
+.Fn rpkirtr_router_wake_at .
 .It
 Look at
 .Fn rpkirtr_router_link

@@ -54,3 +54,30 @@ with rpkirtr.Router() as router:
     assert (router.link().state, router.wake_at()) == (rpkirtr.LinkState.CLOSED, 101 + 7200 + 1)
     router.tick(101 + 7201)
     assert router.changes() == ([TEN, DB8], [])
+
+assert rpkirtr.version() == "1.0.0"
+with rpkirtr.Index([TEN], [], [DB8, TEN]) as index:
+    assert len(index) == 2
+with rpkirtr.Index() as index:
+    assert len(index) == 0
+try:
+    rpkirtr.Index([TEN], [DB8, rpkirtr.Record("10.0.0.0/8", 33, 1)])
+    raise AssertionError("a bad record")
+except rpkirtr.Error as error:
+    assert (error.status, error.list_index, error.index) == (rpkirtr.Status.BAD_RECORD, 1, 1)
+with rpkirtr.Router() as router:
+    router.connect(100)
+    router.pull()
+    router.receive(ANSWER, 101)
+    index = router.index()
+with index:
+    assert (len(index), index.state("10.1.0.0/16", 64496)) == (2, rpkirtr.State.VALID)
+ROA = bytes.fromhex("3022" "020300fbf0" "301b" "3019" "04020001" "3013" "30070302000a020110" "30080303060a4002010b")
+with rpkirtr.Roa(ROA) as roa:
+    assert (roa.asn, len(roa)) == (64496, 2)
+    assert roa.records() == [TEN, rpkirtr.Record(NET("10.64.0.0/10"), 11, 64496)]
+try:
+    rpkirtr.Roa(ROA[:30])
+    raise AssertionError("a ROA that is cut off")
+except rpkirtr.PayloadError as error:
+    assert (error.status, error.number, error.offset) == (rpkirtr.Status.BAD_PAYLOAD, 1, 0)

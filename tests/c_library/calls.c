@@ -53,6 +53,38 @@ static const uint8_t answer[] = {
 };
 static const uint8_t reset_query[] = {1, 2, 0, 0, 0, 0, 0, 8};
 
+static void texts(void)
+{
+    static const struct {
+        rpkirtr_status status;
+        const char *text;
+    } means[] = {
+        {RPKIRTR_OK, "the call succeeded"},
+        {RPKIRTR_EMPTY, "the handle is empty"},
+        {RPKIRTR_LIVE, "the handle is live and has to be freed first"},
+        {RPKIRTR_NO_MEMORY, "out of memory"},
+        {RPKIRTR_BAD_RECORD, "a record is not valid"},
+        {RPKIRTR_BAD_ROUTE, "a route is not valid"},
+        {RPKIRTR_BAD_VERSION, "no such version of the protocol"},
+        {RPKIRTR_RANGE, "an index at or past the end, or too many records"},
+        {RPKIRTR_NOT_LINKED, "no connection, or one that has ended"},
+        {RPKIRTR_BUSY, "a query is outstanding"},
+        {RPKIRTR_BAD_PAYLOAD, "a payload is not valid"},
+        {-1, "no such status"},
+        {INT32_MAX, "no such status"},
+    };
+    rpkirtr_text text;
+    size_t k, j;
+    for (k = 0; k < sizeof means / sizeof means[0]; k++) {
+        memset(&text, 7, sizeof text);
+        EXPECT(rpkirtr_strerror(means[k].status, &text) == RPKIRTR_OK && strcmp(text.text, means[k].text) == 0);
+        for (j = strlen(means[k].text); j < sizeof text.text; j++)
+            EXPECT(text.text[j] == 0);
+    }
+    EXPECT(rpkirtr_version(&text) == RPKIRTR_OK && strcmp(text.text, "1.0.0") == 0);
+    EXPECT(rpkirtr_abi_version() == RPKIRTR_ABI_VERSION);
+}
+
 static void empty_handles(void)
 {
     rpkirtr_router h = RPKIRTR_EMPTY_INIT;
@@ -77,6 +109,9 @@ static void empty_handles(void)
     EXPECT(rpkirtr_router_tick(&h, 1) == RPKIRTR_EMPTY);
     EXPECT(rpkirtr_router_ask(&h) == RPKIRTR_EMPTY);
     EXPECT(rpkirtr_router_next_query_at(&h, &at) == RPKIRTR_EMPTY && at == RPKIRTR_NEVER);
+    at = 5;
+    EXPECT(rpkirtr_router_wake_at(&h, &at) == RPKIRTR_EMPTY && at == RPKIRTR_NEVER);
+    EXPECT(rpkirtr_router_index(&h, &i) == RPKIRTR_EMPTY && i.opaque_ == NULL);
     EXPECT(rpkirtr_router_link(&h, &link) == RPKIRTR_EMPTY && link.state == RPKIRTR_CLOSED);
     EXPECT(rpkirtr_router_committed(&h, &committed) == RPKIRTR_EMPTY && committed.is_committed == 0);
     n = 5;
@@ -130,6 +165,8 @@ static rpkirtr_state state_of(rpkirtr_router *h, rpkirtr_route r)
 static void a_router(void)
 {
     rpkirtr_router h = RPKIRTR_EMPTY_INIT;
+    rpkirtr_index table = RPKIRTR_EMPTY_INIT;
+    rpkirtr_state state;
     rpkirtr_route none = V4(NET_10, 8, 0), db8 = route(6, DB8, 4, 40, 64497);
     rpkirtr_record out, all[3], first = record(4, NET_10, 4, 8, 16, 64496), second = record(6, DB8, 4, 32, 48, 64497);
     rpkirtr_link link;
@@ -140,6 +177,7 @@ static void a_router(void)
     none.has_origin = 0;
     EXPECT(rpkirtr_router_new(&h) == RPKIRTR_OK);
     EXPECT(rpkirtr_router_new(&h) == RPKIRTR_LIVE);
+    EXPECT(rpkirtr_router_wake_at(&h, &at) == RPKIRTR_OK && at == RPKIRTR_NEVER);
     EXPECT(rpkirtr_router_ask(&h) == RPKIRTR_NOT_LINKED);
     EXPECT(rpkirtr_router_speak(&h, 2) == RPKIRTR_BAD_VERSION);
     EXPECT(rpkirtr_router_speak(&h, 1) == RPKIRTR_OK);
@@ -161,6 +199,7 @@ static void a_router(void)
     EXPECT(committed.session == 258 && committed.serial == 7 && committed.moment == 101);
     EXPECT(committed.refresh == 3600 && committed.retry == 600 && committed.expire == 7200);
     EXPECT(rpkirtr_router_next_query_at(&h, &at) == RPKIRTR_OK && at == 101 + 3600);
+    EXPECT(rpkirtr_router_wake_at(&h, &at) == RPKIRTR_OK && at == 101 + 3600);
     EXPECT(rpkirtr_router_count(&h, &n) == RPKIRTR_OK && n == 2);
     EXPECT(rpkirtr_router_record(&h, 0, &out) == RPKIRTR_OK && memcmp(&out, &first, sizeof out) == 0);
     EXPECT(rpkirtr_router_record(&h, 1, &out) == RPKIRTR_OK && memcmp(&out, &second, sizeof out) == 0);
@@ -180,6 +219,9 @@ static void a_router(void)
     EXPECT(rpkirtr_router_covering(&h, &db8, all, 3, &n) == RPKIRTR_OK && n == 1 && memcmp(&all[0], &second, sizeof out) == 0);
     EXPECT(rpkirtr_router_covering(&h, &db8, NULL, 0, &n) == RPKIRTR_OK && n == 1);
     bad_routes(&h);
+    EXPECT(rpkirtr_router_index(&h, &table) == RPKIRTR_OK);
+    EXPECT(rpkirtr_router_index(&h, &table) == RPKIRTR_LIVE);
+    EXPECT(rpkirtr_index_count(&table, &n) == RPKIRTR_OK && n == 2);
     EXPECT(rpkirtr_router_announced(&h, 0, all, 3, &n) == RPKIRTR_OK && n == 0);
     EXPECT(rpkirtr_router_changes_taken(&h) == RPKIRTR_OK);
     EXPECT(rpkirtr_router_changes_begin(&h, &n, &m) == RPKIRTR_OK && n == 0 && m == 2);
@@ -189,8 +231,17 @@ static void a_router(void)
     EXPECT(rpkirtr_router_tick(&h, 101 + 3600) == RPKIRTR_OK);
     EXPECT(rpkirtr_router_pull(&h, room, sizeof room, &n) == RPKIRTR_OK && n == 12 && room[1] == 1 && room[11] == 7);
     EXPECT(rpkirtr_router_connection_closed(&h, 4000) == RPKIRTR_OK);
-    EXPECT(rpkirtr_router_tick(&h, 101 + 7201) == RPKIRTR_OK);
+    EXPECT(rpkirtr_router_wake_at(&h, &at) == RPKIRTR_OK && at == 101 + 7201);
+    EXPECT(rpkirtr_router_tick(&h, at - 1) == RPKIRTR_OK);
+    EXPECT(rpkirtr_router_count(&h, &n) == RPKIRTR_OK && n == 2);
+    EXPECT(rpkirtr_router_tick(&h, at) == RPKIRTR_OK);
     EXPECT(rpkirtr_router_count(&h, &n) == RPKIRTR_OK && n == 0);
+    EXPECT(rpkirtr_router_wake_at(&h, &at) == RPKIRTR_OK && at == RPKIRTR_NEVER);
+    EXPECT(rpkirtr_index_state(&table, &db8, &state) == RPKIRTR_OK && state == RPKIRTR_VALID);
+    EXPECT(rpkirtr_index_free(&table) == RPKIRTR_OK);
+    EXPECT(rpkirtr_router_index(&h, &table) == RPKIRTR_OK);
+    EXPECT(rpkirtr_index_count(&table, &n) == RPKIRTR_OK && n == 0);
+    EXPECT(rpkirtr_index_free(&table) == RPKIRTR_OK);
     EXPECT(rpkirtr_router_changes_begin(&h, &n, &m) == RPKIRTR_OK && n == 2 && m == 0);
     EXPECT(rpkirtr_router_withdrawn(&h, 0, all, 3, &n) == RPKIRTR_OK && n == 2 && memcmp(&all[0], &first, sizeof out) == 0);
     EXPECT(rpkirtr_router_free(&h) == RPKIRTR_OK && h.opaque_ == NULL);
@@ -227,15 +278,104 @@ static void an_index(void)
     records[1] = record(4, NET_10, 4, 7, 16, 64496);
     records[1].addr[0] = 11;
     EXPECT(rpkirtr_index_new(&h, records, 3, &n) == RPKIRTR_BAD_RECORD && n == 1);
+    records[2].zero_ = 1;
+    EXPECT(rpkirtr_index_new(&h, records, 3, &n) == RPKIRTR_BAD_RECORD && n == 1);
     EXPECT(rpkirtr_index_new(&h, NULL, 0, &n) == RPKIRTR_OK);
     EXPECT(rpkirtr_index_state(&h, &r, &state) == RPKIRTR_OK && state == RPKIRTR_NOT_FOUND);
     EXPECT(rpkirtr_index_free(&h) == RPKIRTR_OK);
 }
 
+static void an_index_of_lists(void)
+{
+    rpkirtr_index h = RPKIRTR_EMPTY_INIT;
+    rpkirtr_record records[4];
+    rpkirtr_list lists[3];
+    rpkirtr_route r = V4(NET_10, 16, 64496);
+    rpkirtr_state state;
+    size_t list = 9, n = 9;
+    records[0] = record(6, DB8, 4, 32, 48, 64497);
+    records[1] = record(4, NET_10, 4, 8, 16, 64496);
+    records[2] = records[0];
+    records[3] = record(4, NET_192, 4, 24, 24, 64496);
+    lists[0].records = records;
+    lists[0].records_len = 2;
+    lists[1].records = NULL;
+    lists[1].records_len = 0;
+    lists[2].records = records + 2;
+    lists[2].records_len = 2;
+    EXPECT(rpkirtr_index_new_of(&h, lists, 3, &list, &n) == RPKIRTR_OK && list == 0 && n == 0);
+    EXPECT(rpkirtr_index_new_of(&h, lists, 3, &list, &n) == RPKIRTR_LIVE && list == 0 && n == 0);
+    EXPECT(rpkirtr_index_count(&h, &n) == RPKIRTR_OK && n == 3);
+    EXPECT(rpkirtr_index_state(&h, &r, &state) == RPKIRTR_OK && state == RPKIRTR_VALID);
+    EXPECT(rpkirtr_index_free(&h) == RPKIRTR_OK);
+    records[3].max_len = 33;
+    EXPECT(rpkirtr_index_new_of(&h, lists, 3, &list, &n) == RPKIRTR_BAD_RECORD && list == 2 && n == 1 && h.opaque_ == NULL);
+    records[2].max_len = 31;
+    EXPECT(rpkirtr_index_new_of(&h, lists, 3, &list, &n) == RPKIRTR_BAD_RECORD && list == 2 && n == 0);
+    EXPECT(rpkirtr_index_new_of(&h, lists, 2, &list, &n) == RPKIRTR_OK && list == 0 && n == 0);
+    EXPECT(rpkirtr_index_count(&h, &n) == RPKIRTR_OK && n == 2);
+    EXPECT(rpkirtr_index_free(&h) == RPKIRTR_OK);
+    EXPECT(rpkirtr_index_new_of(&h, NULL, 0, &list, &n) == RPKIRTR_OK);
+    EXPECT(rpkirtr_index_count(&h, &n) == RPKIRTR_OK && n == 0);
+    EXPECT(rpkirtr_index_free(&h) == RPKIRTR_OK);
+}
+
+/* A ROA of AS 64496 for 10.0.0.0/8-16 and 10.64.0.0/10 */
+static const uint8_t roa_bytes[] = {
+    0x30, 0x22, 0x02, 0x03, 0x00, 0xfb, 0xf0, 0x30, 0x1b, 0x30, 0x19, 0x04, 0x02, 0x00, 0x01, 0x30, 0x13,
+    0x30, 0x07, 0x03, 0x02, 0x00, 0x0a, 0x02, 0x01, 0x10,
+    0x30, 0x08, 0x03, 0x03, 0x06, 0x0a, 0x40, 0x02, 0x01, 0x0b,
+};
+
+/* A ROA of AS 64496 for 2001:db8::/32, without a maximum length */
+static const uint8_t roa_v6_bytes[] = {
+    0x30, 0x18, 0x02, 0x03, 0x00, 0xfb, 0xf0, 0x30, 0x11, 0x30, 0x0f, 0x04, 0x02, 0x00, 0x02, 0x30, 0x09, 0x30, 0x07,
+    0x03, 0x05, 0x00, 0x20, 0x01, 0x0d, 0xb8,
+};
+
+static void a_roa(void)
+{
+    rpkirtr_roa h = RPKIRTR_EMPTY_INIT;
+    rpkirtr_fault fault;
+    rpkirtr_record all[3], first = record(4, NET_10, 4, 8, 16, 64496), second = record(4, "\x0a\x40\0\0", 4, 10, 11, 64496);
+    uint8_t wrong[sizeof roa_bytes];
+    uint32_t asn = 9;
+    size_t n = 9, k;
+    EXPECT(rpkirtr_roa_free(&h) == RPKIRTR_EMPTY);
+    EXPECT(rpkirtr_roa_asn(&h, &asn) == RPKIRTR_EMPTY && asn == 0);
+    EXPECT(rpkirtr_roa_count(&h, &n) == RPKIRTR_EMPTY && n == 0);
+    n = 9;
+    EXPECT(rpkirtr_roa_records(&h, 0, all, 3, &n) == RPKIRTR_EMPTY && n == 0);
+    EXPECT(rpkirtr_roa_new(&h, roa_bytes, sizeof roa_bytes, &fault) == RPKIRTR_OK && fault.kind == 0 && fault.offset == 0);
+    EXPECT(rpkirtr_roa_new(&h, roa_bytes, sizeof roa_bytes, &fault) == RPKIRTR_LIVE && fault.kind == 0);
+    EXPECT(rpkirtr_roa_asn(&h, &asn) == RPKIRTR_OK && asn == 64496);
+    EXPECT(rpkirtr_roa_count(&h, &n) == RPKIRTR_OK && n == 2);
+    EXPECT(rpkirtr_roa_records(&h, 0, all, 3, &n) == RPKIRTR_OK && n == 2);
+    EXPECT(memcmp(&all[0], &first, sizeof first) == 0 && memcmp(&all[1], &second, sizeof second) == 0);
+    EXPECT(rpkirtr_roa_records(&h, 1, all, 3, &n) == RPKIRTR_OK && n == 1 && memcmp(&all[0], &second, sizeof second) == 0);
+    EXPECT(rpkirtr_roa_records(&h, SIZE_MAX, all, 3, &n) == RPKIRTR_OK && n == 0);
+    EXPECT(rpkirtr_roa_free(&h) == RPKIRTR_OK && h.opaque_ == NULL);
+    EXPECT(rpkirtr_roa_free(&h) == RPKIRTR_EMPTY);
+    first = record(6, DB8, 4, 32, 32, 64496);
+    EXPECT(rpkirtr_roa_new(&h, roa_v6_bytes, sizeof roa_v6_bytes, &fault) == RPKIRTR_OK);
+    EXPECT(rpkirtr_roa_records(&h, 0, all, 3, &n) == RPKIRTR_OK && n == 1 && memcmp(&all[0], &first, sizeof first) == 0);
+    EXPECT(rpkirtr_roa_free(&h) == RPKIRTR_OK);
+    for (k = 0; k < sizeof roa_bytes; k++)
+        EXPECT(rpkirtr_roa_new(&h, roa_bytes, k, &fault) == RPKIRTR_BAD_PAYLOAD && fault.kind > 0 && fault.offset <= k && h.opaque_ == NULL);
+    /* a maximum length of 7 for a prefix of length 8: fault 11 */
+    memcpy(wrong, roa_bytes, sizeof wrong);
+    wrong[25] = 7;
+    EXPECT(rpkirtr_roa_new(&h, wrong, sizeof wrong, &fault) == RPKIRTR_BAD_PAYLOAD && fault.kind == 11 && fault.offset == 23 && fault.zero_ == 0);
+    EXPECT(rpkirtr_roa_new(&h, NULL, 0, &fault) == RPKIRTR_BAD_PAYLOAD);
+}
+
 int main(void)
 {
+    texts();
     empty_handles();
     a_router();
     an_index();
+    an_index_of_lists();
+    a_roa();
     return faults != 0;
 }

@@ -36,8 +36,21 @@ AT(rpkirtr_committed, session, 28);
 AT(rpkirtr_committed, version, 30);
 AT(rpkirtr_committed, is_committed, 31);
 
+IS(text_size, sizeof(rpkirtr_text) == 64);
+AT(rpkirtr_text, text, 0);
+
+IS(list_size, sizeof(rpkirtr_list) == 2 * sizeof(void *));
+AT(rpkirtr_list, records, 0);
+AT(rpkirtr_list, records_len, sizeof(void *));
+
+IS(fault_size, sizeof(rpkirtr_fault) == 16);
+AT(rpkirtr_fault, offset, 0);
+AT(rpkirtr_fault, kind, 8);
+AT(rpkirtr_fault, zero_, 12);
+
 IS(router_size, sizeof(rpkirtr_router) == sizeof(void *));
 IS(index_size, sizeof(rpkirtr_index) == sizeof(void *));
+IS(roa_size, sizeof(rpkirtr_roa) == sizeof(void *));
 IS(status_size, sizeof(rpkirtr_status) == 4);
 IS(state_size, sizeof(rpkirtr_state) == 4);
 

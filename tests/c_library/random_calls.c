@@ -115,7 +115,7 @@ static void a_router_call(rpkirtr_router *h, uint64_t now)
     case 11: judge(rpkirtr_router_connection_closed(h, now), RPKIRTR_EMPTY); break;
     case 12: judge(rpkirtr_router_tick(h, now), RPKIRTR_EMPTY); break;
     case 13: judge(rpkirtr_router_ask(h), RPKIRTR_BUSY); break;
-    case 14: judge(rpkirtr_router_next_query_at(h, &at), RPKIRTR_EMPTY); judge(rpkirtr_router_link(h, &link), RPKIRTR_EMPTY); break;
+    case 14: judge(rpkirtr_router_next_query_at(h, &at), RPKIRTR_EMPTY); judge(rpkirtr_router_wake_at(h, &at), RPKIRTR_EMPTY); judge(rpkirtr_router_link(h, &link), RPKIRTR_EMPTY); break;
     case 15: judge(rpkirtr_router_committed(h, &committed), RPKIRTR_EMPTY); judge(rpkirtr_router_count(h, &n), RPKIRTR_EMPTY); break;
     case 16:
         if (rpkirtr_router_state(h, &route, &state) != RPKIRTR_OK && state != RPKIRTR_NOT_FOUND)
@@ -132,15 +132,24 @@ static void a_router_call(rpkirtr_router *h, uint64_t now)
     }
 }
 
-static void an_index_call(rpkirtr_index *h)
+static void an_index_call(rpkirtr_index *h, rpkirtr_router *from)
 {
     rpkirtr_record records[6];
+    rpkirtr_list lists[3];
+    rpkirtr_text text;
     rpkirtr_route route = a_route();
     rpkirtr_state state;
-    size_t n = 99, k, count = below(7);
+    size_t n = 99, m = 99, k, count = below(7);
     for (k = 0; k < count; k++)
         records[k] = a_record();
-    switch (below(5)) {
+    for (k = 0; k < 3; k++) {
+        lists[k].records = records + count / 3 * k;
+        lists[k].records_len = count / 3;
+    }
+    switch (below(8)) {
+    case 5: judge(rpkirtr_index_new_of(h, lists, below(4), &m, &n), RPKIRTR_RANGE); break;
+    case 6: judge(rpkirtr_router_index(from, h), RPKIRTR_NO_MEMORY); break;
+    case 7: judge(rpkirtr_strerror((rpkirtr_status)below(20) - 5, &text), RPKIRTR_OK); break;
     case 0: judge(rpkirtr_index_free(h), RPKIRTR_EMPTY); break;
     case 1: judge(rpkirtr_index_new(h, records, count, &n), RPKIRTR_RANGE); break;
     case 2: judge(rpkirtr_index_count(h, &n), RPKIRTR_EMPTY); break;
@@ -152,10 +161,34 @@ static void an_index_call(rpkirtr_index *h)
     }
 }
 
+static void a_roa_call(rpkirtr_roa *h)
+{
+    static const uint8_t good[] = {
+        0x30, 0x18, 0x02, 0x03, 0x00, 0xfb, 0xf0, 0x30, 0x11, 0x30, 0x0f, 0x04, 0x02, 0x00, 0x01, 0x30, 0x09, 0x30, 0x07,
+        0x03, 0x02, 0x00, 0x0a, 0x02, 0x01, 0x10,
+    };
+    uint8_t bytes[sizeof good];
+    rpkirtr_record room[4];
+    rpkirtr_fault fault;
+    uint32_t asn;
+    size_t n = 99;
+    switch (below(5)) {
+    case 0: judge(rpkirtr_roa_free(h), RPKIRTR_EMPTY); break;
+    case 1: judge(rpkirtr_roa_asn(h, &asn), RPKIRTR_EMPTY); judge(rpkirtr_roa_count(h, &n), RPKIRTR_EMPTY); break;
+    case 2: judge(rpkirtr_roa_records(h, below(3), room, below(5), &n), RPKIRTR_EMPTY); break;
+    default:
+        memcpy(bytes, good, sizeof good);
+        if (below(2) == 0)
+            bytes[below(sizeof good)] = (uint8_t)below(256);
+        judge(rpkirtr_roa_new(h, bytes, below(8) == 0 ? below(sizeof good) : sizeof good, &fault), RPKIRTR_BAD_PAYLOAD);
+    }
+}
+
 int main(int argc, char **argv)
 {
     rpkirtr_router routers[3] = {RPKIRTR_EMPTY_INIT, RPKIRTR_EMPTY_INIT, RPKIRTR_EMPTY_INIT};
     rpkirtr_index indexes[2] = {RPKIRTR_EMPTY_INIT, RPKIRTR_EMPTY_INIT};
+    rpkirtr_roa roa = RPKIRTR_EMPTY_INIT;
     unsigned long k, count;
     uint64_t now = 0;
     if (argc != 3)
@@ -164,8 +197,10 @@ int main(int argc, char **argv)
     count = strtoul(argv[2], NULL, 10);
     for (k = 0; k < count; k++) {
         now += below(100) == 0 ? below(700) : 0;
-        if (below(4) == 0)
-            an_index_call(&indexes[below(2)]);
+        if (below(10) == 0)
+            a_roa_call(&roa);
+        else if (below(4) == 0)
+            an_index_call(&indexes[below(2)], &routers[below(3)]);
         else
             a_router_call(&routers[below(3)], now);
     }
@@ -173,5 +208,6 @@ int main(int argc, char **argv)
         rpkirtr_router_free(&routers[k]);
     for (k = 0; k < 2; k++)
         rpkirtr_index_free(&indexes[k]);
+    rpkirtr_roa_free(&roa);
     return 0;
 }

@@ -1,9 +1,11 @@
 -- What a router's call shows of the session that it is in.
-use Rattle.std.proofs.Common.{◌≡◌, ℕ, List, Option, refl, ap, ◌∙◌}
+use Rattle.std.proofs.Common.{◌≡◌, ℕ, ℤ, List, Option, refl, ap, subst, ◌∙◌}
 use Rattle.rtr_ends.specs.LinkRules as rules
 use Rattle.vrps.specs.Change.{between}
 use Rattle.vrps.specs.VrpSet.{VrpSet}
 use Rattle.rpkirtr_c.specs.Changes.{IsBegun}
+use Rattle.rpkirtr_c.specs.Live.{New}
+use Rattle.rpkirtr_c.specs.declared.judge.Judge.{Judge}
 use Rattle.rpkirtr_c.specs.declared.session.Pending.{Pending}
 use Rattle.rtr_ends.specs.Router as model
 use Rattle.rtr_ends.specs.RouterShown.{IsShown, LeadsOn, ReceivesSo}
@@ -18,3 +20,8 @@ receives now bytes count s r shown leads = record { rest = refl; shown = shown; 
 -- The change to the table of a router is one to that of whatever router the value is.
 pub begins : (s : Session) (p : Pending) (table : VrpSet) → IsBegun s.taken table p → ((r : rules.Router) → IsShown r s.router → table ≡ r.table) → Shows s (λ r. IsBegun s.taken r.table p)
 begins s p table begun same r shown = (begun.0 ∙ ap (between s.taken) (same r shown), begun.1 ∙ same r shown)
+
+-- An index over the table of a router is one over that of whatever router the value is.
+pub indexes : (s : Session) (table : VrpSet) (old new : Option Judge) (answer : ℤ) → New old new answer (λ j. j.index ≡ table) → ((r : rules.Router) → IsShown r s.router → table ≡ r.table)
+    → Shows s (λ r. New old new answer (λ j. j.index ≡ r.table))
+indexes s table old new answer made same r shown = subst (λ x. New old new answer (λ j. j.index ≡ x)) (same r shown) made

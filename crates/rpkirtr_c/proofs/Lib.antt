@@ -2,3 +2,4 @@ pub mod Addresses
 pub mod Calls
 pub mod Copied
 pub mod Handles
+pub mod RecordLaws

@@ -4,5 +4,7 @@ pub mod Held
 pub mod Indexes
 pub mod Links
 pub mod Live
+pub mod Objects
 pub mod Sessions
 pub mod Spelled
+pub mod Texts

@@ -5,11 +5,12 @@ use Rattle.rtr_ends.specs.LinkRules as rules
 use Rattle.rtr_ends.specs.Router.{RouterCall, called}
 use Rattle.rtr_ends.specs.Router as model
 use Rattle.rtr_ends.specs.RouterShown.{Calls, IsShown, LeadsOn, ReceivesSo}
+use Rattle.rtr_ends.specs.Wake.{WakesAt}
 use Rattle.vrps.specs.Origin.{covering, state}
 use Rattle.vrps.specs.VrpSet.{VrpSet}
 use Rattle.vrps.specs.declared.origin.OriginState.TheVariants.{NotFound}
 use Rattle.rpkirtr_c.specs.Answers.{number}
-use Rattle.rpkirtr_c.specs.Links.{version_of}
+use Rattle.rpkirtr_c.specs.Links.{moment_of, version_of}
 use Rattle.rpkirtr_c.specs.Spelled.{IsCopied, SpellsRoute, state_number}
 use Rattle.rpkirtr_c.specs.declared.status.Status.{Status}
 use Rattle.rpkirtr_c.specs.declared.values.CRecord.{CRecord}
@@ -30,6 +31,10 @@ pub record Makes (call : RouterCall) (s t : Session) : Type 0 where
 -- This is so of whatever router the value is.
 abbrev pub Shows : Session → (rules.Router → Type 0) → Type 0
 Shows s P = (r : rules.Router) → IsShown r s.router → P r
+
+-- From this moment on a tick does more than advance the clock: never, if it is that of what never happens.
+abbrev pub Wakes : ℕ → Session → Type 0
+Wakes at s = (wake : Option ℕ) × (at ≡ moment_of wake) × Shows s (λ r. WakesAt wake r)
 
 -- A route is judged over a set: its state is written. What is no route has none, and is answered so.
 abbrev pub IsJudged : CRoute → VrpSet → ℤ → ℤ → Type 0

@@ -1,16 +1,17 @@
 //! Origin validation over records of a caller in C.
-ghost use Rattle.std.specs.Prelude.{◌≡◌, ◌≤◌, length, Option, Some, None, is_none, option_map, false, ◌++◌, ◌∷◌, [], IfOk, IfErr, OnOk};
+ghost use Rattle.std.specs.Prelude.{◌≡◌, ◌≤◌, length, List, Option, Some, None, is_none, option_map, false, ◌++◌, ◌∷◌, [], IfOk, IfErr, OnOk};
 ghost use Rattle.std.specs.Coded.{coded_option};
 ghost use Rattle.prefixes.specs.declared.route.Route.{Route};
 ghost use Rattle.rpkirtr_c.specs.Answers.{number};
-ghost use Rattle.rpkirtr_c.specs.Indexes.{AreRecords, IsFaultOf, IsOver, NewIndex, bad_of, fault_status};
-ghost use Rattle.rpkirtr_c.specs.Live.{Freed, On};
+ghost use Rattle.rpkirtr_c.specs.Indexes.{AreRecords, IsFaultOf, IsOver, IsRecordFault, IsSetFault, NewIndex, bad_of, fault_status};
+ghost use Rattle.rpkirtr_c.specs.Live.{Freed, New, On};
 ghost use Rattle.rpkirtr_c.specs.Sessions.{AreCovering, IsJudged};
 ghost use Rattle.rpkirtr_c.specs.Spelled.{state_number};
 ghost use Rattle.rpkirtr_c.specs.declared.judge.Judge.{Judge};
 ghost use Rattle.rpkirtr_c.specs.contracts.judge.Judge as judge;
 ghost use Rattle.rpkirtr_c.specs.declared.status.Status.TheVariants.{Done};
-ghost use Rattle.vrps.specs.VrpSet.{size};
+ghost use Rattle.rpkirtr_c.specs.declared.values.CRecord.{CRecord as Records};
+ghost use Rattle.vrps.specs.VrpSet.{set_of, size};
 ghost use Rattle.vrps.specs.declared.origin.OriginState.TheVariants.{NotFound};
 
 use crate::judge::Judge;
@@ -19,6 +20,7 @@ use crate::status::Status;
 use crate::values::{CRecord, CRoute, copy_records, route_of, state_number, vrp_of};
 use prefixes::Vrp;
 use std::alloc::{AllocError, Global};
+use std::fmt::{self, Debug};
 use std::marker::Model;
 use vrps::{OriginIndex, OriginState, SetFault, VrpSet};
 
@@ -41,6 +43,13 @@ impl Model for IndexHandle {
 }
 
 unsafe impl Send for IndexHandle {}
+
+/// It shows nothing of the handle's value.
+impl Debug for IndexHandle {
+    fn fmt<W: fmt::Write>(&self, f: &mut fmt::Formatter<W>) -> fmt::Result {
+        f.write_str("IndexHandle(..)")
+    }
+}
 
 impl IndexHandle {
     fn of(l: Loose<Judge, Global>) -> IndexHandle
@@ -105,7 +114,7 @@ pub(crate) fn shut_index(judge: Box<Judge>) -> IndexHandle
 /// Why there is no index over records.
 #[derive(Clone, Copy, Debug, PartialEq, Eq)]
 pub(crate) enum IndexFault {
-    /// The record at this index is none.
+    /// The record at this index is the first that is none.
     Bad(usize),
     /// More different records than a set may have.
     TooMany,
@@ -131,27 +140,35 @@ fn push(list: &mut Vec<Vrp>, vrp: Vrp) -> Result<(), AllocError>
     Ok(())
 }
 
-/// The payloads of records, or the first that is none.
-fn vrps_of(alloc: Global, records: &[CRecord]) -> Result<Vec<Vrp>, IndexFault>
-    ensures ok { IfOk result (λ list. AreRecords list.items records.now) }
-    ensures err { IfErr result (IsFaultOf records.now) }
+/// Adds the payloads of records to a list, up to the first that is none.
+pub(crate) fn add_vrps(list: &mut Vec<Vrp>, records: &[CRecord]) -> Result<(), IndexFault>
+    ensures ok { OnOk result ((before : List Records) → AreRecords list.old.items before → AreRecords list.new.items (before ++ records.now)) }
+    ensures err { IfErr result (IsRecordFault records.now) }
 {
-    let mut list = Vec::new(alloc);
     for i in 0..records.len() {
         match vrp_of(&records[i]) {
             None => return Err(IndexFault::Bad(i)),
-            Some(vrp) => push(&mut list, vrp)?,
+            Some(vrp) => push(list, vrp)?,
         }
     }
+    Ok(())
+}
+
+/// The payloads of records, or the first that is none.
+fn vrps_of(alloc: Global, records: &[CRecord]) -> Result<Vec<Vrp>, IndexFault>
+    ensures ok { IfOk result (λ list. AreRecords list.items records.now) }
+    ensures err { IfErr result (IsRecordFault records.now) }
+{
+    let mut list = Vec::new(alloc);
+    add_vrps(&mut list, records)?;
     Ok(list)
 }
 
-/// An index over records, or why there is none.
-fn index_over(alloc: Global, records: &[CRecord]) -> Result<Judge, IndexFault>
-    ensures ok { IfOk result (IsOver records.now) }
-    ensures err { IfErr result (IsFaultOf records.now) }
+/// An index over payloads, or why there is none.
+pub(crate) fn judge_over(alloc: Global, list: Vec<Vrp>) -> Result<Judge, IndexFault>
+    ensures ok { IfOk result (λ t. t.index ≡ set_of list.items) }
+    ensures err { IfErr result (IsSetFault list.items) }
 {
-    let list = vrps_of(alloc, records)?;
     match VrpSet::from_list(list) {
         Err(SetFault::TooMany) => Err(IndexFault::TooMany),
         Err(SetFault::Memory) => Err(IndexFault::Memory),
@@ -162,9 +179,18 @@ fn index_over(alloc: Global, records: &[CRecord]) -> Result<Judge, IndexFault>
     }
 }
 
+/// An index over records, or why there is none.
+fn index_over(alloc: Global, records: &[CRecord]) -> Result<Judge, IndexFault>
+    ensures ok { IfOk result (IsOver records.now) }
+    ensures err { IfErr result (IsFaultOf records.now) }
+{
+    let list = vrps_of(alloc, records)?;
+    judge_over(alloc, list)
+}
+
 impl IndexFault {
     /// What a call answers of it.
-    fn status(self) -> Status
+    pub(crate) fn status(self) -> Status
         ensures { result ≡ fault_status self }
     {
         match self {
@@ -175,7 +201,7 @@ impl IndexFault {
     }
 
     /// The index of the record that is none.
-    fn bad(self) -> usize
+    pub(crate) fn bad(self) -> usize
         ensures { result ≡ bad_of self }
     {
         match self {
@@ -198,7 +224,7 @@ fn boxed_over(alloc: Global, records: &[CRecord]) -> Result<Box<Judge>, IndexFau
     }
 }
 
-/// Makes an index over records in an empty handle. If a record is none, its index is written.
+/// Makes an index over records in an empty handle. If a record is none, the index of the first such is written.
 #[unsafe(no_mangle)]
 pub extern "C" fn rpkirtr_index_new(
     alloc: Global,
@@ -221,6 +247,34 @@ pub extern "C" fn rpkirtr_index_new(
         Ok(judge) => {
             *h = shut_index(judge);
             Status::Done.number()
+        }
+    }
+}
+
+/// A block of an index over a set.
+fn boxed_set(alloc: Global, set: &VrpSet) -> Result<Box<Judge>, IndexFault>
+    ensures { IfOk result (λ b. b.value.index ≡ set.now) }
+{
+    let index = OriginIndex::over(alloc, set)?;
+    match Box::new(alloc, Judge::over(index, set.len())) {
+        Err(_) => Err(IndexFault::Memory),
+        Ok(judge) => Ok(judge),
+    }
+}
+
+/// Makes an index over a set in an empty handle.
+pub(crate) fn fill_index(alloc: Global, set: &VrpSet, h: &mut IndexHandle) -> Status
+    ensures { New h.old.value h.new.value (number result) (λ s. s.index ≡ set.now) }
+{
+    if let Some(judge) = h.take(alloc) {
+        *h = shut_index(judge);
+        return Status::Live;
+    }
+    match boxed_set(alloc, set) {
+        Err(_) => Status::NoMemory,
+        Ok(judge) => {
+            *h = shut_index(judge);
+            Status::Done
         }
     }
 }

@@ -1,18 +1,27 @@
-//! A router and origin validation for C: `include/rpkirtr.h` declares what is here. The caller owns sockets and clocks.
+//! A router, origin validation and payloads of signed objects for C: `include/rpkirtr.h` declares what is here. The caller owns sockets and clocks.
 #![tactic(auto)]
 
+mod authorization;
 mod changes;
 mod index;
 mod judge;
 mod links;
+mod lists;
 mod loose;
+mod objects;
 mod records;
+mod roa;
 mod router;
 mod session;
 mod status;
+mod texts;
 mod values;
 
 pub use crate::index::IndexHandle;
 pub use crate::links::{CCommitted, CLink};
+pub use crate::lists::CList;
+pub use crate::objects::CFault;
+pub use crate::roa::RoaHandle;
 pub use crate::router::RouterHandle;
+pub use crate::texts::CText;
 pub use crate::values::{CRecord, CRoute};

@@ -9,6 +9,7 @@ ghost use Rattle.rpkirtr_c.specs.declared.status.Status.TheVariants.{Done};
 ghost use Rattle.vrps.specs.VrpSet.{listing, size};
 ghost use Rattle.vrps.specs.declared.origin.OriginState.TheVariants.{NotFound};
 
+use crate::index::{IndexHandle, fill_index};
 use crate::router::{RouterHandle, shut};
 use crate::status::Status;
 use crate::values::{
@@ -130,6 +131,25 @@ pub extern "C" fn rpkirtr_router_covering(
             }
         },
     };
+    *h = shut(session);
+    answer.number()
+}
+
+/// Makes an index over the committed records in an empty handle of an index. It stays if the router changes or is freed.
+#[tactic(auto, using(crate::proofs::Calls::indexes))]
+#[unsafe(no_mangle)]
+pub extern "C" fn rpkirtr_router_index(
+    alloc: Global,
+    h: &mut RouterHandle,
+    index: &mut IndexHandle,
+) -> i32
+    ensures call { On h.old.value h.new.value result (λ s t. (t ≡ s) × Shows s (λ r. New index.old.value index.new.value result (λ j. j.index ≡ r.table))) }
+    ensures empty { h.old.value ≡ None → index.new.value ≡ index.old.value }
+{
+    let Some(session) = h.take(alloc) else {
+        return Status::Empty.number();
+    };
+    let answer = fill_index(alloc, session.router.table(), index);
     *h = shut(session);
     answer.number()
 }

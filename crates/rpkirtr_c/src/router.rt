@@ -5,7 +5,7 @@ ghost use Rattle.rpkirtr_c.specs.declared.session.Session.{Session};
 ghost use Rattle.rpkirtr_c.specs.contracts.session.Session as session;
 ghost use Rattle.rpkirtr_c.specs.Answers.{number};
 ghost use Rattle.rpkirtr_c.specs.Live.{Freed, New, On};
-ghost use Rattle.rpkirtr_c.specs.Sessions.{IsPulled, IsSpoken, Makes, Receives, Shows, ask_answer};
+ghost use Rattle.rpkirtr_c.specs.Sessions.{IsPulled, IsSpoken, Makes, Receives, Shows, Wakes, ask_answer};
 ghost use Rattle.rpkirtr_c.specs.Links.{committed_of, link_of, moment_of, never};
 ghost use Rattle.rtr_ends.specs.RouterLink.{asked_on, told_link};
 ghost use Rattle.rtr_ends.specs.declared.link.Link.TheVariants as links;
@@ -21,6 +21,7 @@ use crate::session::Session;
 use crate::status::Status;
 use rtr_ends::{AskFault, Link, Router};
 use std::alloc::Global;
+use std::fmt::{self, Debug};
 use std::marker::Model;
 use vrps::VrpSet;
 
@@ -43,6 +44,13 @@ impl Model for RouterHandle {
 }
 
 unsafe impl Send for RouterHandle {}
+
+/// It shows nothing of the handle's value.
+impl Debug for RouterHandle {
+    fn fmt<W: fmt::Write>(&self, f: &mut fmt::Formatter<W>) -> fmt::Result {
+        f.write_str("RouterHandle(..)")
+    }
+}
 
 impl RouterHandle {
     fn of(l: Loose<Session, Global>) -> RouterHandle
@@ -277,6 +285,22 @@ pub extern "C" fn rpkirtr_router_next_query_at(
         return Status::Empty.number();
     };
     *at = session.router.due().unwrap_or(NEVER);
+    *h = shut(session);
+    Status::Done.number()
+}
+
+/// Writes the moment from which on a tick has something to do, in seconds of the caller's clock: `NEVER` if there is none. It is that of the
+/// next query of an idle link, or that of the expiry of what is committed.
+#[unsafe(no_mangle)]
+pub extern "C" fn rpkirtr_router_wake_at(alloc: Global, h: &mut RouterHandle, at: &mut u64) -> i32
+    ensures call { On h.old.value h.new.value result (λ s t. (result ≡ number Done) × (t ≡ s) × Wakes at.new s) }
+    ensures empty { h.old.value ≡ None → at.new ≡ never }
+{
+    *at = NEVER;
+    let Some(session) = h.take(alloc) else {
+        return Status::Empty.number();
+    };
+    *at = session.router.wake_at().unwrap_or(NEVER);
     *h = shut(session);
     Status::Done.number()
 }

@@ -1,0 +1,108 @@
+//! What a status means, and the version, as texts for C.
+ghost use Rattle.std.specs.Prelude.{◌≡◌, ◌<◌, length, codes, IfSome, IfNone};
+ghost use Rattle.rpkirtr_c.specs.Answers.{number};
+ghost use Rattle.rpkirtr_c.specs.Texts.{Means, in_room, meaning};
+ghost use Rattle.rpkirtr_c.specs.declared.status.Status.{Status as Statuses};
+ghost use Rattle.rpkirtr_c.specs.declared.status.Status.TheVariants.{Done};
+
+use crate::status::Status;
+
+/// The version of the release.
+const VERSION: &[u8] = b"1.0.0";
+
+/// The version of the header. It changes if a program that was compiled with an older header no longer works.
+const ABI_VERSION: u32 = 0;
+
+/// The bytes of a text and the zeros that follow it.
+const ROOM: usize = 64;
+
+/// A text of fewer than 64 bytes, followed by zeros.
+#[repr(C)]
+#[derive(Clone, Copy, Debug)]
+pub struct CText {
+    pub text: [u8; 64],
+}
+
+/// The text in its room.
+fn in_room(text: &[u8]) -> CText
+    requires { length text.now < 64 }
+    ensures { result ≡ in_room text.now }
+{
+    let mut room = [0; ROOM];
+    room[..text.len()].copy_from_slice(text);
+    CText { text: room }
+}
+
+impl Status {
+    /// The status of this number, if there is one.
+    fn of_number(code: i32) -> Option<Status>
+        ensures some { IfSome result (λ s. number s ≡ code) }
+        ensures none { IfNone result ((s : Statuses) → ¬ (number s ≡ code)) }
+    {
+        match code {
+            0 => Some(Status::Done),
+            1 => Some(Status::Empty),
+            2 => Some(Status::Live),
+            3 => Some(Status::NoMemory),
+            4 => Some(Status::BadRecord),
+            5 => Some(Status::BadRoute),
+            6 => Some(Status::BadVersion),
+            7 => Some(Status::OutOfRange),
+            8 => Some(Status::NotLinked),
+            9 => Some(Status::Busy),
+            10 => Some(Status::BadPayload),
+            _ => None,
+        }
+    }
+
+    /// What it means.
+    fn meaning(self) -> &'static [u8]
+        ensures text { result.now ≡ meaning self }
+        ensures short { length result.now < 64 }
+    {
+        match self {
+            Status::Done => b"the call succeeded",
+            Status::Empty => b"the handle is empty",
+            Status::Live => b"the handle is live and has to be freed first",
+            Status::NoMemory => b"out of memory",
+            Status::BadRecord => b"a malformed record",
+            Status::BadRoute => b"a malformed route",
+            Status::BadVersion => b"no such version of the protocol",
+            Status::OutOfRange => b"an index at or past the end, or too many records",
+            Status::NotLinked => b"no connection, or one that has ended",
+            Status::Busy => b"a query is outstanding",
+            Status::BadPayload => b"a malformed payload",
+        }
+    }
+}
+
+/// Writes what a status means.
+#[unsafe(no_mangle)]
+pub extern "C" fn rpkirtr_strerror(status: i32, text: &mut CText) -> i32
+    ensures text { Means status text.new }
+    ensures answer { result ≡ number Done }
+{
+    *text = match Status::of_number(status) {
+        None => in_room(b"no such status"),
+        Some(status) => in_room(status.meaning()),
+    };
+    Status::Done.number()
+}
+
+/// Writes the version of the release.
+#[unsafe(no_mangle)]
+pub extern "C" fn rpkirtr_version(text: &mut CText) -> i32
+    ensures text { text.new ≡ in_room (codes "1.0.0") }
+    ensures answer { result ≡ number Done }
+{
+    *text = in_room(VERSION);
+    Status::Done.number()
+}
+
+/// The version of the header. A program needs the one that it was compiled with.
+#[unsafe(no_mangle)]
+pub extern "C" fn rpkirtr_abi_version() -> u32
+    ensures { result ≡ 0 }
+{
+    ABI_VERSION
+}
