@@ -17,6 +17,9 @@ from typing import Iterable, List, NamedTuple, Optional, Tuple, Union
 Network = Union[ipaddress.IPv4Network, ipaddress.IPv6Network]
 _library = ctypes.CDLL("librpkirtr.so.0")
 NEVER = 2**64 - 1
+ABI_VERSION = 0
+if _library.rpkirtr_abi_version() != ABI_VERSION:
+    raise ImportError(f"librpkirtr.so.0 has ABI version {_library.rpkirtr_abi_version()}, and this module needs {ABI_VERSION}")
 
 
 class State(enum.IntEnum):
@@ -40,6 +43,7 @@ class Status(enum.IntEnum):
     RANGE = 7
     NOT_LINKED = 8
     BUSY = 9
+    BAD_PAYLOAD = 10
 
 
 class LinkState(enum.IntEnum):
@@ -84,13 +88,42 @@ class Committed(NamedTuple):
     expire: int
 
 
-class Error(Exception):
-    """A status other than OK, and the index of the record that is none, if there is one."""
+def _text(name: str, *arguments: object) -> str:
+    text = ctypes.create_string_buffer(64)
+    getattr(_library, f"rpkirtr_{name}")(*arguments, text)
+    return text.value.decode()
 
-    def __init__(self, status: int, index: Optional[int] = None) -> None:
-        super().__init__(Status(status).name if index is None else f"{Status(status).name} at {index}")
+
+def version() -> str:
+    """The version of the library."""
+    return _text("version")
+
+
+def strerror(status: int) -> str:
+    """What a status means."""
+    return _text("strerror", ctypes.c_int32(status))
+
+
+class Error(Exception):
+    """A status other than OK. `index` is that of the record that is none, if there is one, and `list_index` that of its list."""
+
+    def __init__(self, status: int, index: Optional[int] = None, list_index: Optional[int] = None) -> None:
+        place = "" if index is None else f" at {index}"
+        place += "" if list_index is None else f" of list {list_index}"
+        super().__init__(f"{strerror(status)}{place}")
         self.status = Status(status)
         self.index = index
+        self.list_index = list_index
+
+
+class PayloadError(Error):
+    """Bytes that are no payload: the number of the fault, and the offset of the byte at which it shows."""
+
+    def __init__(self, number: int, offset: int) -> None:
+        super().__init__(Status.BAD_PAYLOAD)
+        self.args = (f"{self.args[0]}: fault {number} at offset {offset}",)
+        self.number = number
+        self.offset = offset
 
 
 class Record(NamedTuple):
@@ -119,6 +152,14 @@ class _Committed(ctypes.Structure):
     _fields_ = [("moment", ctypes.c_uint64), ("serial", ctypes.c_uint32), ("refresh", ctypes.c_uint32), ("retry", ctypes.c_uint32),
                 ("expire", ctypes.c_uint32), ("zero_", ctypes.c_uint32), ("session", ctypes.c_uint16), ("version", ctypes.c_uint8),
                 ("is_committed", ctypes.c_uint8)]
+
+
+class _List(ctypes.Structure):
+    _fields_ = [("records", ctypes.POINTER(_Record)), ("records_len", ctypes.c_size_t)]
+
+
+class _Fault(ctypes.Structure):
+    _fields_ = [("offset", ctypes.c_uint64), ("kind", ctypes.c_uint32), ("zero_", ctypes.c_uint32)]
 
 
 def _within(bits: int, number: int) -> int:
@@ -165,6 +206,12 @@ class _Handle:
     def __init__(self) -> None:
         self._handle = ctypes.c_void_p()
 
+    @classmethod
+    def _empty(cls):
+        made = cls.__new__(cls)
+        _Handle.__init__(made)
+        return made
+
     def _call(self, name: str, *arguments: object) -> int:
         return getattr(_library, f"rpkirtr_{self._name}_{name}")(ctypes.byref(self._handle), *arguments)
 
@@ -189,6 +236,15 @@ class _Handle:
     def __len__(self) -> int:
         return self._size("count")
 
+    def _records(self, count: int) -> List[Record]:
+        room = (_Record * count)()
+        self._size("records", ctypes.c_size_t(0), room, ctypes.c_size_t(count))
+        return [_told(record) for record in room]
+
+
+class _Judge(_Handle):
+    """What judges routes."""
+
     def state(self, prefix: Union[str, Network], origin: Optional[int]) -> State:
         """The state of a route; the origin None is the origin NONE."""
         state = ctypes.c_int32()
@@ -204,21 +260,25 @@ class _Handle:
         return [_told(record) for record in room]
 
 
-class Index(_Handle):
+class Index(_Judge):
     """Origin validation over records."""
 
     _name = "index"
 
-    def __init__(self, records: Iterable[Record]) -> None:
+    def __init__(self, *lists: Iterable[Record]) -> None:
+        """An index over the records of these lists. What is listed twice counts once."""
         super().__init__()
-        given = [_record(record) for record in records]
-        bad = ctypes.c_size_t()
-        status = self._call("new", (_Record * len(given))(*given), ctypes.c_size_t(len(given)), ctypes.byref(bad))
-        if status != Status.OK:
-            raise Error(status, bad.value if status == Status.BAD_RECORD else None)
+        given = [[_record(record) for record in records] for records in lists]
+        rooms = [(_Record * len(records))(*records) for records in given]
+        told = (_List * len(rooms))(*(_List(room, len(room)) for room in rooms))
+        of, bad = ctypes.c_size_t(), ctypes.c_size_t()
+        status = self._call("new_of", told, ctypes.c_size_t(len(rooms)), ctypes.byref(of), ctypes.byref(bad))
+        if status == Status.BAD_RECORD:
+            raise Error(status, bad.value, of.value if len(rooms) > 1 else None)
+        _check(status)
 
 
-class Router(_Handle):
+class Router(_Judge):
     """A router: what it has committed, and at most one connection."""
 
     _name = "router"
@@ -278,17 +338,20 @@ class Router(_Handle):
         return Committed(*(getattr(it, name) for name in Committed._fields)) if it.is_committed else None
 
     def wake_at(self) -> int:
-        """The least moment at which `tick` does something: the query of an idle link is due, or the records expire. NEVER if there is none."""
-        query = self.next_query_at() if self.link().state == LinkState.IDLE else NEVER
-        committed = self.committed()
-        return min(query, committed.moment + committed.expire + 1 if committed else NEVER)
+        """The moment from which on a tick has something to do: a query is due, or the records expire. NEVER if there is none."""
+        at = ctypes.c_uint64()
+        _check(self._call("wake_at", ctypes.byref(at)))
+        return at.value
+
+    def index(self) -> Index:
+        """An index over the committed records. It stays as it is if the router changes."""
+        index = Index._empty()
+        _check(self._call("index", ctypes.byref(index._handle)))
+        return index
 
     def records(self) -> List[Record]:
         """The committed records, in ascending order."""
-        count = len(self)
-        room = (_Record * count)()
-        self._size("records", ctypes.c_size_t(0), room, ctypes.c_size_t(count))
-        return [_told(record) for record in room]
+        return self._records(len(self))
 
     def changes(self) -> Tuple[List[Record], List[Record]]:
         """The records that were withdrawn and announced since the last call, which takes them."""
@@ -301,3 +364,28 @@ class Router(_Handle):
             told.append([_told(record) for record in room])
         _check(self._call("changes_taken"))
         return told[0], told[1]
+
+
+class Roa(_Handle):
+    """The payload of a ROA (RFC 9582 section 4). Verify its signature first: nothing here does."""
+
+    _name = "roa"
+
+    def __init__(self, payload: bytes) -> None:
+        super().__init__()
+        fault, piece = _Fault(), bytes(memoryview(payload))
+        status = self._call("new", piece, ctypes.c_size_t(len(piece)), ctypes.byref(fault))
+        if status == Status.BAD_PAYLOAD:
+            raise PayloadError(fault.kind, fault.offset)
+        _check(status)
+
+    @property
+    def asn(self) -> int:
+        """The AS that may originate the prefixes."""
+        asn = ctypes.c_uint32()
+        _check(self._call("asn", ctypes.byref(asn)))
+        return asn.value
+
+    def records(self) -> List[Record]:
+        """The records that the ROA authorizes, in its order."""
+        return self._records(len(self))

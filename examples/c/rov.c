@@ -151,6 +151,16 @@ static void judge(rpkirtr_router *h, char *line)
     fflush(stdout);
 }
 
+/* How many milliseconds the router has nothing to do, if no bytes come: a minute at most. */
+static int pause_of(rpkirtr_router *h)
+{
+    uint64_t at, moment = now();
+    rpkirtr_router_wake_at(h, &at);
+    if (at <= moment)
+        return 0;
+    return at - moment < 60 ? (int)(at - moment) * 1000 : 60000;
+}
+
 /* Follows the cache, and judges routes once records are committed, until standard input ends; 0 if the connection ended before. */
 static int follow(rpkirtr_router *h, int fd)
 {
@@ -163,7 +173,7 @@ static int follow(rpkirtr_router *h, int fd)
         fds[1].fd = committed.is_committed ? STDIN_FILENO : -1;
         fds[0].events = fds[1].events = POLLIN;
         fds[0].revents = fds[1].revents = 0;
-        if (poll(fds, 2, 1000) < 0 && errno != EINTR)
+        if (poll(fds, 2, pause_of(h)) < 0 && errno != EINTR)
             return ended(strerror(errno));
         rpkirtr_router_tick(h, now());
         if (!send_all(h, fd) || !is_linked(h) || (fds[0].revents != 0 && !read_some(h, fd)))

@@ -399,26 +399,13 @@ static int advance(struct manager *m, struct cache *cache)
 
 /* ---- the thread */
 
-/* The least moment at which a tick does something: the query of an idle link is due, or the records expire. */
-static uint64_t wake_of(rpkirtr_router *h)
-{
-    rpkirtr_link link;
-    rpkirtr_committed committed;
-    uint64_t at = RPKIRTR_NEVER;
-    if (rpkirtr_router_link(h, &link) == RPKIRTR_OK && link.state == RPKIRTR_IDLE)
-        rpkirtr_router_next_query_at(h, &at);
-    if (rpkirtr_router_committed(h, &committed) == RPKIRTR_OK && committed.is_committed && committed.moment + committed.expire + 1 < at)
-        at = committed.moment + committed.expire + 1;
-    return at;
-}
-
 /* How many milliseconds nothing has to be done, if no bytes come. */
 static int pause_of(struct manager *m)
 {
     uint64_t wake = now() + 60;
     for (struct cache *it = m->caches; it != NULL; it = it->next) {
-        uint64_t at = wake_of(&it->router);
-        if (at < wake)
+        uint64_t at;
+        if (rpkirtr_router_wake_at(&it->router, &at) == RPKIRTR_OK && at < wake)
             wake = at;
         if ((it->fd < 0 || it->is_connecting) && it->retry_at < wake && is_wanted(m, it))
             wake = it->retry_at;

@@ -10,6 +10,13 @@ pub enum Error {
     OutOfMemory,
     /// The record at this place is none: host bits, a length or a maximum out of range.
     BadRecord(usize),
+    /// The record at this place of this list is none.
+    BadRecordOf {
+        /// which of the lists, from 0
+        list: usize,
+        /// which of its records, from 0
+        record: usize,
+    },
     /// The route is none: host bits, or a length out of range.
     BadRoute,
     /// No version of the protocol.
@@ -20,6 +27,13 @@ pub enum Error {
     NotLinked,
     /// A query is outstanding.
     Busy,
+    /// The bytes are no payload: the number of the fault, and the offset of the byte at which it shows.
+    BadPayload {
+        /// 1 to 20
+        number: u32,
+        /// in bytes
+        offset: u64,
+    },
     /// A status that this version of the binding does not know.
     Other(i32),
 }
@@ -29,12 +43,16 @@ impl fmt::Display for Error {
         match self {
             Error::OutOfMemory => f.write_str("out of memory"),
             Error::BadRecord(place) => write!(f, "record {place} is none: its prefix has host bits, or a length is out of range"),
+            Error::BadRecordOf { list, record } => {
+                write!(f, "record {record} of list {list} is none: its prefix has host bits, or a length is out of range")
+            }
             Error::BadRoute => f.write_str("the route's prefix has host bits, or its length is out of range"),
             Error::BadVersion => f.write_str("no version of the protocol"),
             Error::TooMany => f.write_str("more than 16777215 different records"),
             Error::NotLinked => f.write_str("there is no connection, or it has ended"),
             Error::Busy => f.write_str("a query is outstanding"),
-            Error::Other(status) => write!(f, "status {status}"),
+            Error::BadPayload { number, offset } => write!(f, "the bytes are no payload: fault {number} at offset {offset}"),
+            Error::Other(status) => f.write_str(&crate::strerror(*status)),
         }
     }
 }

@@ -14,6 +14,7 @@ pub const BAD_VERSION: rpkirtr_status = 6;
 pub const RANGE: rpkirtr_status = 7;
 pub const NOT_LINKED: rpkirtr_status = 8;
 pub const BUSY: rpkirtr_status = 9;
+pub const BAD_PAYLOAD: rpkirtr_status = 10;
 
 /// The moment of what never happens
 pub const NEVER: u64 = u64::MAX;
@@ -62,7 +63,28 @@ pub struct rpkirtr_committed {
     pub is_committed: u8,
 }
 
-/// A handle of a router or of an index
+#[repr(C)]
+#[derive(Clone, Copy, Debug)]
+pub struct rpkirtr_list {
+    pub records: *const rpkirtr_record,
+    pub records_len: usize,
+}
+
+#[repr(C)]
+#[derive(Clone, Copy, Debug, Default)]
+pub struct rpkirtr_fault {
+    pub offset: u64,
+    pub kind: u32,
+    pub zero_: u32,
+}
+
+#[repr(C)]
+#[derive(Clone, Copy, Debug)]
+pub struct rpkirtr_text {
+    pub text: [u8; 64],
+}
+
+/// A handle of a router, an index or a ROA
 #[repr(C)]
 #[derive(Debug)]
 pub struct handle {
@@ -70,6 +92,9 @@ pub struct handle {
 }
 
 extern "C" {
+    pub fn rpkirtr_strerror(status: rpkirtr_status, text: *mut rpkirtr_text) -> rpkirtr_status;
+    pub fn rpkirtr_version(text: *mut rpkirtr_text) -> rpkirtr_status;
+
     pub fn rpkirtr_router_new(h: *mut handle) -> rpkirtr_status;
     pub fn rpkirtr_router_free(h: *mut handle) -> rpkirtr_status;
     pub fn rpkirtr_router_speak(h: *mut handle, version: u8) -> rpkirtr_status;
@@ -80,6 +105,7 @@ extern "C" {
     pub fn rpkirtr_router_tick(h: *mut handle, now: u64) -> rpkirtr_status;
     pub fn rpkirtr_router_ask(h: *mut handle) -> rpkirtr_status;
     pub fn rpkirtr_router_next_query_at(h: *mut handle, at: *mut u64) -> rpkirtr_status;
+    pub fn rpkirtr_router_wake_at(h: *mut handle, at: *mut u64) -> rpkirtr_status;
     pub fn rpkirtr_router_link(h: *mut handle, link: *mut rpkirtr_link) -> rpkirtr_status;
     pub fn rpkirtr_router_committed(h: *mut handle, committed: *mut rpkirtr_committed) -> rpkirtr_status;
     pub fn rpkirtr_router_count(h: *mut handle, count: *mut usize) -> rpkirtr_status;
@@ -92,12 +118,14 @@ extern "C" {
         room_len: usize,
         count: *mut usize,
     ) -> rpkirtr_status;
+    pub fn rpkirtr_router_index(h: *mut handle, index: *mut handle) -> rpkirtr_status;
     pub fn rpkirtr_router_changes_begin(h: *mut handle, withdraws: *mut usize, announces: *mut usize) -> rpkirtr_status;
     pub fn rpkirtr_router_withdrawn(h: *mut handle, first: usize, room: *mut rpkirtr_record, room_len: usize, copied: *mut usize) -> rpkirtr_status;
     pub fn rpkirtr_router_announced(h: *mut handle, first: usize, room: *mut rpkirtr_record, room_len: usize, copied: *mut usize) -> rpkirtr_status;
     pub fn rpkirtr_router_changes_taken(h: *mut handle) -> rpkirtr_status;
 
     pub fn rpkirtr_index_new(h: *mut handle, records: *const rpkirtr_record, records_len: usize, bad: *mut usize) -> rpkirtr_status;
+    pub fn rpkirtr_index_new_of(h: *mut handle, lists: *const rpkirtr_list, lists_len: usize, list: *mut usize, bad: *mut usize) -> rpkirtr_status;
     pub fn rpkirtr_index_free(h: *mut handle) -> rpkirtr_status;
     pub fn rpkirtr_index_count(h: *mut handle, count: *mut usize) -> rpkirtr_status;
     pub fn rpkirtr_index_state(h: *mut handle, route: *const rpkirtr_route, state: *mut rpkirtr_state) -> rpkirtr_status;
@@ -108,4 +136,10 @@ extern "C" {
         room_len: usize,
         count: *mut usize,
     ) -> rpkirtr_status;
+
+    pub fn rpkirtr_roa_new(h: *mut handle, bytes: *const u8, bytes_len: usize, fault: *mut rpkirtr_fault) -> rpkirtr_status;
+    pub fn rpkirtr_roa_free(h: *mut handle) -> rpkirtr_status;
+    pub fn rpkirtr_roa_asn(h: *mut handle, asn: *mut u32) -> rpkirtr_status;
+    pub fn rpkirtr_roa_count(h: *mut handle, count: *mut usize) -> rpkirtr_status;
+    pub fn rpkirtr_roa_records(h: *mut handle, first: usize, room: *mut rpkirtr_record, room_len: usize, copied: *mut usize) -> rpkirtr_status;
 }

@@ -18,7 +18,7 @@ unsafe impl Send for Index {}
 impl Index {
     /// An index over records; what is listed twice counts once.
     pub fn new(records: &[Vrp]) -> Result<Index, Error> {
-        let index = Index { handle: UnsafeCell::new(handle { opaque_: null_mut() }) };
+        let index = Index::empty();
         let records: Vec<_> = records.iter().map(|vrp| vrp.to_record()).collect();
         let mut bad = 0;
         // SAFETY: the handle is empty, and the slice has that many elements.
@@ -28,7 +28,25 @@ impl Index {
         }
     }
 
-    fn at(&self) -> *mut handle {
+    /// An index over the records of several lists; what is listed twice counts once.
+    pub fn of_lists(lists: &[&[Vrp]]) -> Result<Index, Error> {
+        let index = Index::empty();
+        let rooms: Vec<Vec<_>> = lists.iter().map(|list| list.iter().map(|vrp| vrp.to_record()).collect()).collect();
+        let told: Vec<_> = rooms.iter().map(|room| ffi::rpkirtr_list { records: room.as_ptr(), records_len: room.len() }).collect();
+        let (mut list, mut record) = (0, 0);
+        // SAFETY: the handle is empty, and each list has that many records.
+        match unsafe { ffi::rpkirtr_index_new_of(index.at(), told.as_ptr(), told.len(), &mut list, &mut record) } {
+            ffi::BAD_RECORD => Err(Error::BadRecordOf { list, record }),
+            status => check(status).map(|()| index),
+        }
+    }
+
+    /// An empty handle. It must not be used before a call has made an index in it.
+    pub(crate) fn empty() -> Index {
+        Index { handle: UnsafeCell::new(handle { opaque_: null_mut() }) }
+    }
+
+    pub(crate) fn at(&self) -> *mut handle {
         self.handle.get()
     }
 

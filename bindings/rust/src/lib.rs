@@ -17,10 +17,15 @@
 mod error;
 mod ffi;
 mod index;
+mod roa;
 mod router;
+mod texts;
 mod values;
 
 pub use error::Error;
 pub use index::Index;
+pub use roa::Roa;
 pub use router::{Changes, Committed, End, Link, Records, Router, Version};
+pub(crate) use texts::strerror;
+pub use texts::version;
 pub use values::{OriginState, Prefix, PrefixError, Route, Vrp};

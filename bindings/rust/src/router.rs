@@ -1,7 +1,7 @@
 //! A router: what it has committed, and at most one connection to a cache.
 use crate::error::{check, done};
 use crate::ffi::{self, handle};
-use crate::index::covering;
+use crate::index::{covering, Index};
 use crate::values::{OriginState, Route, Vrp};
 use crate::Error;
 use std::cell::UnsafeCell;
@@ -150,11 +150,11 @@ impl Router {
         (moment != ffi::NEVER).then_some(moment)
     }
 
-    /// The least moment at which `tick` does something, if any: the query of an idle link is due, or the records expire.
+    /// The moment from which on a tick has something to do, if any: the next query is due, or the records expire.
     pub fn wake_at(&self) -> Option<u64> {
-        let query = if self.link() == Link::Idle { self.next_query_at() } else { None };
-        let expiry = self.committed().and_then(|it| it.moment.checked_add(u64::from(it.expire))?.checked_add(1));
-        query.into_iter().chain(expiry).min()
+        let mut moment = 0;
+        done(unsafe { ffi::rpkirtr_router_wake_at(self.at(), &mut moment) });
+        (moment != ffi::NEVER).then_some(moment)
     }
 
     /// The link.
@@ -216,6 +216,13 @@ impl Router {
         covering(|room, count| unsafe {
             ffi::rpkirtr_router_covering(self.at(), &route.to_route(), room.as_mut_ptr(), room.len(), count)
         })
+    }
+
+    /// An index over the committed records. It stays as it is if the router changes.
+    pub fn index(&self) -> Result<Index, Error> {
+        let index = Index::empty();
+        check(unsafe { ffi::rpkirtr_router_index(self.at(), index.at()) })?;
+        Ok(index)
     }
 
     /// The committed records, in ascending order: family, address, length, maximum, AS.

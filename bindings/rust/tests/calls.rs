@@ -1,5 +1,5 @@
 //! A router that is told two records by a cache, and an index.
-use rpkirtr::{Error, Index, Link, OriginState, Route, Router, Version, Vrp};
+use rpkirtr::{Error, Index, Link, OriginState, Roa, Route, Router, Version, Vrp};
 
 const ANSWER: [u8; 84] = [
     1, 3, 1, 2, 0, 0, 0, 8, // Cache Response of session 258
@@ -62,6 +62,45 @@ fn changes_are_told_until_they_are_taken() {
     router.tick(101 + 7201);
     let changes = router.changes().unwrap();
     assert_eq!(changes.withdrawn().map(|vrp| vrp.asn).collect::<Vec<_>>(), [64496, 64497]);
+}
+
+#[test]
+fn an_index_of_a_router_stays() {
+    let mut router = Router::new().unwrap();
+    router.connect(100);
+    router.pull(&mut [0; 16]);
+    router.receive(&ANSWER, 101);
+    let index = router.index().unwrap();
+    router.tick(101 + 7201);
+    assert_eq!((router.len(), index.len()), (0, 2));
+    drop(router);
+    assert_eq!(index.state(&route("10.1.0.0/16", Some(64496))), Ok(OriginState::Valid));
+}
+
+#[test]
+fn lists_make_one_index() {
+    let (ten, db8) = (vrp("10.0.0.0/8", 16, 64496), vrp("2001:db8::/32", 48, 64497));
+    assert_eq!(Index::of_lists(&[&[ten], &[], &[db8, ten]]).unwrap().len(), 2);
+    assert_eq!(Index::of_lists(&[]).unwrap().len(), 0);
+    let fault = Index::of_lists(&[&[ten], &[db8, vrp("10.0.0.0/8", 33, 1)]]).unwrap_err();
+    assert_eq!(fault, Error::BadRecordOf { list: 1, record: 1 });
+}
+
+#[test]
+fn a_roa_is_decoded() {
+    let payload = [
+        0x30, 0x22, 0x02, 0x03, 0x00, 0xfb, 0xf0, 0x30, 0x1b, 0x30, 0x19, 0x04, 0x02, 0x00, 0x01, 0x30, 0x13, 0x30, 0x07, 0x03, 0x02, 0x00, 0x0a,
+        0x02, 0x01, 0x10, 0x30, 0x08, 0x03, 0x03, 0x06, 0x0a, 0x40, 0x02, 0x01, 0x0b,
+    ];
+    let roa = Roa::decode(&payload).unwrap();
+    assert_eq!(roa.asn(), 64496);
+    assert_eq!(roa.vrps(), [vrp("10.0.0.0/8", 16, 64496), vrp("10.64.0.0/10", 11, 64496)]);
+    assert_eq!(Roa::decode(&payload[..30]).unwrap_err(), Error::BadPayload { number: 1, offset: 0 });
+}
+
+#[test]
+fn the_library_has_a_version() {
+    assert_eq!(rpkirtr::version(), "1.0.0");
 }
 
 #[test]
