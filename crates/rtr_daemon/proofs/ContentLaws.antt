@@ -7,7 +7,9 @@ use Rattle.sources.specs.declared.sources.Sources.{Sources}
 use Rattle.rtr_daemon.specs.DiskAnswers.{DiskAnswers, ReadsWhole}
 use Rattle.rtr_daemon.specs.declared.environment.Stamp.{Stamp}
 use Rattle.std.specs.Prelude.{slice_get, Some, None, Result, Ok, Err}
-use Rattle.std.proofs.Common.{inl}
+use Rattle.std.proofs.Common.{inl, inr, ◌⊎◌}
+use Rattle.std.proofs.lemmas.Bool.{cases_lt}
+use Rattle.std.proofs.lemmas.List.{get_or_default}
 use Rattle.rtr_daemon.specs.Serving.{LoadsExport}
 use Rattle.rtr_daemon.specs.declared.refusal.Refusal.{Refusal}
 use Rattle.rtr_daemon.specs.Files.{AreContents, AreNumbered, Follows, FollowsEach, Loads, LoadsEach, names_of, path_of, paths_of}
@@ -24,6 +26,15 @@ contents_more answers (first ∷ paths) zero path [] bytes less is so_far held =
 contents_more answers (first ∷ paths) zero path (b ∷ contents) bytes less is so_far held = absurd so_far
 contents_more answers (first ∷ paths) (suc i) path [] bytes less is so_far held = absurd so_far
 contents_more answers (first ∷ paths) (suc i) path (b ∷ contents) bytes less is so_far held = (so_far.0, contents_more answers paths i path contents bytes (omega (arith, less)) is so_far.1 held)
+
+-- One element more
+pub each_more : {A : Type 0} (P : A → Type 0) (xs : List A) (i : ℕ) (x : A) → i < length xs → x ≡ get_or xs i x → P x → ((k : ℕ) (d : A) → k < i → P (get_or xs k d)) → (k : ℕ) (d : A) → k < i + 1 → P (get_or xs k d)
+each_more P xs i x less is last so_far k d within = by (cases_lt k i) where
+  by : (k < i) ⊎ (i ≤ k) → P (get_or xs k d)
+  by (inl earlier) = so_far k d earlier
+  by (inr later) =
+      let same : k ≡ i = omega (arith, within, later) in
+      subst (λ n. P (get_or xs n d)) (sym same) (subst P (is ∙ get_or_default xs i x d less) last)
 
 -- One export more was polled.
 follows_then : {W : Type 0} (answers : DiskAnswers W) (clock : ℕ → Type 0) (exports : List WatchedExport) (last : WatchedExport) (old mid new : Sources) (now : ℕ) → clock now → FollowsEach answers clock exports old mid → Follows answers last now mid new → FollowsEach answers clock (exports ++ last ∷ []) old new

@@ -7,9 +7,12 @@ use Rattle.rtr_daemon.specs.declared.statistics.Failure.{Failure}
 use Rattle.session_names.specs.Runs.{may_publish}
 use Rattle.rtr_daemon.specs.Files.{FollowsEach, FollowsSlurms, names_of, paths_of}
 use Rattle.rtr_daemon.specs.DiskAnswers.{DiskAnswers}
-use Rattle.rtr_daemon.specs.Due.{DoesWhatIsDue, FailsToPublish, FailureNoted, IsBetween, IsChecked, IsKept, JudgesAges, KeepsFiles, OnlyClients, OnlyFiles, OnlyNotes, PollsAll, PublishesIfDue, SamePaths, later_by, second_of_pace}
+use Rattle.rtr_daemon.specs.Due.{DoesWhatIsDue, FailsToPublish, FailureNoted, IsBetween, IsChecked, IsKept, JudgesAges, KeepsFiles, OnlyClients, OnlyFiles, OnlyNotes, PollsAll, PublishesIfDue, SamePaths, WakesIfPublished, later_by, second_of_pace}
 use Rattle.rtr_daemon.specs.PointOffers.{OffersEach, points_of}
-use Rattle.rtr_daemon.specs.Serving.{IsFresh, IsReason, OnlySources, StaysFresh}
+use Rattle.rtr_daemon.specs.Queue.{WakesIfNew}
+use Rattle.rtr_daemon.specs.Serving.{IsFresh, IsOfSecond, IsReason, OnlySources, PacesSo, StaysFresh}
+use Rattle.vrps.specs.declared.store.Published.{Published}
+use Rattle.vrps.specs.declared.store.Published.TheVariants.{New, Unchanged}
 use Rattle.rtr_daemon.specs.declared.daemon.Daemon.{Daemon}
 use Rattle.rtr_daemon.specs.declared.service.Service.{Service}
 
@@ -38,6 +41,19 @@ publishes_from clock ticks held a b c pace started opened (inr (inr waits)) = in
   by (inl early) = inl early
   by (inr same) = inr (rw (sym pace, sym started, sym opened) same)
 
+-- That clients are woken depends on the pace before alone.
+pub wakes_from : {S T : Type 0} (a b c : Daemon S T) → b.service.pace ≡ a.service.pace → WakesIfPublished b c → WakesIfPublished a c
+wakes_from a b c pace (inl same) = inl (same ∙ pace)
+wakes_from a b c pace (inr woke) = inr woke
+
+-- A publication was tried: no version is new, or all clients are woken.
+pub woken_by : {S T : Type 0} (a new : Daemon S T) (s : Service S T) (second : ℕ) (tried : Result PublishReport Refusal) → PacesSo (Some tried) second a.service.pace s.pace → IfOk tried (λ report. WakesIfNew report.published a.clients new.clients) → OnlyNotes (record a { service = s }) new → WakesIfPublished a new
+woken_by a new s second (Err refusal) paced wakes only = inl (ap (λ d. d.service.pace) only ∙ paced)
+woken_by {S} {T} a new s second (Ok report) paced wakes only = by report.published paced wakes where
+  by : (published : Published) → IsOfSecond published second a.service.pace s.pace → WakesIfNew published a.clients new.clients → WakesIfPublished a new
+  by (New serial) paced wakes = inr wakes.each
+  by Unchanged paced wakes = inl (ap (λ d. d.service.pace) only ∙ paced)
+
 polls_to : {S T W : Type 0} (answers : DiskAnswers W) (clock : ℕ → Type 0) (a b c : Daemon S T) → c.service.sources ≡ b.service.sources → PollsAll answers clock a b → PollsAll answers clock a c
 polls_to answers clock a b c same p = record { followed = p.followed; excepted = p.excepted; exports = p.exports; slurms = p.slurms; points = subst (OffersEach answers clock a.points.items p.excepted) (sym same) p.points }
 
@@ -48,6 +64,7 @@ pub record Round {S T : Type 0} (clock ticks : ℕ → Type 0) (now : ℕ) (c d 
   pub round : c.next_round ≤ now → d.next_round ≡ later_by 1000 now
   pub early : now < c.next_round → d.next_round ≡ c.next_round
   pub kept : KeepsFiles c d
+  pub wakes : WakesIfPublished c d
 
 -- What is due: a check, clients, and a round of publication.
 pub due_of : {S T W : Type 0} (answers : DiskAnswers W) (clock ticks : ℕ → Type 0) (now : ℕ) (a b c d : Daemon S T) → ticks now → (a.next_check ≤ now → PollsAll answers clock a b) → (a.next_check ≤ now → IsFresh clock b.service) → SamePaths a b → IsChecked now a b → OnlyClients b c → Round clock ticks now c d
@@ -72,6 +89,7 @@ due_of {S} {T} answers clock ticks now a b c d ticked polls fresh paths checked 
       };
     };
     between = λ is. between_of (checked.between is);
+    wakes = wakes_from a (with_clients b c) d checked.pace r.wakes;
     rest = (r.kept.rest.0 ∙ checked.rest.0, r.kept.rest.1 ∙ checked.rest.1, r.kept.rest.2 ∙ checked.rest.2);
   } where
     early_enough : a.next_check ≤ now → b.next_round ≤ now
@@ -108,6 +126,7 @@ due_after {S} {T} answers clock ticks a b c only h = again (subst (λ z. DoesWha
       next_round = p.next_round;
       early = p.early;
     };
+    wakes = wakes_from a (with_clients a b) c refl d.wakes;
     rest = d.rest;
   }
 

@@ -6,3 +6,4 @@ pub mod PacingLaws
 pub mod QueueLaws
 pub mod Reasons
 pub mod ServiceLaws
+pub mod WakeLaws

@@ -92,12 +92,13 @@ pub record SlurmsKeep (old new : Sources) : Type 0 where
   pub repository : new.repository ≡ old.repository
 
 slurms_rest : {W : Type 0} (answers : DiskAnswers W) (files : List WatchedFile) (old new : Sources) → FollowsSlurms answers files old new → SlurmsKeep old new
-slurms_rest answers files old new (inl same) = record { lists = same.lists; repository = same.repository }
-slurms_rest answers files old new (inr (contents, read, loads)) = record { lists = ap (λ l. l.items) loads.1; repository = loads.2 }
+slurms_rest answers files old new (inl (result, (contents, read, taken))) = record { lists = ap (λ l. l.items) taken.1; repository = taken.2 }
+slurms_rest answers files old new (inr (news, same)) = record { lists = ap (λ s. s.lists.items) same; repository = ap (λ s. s.repository) same }
 
 slurms_come : {W : Type 0} (answers : DiskAnswers W) (files : List WatchedFile) (old new : Sources) → FollowsSlurms answers files old new → ExceptionsComeFrom answers (paths_of files) old.exceptions → ExceptionsComeFrom answers (paths_of files) new.exceptions
-slurms_come answers files old new (inl same) before = subst (ExceptionsComeFrom answers (paths_of files)) (sym same.exceptions) before
-slurms_come answers files old new (inr (contents, read, loads)) before = (contents, read, loads.0)
+slurms_come answers files old new (inl (Ok u, (contents, read, taken))) before = (contents, read, taken.0)
+slurms_come answers files old new (inl (Err fault, (contents, read, taken))) before = subst (ExceptionsComeFrom answers (paths_of files)) (sym taken.0.1) before
+slurms_come answers files old new (inr (news, same)) before = subst (λ s. ExceptionsComeFrom answers (paths_of files) s.exceptions) (sym same) before
 
 -- Publication points, and what an offer keeps
 pub record OffersKeep (old new : Sources) : Type 0 where
@@ -220,7 +221,7 @@ opened_comes answers clock now exports slurms points start loaded excepted d at 
     let name_of : WatchedExport → List ℕ × ℕ = λ e. (path_of e.file, e.number) in
     let first = loads_rest answers now exports start loaded r.loads in
     let lists = loads_come answers clock (names_of exports) now exports start loaded at (λ e is. contains_map name_of exports e is) r.loads (nothing_comes answers clock (names_of exports) start.lists.items r.none) in
-    let second : SlurmsKeep loaded excepted = slurms_rest answers slurms loaded excepted (inr r.reads) in
+    let second : SlurmsKeep loaded excepted = slurms_rest answers slurms loaded excepted (inl (Ok tt, r.reads)) in
     let third = offers_rest answers (λ t. t ≡ now) points excepted d.service.sources r.offers in
     let none : excepted.repository ≡ no_points = second.repository ∙ first.repository ∙ r.no_points in
     let held : PointsComeFrom answers (points_of points) excepted.repository = λ name last got. absurd (let never : None ≡ Some last = sym (get-empty (slice_cmp nat_cmp) name) ∙ sym (ap (λ z. accepted_at z name) none) ∙ got in cc) in

@@ -5,6 +5,7 @@ use Rattle.sources.specs.declared.sources.Sources.{Sources}
 use Rattle.rtr_daemon.specs.DiskAnswers.{DiskAnswers}
 use Rattle.rtr_daemon.specs.Files.{FollowsEach, FollowsSlurms, names_of, paths_of}
 use Rattle.rtr_daemon.specs.PointOffers.{OffersEach, points_of}
+use Rattle.rtr_daemon.specs.Queue.{AreQueued}
 use Rattle.rtr_daemon.specs.Serving.{IsFresh, IsReason}
 use Rattle.rtr_daemon.specs.declared.daemon.Daemon.{Daemon}
 use Rattle.rtr_daemon.specs.declared.refusal.Refusal.{Refusal}
@@ -84,6 +85,10 @@ pub record FailsToPublish {S T : Type 0} (clock : ℕ → Type 0) (new : Daemon 
 abbrev pub PublishesIfDue : {S T : Type 0} → (ℕ → Type 0) → (ℕ → Type 0) → ℕ → Daemon S T → Daemon S T → Type 0
 PublishesIfDue clock ticks held old new = (new.service.is_pending ≡ false) ⊎ FailsToPublish clock new ⊎ Waits ticks held old
 
+-- No version was published, or each client is in the queue then. The second of the pace changes with each version.
+abbrev pub WakesIfPublished : {S T : Type 0} → Daemon S T → Daemon S T → Type 0
+WakesIfPublished old new = (new.service.pace ≡ old.service.pace) ⊎ AreQueued new.clients
+
 -- Each file and each publication point was polled, in this order: exports, local exceptions, publication points.
 pub record PollsAll {S T W : Type 0} (answers : DiskAnswers W) (clock : ℕ → Type 0) (old new : Daemon S T) : Type 0 where
   pub followed : Sources
@@ -130,4 +135,5 @@ pub record DoesWhatIsDue {S T W : Type 0} (answers : DiskAnswers W) (clock ticks
   pub ticked : ticks now
   pub due : old.next_check ≤ now → Polls answers clock ticks now old new
   pub between : now < old.next_check → IsBetween clock ticks now old new
+  pub wakes : WakesIfPublished old new
   pub rest : (new.plan ≡ old.plan) × (new.started ≡ old.started) × (new.opened ≡ old.opened)

@@ -1,11 +1,11 @@
 -- What a poll of the files loads.
-use Rattle.std.specs.Prelude.{◌≡◌, ◌⊎◌, ℕ, Bool, false, List, [], ◌∷◌, map, slice_get, ⊤, Option, None, Some, Result, Ok}
+use Rattle.std.specs.Prelude.{◌≡◌, ◌⊎◌, ℕ, All, Bool, Contains, false, List, [], ◌∷◌, map, slice_get, ⊤, Option, None, Some, Result, Ok}
 use Rattle.std.specs.String.{string_bytes}
-use Rattle.sources.specs.Served.{ExportTaken}
+use Rattle.sources.specs.Served.{ExportTaken, SlurmsTaken}
+use Rattle.sources.specs.declared.fault.SlurmSetFault.{SlurmSetFault}
 use Rattle.sources.specs.declared.fault.TakeFault.{TakeFault}
 use Rattle.sources.specs.declared.sources.Sources.{Sources}
 use Rattle.rtr_daemon.specs.DiskAnswers.{DiskAnswers, HadStamp, ReadsWhole}
-use Rattle.rtr_daemon.specs.Serving.{LoadsSlurms, SameSources}
 use Rattle.rtr_daemon.specs.declared.environment.Stamp.{Stamp}
 use Rattle.rtr_daemon.specs.declared.refusals.Refused.{Refused}
 use Rattle.rtr_daemon.specs.declared.watched_file.FileState.{FileState}
@@ -42,6 +42,11 @@ IsStateOf file stamp state.Unchanged = WasLoaded file stamp
 IsStateOf file stamp state.RefusedBefore = WasRefused file stamp
 IsStateOf file stamp state.New = ⊤
 
+-- The state of a file now, by its stamp. A file that cannot be read counts as new.
+abbrev pub IsStateNow : {W : Type 0} → DiskAnswers W → WatchedFile → FileState → Type 0
+IsStateNow answers file state.New = ⊤
+IsStateNow answers file state = (stamp : Stamp) × HadStamp answers (path_of file) stamp × IsStateOf file stamp state
+
 -- What a read of a path answers right after it had a stamp.
 abbrev pub ReadsAfter : {W : Type 0} → DiskAnswers W → W → Stamp → List ℕ → Look → Type 0
 ReadsAfter {W} answers at before path (Read stamp bytes) = (stamp ≡ before) × (after : W) × (last : W) × answers.reads at path bytes.items after × answers.stamps after path before last
@@ -57,10 +62,13 @@ Looks answers file anew Unstable = ChangesWhileRead answers (path_of file)
 Looks answers file anew (Failed error) = answers.fails (path_of file)
 Looks answers file anew (Read stamp bytes) = ReadsWhole answers (path_of file) stamp bytes.items
 
+-- The file has the stamp with which it was loaded or refused last.
+abbrev pub IsKnown : {W : Type 0} → DiskAnswers W → WatchedFile → Type 0
+IsKnown answers file = (stamp : Stamp) × HadStamp answers (path_of file) stamp × (WasLoaded file stamp ⊎ WasRefused file stamp)
+
 -- Why nothing is loaded of a file: it has the stamp with which it was loaded or refused last, it changes while it is read, or it cannot be read.
 abbrev pub HasNoNews : {W : Type 0} → DiskAnswers W → WatchedFile → Type 0
-HasNoNews answers file =
-    ((stamp : Stamp) × HadStamp answers (path_of file) stamp × (WasLoaded file stamp ⊎ WasRefused file stamp)) ⊎ ChangesWhileRead answers (path_of file) ⊎ answers.fails (path_of file)
+HasNoNews answers file = IsKnown answers file ⊎ ChangesWhileRead answers (path_of file) ⊎ answers.fails (path_of file)
 
 -- Bytes that were read whole of the path of an export are loaded as this export, or refused.
 abbrev pub Loads : {W : Type 0} → DiskAnswers W → WatchedExport → ℕ → Result ℕ TakeFault → Sources → Sources → Type 0
@@ -94,13 +102,29 @@ AreContents answers [] [] = ⊤
 AreContents answers (path ∷ paths) (bytes ∷ others) = ((stamp : Stamp) × ReadsWhole answers path stamp bytes) × AreContents answers paths others
 AreContents answers paths contents = ⊥
 
--- Bytes that were read whole of the path of each file of local exceptions were loaded together.
-abbrev pub ReadsSlurms : {W : Type 0} → DiskAnswers W → List WatchedFile → Sources → Sources → Type 0
-ReadsSlurms answers files old new = (contents : List (List ℕ)) × AreContents answers (paths_of files) contents × LoadsSlurms {E = ℕ} contents (Ok tt) old new
+-- Bytes that were read whole of the path of each file of local exceptions are loaded together, or refused.
+abbrev pub LoadsTogether : {W : Type 0} → DiskAnswers W → List WatchedFile → Result (Unit {0}) SlurmSetFault → Sources → Sources → Type 0
+LoadsTogether answers files result old new = (contents : List (List ℕ)) × AreContents answers (paths_of files) contents × SlurmsTaken contents result old new
 
--- After a poll of the files of local exceptions the sources are unchanged, or all were loaded.
+-- The files of local exceptions were loaded.
+abbrev pub ReadsSlurms : {W : Type 0} → DiskAnswers W → List WatchedFile → Sources → Sources → Type 0
+ReadsSlurms answers files old new = LoadsTogether answers files (Ok tt) old new
+
+-- Why a path was not read: it changes while it is read, it cannot be read, or memory ran out for bytes that were read whole.
+abbrev pub IsUnread : {W : Type 0} → DiskAnswers W → List ℕ → Type 0
+IsUnread answers path = ChangesWhileRead answers path ⊎ answers.fails path ⊎ ((stamp : Stamp) × (bytes : List ℕ) × ReadsWhole answers path stamp bytes)
+
+-- One of these paths was not read.
+abbrev pub IsOneUnread : {W : Type 0} → DiskAnswers W → List (List ℕ) → Type 0
+IsOneUnread answers paths = (path : List ℕ) × Contains paths path × IsUnread answers path
+
+-- Why nothing is loaded of the files of local exceptions: each has the stamp with which it was loaded or refused last, or one was not read.
+abbrev pub HaveNoNews : {W : Type 0} → DiskAnswers W → List WatchedFile → Type 0
+HaveNoNews answers files = All (IsKnown answers) files ⊎ IsOneUnread answers (paths_of files)
+
+-- A poll of the files of local exceptions: if one is new, all are loaded together or refused, otherwise the sources are unchanged.
 abbrev pub FollowsSlurms : {W : Type 0} → DiskAnswers W → List WatchedFile → Sources → Sources → Type 0
-FollowsSlurms answers files old new = SameSources old new ⊎ ReadsSlurms answers files old new
+FollowsSlurms answers files old new = ((result : Result (Unit {0}) SlurmSetFault) × LoadsTogether answers files result old new) ⊎ (HaveNoNews answers files × (new ≡ old))
 
 -- The number of each export is its place.
 abbrev pub AreNumbered : List WatchedExport → Type 0

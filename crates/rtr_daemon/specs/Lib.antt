@@ -2,6 +2,7 @@ pub mod DaemonRows
 pub mod DiskAnswers
 pub mod Due
 pub mod Files
+pub mod Notes
 pub mod Origins
 pub mod PointOffers
 pub mod Pacing

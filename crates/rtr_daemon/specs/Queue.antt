@@ -1,8 +1,10 @@
 -- The queue of clients, and their turns.
-use Rattle.std.specs.Prelude.{◌≡◌, ℕ, List, [], ◌∷◌, ◌++◌, Option, None, Some, option_map}
+use Rattle.std.specs.Prelude.{◌≡◌, ◌<◌, ◌≤◌, ℕ, Contains, IsSome, List, [], ◌∷◌, ◌++◌, Option, None, Some, option_map, ⊤}
 use Rattle.std.specs.BTreeMap.{get}
 use Rattle.std.specs.Ordering.{nat_cmp}
 use Rattle.vrps.specs.Instance.{Instance}
+use Rattle.vrps.specs.declared.store.Published.{Published}
+use Rattle.vrps.specs.declared.store.Published.TheVariants.{New, Unchanged}
 use Rattle.rtr_server.specs.declared.server.Client.{Client}
 use Rattle.rtr_server.specs.declared.server.Server.{Server}
 use Rattle.rtr_server.specs.declared.stream.Call.{Call}
@@ -24,6 +26,30 @@ OtherClients token old new = (other : ℕ) → ¬ (other ≡ token) → client_a
 -- The queue is unchanged, or tokens were added at its end.
 abbrev pub QueuesBehind : List ℕ → ClientTable → Type 0
 QueuesBehind queue table = (more : List ℕ) × (table.queue.items ≡ queue ++ more)
+
+-- The client of a poll token is in the queue.
+abbrev pub IsQueued : ClientTable → ℕ → Type 0
+IsQueued table token = IsSome (client_at table token) → Contains table.queue.items token
+
+-- Each client is in the queue.
+abbrev pub AreQueued : ClientTable → Type 0
+AreQueued table = (token : ℕ) → IsQueued table token
+
+-- All clients are queued, after those that were.
+pub record WakesAll (old new : ClientTable) : Type 0 where
+  pub clients : SameClients old new
+  pub queue : QueuesBehind old.queue.items new
+  pub each : AreQueued new
+
+-- If a version is new, all clients are woken.
+abbrev pub WakesIfNew : Published → ClientTable → ClientTable → Type 0
+WakesIfNew (New serial) old new = WakesAll old new
+WakesIfNew Unchanged old new = ⊤
+
+-- The first token of a client that is not below this one
+abbrev pub IsFirstFrom : ClientTable → ℕ → Option ℕ → Type 0
+IsFirstFrom table least None = (token : ℕ) → least ≤ token → client_at table token ≡ None
+IsFirstFrom table least (Some first) = (least ≤ first) × ((token : ℕ) → least ≤ token → token < first → client_at table token ≡ None)
 
 -- a client under its token
 abbrev pub under : ℕ → Option Client → Option (ℕ × Client)

@@ -15,12 +15,14 @@ use Rattle.rtr_ends.specs.CacheState.{CacheCall, Open}
 use Rattle.rtr_server.specs.Clients.{Past, ShowsServer, present}
 use Rattle.points.specs.InUse.{no_points}
 use Rattle.sources.specs.Served.{ExportTaken, PassesLimit, ServesAt, SlurmsTaken, expired_of}
+use Rattle.sources.specs.declared.fault.SlurmSetFault.{SlurmSetFault}
 use Rattle.sources.specs.declared.fault.TakeFault.{TakeFault}
 use Rattle.sources.specs.declared.listed.Listed.{Listed}
 use Rattle.session_names.specs.Runs.{may_publish}
 use Rattle.sources.specs.declared.sources.Sources.{Sources}
 use Rattle.rtr_daemon.specs.declared.refusal.Refusal.{Refusal}
 use Rattle.rtr_daemon.specs.declared.refusal.Refusal.TheVariants as refused
+use Rattle.rtr_daemon.specs.declared.service.PublishReport.{PublishReport}
 use Rattle.rtr_daemon.specs.declared.service.Service.{Service}
 
 -- None of these calls opens a connection of this number.
@@ -97,6 +99,11 @@ abbrev pub IsOfSecond : Published → ℕ → Option ℕ → Option ℕ → Type
 IsOfSecond (New serial) second old new = new ≡ Some second
 IsOfSecond Unchanged second old new = new ≡ old
 
+-- The second of the pace after a publication was tried: as `IsOfSecond` says if it succeeded, otherwise as before.
+abbrev pub PacesSo : Option (Result PublishReport Refusal) → ℕ → Option ℕ → Option ℕ → Type 0
+PacesSo (Some (Ok report)) second old new = IsOfSecond report.published second old new
+PacesSo tried second old new = new ≡ old
+
 -- At most one version was published.
 abbrev pub PublishesOnce : {S T : Type 0} → (ℕ → Type 0) → Service S T → Service S T → Past → Past → Type 0
 PublishesOnce clock old new p q = (KeepsVersions p q × (new.pace ≡ old.pace)) ⊎ AddsVersion clock old new p q
@@ -170,4 +177,4 @@ LoadsExport file bytes now (Err refusal) old new = (fault : TakeFault) × Export
 -- The files of local exceptions were loaded together. If they were refused, nothing changed.
 abbrev pub LoadsSlurms : {E : Type 0} → List (List ℕ) → Result (Unit {0}) E → Sources → Sources → Type 0
 LoadsSlurms files (Ok u) old new = SlurmsTaken files (Ok tt) old new
-LoadsSlurms files (Err refusal) old new = SameSources old new
+LoadsSlurms files (Err refusal) old new = (fault : SlurmSetFault) × SlurmsTaken files (Err fault) old new

@@ -1,6 +1,7 @@
 //! The table of connected clients, and the queue of those that are served next.
-ghost use Rattle.std.specs.Prelude.{◌≡◌, length};
-ghost use Rattle.rtr_daemon.specs.Queue.{OtherClients, QueuesBehind, SameClients, TakesNext};
+ghost use Rattle.std.specs.Prelude.{◌≡◌, ◌+◌, ◌≤◌, length};
+ghost use Rattle.std.specs.VecDeque.{deque_capacity, deque_len};
+ghost use Rattle.rtr_daemon.specs.Notes.{AreNoted, unqueued};
 ghost use Rattle.rtr_daemon.specs.Stalling.{is_stalled};
 
 use rtr_server::{ByteCounts, Client, Turn};
@@ -8,6 +9,7 @@ use std::alloc::{AllocError, Global};
 use std::collections::btree_map::Values;
 use std::collections::{BTreeMap, VecDeque};
 use std::net::{IpAddr, SocketAddr};
+use std::ops::Bound;
 
 /// A client: its number at the server, its address, and how long its stream has been blocked.
 #[derive(Debug, Drop)]
@@ -34,9 +36,13 @@ pub(crate) struct ClientTable {
     newcomers: VecDeque<(usize, u64)>,
     /// How many clients each address has.
     by_address: BTreeMap<IpAddr, u64>,
+    ghost noted: { AreNoted by_token queue.items },
+    ghost room: { deque_len queue + unqueued by_token ≤ deque_capacity queue },
 }
 
 impl ClientTable {
+    ghost use Rattle.rtr_daemon.specs.Queue.{IsFirstFrom, IsQueued, OtherClients, QueuesBehind, SameClients, TakesNext, WakesAll};
+
     pub(crate) fn new(alloc: Global) -> ClientTable {
         ClientTable {
             by_token: BTreeMap::new(alloc),
@@ -99,7 +105,9 @@ impl ClientTable {
     }
 
     /// Counts one client more for an address.
-    fn count(&mut self, address: SocketAddr) -> Result<(), AllocError> {
+    fn count(&mut self, address: SocketAddr) -> Result<(), AllocError>
+        ensures { self.new ≡ record self.old { by_address = self.new.by_address } }
+    {
         let count = self.of_address(address).saturating_add(1);
         match self.by_address.insert(address.ip().to_canonical(), count) {
             Ok(_) => Ok(()),
@@ -136,33 +144,68 @@ impl ClientTable {
         Some(token)
     }
 
-    /// Queues the client of a poll token.
+    /// Queues the client of a poll token, if there is one.
     pub(crate) fn wake(&mut self, token: usize)
         ensures clients { SameClients self.old self.new }
         ensures queue { QueuesBehind self.old.queue.items self.new }
+        ensures woken { IsQueued self.new token }
     {
         if let Some(entry) = self.by_token.get_mut(&token) {
             if !entry.is_queued {
-                entry.is_queued = self.queue.push_back(token).is_ok();
+                entry.is_queued = true;
+                self.queue.push_back_reserved(token);
             }
         }
     }
 
+    /// The first poll token of a client.
+    fn first(&self) -> Option<usize>
+        ensures { IsFirstFrom self.now 0 result }
+    {
+        match self.by_token.range(0..).next() {
+            Some((token, _entry)) => Some(*token),
+            None => None,
+        }
+    }
+
+    /// The first poll token of a client that is above this one.
+    fn first_after(&self, token: usize) -> Option<usize>
+        ensures { IsFirstFrom self.now (token + 1) result }
+    {
+        let above = (Bound::Excluded(token), Bound::Unbounded);
+        match self.by_token.range(above).next() {
+            Some((token, _entry)) => Some(*token),
+            None => None,
+        }
+    }
+
     /// Queues all clients.
-    pub(crate) fn wake_all(&mut self) {
-        for (token, entry) in self.by_token.iter_mut() {
-            if !entry.is_queued {
-                entry.is_queued = self.queue.push_back(*token).is_ok();
-            }
+    pub(crate) fn wake_all(&mut self)
+        ensures { WakesAll self.old self.new }
+    {
+        let mut next = self.first();
+        while let Some(token) = next {
+            self.wake(token);
+            next = self.first_after(token);
         }
     }
 
     /// Queues the clients that are blocked on writing.
     pub(crate) fn wake_blocked(&mut self) {
-        for (token, entry) in self.by_token.iter_mut() {
-            if entry.blocked.is_some() && !entry.is_queued {
-                entry.is_queued = self.queue.push_back(*token).is_ok();
+        let mut at = self.first();
+        while let Some(token) = at {
+            if self.is_blocked(token) {
+                self.wake(token);
             }
+            at = self.first_after(token);
+        }
+    }
+
+    /// Whether the client of a poll token is blocked on writing.
+    fn is_blocked(&self, token: usize) -> bool {
+        match self.by_token.get(&token) {
+            Some(entry) => entry.blocked.is_some(),
+            None => false,
         }
     }
 

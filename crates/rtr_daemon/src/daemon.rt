@@ -3,7 +3,8 @@ ghost use Rattle.std.specs.Prelude.{◌≡◌, ◌≤◌, ◌<◌, ℕ, IfErr, I
 ghost use Rattle.points.specs.InUse.{no_points};
 ghost use Rattle.sources.specs.Served.{NoneTaken};
 ghost use Rattle.rtr_server.specs.Clients.{Past, ShowsServer};
-ghost use Rattle.rtr_daemon.specs.Due.{DoesWhatIsDue, FailureNoted, IsChecked, JudgesAges, KeepsFiles, OnlyFiles, OnlyNotes, PollsAll, PublishesIfDue, SamePaths, later_by, second_of_pace};
+ghost use Rattle.rtr_daemon.specs.Due.{DoesWhatIsDue, FailureNoted, IsChecked, JudgesAges, KeepsFiles, OnlyFiles, OnlyNotes, PollsAll, PublishesIfDue, SamePaths, WakesIfPublished, later_by, second_of_pace};
+ghost use Rattle.rtr_daemon.specs.Queue.{WakesIfNew};
 ghost use Rattle.rtr_daemon.specs.Files.{AreNumbered, Loads, LoadsEach, names_of};
 ghost use Rattle.rtr_daemon.specs.PointOffers.{OffersEach, OffersPoint, points_of};
 ghost use Rattle.std.specs.String.{string_bytes};
@@ -270,6 +271,7 @@ impl<S: VersionStore + Drop, T: Stream + Drop> Daemon<S, T> {
     /// Closes stalled clients and publishes a pending version, if that is due.
     fn go_round<W: Time + EventLog>(&mut self, now: u64, env: &mut W)
         ensures goes { GoesOn W.can_be S.holds T.remaining T.contents self.old.service self.new.service }
+        ensures wakes { WakesIfPublished self.old self.new }
         ensures fresh { IsFresh W.can_be self.old.service → IsFresh W.can_be self.new.service }
         ensures due { self.old.next_round ≤ now → PublishesIfDue W.can_be W.can_tick self.old.held_until self.old self.new }
         ensures round { self.old.next_round ≤ now → self.new.next_round ≡ later_by 1000 now }
@@ -297,6 +299,7 @@ impl<S: VersionStore + Drop, T: Stream + Drop> Daemon<S, T> {
     /// Publishes a pending version, if the last version is of an earlier second.
     fn publish_pending<W: Time + EventLog>(&mut self, env: &mut W)
         ensures goes { GoesOn W.can_be S.holds T.remaining T.contents self.old.service self.new.service }
+        ensures wakes { WakesIfPublished self.old self.new }
         ensures due { PublishesIfDue W.can_be W.can_tick self.old.held_until self.old self.new }
         ensures fresh { IsFresh W.can_be self.old.service → IsFresh W.can_be self.new.service }
         ensures round { self.new.next_round ≡ self.old.next_round }
@@ -327,6 +330,7 @@ impl<S: VersionStore + Drop, T: Stream + Drop> Daemon<S, T> {
     )
         ensures rest { OnlyNotes self.old self.new }
         ensures failed { IfErr tried (λ refusal. FailureNoted refusal self.new) }
+        ensures wakes { IfOk tried (λ report. WakesIfNew report.published self.old.clients self.new.clients) }
     {
         match tried {
             Ok(report) => self.note_published(report, now, began, env),
@@ -342,7 +346,8 @@ impl<S: VersionStore + Drop, T: Stream + Drop> Daemon<S, T> {
         began: u64,
         env: &mut W,
     )
-        ensures { OnlyNotes self.old self.new }
+        ensures rest { OnlyNotes self.old self.new }
+        ensures wakes { WakesIfNew report.published self.old.clients self.new.clients }
     {
         self.statistics.end_failure();
         self.note_left_out(report.left_out, now, env);
@@ -371,7 +376,7 @@ impl<S: VersionStore + Drop, T: Stream + Drop> Daemon<S, T> {
 
     /// Reports how many records are left out, if the number has changed.
     fn note_left_out<W: EventLog>(&mut self, records: u64, now: u64, env: &mut W)
-        ensures { OnlyNotes self.old self.new }
+        ensures { self.new ≡ record self.old { statistics = self.new.statistics } }
     {
         if self.statistics.set_left_out(records) {
             env.log(now, &LogEvent::LeftOut { records });
@@ -380,7 +385,7 @@ impl<S: VersionStore + Drop, T: Stream + Drop> Daemon<S, T> {
 
     /// Adds a version to the statistics.
     fn note_version(&mut self, serial: Serial, report: PublishReport, now: u64)
-        ensures { OnlyNotes self.old self.new }
+        ensures { self.new ≡ record self.old { statistics = self.new.statistics } }
     {
         if let Some((_serial, set)) = self.service.server().current() {
             let families = Families::of(set.as_slice());

@@ -7,7 +7,7 @@ ghost use Rattle.points.specs.InUse.{no_points};
 ghost use Rattle.rtr_server.specs.Clients.{AdmitsTo, KeepsOthers, Past, Serves, ShowsServer, is_gone, slot_at};
 ghost use Rattle.sources.specs.Served.{ExportTaken, SetDropped, SetTaken, SlurmTaken, SlurmsTaken};
 ghost use Rattle.rtr_daemon.specs.PointOffers.{OffersTo};
-ghost use Rattle.rtr_daemon.specs.Serving.{Continues, GoesOn, IsFresh, IsOfSecond, IsReason, IsServedAt, Issues, OnlyServer, OnlySources, SameExpired, ShowsService, StaysFresh, TakesSo};
+ghost use Rattle.rtr_daemon.specs.Serving.{Continues, GoesOn, IsFresh, IsOfSecond, IsReason, IsServedAt, Issues, OnlyServer, OnlySources, PacesSo, SameExpired, ShowsService, StaysFresh, TakesSo};
 
 use crate::refusal::Refusal;
 use crate::set_changes::change_counts;
@@ -312,6 +312,7 @@ impl<S: VersionStore, T: Stream + Drop> Service<S, T> {
         ensures fails { IfSome result (λ tried. IfErr tried (λ refusal. IsReason now self.old.sources refusal)) }
         ensures sources { self.new.sources ≡ self.old.sources }
         ensures fresh { StaysFresh now self.old self.new }
+        ensures pace { PacesSo result second self.old.pace self.new.pace }
     {
         if !self.pace.may_publish(second) {
             return None;

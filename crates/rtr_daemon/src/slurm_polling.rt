@@ -1,10 +1,10 @@
 //! Polling the files of local exceptions, which are loaded together (RFC 8416 section 4.2).
-ghost use Rattle.std.specs.Prelude.{◌≡◌, ◌∷◌, ◌++◌, [], ℕ, IfErr, IfOk, List, OnOk, map};
+ghost use Rattle.std.specs.Prelude.{◌≡◌, ◌∷◌, ◌++◌, [], ℕ, All, IfErr, IfOk, List, OnOk, false, map};
 ghost use Rattle.rtr_daemon.specs.DiskAnswers.{ReadsWhole};
-ghost use Rattle.rtr_daemon.specs.Files.{AreContents, FollowsSlurms, ReadsSlurms, path_of, paths_of};
+ghost use Rattle.rtr_daemon.specs.Files.{AreContents, FollowsSlurms, IsKnown, IsOneUnread, IsUnread, ReadsSlurms, path_of, paths_of};
 ghost use Rattle.rtr_daemon.specs.declared.environment.Stamp.{Stamp as AStamp};
 ghost use Rattle.rtr_daemon.specs.Due.{OnlyFiles};
-ghost use Rattle.rtr_daemon.specs.Serving.{Continues, LoadsSlurms, OnlySources, SameSources, TakesSo};
+ghost use Rattle.rtr_daemon.specs.Serving.{Continues, LoadsSlurms, OnlySources, TakesSo};
 
 use crate::daemon::Daemon;
 use crate::environment::{Disk, EventLog, Stamp, Time};
@@ -82,7 +82,8 @@ fn contents_of<W: Disk>(
     alloc: Global,
     env: &mut W,
 ) -> Result<Contents, SlurmRefusal>
-    ensures { IfOk result (λ contents. AreContents W.answers (paths_of slurms.now) (map (λ b. b.items) contents.bytes.items)) }
+    ensures reads { IfOk result (λ contents. AreContents W.answers (paths_of slurms.now) (map (λ b. b.items) contents.bytes.items)) }
+    ensures fails { IfErr result (λ _. IsOneUnread W.answers (paths_of slurms.now)) }
 {
     let mut contents = Contents::new(alloc);
     for file in slurms {
@@ -107,7 +108,8 @@ fn add_content<W: Disk>(
     file: &WatchedFile,
     env: &mut W,
 ) -> Result<(), Refusal>
-    ensures { IfOk result (λ _. (stamp : AStamp) × (read : List ℕ) × ReadsWhole W.answers (path_of file.now) stamp read × (map (λ b. b.items) contents.new.bytes.items ≡ map (λ b. b.items) contents.old.bytes.items ++ read ∷ [])) }
+    ensures reads { IfOk result (λ _. (stamp : AStamp) × (read : List ℕ) × ReadsWhole W.answers (path_of file.now) stamp read × (map (λ b. b.items) contents.new.bytes.items ≡ map (λ b. b.items) contents.old.bytes.items ++ read ∷ [])) }
+    ensures fails { IfErr result (λ _. IsUnread W.answers (path_of file.now)) }
 {
     let (stamp, bytes) = file.content(env)?;
     if contents.add(stamp, bytes).is_err() {
@@ -278,9 +280,11 @@ fn follow<S: VersionStore, T: Stream + Drop, W: Disk + Time + EventLog>(
 }
 
 /// Whether some file has changed, or cannot be read.
-fn is_any_new<W: Disk>(slurms: &[WatchedFile], env: &mut W) -> bool {
+fn is_any_new<W: Disk>(slurms: &[WatchedFile], env: &mut W) -> bool
+    ensures { result ≡ false → All (IsKnown W.answers) slurms.now }
+{
     for file in slurms {
-        if file.state(env) == FileState::New {
+        if file.is_new(env) {
             return true;
         }
     }

@@ -1,7 +1,7 @@
 //! Watched files.
-ghost use Rattle.std.specs.Prelude.{◌≡◌, true, false, IfOk};
+ghost use Rattle.std.specs.Prelude.{◌≡◌, ◌⊎◌, true, false, IfErr, IfOk};
 ghost use Rattle.rtr_daemon.specs.DiskAnswers.{HadStamp, ReadsWhole};
-ghost use Rattle.rtr_daemon.specs.Files.{IsStateOf, Looks, ReadsAfter, WasLoaded, path_of};
+ghost use Rattle.rtr_daemon.specs.Files.{ChangesWhileRead, IsKnown, IsStateNow, IsStateOf, Looks, ReadsAfter, WasLoaded, path_of};
 
 use crate::environment::{Disk, Stamp};
 use crate::refusal::Refusal;
@@ -90,7 +90,8 @@ impl WatchedFile {
 
     /// Reads the file, even if it has not changed.
     pub(crate) fn content<W: Disk>(&self, env: &mut W) -> Result<(Stamp, Vec<u8>), Refusal>
-        ensures { IfOk result (λ read. ReadsWhole W.answers (path_of self.now) read.0 read.1.items) }
+        ensures reads { IfOk result (λ read. ReadsWhole W.answers (path_of self.now) read.0 read.1.items) }
+        ensures fails { IfErr result (λ _. ChangesWhileRead W.answers (path_of self.now) ⊎ W.answers.fails (path_of self.now)) }
     {
         let before = match env.stamp(self.path.as_str()) {
             Ok(stamp) => stamp,
@@ -104,10 +105,23 @@ impl WatchedFile {
     }
 
     /// The state of the file now.
-    pub(crate) fn state<W: Disk>(&self, env: &mut W) -> FileState {
+    pub(crate) fn state<W: Disk>(&self, env: &mut W) -> FileState
+        ensures { IsStateNow W.answers self.now result }
+    {
         match env.stamp(self.path.as_str()) {
             Ok(stamp) => self.state_of(stamp),
             Err(_) => FileState::New,
+        }
+    }
+
+    /// Whether the file has changed since it was loaded or refused last, or cannot be read.
+    pub(crate) fn is_new<W: Disk>(&self, env: &mut W) -> bool
+        ensures { result ≡ false → IsKnown W.answers self.now }
+    {
+        match self.state(env) {
+            FileState::New => true,
+            FileState::Unchanged => false,
+            FileState::RefusedBefore => false,
         }
     }
 

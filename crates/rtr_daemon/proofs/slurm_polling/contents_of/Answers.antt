@@ -7,7 +7,7 @@ use Rattle.rtr_daemon.proofs.slurm_polling.contents_of.Goals as goal
 
 pub loop-file-preserved : goal.loop-file-preserved
 loop-file-preserved g c =
-    let read = c.in-Ok.ensures in
+    let read = c.in-Ok.ensures.reads in
     let i = c.loop-file.file-index in
     let files = c.args.slurms.now in
     let file = c.file-item.result in
@@ -17,3 +17,12 @@ loop-file-preserved g c =
     subst (λ n. AreContents g.W.Disk.answers (take n (paths_of files)) (map (λ b. b.items) c.add_content.new.contents.bytes.items)) next
     (subst (λ all. AreContents g.W.Disk.answers (take (suc i) (paths_of files)) all) (sym read.3)
     (contents_more g.W.Disk.answers (paths_of files) i (path_of file) (map (λ b. b.items) c.loop-file.contents.bytes.items) read.1 less at c.loop-file.invariant (read.0, read.2)))
+
+pub returns-in-Err-clause-fails : goal.returns-in-Err-clause-fails
+returns-in-Err-clause-fails g c =
+    let i = c.loop-file.file-index in
+    let files = c.args.slurms.now in
+    let file = c.file-item.result in
+    let less : i < length (paths_of files) = subst (λ n. i < n) (sym (length-map files path_of)) c.loop-file-test.true in
+    let at : path_of file ≡ get_or (paths_of files) i (path_of file) = ap path_of c.file-item.is ∙ sym (get_or-map path_of files i file (path_of file) c.loop-file-test.true) in
+    (path_of file, (i, less, sym at), c.in-Err.ensures.fails)

@@ -1,6 +1,6 @@
 use Rattle.std.proofs.Common.{ap, subst}
 use Rattle.rtr_daemon.specs.Due.{PublishesIfDue}
-use Rattle.rtr_daemon.proofs.DueLaws.{clients_fresh, clients_kept, publishes_from}
+use Rattle.rtr_daemon.proofs.DueLaws.{clients_fresh, clients_kept, publishes_from, wakes_from}
 use Rattle.rtr_daemon.proofs.ServiceLaws.{then_goes}
 use Rattle.rtr_daemon.proofs.daemon.Daemon.go_round.Goals as goal
 
@@ -21,3 +21,6 @@ pub returns-clause-kept : goal.returns-clause-kept
 returns-clause-kept g c =
     let k = clients_kept (record c.args.self.now { next_round = c.saturating_add-self.result; clients = c.wake_blocked.new.self }) c.drop_stalled.new.self c.publish_pending.new.self c.drop_stalled.ensures.rest c.publish_pending.ensures.kept in
     record { sources = k.sources; exports = k.exports; slurms = k.slurms; points = k.points; next_check = k.next_check; rest = k.rest }
+
+pub returns-clause-wakes : goal.returns-clause-wakes
+returns-clause-wakes g c = wakes_from c.args.self.now c.drop_stalled.new.self c.publish_pending.new.self (ap (λ d. d.service.pace) c.drop_stalled.ensures.rest) c.publish_pending.ensures.wakes

@@ -1,6 +1,6 @@
 use Rattle.std.proofs.Common.{ap, subst, sym}
 use Rattle.rtr_daemon.specs.Serving.{GoesOn}
-use Rattle.rtr_daemon.proofs.DueLaws.{published_fresh, published_kept, tried_due}
+use Rattle.rtr_daemon.proofs.DueLaws.{published_fresh, published_kept, tried_due, woken_by}
 use Rattle.rtr_daemon.proofs.ServiceLaws.{at_clock}
 use Rattle.rtr_daemon.proofs.daemon.Daemon.publish_pending.Goals as goal
 
@@ -21,3 +21,7 @@ returns-in-Some-clause-fresh g c = λ fresh. published_fresh g.W.Time.can_be c.a
 
 pub returns-in-Some-clause-kept : goal.returns-in-Some-clause-kept
 returns-in-Some-clause-kept g c = published_kept c.args.self.now c.note_tried.new.self c.publish_paced.new.self c.publish_paced.ensures.sources c.note_tried.ensures.rest
+
+pub returns-in-Some-clause-wakes : goal.returns-in-Some-clause-wakes
+returns-in-Some-clause-wakes g c =
+    woken_by c.args.self.now c.note_tried.new.self c.publish_paced.new.self c.paced-second.result c.in-Some.tried c.in-Some.ensures.pace c.note_tried.ensures.wakes c.note_tried.ensures.rest

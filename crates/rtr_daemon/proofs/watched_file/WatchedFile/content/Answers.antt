@@ -2,8 +2,8 @@ use Rattle.std.proofs.Common.{subst, sym}
 use Rattle.rtr_daemon.specs.Files.{path_of}
 use Rattle.rtr_daemon.proofs.watched_file.WatchedFile.content.Goals as goal
 
-pub returns-in-Read : goal.returns-in-Read
-returns-in-Read g c =
+pub returns-in-Read-clause-reads : goal.returns-in-Read-clause-reads
+returns-in-Read-clause-reads g c =
     let h = c.in-Read.ensures in
     let path = path_of c.args.self.now in
     record {
