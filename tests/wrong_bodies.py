@@ -1,7 +1,7 @@
 #!/usr/bin/env python3
 """Tries the wrong bodies of crates/NAME/wrong: each must be refused by the contract of the function that it changes.
 
-usage: tests/wrong_bodies.py [--after-gate] [--all] [--list] [NAME | NAME/EDIT]..
+usage: tests/wrong_bodies.py [--after-gate] [--all] [--list] [--minutes N] [NAME | NAME/EDIT]..
 
 Without words those are tried that were not yet refused as the texts stand (tests/refused.py says what decides that), with --all each, else
 those of these crates or these single edits (with or without the ending .edit). What is refused is kept in tests/refused.txt, which --all
@@ -14,7 +14,8 @@ it, and what is not refused so is tried alone over the whole crate. An edit of a
 must refuse it, and goes alone. One that no longer compiles must say so in a line 'by: compiler: MESSAGE', with a part of what the compiler
 says of it. The last line is 'N passed, M failed'.
 
---after-gate takes the libraries that a run of the gate has just built in this tree."""
+--after-gate takes the libraries that a run of the gate has just built in this tree. After N minutes no other is begun: what was not tried is
+told, and does not fail."""
 import copy
 import os
 import re
@@ -275,17 +276,18 @@ class Refused:
             refused.keep({it: sum for it, sum in self.kept.items() if sum == self.sums.get(it, self.keeps_others and sum)})
 
 
-def tried(crate, edits, known):
-    """Tries a crate's edits, and returns each with whether it passed and what to say."""
+def tried(crate, edits, known, end):
+    """Tries a crate's edits until an end, and returns each that was tried with whether it passed and what to say."""
     began = time.time()
     found = [(edit, False, f"BAD EDIT: {edit.why}") for edit in edits if edit.why]
     packs = packed([edit for edit in edits if not edit.why])
     with tempfile.TemporaryDirectory(prefix="wrong-bodies-") as kept:
         for pack in packs:
-            some = judged(crate, pack, kept)
-            known.note(some)
-            found += some
-    print(f"wrong bodies of {crate.name}: {len(edits)} in {len(packs)} packs, {time.time() - began:.0f} s", flush=True)
+            if time.time() < end:
+                some = judged(crate, pack, kept)
+                known.note(some)
+                found += some
+    print(f"wrong bodies of {crate.name}: {len(found)} of {len(edits)} in {len(packs)} packs, {time.time() - began:.0f} s", flush=True)
     return found
 
 
@@ -313,21 +315,23 @@ def library_stands(crate, after_gate):
     return not crate.build_rlib(["--jobs", str(RT.processors())], anew=False)
 
 
-def tasks_of(edits, known):
-    """What is to be tried, crate by crate, as tasks that run side by side."""
+def tasks_of(edits, known, end):
+    """What is to be tried until an end, crate by crate, as tasks that run side by side."""
     tasks = {}
     for crate, some in edits.items():
         for number, part in enumerate(in_parts(crate, some)):
             work = crate.count(rb"\n") * (2 + len(part)) * (8 if crate.is_program else 1)
             # (a task of this second word gets one job)
-            tasks[f"{crate.name} {number}", "edits"] = ([], work, RT.need(crate), lambda given, jobs, of=crate, it=part: tried(of, it, known))
+            tasks[f"{crate.name} {number}", "edits"] = ([], work, RT.need(crate), lambda given, jobs, of=crate, it=part: tried(of, it, known, end))
     return tasks
 
 
-def told(found):
-    """Tells what was found of each edit that was tried, and returns how many failed."""
+def told(found, wanted):
+    """Tells what was found of each edit that was tried, and how many were not, and returns how many failed."""
     for edit, is_well, what in sorted(found, key=lambda it: it[0].label):
         print(f"wrong body {edit.label}: {what}")
+    if len(found) < wanted:
+        print(f"wrong bodies: {wanted - len(found)} of {wanted} were not tried, as the time was over: tests/wrong_bodies.py tries all")
     failed = sum(not it[1] for it in found)
     print(f"{len(found) - failed} passed, {failed} failed")
     return failed
@@ -336,12 +340,16 @@ def told(found):
 def main(words):
     os.chdir(TOP)
     RT.rtlib.guarded()
+    minutes = float("inf")
+    if "--minutes" in words[:-1]:
+        at = words.index("--minutes")
+        minutes, words = float(words[at + 1]), words[:at] + words[at + 2 :]
     flags = {it for it in words if it.startswith("--")}
     words = [it.removesuffix(".edit").rstrip("/") for it in words if it not in flags]
     crates = sorted(RT.rtlib.crates_below(TOP), key=lambda it: len(it.below()))
     edits = {it: edits_of(it, words) for it in crates}
     if flags - {"--after-gate", "--all", "--list"} or (words and not any(edits.values())):
-        print("usage: tests/wrong_bodies.py [--after-gate] [--all] [--list] [NAME | NAME/EDIT]..\n0 passed, 1 failed")
+        print("usage: tests/wrong_bodies.py [--after-gate] [--all] [--list] [--minutes N] [NAME | NAME/EDIT]..\n0 passed, 1 failed")
         return 1
     sums = {edit.label: refused.sum_of(crate, edit.text) for crate, some in edits.items() for edit in some}
     known = Refused(sums, bool(words))
@@ -355,9 +363,10 @@ def main(words):
         print("a library below could not be built\n0 passed, 1 failed")
         return 1
     known.note([])
-    found = [it for some in RT.in_lanes(tasks_of(wanted, known)).values() for it in some]
+    end = time.time() + 60 * minutes
+    found = [it for some in RT.in_lanes(tasks_of(wanted, known, end)).values() for it in some]
     known.note([it for it in found if not it[1]])
-    return 1 if told(found) else 0
+    return 1 if told(found, sum(map(len, wanted.values()))) else 0
 
 
 if __name__ == "__main__":
