@@ -1,17 +1,18 @@
 /* rpkirtr.h: a client of RPKI-to-Router caches (RFC 6810, RFC 8210), origin validation (RFC 6811) and the payloads of ROAs (RFC 9582).
  *
  * The library does no input or output: the caller owns sockets and clocks. It hands over the bytes that it received, and writes the bytes
- * that it pulls. Moments are seconds of one clock that the caller chooses, and never go back.
+ * that it pulls. Moments are seconds of one clock that the caller chooses. They never go back, and are below RPKIRTR_NEVER.
  *
  * What the caller must keep, which no proof covers:
  * - A handle begins as RPKIRTR_EMPTY_INIT and is changed by these functions alone. It is never copied: only its address is passed.
  * - One call at a time is made on a handle. Calls on different handles may run at once. A handle may be used by one thread after
  *   another. No call is made in a signal handler.
- * - Pointers are not NULL, and point to as many valid elements as the length beside them says. A pointer may be NULL if its length is 0. An
- *   output does not overlap another argument.
+ * - Pointers are not NULL, and point to as many valid elements as the length beside them says. They are aligned as their types want. A
+ *   pointer may be NULL if its length is 0. An output overlaps neither another argument nor the records of a list.
  * - malloc, realloc and free are of one allocator, and align as C wants.
  *
- * Each call but rpkirtr_abi_version answers a status, and writes each of its outputs, whatever it answers.
+ * Each call but rpkirtr_abi_version answers a status, and writes each number or structure that it tells, whatever it answers. A room keeps
+ * what is not copied into it.
  */
 #ifndef RPKIRTR_H
 #define RPKIRTR_H
@@ -165,7 +166,8 @@ rpkirtr_status rpkirtr_router_speak(rpkirtr_router *h, uint8_t version);
 /* A connection is made, and a query is ready to be pulled. An older connection is closed. OK, EMPTY */
 rpkirtr_status rpkirtr_router_connect(rpkirtr_router *h, uint64_t now);
 
-/* Hands over bytes that were received, and tells how many were taken: none while bytes are to be pulled, or if no link is open. OK, EMPTY */
+/* Hands over bytes that were received, and tells how many were taken: none while bytes are to be pulled, or if no link is open. Bytes are
+ * taken up to the first PDU that gives bytes to send or ends the link. The rest is handed over again after a pull. OK, EMPTY */
 rpkirtr_status rpkirtr_router_receive(rpkirtr_router *h, const uint8_t *bytes, size_t bytes_len, uint64_t now, size_t *taken);
 
 /* Moves bytes to be sent into the room, as many as fit, and tells how many. OK, EMPTY */
@@ -174,18 +176,21 @@ rpkirtr_status rpkirtr_router_pull(rpkirtr_router *h, uint8_t *room, size_t room
 /* The transport closed the connection. OK, EMPTY */
 rpkirtr_status rpkirtr_router_connection_closed(rpkirtr_router *h, uint64_t now);
 
-/* Advances the clock. A query is ready to be pulled if it is due, and the records are dropped if they have expired. OK, EMPTY */
+/* Advances the clock. If the records have expired, they are dropped, and a link with an outstanding Serial Query ends. If the query of an
+ * idle link is due, it is ready to be pulled. OK, EMPTY */
 rpkirtr_status rpkirtr_router_tick(rpkirtr_router *h, uint64_t now);
 
 /* Makes a query ready to be pulled, on an idle link. OK, EMPTY, BUSY, NOT_LINKED */
 rpkirtr_status rpkirtr_router_ask(rpkirtr_router *h);
 
-/* Tells when the next query of an idle link is due: RPKIRTR_NEVER if none is. OK, EMPTY */
+/* Tells when the next query of an idle link is due, or when a closed connection should be made again (RFC 8210 section 6). While a query is
+ * outstanding, the moment may have passed. It is RPKIRTR_NEVER at first. OK, EMPTY */
 rpkirtr_status rpkirtr_router_next_query_at(rpkirtr_router *h, uint64_t *at);
 
 /* Tells the moment from which on a tick has something to do: the next query of an idle link is due, or the committed records expire. An event
- * loop calls rpkirtr_router_tick at this moment, at once if it has passed, and asks again after each call on the router. Before it, a tick
- * only advances the clock. RPKIRTR_NEVER if there is no such moment. OK, EMPTY */
+ * loop calls rpkirtr_router_tick with its own moment then, at once if this one has passed, and asks again after each call on the router.
+ * Before it, a tick only advances the clock. RPKIRTR_NEVER if there is no such moment. When a closed connection should be made again is not
+ * among these: see rpkirtr_router_next_query_at. OK, EMPTY */
 rpkirtr_status rpkirtr_router_wake_at(rpkirtr_router *h, uint64_t *at);
 
 /* Tells the link. OK, EMPTY */
@@ -197,7 +202,8 @@ rpkirtr_status rpkirtr_router_committed(rpkirtr_router *h, rpkirtr_committed *co
 /* Tells how many records are committed. OK, EMPTY */
 rpkirtr_status rpkirtr_router_count(rpkirtr_router *h, size_t *count);
 
-/* Tells the state of a route over the committed records. OK, EMPTY, BAD_ROUTE */
+/* Tells the state of a route over the committed records. Records whose end has passed count until the next call with a moment.
+ * OK, EMPTY, BAD_ROUTE */
 rpkirtr_status rpkirtr_router_state(rpkirtr_router *h, const rpkirtr_route *route, rpkirtr_state *state);
 
 /* Tells the record at an index of the committed records, in ascending order: family, address, length, maximum, AS. OK, EMPTY, RANGE */
@@ -209,8 +215,8 @@ rpkirtr_status rpkirtr_router_records(rpkirtr_router *h, size_t first, rpkirtr_r
 /* Copies the committed records that cover a route, as many as fit, and tells how many there are. OK, EMPTY, BAD_ROUTE, NO_MEMORY */
 rpkirtr_status rpkirtr_router_covering(rpkirtr_router *h, const rpkirtr_route *route, rpkirtr_record *room, size_t room_len, size_t *count);
 
-/* Makes an index over the committed records in an empty handle of an index. It stays as it is if the router changes or is freed.
- * OK, EMPTY if there is no router, LIVE if there is an index, NO_MEMORY */
+/* Makes an index over the committed records in an empty handle of an index. It stays as it is if the router changes or is freed, and if the
+ * records expire: free it then. OK, EMPTY if there is no router, LIVE if there is an index, NO_MEMORY */
 rpkirtr_status rpkirtr_router_index(rpkirtr_router *h, rpkirtr_index *index);
 
 /* ---- what changed since it was last taken */
@@ -253,7 +259,7 @@ rpkirtr_status rpkirtr_index_covering(rpkirtr_index *h, const rpkirtr_route *rou
 /* ---- payloads of ROAs */
 
 /* Decodes the payload of a ROA in an empty handle (RFC 9582 section 4). Whether the object around it is valid is for the caller to judge. If
- * it is malformed, the first fault is told. OK, LIVE, NO_MEMORY, BAD_PAYLOAD */
+ * it is malformed, the first fault is told. Faults 12, 19 and 20 are stricter than RFC 9582. OK, LIVE, NO_MEMORY, BAD_PAYLOAD */
 rpkirtr_status rpkirtr_roa_new(rpkirtr_roa *h, const uint8_t *bytes, size_t bytes_len, rpkirtr_fault *fault);
 
 /* Frees the ROA, and empties the handle. OK, EMPTY */

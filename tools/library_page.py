@@ -19,7 +19,7 @@ FRONT = r""".\" Written by tools/library_page.py from include/rpkirtr.h.
 .Os
 .Sh NAME
 .Nm rpkirtr
-.Nd RPKI-to-Router client and route origin validation
+.Nd RPKI-to-Router client, route origin validation and payloads of ROAs
 .Sh LIBRARY
 librpkirtr (\-lrpkirtr)
 .Sh SYNOPSIS
@@ -53,8 +53,9 @@ rest.
 .It
 Call
 .Fn rpkirtr_router_tick
-each second, or at the moment of
-.Fn rpkirtr_router_wake_at .
+with the current moment: each second, or when the moment of
+.Fn rpkirtr_router_wake_at
+has come.
 .It
 Look at
 .Fn rpkirtr_router_link
@@ -63,7 +64,8 @@ If it is RPKIRTR_ENDED, send what is left and close the socket.
 .It
 Whoever closed the socket, call
 .Fn rpkirtr_router_connection_closed ,
-and connect again after the retry interval of the committed version.
+and connect again at the moment of
+.Fn rpkirtr_router_next_query_at .
 The committed records stay in use until they expire.
 .It
 Once
@@ -115,6 +117,8 @@ the RPKI-to-Router protocol, version 0
 the state of a route
 .It RFC 8210
 the RPKI-to-Router protocol, version 1
+.It RFC 9582
+the payload of a ROA
 .El
 """
 

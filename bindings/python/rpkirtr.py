@@ -320,7 +320,7 @@ class Router(_Judge):
         return bytes(room[:pulled])
 
     def next_query_at(self) -> int:
-        """When the next query of an idle link is due: NEVER if none is."""
+        """When the next query of an idle link is due, or when a closed connection should be made again. NEVER at first."""
         at = ctypes.c_uint64()
         _check(self._call("next_query_at", ctypes.byref(at)))
         return at.value

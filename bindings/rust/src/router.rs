@@ -143,7 +143,7 @@ impl Router {
         pulled
     }
 
-    /// When the next query of an idle link is due, if ever.
+    /// When the next query of an idle link is due, or when a closed connection should be made again (RFC 8210 section 6). None at first.
     pub fn next_query_at(&self) -> Option<u64> {
         let mut moment = 0;
         done(unsafe { ffi::rpkirtr_router_next_query_at(self.at(), &mut moment) });
