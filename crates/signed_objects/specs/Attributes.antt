@@ -1,4 +1,4 @@
--- The signed attributes of a signed object (RFC 6488 section 2.1.6.4, RFC 9589).
+-- The signed attributes of a signed object (RFC 6488 section 2.1.6.4). RFC 9589 asks for signing-time of those who sign: it may be absent here.
 use Rattle.std.specs.Prelude.{◌≡◌, ℕ, Bool, true, false, not, bytes_eq, List, [], ◌∷◌, Option, Some, None, if◌then◌else◌, is_none, is_some}
 use Rattle.std.specs.Option.{option_or}
 use Rattle.der_lite.specs.Der.{INTEGER, OBJECT_IDENTIFIER, OCTET_STRING, SEQUENCE, head_rules, is_integer}

@@ -1,4 +1,5 @@
--- Elements in BER (X.690 section 8.1), each with what DER makes of it: the same content, and lengths in the fewest octets.
+-- Elements in BER (X.690 section 8.1) with tags of one octet, each with what is written for it. That has the same content, with lengths in the
+-- fewest octets and OCTET STRINGs in one piece, as in DER (section 10).
 use Rattle.std.specs.Prelude.{◌≡◌, ℕ, zero, suc, ◌-◌, ◌/◌, ◌%◌, ◌==◌, ◌&&◌, ◌||◌, Bool, true, false, not, nat_lt, nat_le, if◌then◌else◌, List, [], ◌∷◌, ◌++◌, length, Option, Some, None}
 use Rattle.der_lite.specs.Der.{OCTET_STRING, EXPLICIT_0, number, tlv}
 use Rattle.der_lite.specs.Grammar.{Element}
@@ -66,7 +67,8 @@ contents taken None e = closed e
 contents true (Some count) e = octets count
 contents false (Some count) e = filling count e
 
--- Inside SignedData [0] is certificates at depth 3, and signedAttrs at depth 5. What they hold is in DER (RFC 6488 section 3, 1.l).
+-- Inside SignedData [0] is certificates at depth 3, and signedAttrs at depth 5. What they hold is copied: signed attributes are in DER even in
+-- an object in BER (RFC 5652 section 5.3).
 abbrev pub holds_der : ℕ → ℕ → Bool
 holds_der depth tag = tag == EXPLICIT_0 && (depth == 3 || depth == 5)
 

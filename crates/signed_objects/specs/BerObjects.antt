@@ -14,7 +14,7 @@ use Rattle.signed_objects.specs.Objects.{ObjectValue, IsDerObject, DerFaultAt}
 abbrev pub whole_file : Members (List ℕ)
 whole_file = last (element 16 Member)
 
--- The bytes are an element in BER, and DER makes these octets of it.
+-- The bytes are an element in BER, and these octets are written for it.
 abbrev pub SameContent : List ℕ → List ℕ → Type 0
 SameContent bytes der = whole_file.Spells der bytes
 
@@ -22,19 +22,19 @@ SameContent bytes der = whole_file.Spells der bytes
 abbrev pub BerFaultAt : List ℕ → ℕ → ℕ → Type 0
 BerFaultAt bytes offset number = whole_file.FaultAt (place_of 0 bytes) (fault_at number offset)
 
--- DER makes these octets of the bytes; or this is their first fault; or memory ran out.
+-- These octets are written for the bytes; or this is their first fault; or memory ran out.
 abbrev pub ReadsBer : {X : Type 0} → (X → List ℕ) → Result X ObjectFault → List ℕ → Type 0
 ReadsBer view (Ok x) bytes = SameContent bytes (view x)
 ReadsBer view (Err (At fault)) bytes = BerFaultAt bytes fault.offset (kind_number fault.kind)
 ReadsBer view (Err Memory) bytes = ⊤
 
--- The bytes are a signed object, whose digest and signature hold: DER makes one of them.
+-- The bytes are a signed object, whose digest and signature hold: what is written for them is one in DER.
 pub record IsObject (bytes : List ℕ) (value : ObjectValue) : Type 0 where
   pub der : List ℕ
   pub same : SameContent bytes der
   pub object : IsDerObject der value
 
--- The bytes are no element in BER, and this is their first fault; or this is the first fault of what DER makes of them, at an offset in that.
+-- The bytes are no element in BER, and this is their first fault; or this is the first fault of what is written for them, at an offset in that.
 abbrev pub FaultAt : List ℕ → ℕ → ℕ → Type 0
 FaultAt bytes offset number = BerFaultAt bytes offset number ⊎ ((der : List ℕ) × SameContent bytes der × DerFaultAt der offset number)
 

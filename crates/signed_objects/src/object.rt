@@ -103,7 +103,8 @@ pub struct OwnedObject {
     pub certificate: Vec<u8>,
     /// The subjectKeyIdentifier of the certificate, which names its key as the signer.
     pub key_identifier: Vec<u8>,
-    /// Whether the file is in DER, as RFC 6488 section 3, 1.l asks.
+    /// Whether nothing was rewritten: lengths and OCTET STRINGs are as in DER (RFC 6488 section 3, 1.l). What is not read of the certificate,
+    /// and the order of the attributes, are not judged.
     pub is_der: bool,
 }
 
@@ -138,8 +139,8 @@ fn owned(alloc: Global, object: &SignedObject, is_der: bool) -> Result<OwnedObje
 }
 
 /// The signed object that the bytes of a file are, or the first fault. Lengths and OCTET STRINGs may be in BER: [`to_der`] writes the bytes
-/// anew, and [`read_der_object`] reads what it wrote. The offset of a fault 36 to 43 is one of the file. That of a fault 2 to 35 is one of what
-/// was written, which is the file itself if that is in DER.
+/// anew, and [`read_der_object`] reads what it wrote. A fault of the rewriting, 36 to 43 and some of 1 and 5, has an offset in the file. Any
+/// other has one in what was written, which is the file if nothing was rewritten.
 #[tactic(auto, using(crate::proofs::BerSteps::no_content, crate::proofs::BerSteps::no_object, crate::proofs::BerSteps::object_of_file))]
 pub fn read_signed_object(alloc: Global, bytes: &[u8]) -> Result<OwnedObject, ObjectFault>
     ensures exact { ReadsObject (λ o. record { content_type = o.content_type.items; content = o.content.items; certificate = o.certificate.items; key_identifier = o.key_identifier.items }) result bytes.now }
