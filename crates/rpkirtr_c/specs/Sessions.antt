@@ -67,9 +67,9 @@ ask_answer (Err AskBusy) = Busy
 ask_answer (Err NotConnected) = NotLinked
 
 -- The records of a set that cover a route are copied, as far as they fit, and counted. What is no route has none, and is answered so.
--- If memory ran out, nothing is written.
+-- If memory ran out for those of a route, nothing is written.
 abbrev pub AreCovering : CRoute → VrpSet → ℤ → List CRecord → List CRecord → ℕ → Type 0
 AreCovering q set answer old new count =
     ((r : Route) × SpellsRoute q r × (answer ≡ number Done) × (count ≡ length (covering set r)) × IsCopied (covering set r) old new (min (length old) count))
     ⊎ ((((r : Route) → ¬ (SpellsRoute q r)) × (answer ≡ number BadRoute) × (new ≡ old) × (count ≡ 0))
-    ⊎ ((answer ≡ number NoMemory) × (new ≡ old) × (count ≡ 0)))
+    ⊎ ((r : Route) × SpellsRoute q r × (answer ≡ number NoMemory) × (new ≡ old) × (count ≡ 0)))
