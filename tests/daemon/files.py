@@ -148,6 +148,49 @@ def several_exceptions(given):
 
 
 @part
+def first_exceptions_overlap(given):
+    """The first of two SLURM files is changed so that it overlaps the second. The log has the reason, with both files."""
+    put("list.json", text_of(FIRST))
+    put("one.json", exceptions())
+    put("two.json", exceptions(asserted=[("10.0.0.0/8", 2)]))
+    with running(given.program, "--vrps", "list.json", "--slurm", "one.json", "--slurm", "two.json", "--listen", "127.0.0.1:0", "--check", "1") as daemon:
+        port = daemon.listens()
+        put("one.json", exceptions(asserted=[("10.1.0.0/16", 1)]))
+        daemon.wait("refused", file="one.json", reason="another file of local exceptions is refused, and all are loaded together")
+        refused = daemon.wait("refused", file="two.json")
+        expect("why the first file overlaps", refused["reason"], "10.0.0.0/8 overlaps with 10.1.0.0/16 of one.json (RFC 8416 section 4.2)")
+        expect("what is served while they overlap", Router(port).catch_up(), set(FIRST) | {("10.0.0.0/8", 8, 2)})
+        put("one.json", exceptions(asserted=[("172.16.0.0/12", 1)]))
+        daemon.wait("taken", file="two.json")
+        daemon.wait("published", announced=1)
+        expect("what is served afterwards", Router(port).catch_up(), set(FIRST) | {("10.0.0.0/8", 8, 2), ("172.16.0.0/12", 12, 1)})
+
+
+@part
+def exceptions_put_back(given):
+    """A SLURM file that was missing is accepted once it is back, as it was. So is another one that was changed meanwhile."""
+    os.mkdir("m")
+    put("list.json", text_of(FIRST))
+    put("one.json", exceptions())
+    put("m/two.json", exceptions(keys=[64500]))
+    with running(given.program, "--vrps", "list.json", "--slurm", "one.json", "--slurm", "m/two.json", "--listen", "127.0.0.1:0", "--check", "1") as daemon:
+        port = daemon.listens()
+        os.rename("m", "away")
+        daemon.wait("refused", file="m/two.json")
+        os.rename("away", "m")
+        daemon.wait("taken", file="m/two.json")
+        os.rename("m", "away")
+        daemon.wait("refused", file="m/two.json")
+        put("one.json", exceptions(asserted=[("10.0.0.0/8", 1)]))
+        daemon.wait("refused", file="one.json", reason="another file of local exceptions is refused, and all are loaded together")
+        os.rename("away", "m")
+        daemon.wait("taken", file="one.json")
+        daemon.wait("published", announced=1)
+        expect("exceptions that changed while another file was missing", Router(port).catch_up(), set(FIRST) | {("10.0.0.0/8", 8, 1)})
+        expect("how many refusals are reported", daemon.count("refused"), 3)
+
+
+@part
 def pipe_for_a_file(given):
     """A pipe in the place of a file is refused. The daemon does not block on it."""
     put("list.json", text_of(FIRST))

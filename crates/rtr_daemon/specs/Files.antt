@@ -3,10 +3,15 @@ use Rattle.std.specs.Prelude.{◌≡◌, ◌⊎◌, ℕ, All, Bool, Contains, fa
 use Rattle.std.specs.String.{string_bytes}
 use Rattle.sources.specs.Served.{ExportTaken, SlurmsTaken}
 use Rattle.sources.specs.declared.fault.SlurmSetFault.{SlurmSetFault}
+use Rattle.exports.specs.declared.fault.ExportFault.TheVariants as unread
+use Rattle.slurm.specs.declared.fault.SlurmFault.TheVariants as unapplied
 use Rattle.sources.specs.declared.fault.TakeFault.{TakeFault}
+use Rattle.sources.specs.declared.fault.TakeFault.TheVariants as untaken
 use Rattle.sources.specs.declared.sources.Sources.{Sources}
 use Rattle.rtr_daemon.specs.DiskAnswers.{DiskAnswers, HadStamp, ReadsWhole}
 use Rattle.rtr_daemon.specs.declared.environment.Stamp.{Stamp}
+use Rattle.rtr_daemon.specs.declared.refusal.Refusal.{Refusal}
+use Rattle.rtr_daemon.specs.declared.refusal.Refusal.TheVariants as reason
 use Rattle.rtr_daemon.specs.declared.refusals.Refused.{Refused}
 use Rattle.rtr_daemon.specs.declared.watched_file.FileState.{FileState}
 use Rattle.rtr_daemon.specs.declared.watched_file.FileState.TheVariants as state
@@ -19,18 +24,29 @@ use Rattle.rtr_daemon.specs.declared.watched_file.WatchedFile.{WatchedFile}
 abbrev pub path_of : WatchedFile → List ℕ
 path_of file = string_bytes file.path
 
--- the stamp of a refusal
-abbrev pub stamp_of : Option Refused → Option Stamp
-stamp_of None = None
-stamp_of (Some refused) = refused.stamp
+-- An export is refused for its own bytes: they give none, and memory did not run out.
+abbrev pub IsOfExport : TakeFault → Type 0
+IsOfExport (untaken.Export fault) = ¬ (fault ≡ unread.Memory)
+IsOfExport untaken.NoSuchFile = ⊥
+
+-- A refusal of the file's own bytes: it depends neither on other files nor on memory, so the same bytes are refused again.
+abbrev pub IsOfBytes : Refusal → Type 0
+IsOfBytes (reason.Export file) = IsOfExport file.fault
+IsOfBytes (reason.Slurm file) = ¬ (file.fault ≡ unapplied.Memory)
+IsOfBytes refusal = ⊥
+
+-- The last refusal was of bytes with this stamp.
+abbrev pub RefusesBytes : Option Refused → Stamp → Type 0
+RefusesBytes None stamp = ⊥
+RefusesBytes (Some refused) stamp = (refused.stamp ≡ Some stamp) × IsOfBytes refused.why
 
 -- The stamp is that with which the file was loaded last.
 abbrev pub WasLoaded : WatchedFile → Stamp → Type 0
 WasLoaded file stamp = file.loaded ≡ Some stamp
 
--- The stamp is that with which the file was refused last.
+-- The stamp is that with which the file was refused last, for its own bytes.
 abbrev pub WasRefused : WatchedFile → Stamp → Type 0
-WasRefused file stamp = stamp_of file.refusals.last ≡ Some stamp
+WasRefused file stamp = RefusesBytes file.refusals.last stamp
 
 -- The path had two stamps while it was read.
 abbrev pub ChangesWhileRead : {W : Type 0} → DiskAnswers W → List ℕ → Type 0
@@ -62,11 +78,11 @@ Looks answers file anew Unstable = ChangesWhileRead answers (path_of file)
 Looks answers file anew (Failed error) = answers.fails (path_of file)
 Looks answers file anew (Read stamp bytes) = ReadsWhole answers (path_of file) stamp bytes.items
 
--- The file has the stamp with which it was loaded or refused last.
+-- The file has the stamp with which it was loaded last, or refused last for its own bytes.
 abbrev pub IsKnown : {W : Type 0} → DiskAnswers W → WatchedFile → Type 0
 IsKnown answers file = (stamp : Stamp) × HadStamp answers (path_of file) stamp × (WasLoaded file stamp ⊎ WasRefused file stamp)
 
--- Why nothing is loaded of a file: it has the stamp with which it was loaded or refused last, it changes while it is read, or it cannot be read.
+-- Why nothing is loaded of a file: it is known, it changes while it is read, or it cannot be read.
 abbrev pub HasNoNews : {W : Type 0} → DiskAnswers W → WatchedFile → Type 0
 HasNoNews answers file = IsKnown answers file ⊎ ChangesWhileRead answers (path_of file) ⊎ answers.fails (path_of file)
 
@@ -118,7 +134,7 @@ IsUnread answers path = ChangesWhileRead answers path ⊎ answers.fails path ⊎
 abbrev pub IsOneUnread : {W : Type 0} → DiskAnswers W → List (List ℕ) → Type 0
 IsOneUnread answers paths = (path : List ℕ) × Contains paths path × IsUnread answers path
 
--- Why nothing is loaded of the files of local exceptions: each has the stamp with which it was loaded or refused last, or one was not read.
+-- Why nothing is loaded of the files of local exceptions: each is known, or one was not read.
 abbrev pub HaveNoNews : {W : Type 0} → DiskAnswers W → List WatchedFile → Type 0
 HaveNoNews answers files = All (IsKnown answers) files ⊎ IsOneUnread answers (paths_of files)
 

@@ -1,5 +1,5 @@
 -- The queue of clients, and their turns.
-use Rattle.std.specs.Prelude.{◌≡◌, ◌<◌, ◌≤◌, ℕ, Contains, IsSome, List, [], ◌∷◌, ◌++◌, Option, None, Some, option_map, ⊤}
+use Rattle.std.specs.Prelude.{◌≡◌, ◌<◌, ◌≤◌, ℕ, Contains, IsSome, List, [], ◌∷◌, ◌++◌, Option, None, Some, option_map}
 use Rattle.std.specs.BTreeMap.{get}
 use Rattle.std.specs.Ordering.{nat_cmp}
 use Rattle.vrps.specs.Instance.{Instance}
@@ -41,10 +41,10 @@ pub record WakesAll (old new : ClientTable) : Type 0 where
   pub queue : QueuesBehind old.queue.items new
   pub each : AreQueued new
 
--- If a version is new, all clients are woken.
+-- If a version is new, all clients are woken. Otherwise they and the queue are unchanged.
 abbrev pub WakesIfNew : Published → ClientTable → ClientTable → Type 0
 WakesIfNew (New serial) old new = WakesAll old new
-WakesIfNew Unchanged old new = ⊤
+WakesIfNew Unchanged old new = new ≡ old
 
 -- The first token of a client that is not below this one
 abbrev pub IsFirstFrom : ClientTable → ℕ → Option ℕ → Type 0

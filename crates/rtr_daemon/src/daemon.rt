@@ -4,7 +4,7 @@ ghost use Rattle.points.specs.InUse.{no_points};
 ghost use Rattle.sources.specs.Served.{NoneTaken};
 ghost use Rattle.rtr_server.specs.Clients.{Past, ShowsServer};
 ghost use Rattle.rtr_daemon.specs.Due.{DoesWhatIsDue, FailureNoted, IsChecked, JudgesAges, KeepsFiles, OnlyFiles, OnlyNotes, PollsAll, PublishesIfDue, SamePaths, WakesIfPublished, later_by, second_of_pace};
-ghost use Rattle.rtr_daemon.specs.Queue.{WakesIfNew};
+ghost use Rattle.rtr_daemon.specs.Queue.{QueuesBehind, SameClients, WakesIfNew};
 ghost use Rattle.rtr_daemon.specs.Files.{AreNumbered, Loads, LoadsEach, names_of};
 ghost use Rattle.rtr_daemon.specs.PointOffers.{OffersEach, OffersPoint, points_of};
 ghost use Rattle.std.specs.String.{string_bytes};
@@ -276,6 +276,7 @@ impl<S: VersionStore + Drop, T: Stream + Drop> Daemon<S, T> {
         ensures due { self.old.next_round ≤ now → PublishesIfDue W.can_be W.can_tick self.old.held_until self.old self.new }
         ensures round { self.old.next_round ≤ now → self.new.next_round ≡ later_by 1000 now }
         ensures early { now < self.old.next_round → self.new.next_round ≡ self.old.next_round }
+        ensures idle { now < self.old.next_round → self.new ≡ self.old }
         ensures kept { KeepsFiles self.old self.new }
     {
         if now < self.next_round {
@@ -304,6 +305,8 @@ impl<S: VersionStore + Drop, T: Stream + Drop> Daemon<S, T> {
         ensures fresh { IsFresh W.can_be self.old.service → IsFresh W.can_be self.new.service }
         ensures round { self.new.next_round ≡ self.old.next_round }
         ensures kept { KeepsFiles self.old self.new }
+        ensures clients { SameClients self.old.clients self.new.clients }
+        ensures queue { QueuesBehind self.old.clients.queue.items self.new.clients }
     {
         let now = env.seconds();
         if !self.service.is_pending() {
@@ -331,6 +334,8 @@ impl<S: VersionStore + Drop, T: Stream + Drop> Daemon<S, T> {
         ensures rest { OnlyNotes self.old self.new }
         ensures failed { IfErr tried (λ refusal. FailureNoted refusal self.new) }
         ensures wakes { IfOk tried (λ report. WakesIfNew report.published self.old.clients self.new.clients) }
+        ensures clients { SameClients self.old.clients self.new.clients }
+        ensures queue { QueuesBehind self.old.clients.queue.items self.new.clients }
     {
         match tried {
             Ok(report) => self.note_published(report, now, began, env),
@@ -348,6 +353,8 @@ impl<S: VersionStore + Drop, T: Stream + Drop> Daemon<S, T> {
     )
         ensures rest { OnlyNotes self.old self.new }
         ensures wakes { WakesIfNew report.published self.old.clients self.new.clients }
+        ensures clients { SameClients self.old.clients self.new.clients }
+        ensures queue { QueuesBehind self.old.clients.queue.items self.new.clients }
     {
         self.statistics.end_failure();
         self.note_left_out(report.left_out, now, env);
@@ -397,6 +404,7 @@ impl<S: VersionStore + Drop, T: Stream + Drop> Daemon<S, T> {
     fn note_failure<W: EventLog>(&mut self, refusal: Refusal, now: u64, env: &mut W)
         ensures rest { OnlyNotes self.old self.new }
         ensures noted { FailureNoted refusal self.new }
+        ensures clients { self.new.clients ≡ self.old.clients }
     {
         self.held_until = self.next_check;
         log_failure(self.alloc, &refusal, now, env);

@@ -1,4 +1,7 @@
 //! Why a source is refused.
+ghost use Rattle.std.specs.Prelude.{◌≡◌, ◌↔◌, true};
+ghost use Rattle.rtr_daemon.specs.Files.{IsOfExport};
+
 use exports::ExportFault;
 use points::PointFault;
 use slurm::{Overlap, SlurmFault, UniteFault};
@@ -59,6 +62,8 @@ pub enum Refusal {
 }
 
 impl Refusal {
+    ghost use Rattle.rtr_daemon.specs.Files.{IsOfBytes};
+
     /// The refusal of an export, with the text for these bytes.
     pub(crate) fn of_export(alloc: Global, bytes: &[u8], fault: TakeFault) -> Refusal {
         let words = match fault {
@@ -88,9 +93,15 @@ impl Refusal {
         Refusal::Set(SetFault::Memory)
     }
 
-    /// Whether memory ran out.
-    pub(crate) fn is_memory(&self) -> bool {
-        self.status() == 4
+    /// Whether it is of the file's own bytes: it depends neither on other files nor on memory.
+    pub(crate) fn is_of_bytes(&self) -> bool
+        ensures { result ≡ true ↔ IsOfBytes self.now }
+    {
+        match self {
+            Refusal::Export(file) => is_of_export(&file.fault),
+            Refusal::Slurm(file) => !matches!(&file.fault, SlurmFault::Memory),
+            _ => false,
+        }
     }
 
     /// The program's exit status: 3 if a file cannot be read, 4 if memory ran out, and 1 otherwise.
@@ -120,6 +131,16 @@ impl Refusal {
             | Refusal::Set(SetFault::Memory) => 4,
             _ => 1,
         }
+    }
+}
+
+/// Whether an export is refused for its own bytes.
+fn is_of_export(fault: &TakeFault) -> bool
+    ensures { result ≡ true ↔ IsOfExport fault.now }
+{
+    match fault {
+        TakeFault::Export(fault) => !matches!(fault, ExportFault::Memory),
+        TakeFault::NoSuchFile => false,
     }
 }
 

@@ -1,6 +1,6 @@
 //! The refusals of a source, and when they are reported.
 ghost use Rattle.std.specs.Prelude.{◌≡◌, true, Some};
-ghost use Rattle.rtr_daemon.specs.Files.{stamp_of};
+ghost use Rattle.rtr_daemon.specs.Files.{RefusesBytes};
 
 use crate::environment::Stamp;
 use crate::refusal::Refusal;
@@ -83,12 +83,13 @@ impl Refusals {
         }
     }
 
-    /// Whether the file need not be read: it was refused with this stamp. If memory ran out then, it is read again.
+    /// Whether the file need not be read: its own bytes were refused with this stamp. If it was refused because of another file, or because memory
+    /// ran out, it is read again.
     pub(crate) fn is_known(&self, stamp: Stamp) -> bool
-        ensures { result ≡ true → stamp_of self.now.last ≡ Some stamp }
+        ensures { result ≡ true → RefusesBytes self.now.last stamp }
     {
         match &self.last {
-            Some(refused) => refused.has(stamp) && !refused.why.is_memory(),
+            Some(refused) => refused.has(stamp) && refused.why.is_of_bytes(),
             None => false,
         }
     }

@@ -307,7 +307,7 @@ fn load<S: VersionStore, T: Stream + Drop, W: Disk>(
     Ok(contents)
 }
 
-/// Reports the files that were refused at the poll before.
+/// Reports the files that were refused at the poll before, and those that are again as they were loaded.
 fn report_known<W: Disk + EventLog>(
     slurms: &mut [WatchedFile],
     statistics: &mut Statistics,
@@ -322,7 +322,7 @@ fn report_known<W: Disk + EventLog>(
     }
 }
 
-/// Reports a file, if it was refused at the poll before and that was not reported.
+/// Reports a file, if it was refused at the poll before and that was not reported. If it is again as it was loaded, its refusal ends.
 fn report_if_known<W: Disk + EventLog>(
     file: &mut WatchedFile,
     statistics: &mut Statistics,
@@ -332,10 +332,19 @@ fn report_if_known<W: Disk + EventLog>(
 )
     ensures { file.new.path ≡ file.old.path }
 {
-    let is_known = file.state(env) == FileState::RefusedBefore;
-    if is_known && file.refusals.mark_reported(now) {
-        statistics.count_refusal();
-        log_refused_file(alloc, file, now, env);
+    match file.state(env) {
+        FileState::RefusedBefore => {
+            if file.refusals.mark_reported(now) {
+                statistics.count_refusal();
+                log_refused_file(alloc, file, now, env);
+            }
+        }
+        FileState::Unchanged => {
+            if file.refusals.clear() {
+                log_taken(file, now, env);
+            }
+        }
+        FileState::New => {}
     }
 }
 
@@ -364,9 +373,14 @@ fn report_one_loaded<W: EventLog>(
     ensures { file.new.path ≡ file.old.path }
 {
     if contents.note_loaded(index, file, now) {
-        let file = file.path.as_str();
-        env.log(now, &LogEvent::Taken { file });
+        log_taken(file, now, env);
     }
+}
+
+/// Reports that a file is accepted again.
+fn log_taken<W: EventLog>(file: &WatchedFile, now: u64, env: &mut W) {
+    let file = file.path.as_str();
+    env.log(now, &LogEvent::Taken { file });
 }
 
 /// Notes the refusal at its file, and at each other file that has changed, and reports those that are due.
