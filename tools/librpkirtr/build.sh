@@ -13,6 +13,4 @@ ar rcsD "$out/librpkirtr.a" "$out/rpkirtr.o"
 # The soname stays at 0 until a release freezes the header.
 cc -shared -o "$out/librpkirtr.so.0.0.0" -Wl,-soname,librpkirtr.so.0 -Wl,--version-script="$here/rpkirtr.map" \
     -Wl,-z,defs,-z,relro,-z,now,-z,noexecstack,--build-id=sha1,--hash-style=gnu "$out/rpkirtr.o"
-ln -sf librpkirtr.so.0.0.0 "$out/librpkirtr.so.0"
-ln -sf librpkirtr.so.0 "$out/librpkirtr.so"
 rm -f "$out/rpkirtr.o"
