@@ -191,7 +191,10 @@ impl ClientTable {
     }
 
     /// Queues the clients that are blocked on writing.
-    pub(crate) fn wake_blocked(&mut self) {
+    pub(crate) fn wake_blocked(&mut self)
+        ensures clients { SameClients self.old self.new }
+        ensures queue { QueuesBehind self.old.queue.items self.new }
+    {
         let mut at = self.first();
         while let Some(token) = at {
             if self.is_blocked(token) {

@@ -193,6 +193,7 @@ impl<S: VersionStore, T: Stream + Drop> Daemon<S, T> {
     fn drop_if_silent<W: Time + EventLog>(&mut self, token: usize, env: &mut W)
         ensures goes { Continues S.holds T.remaining T.contents self.old.service self.new.service }
         ensures rest { OnlyClients self.old self.new }
+        ensures others { OtherClients token self.old.clients self.new.clients }
     {
         if let Some((client, _address)) = self.clients.at(token) {
             if !self.service.server().has_asked(client) {
@@ -218,6 +219,7 @@ impl<S: VersionStore, T: Stream + Drop> Daemon<S, T> {
     fn drop_stalled_client<W: Time + EventLog>(&mut self, token: usize, env: &mut W)
         ensures goes { Continues S.holds T.remaining T.contents self.old.service self.new.service }
         ensures rest { OnlyClients self.old self.new }
+        ensures others { OtherClients token self.old.clients self.new.clients }
     {
         if let Some((_client, address)) = self.clients.at(token) {
             let now = env.seconds();
@@ -231,6 +233,7 @@ impl<S: VersionStore, T: Stream + Drop> Daemon<S, T> {
     fn drop_connection<W: Time + EventLog>(&mut self, token: usize, why: &str, env: &mut W)
         ensures goes { Continues S.holds T.remaining T.contents self.old.service self.new.service }
         ensures rest { OnlyClients self.old self.new }
+        ensures others { OtherClients token self.old.clients self.new.clients }
     {
         let Some((client, _address)) = self.clients.at(token) else {
             return;
