@@ -16,6 +16,15 @@ fn route(prefix: &str, origin: Option<u32>) -> Route {
     Route { prefix: prefix.parse().unwrap(), origin }
 }
 
+/// A router that committed the answer at second 101.
+fn committed_router() -> Router {
+    let mut router = Router::new().unwrap();
+    router.connect(100);
+    router.pull(&mut [0; 16]);
+    router.receive(&ANSWER, 101);
+    router
+}
+
 #[test]
 fn a_router_commits_an_answer() {
     let (ten, db8) = (vrp("10.0.0.0/8", 16, 64496), vrp("2001:db8::/32", 48, 64497));
@@ -45,10 +54,7 @@ fn a_router_commits_an_answer() {
 
 #[test]
 fn changes_are_told_until_they_are_taken() {
-    let mut router = Router::new().unwrap();
-    router.connect(100);
-    router.pull(&mut [0; 16]);
-    router.receive(&ANSWER, 101);
+    let mut router = committed_router();
     for _ in 0..2 {
         let changes = router.changes().unwrap();
         assert_eq!((changes.withdraws(), changes.announces()), (0, 2));
@@ -66,10 +72,7 @@ fn changes_are_told_until_they_are_taken() {
 
 #[test]
 fn an_index_of_a_router_stays() {
-    let mut router = Router::new().unwrap();
-    router.connect(100);
-    router.pull(&mut [0; 16]);
-    router.receive(&ANSWER, 101);
+    let mut router = committed_router();
     let index = router.index().unwrap();
     router.tick(101 + 7201);
     assert_eq!((router.len(), index.len()), (0, 2));
