@@ -29,6 +29,7 @@ PROMISES = [
     ("One cache and many clients", ["rtr_server::Server::serve", "rtr_server::Server::publish", "rtr_server::laws::each_client_is_served"]),
     ("What validators export", ["exports::read_export"]),
     ("Local exceptions", ["slurm::read_slurm", "slurm::apply", "slurm::laws::one_reading", "slurm::laws::applied_twice"]),
+    ("What the daemon publishes, from what, and when", ["rtr_daemon::Daemon::open", "rtr_daemon::Daemon::turn", "rtr_daemon::laws::versions_are_paced"]),
 ]
 
 
@@ -63,7 +64,7 @@ class Definition:
 class Source:
     """A file of specs: its comment, what it names of others, and its definitions in their order."""
 
-    HEAD = re.compile(r"^(?:(?:abbrev|unfoldable|pub|record|data) )*([^\s(){}]+)(?: \(.*\))? :(?: |$)")
+    HEAD = re.compile(r"^(?:(?:abbrev|unfoldable|pub|record|data) )*([^\s(){}]+)(?: [({].*[)}])? :(?: |$)")
 
     def __init__(self, crate, path):
         self.crate, self.path, self.module = crate, os.path.relpath(path, TOP), f"Rattle.{crate}.specs.{os.path.basename(path)[:-5]}"

@@ -167,6 +167,46 @@ def first_exceptions_overlap(given):
 
 
 @part
+def export_put_back(given):
+    """An export that was missing is accepted once it is back, as it was. If it is missing again, that is reported again."""
+    os.mkdir("m")
+    put("m/list.json", text_of(FIRST))
+    refused = 'rpkirtrd_file_refused{file="m/list.json"}'
+    with running(given.program, "--vrps", "m/list.json", "--listen", "127.0.0.1:0", "--check", "1", "--status", "127.0.0.1:0") as daemon:
+        port, status = daemon.serves()
+        for times in 1, 2:
+            os.rename("m", "away")
+            daemon.wait("refused", file="m/list.json")
+            expect("the metric while it is missing", metrics_of(status).get(refused), 1)
+            os.rename("away", "m")
+            daemon.wait("taken", file="m/list.json")
+            expect("the metric once it is back", metrics_of(status).get(refused), 0)
+            expect("how many refusals are reported", daemon.count("refused"), times)
+        expect("what is served", Router(port).catch_up(), set(FIRST))
+
+
+@part
+def refused_for_another_reason(given):
+    """A file that stays refused is reported again if the reason is of another kind. Another text that is malformed is not."""
+    put("list.json", text_of(FIRST))
+    with running(given.program, "--vrps", "list.json", "--listen", "127.0.0.1:0", "--check", "1") as daemon:
+        port = daemon.listens()
+        put("list.json", "[{")
+        daemon.wait("refused", file="list.json")
+        os.remove("list.json")
+        expect("the second reason", "cannot be read" in daemon.wait("refused", file="list.json")["reason"], True)
+        put("list.json", "[")
+        expect("the third reason", "not JSON" in daemon.wait("refused", file="list.json")["reason"], True)
+        put("list.json", "")
+        time.sleep(3)
+        put("list.json", text_of(SECOND))
+        daemon.wait("taken", file="list.json")
+        daemon.wait("published", records=len(SECOND))
+        expect("how many refusals are reported", daemon.count("refused"), 3)
+        expect("what is served afterwards", Router(port).catch_up(), set(SECOND))
+
+
+@part
 def exceptions_put_back(given):
     """A SLURM file that was missing is accepted once it is back, as it was. So is another one that was changed meanwhile."""
     os.mkdir("m")

@@ -13,6 +13,7 @@ use Rattle.rtr_daemon.specs.Queue.{WakesIfNew}
 use Rattle.rtr_daemon.specs.Serving.{IsFresh, IsOfSecond, IsReason, OnlySources, PacesSo, StaysFresh}
 use Rattle.vrps.specs.declared.store.Published.{Published}
 use Rattle.vrps.specs.declared.store.Published.TheVariants.{New, Unchanged}
+use Rattle.rtr_daemon.specs.declared.client_table.ClientTable.{ClientTable}
 use Rattle.rtr_daemon.specs.declared.daemon.Daemon.{Daemon}
 use Rattle.rtr_daemon.specs.declared.service.Service.{Service}
 
@@ -23,6 +24,10 @@ with_clients old new = record old { service = record old.service { server = new.
 -- One part after another changes only clients.
 pub only_on : {S T : Type 0} (a b c : Daemon S T) → OnlyClients a b → OnlyClients b c → OnlyClients a c
 only_on a b c first second = subst (λ z. c ≡ with_clients z c) first second
+
+-- Then clients are queued.
+pub then_queued : {S T : Type 0} (a b : Daemon S T) (table : ClientTable) → OnlyClients a b → OnlyClients a (record b { clients = table })
+then_queued {S} {T} a b table only = ap {A = Daemon S T} (λ d. record d { clients = table }) only
 
 -- One part after another changes only the sources.
 pub sources_on : {S T : Type 0} (a b c : Service S T) → OnlySources a b → OnlySources b c → OnlySources a c

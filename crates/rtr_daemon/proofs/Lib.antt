@@ -6,4 +6,5 @@ pub mod PacingLaws
 pub mod QueueLaws
 pub mod Reasons
 pub mod ServiceLaws
+pub mod StallLaws
 pub mod WakeLaws

@@ -41,7 +41,7 @@ woken_on table mid token after so_far same behind woken first t before there = b
   at (inr most) more = let is : t ≡ token = omega (arith, more, most) in subst (IsQueued mid) (sym is) woken there
 
   by : (t < token) ⊎ (token ≤ t) → Contains mid.queue.items t
-  by (inl less) = subst (λ q. Contains q t) (sym behind.1) (Contains-append_left table.queue.items behind.0 t (so_far t less (subst IsSome (same t) there)))
+  by (inl less) = subst (λ q. Contains q t) (sym behind.1) (Contains-append_left table.queue.items behind.0 t (so_far t less (subst IsSome (ap (λ known. option_map (λ entry. entry.client) known) (same t)) there)))
   by (inr more) = at (cases_lt token t) more
 
 -- 1 for a client that is not noted as queued, otherwise 0

@@ -1,5 +1,5 @@
 -- What a turn does that is due by the clock. Times are milliseconds of the monotonic clock.
-use Rattle.std.specs.Prelude.{◌≡◌, ◌⊎◌, ◌<◌, ◌≤◌, ◌+◌, ◌-◌, ◌/◌, ℕ, min, false, Option, None, Some}
+use Rattle.std.specs.Prelude.{◌≡◌, ◌⊎◌, ◌<◌, ◌≤◌, ◌+◌, ◌-◌, ◌/◌, ℕ, min, true, false, [], Option, None, Some}
 use Rattle.session_names.specs.Runs.{may_publish}
 use Rattle.sources.specs.declared.sources.Sources.{Sources}
 use Rattle.rtr_daemon.specs.DiskAnswers.{DiskAnswers}
@@ -65,6 +65,17 @@ later_by span millis = min (millis + span) 18446744073709551615
 -- The second of the pace at a time: the second of the start, and the seconds since, in 64 bits.
 abbrev pub second_of_pace : ℕ → ℕ → ℕ → ℕ
 second_of_pace started opened millis = min (started + (millis - opened) / 1000) 18446744073709551615
+
+-- This time is not after the next poll of the files. If a version is pending and is not held back, it is not after the next round.
+pub record IsInTime {S T : Type 0} (d : Daemon S T) (millis time : ℕ) : Type 0 where
+  pub check : time ≤ d.next_check
+  pub round : d.service.is_pending ≡ true → d.held_until ≤ millis → time ≤ d.next_round
+
+-- How long a turn waits at most: not at all if a client is queued, otherwise until something is due.
+pub record IsWait {S T : Type 0} (d : Daemon S T) (millis wait : ℕ) : Type 0 where
+  pub queued : ¬ (d.clients.queue.items ≡ []) → wait ≡ 0
+  pub check : wait ≤ d.next_check - millis
+  pub round : d.service.is_pending ≡ true → d.held_until ≤ millis → wait ≤ d.next_round - millis
 
 -- A pending version waits: an earlier publication failed and is not tried again before this time, or the last version is of this second of the pace.
 pub record Waits {S T : Type 0} (ticks : ℕ → Type 0) (held : ℕ) (old : Daemon S T) : Type 0 where

@@ -1,5 +1,5 @@
 -- The queue of clients, and their turns.
-use Rattle.std.specs.Prelude.{◌≡◌, ◌<◌, ◌≤◌, ℕ, Contains, IsSome, List, [], ◌∷◌, ◌++◌, Option, None, Some, option_map}
+use Rattle.std.specs.Prelude.{◌≡◌, ◌<◌, ◌≤◌, false, ℕ, Contains, IsSome, List, [], ◌∷◌, ◌++◌, Option, None, Some, option_map}
 use Rattle.std.specs.BTreeMap.{get}
 use Rattle.std.specs.Ordering.{nat_cmp}
 use Rattle.vrps.specs.Instance.{Instance}
@@ -9,19 +9,28 @@ use Rattle.rtr_server.specs.declared.server.Client.{Client}
 use Rattle.rtr_server.specs.declared.server.Server.{Server}
 use Rattle.rtr_server.specs.declared.stream.Call.{Call}
 use Rattle.rtr_daemon.specs.Turns.{HasTurn}
+use Rattle.rtr_daemon.specs.declared.client_table.ClientEntry.{ClientEntry}
 use Rattle.rtr_daemon.specs.declared.client_table.ClientTable.{ClientTable}
+
+-- what is known of a client, whether it is queued or not
+abbrev pub without_queue : ClientEntry → ClientEntry
+without_queue entry = record entry { is_queued = false }
+
+-- what is known of the client of a poll token
+abbrev pub known_at : ClientTable → ℕ → Option ClientEntry
+known_at table token = option_map without_queue (get nat_cmp table.by_token token)
 
 -- the client of a poll token
 abbrev pub client_at : ClientTable → ℕ → Option Client
-client_at table token = option_map (λ entry. entry.client) (get nat_cmp table.by_token token)
+client_at table token = option_map (λ entry. entry.client) (known_at table token)
 
--- The clients of all tokens are unchanged.
+-- What is known of each client is unchanged.
 abbrev pub SameClients : ClientTable → ClientTable → Type 0
-SameClients old new = (token : ℕ) → client_at new token ≡ client_at old token
+SameClients old new = (token : ℕ) → known_at new token ≡ known_at old token
 
--- The clients of all other tokens are unchanged.
+-- What is known of the clients of all other tokens is unchanged.
 abbrev pub OtherClients : ℕ → ClientTable → ClientTable → Type 0
-OtherClients token old new = (other : ℕ) → ¬ (other ≡ token) → client_at new other ≡ client_at old other
+OtherClients token old new = (other : ℕ) → ¬ (other ≡ token) → known_at new other ≡ known_at old other
 
 -- The queue is unchanged, or tokens were added at its end.
 abbrev pub QueuesBehind : List ℕ → ClientTable → Type 0

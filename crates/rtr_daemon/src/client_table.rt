@@ -1,8 +1,7 @@
 //! The table of connected clients, and the queue of those that are served next.
-ghost use Rattle.std.specs.Prelude.{◌≡◌, ◌+◌, ◌≤◌, length};
+ghost use Rattle.std.specs.Prelude.{◌≡◌, [], ◌+◌, ◌≤◌, ◌↔◌, None, true, length, option_map};
 ghost use Rattle.std.specs.VecDeque.{deque_capacity, deque_len};
 ghost use Rattle.rtr_daemon.specs.Notes.{AreNoted, unqueued};
-ghost use Rattle.rtr_daemon.specs.Stalling.{is_stalled};
 
 use rtr_server::{ByteCounts, Client, Turn};
 use std::alloc::{AllocError, Global};
@@ -41,7 +40,8 @@ pub(crate) struct ClientTable {
 }
 
 impl ClientTable {
-    ghost use Rattle.rtr_daemon.specs.Queue.{IsFirstFrom, IsQueued, OtherClients, QueuesBehind, SameClients, TakesNext, WakesAll};
+    ghost use Rattle.rtr_daemon.specs.Queue.{IsFirstFrom, IsQueued, OtherClients, QueuesBehind, SameClients, TakesNext, WakesAll, client_at, known_at};
+    ghost use Rattle.rtr_daemon.specs.Stalling.{is_stalled_client};
 
     pub(crate) fn new(alloc: Global) -> ClientTable {
         ClientTable {
@@ -54,7 +54,9 @@ impl ClientTable {
     }
 
     /// Whether the queue is empty.
-    pub(crate) fn is_idle(&self) -> bool {
+    pub(crate) fn is_idle(&self) -> bool
+        ensures { (result ≡ true) ↔ (self.now.queue.items ≡ []) }
+    {
         self.queue.is_empty()
     }
 
@@ -135,7 +137,9 @@ impl ClientTable {
     }
 
     /// The poll token of a client that reached this timeout, and may have sent no query. It may be closed by now.
-    pub(crate) fn next_overdue(&mut self, now: u64, patience: u64) -> Option<usize> {
+    pub(crate) fn next_overdue(&mut self, now: u64, patience: u64) -> Option<usize>
+        ensures { self.new ≡ record self.old { newcomers = self.new.newcomers } }
+    {
         let deadline = self.first_deadline(patience)?;
         if now < deadline {
             return None;
@@ -159,7 +163,7 @@ impl ClientTable {
     }
 
     /// The first poll token of a client.
-    fn first(&self) -> Option<usize>
+    pub(crate) fn first(&self) -> Option<usize>
         ensures { IsFirstFrom self.now 0 result }
     {
         match self.by_token.range(0..).next() {
@@ -169,7 +173,7 @@ impl ClientTable {
     }
 
     /// The first poll token of a client that is above this one.
-    fn first_after(&self, token: usize) -> Option<usize>
+    pub(crate) fn first_after(&self, token: usize) -> Option<usize>
         ensures { IsFirstFrom self.now (token + 1) result }
     {
         let above = (Bound::Excluded(token), Bound::Unbounded);
@@ -224,7 +228,8 @@ impl ClientTable {
 
     /// Notes the outcome of a turn. A client is blocked from the last byte that was written to it.
     pub(crate) fn note(&mut self, token: usize, turn: Turn, carried: ByteCounts, now: u64)
-        ensures clients { SameClients self.old self.new }
+        ensures client { client_at self.new token ≡ client_at self.old token }
+        ensures others { OtherClients token self.old self.new }
         ensures queue { self.new.queue ≡ self.old.queue }
     {
         let Some(entry) = self.by_token.get_mut(&token) else {
@@ -247,7 +252,9 @@ impl ClientTable {
     }
 
     /// The client of a poll token, and its address.
-    pub(crate) fn at(&self, token: usize) -> Option<(Client, SocketAddr)> {
+    pub(crate) fn at(&self, token: usize) -> Option<(Client, SocketAddr)>
+        ensures { option_map (λ it. it.0) result ≡ client_at self.now token }
+    {
         let entry = self.by_token.get(&token)?;
         Some((entry.client, entry.address))
     }
@@ -255,6 +262,7 @@ impl ClientTable {
     /// Removes the client of a poll token.
     pub(crate) fn remove(&mut self, token: usize) -> Option<ClientEntry>
         ensures clients { OtherClients token self.old self.new }
+        ensures gone { known_at self.new token ≡ None }
         ensures queue { self.new.queue ≡ self.old.queue }
     {
         let entry = self.by_token.remove(&token)?;
@@ -269,24 +277,20 @@ impl ClientTable {
         self.blocked > 0
     }
 
-    /// The poll tokens of the clients that have been blocked for this long.
-    pub(crate) fn stalled(
-        &self,
-        alloc: Global,
-        now: u64,
-        stall: u64,
-    ) -> Result<Vec<usize>, AllocError> {
-        let mut tokens = Vec::new(alloc);
-        for (token, entry) in self.by_token.iter() {
-            if entry.is_stalled(now, stall) {
-                tokens.push(*token)?;
-            }
+    /// Whether the client of a poll token has been blocked for this long.
+    pub(crate) fn is_stalled(&self, token: usize, now: u64, stall: u64) -> bool
+        ensures { result ≡ is_stalled_client (known_at self.now token) now stall }
+    {
+        match self.by_token.get(&token) {
+            Some(entry) => entry.is_stalled(now, stall),
+            None => false,
         }
-        Ok(tokens)
     }
 }
 
 impl ClientEntry {
+    ghost use Rattle.rtr_daemon.specs.Stalling.{is_stalled};
+
     fn is_stalled(&self, now: u64, stall: u64) -> bool
         ensures { result ≡ is_stalled self.now.blocked now stall }
     {

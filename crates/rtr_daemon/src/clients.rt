@@ -1,8 +1,10 @@
 //! Serving clients.
-ghost use Rattle.std.specs.Prelude.{◌≡◌};
+ghost use Rattle.std.specs.Prelude.{◌≡◌, IfSome, None, false, true, ℕ};
 ghost use Rattle.rtr_daemon.specs.Due.{OnlyClients};
-ghost use Rattle.rtr_daemon.specs.Queue.{OtherClients, QueuesBehind, ServesEach, ServesNext};
+ghost use Rattle.rtr_server.specs.Clients.{has_asked, slot_at};
+ghost use Rattle.rtr_daemon.specs.Queue.{OtherClients, QueuesBehind, ServesEach, ServesNext, client_at, known_at};
 ghost use Rattle.rtr_daemon.specs.Serving.{Continues};
+ghost use Rattle.rtr_daemon.specs.Stalling.{ClosesStalled, unless_stalled};
 ghost use Rattle.rtr_daemon.specs.Turns.{HasTurn};
 
 use crate::daemon::Daemon;
@@ -124,6 +126,7 @@ impl<S: VersionStore, T: Stream + Drop> Daemon<S, T> {
     /// Removes and reports the client that was closed last.
     fn part<W: Time + EventLog>(&mut self, token: usize, why: &str, env: &mut W)
         ensures others { OtherClients token self.old.clients self.new.clients }
+        ensures gone { known_at self.new.clients token ≡ None }
         ensures queue { self.new.clients.queue ≡ self.old.clients.queue }
         ensures service { self.new.service ≡ self.old.service }
         ensures rest { OnlyClients self.old self.new }
@@ -194,6 +197,8 @@ impl<S: VersionStore, T: Stream + Drop> Daemon<S, T> {
         ensures goes { Continues S.holds T.remaining T.contents self.old.service self.new.service }
         ensures rest { OnlyClients self.old self.new }
         ensures others { OtherClients token self.old.clients self.new.clients }
+        ensures asked { IfSome (client_at self.old.clients token) (λ client. has_asked (slot_at self.old.service.server.slots.items client.0.0) ≡ true → self.new.clients ≡ self.old.clients) }
+        ensures silent { IfSome (client_at self.old.clients token) (λ client. has_asked (slot_at self.old.service.server.slots.items client.0.0) ≡ false → known_at self.new.clients token ≡ None) }
     {
         if let Some((client, _address)) = self.clients.at(token) {
             if !self.service.server().has_asked(client) {
@@ -206,12 +211,26 @@ impl<S: VersionStore, T: Stream + Drop> Daemon<S, T> {
     pub(crate) fn drop_stalled<W: Time + EventLog>(&mut self, env: &mut W)
         ensures goes { Continues S.holds T.remaining T.contents self.old.service self.new.service }
         ensures rest { OnlyClients self.old self.new }
+        ensures closed { (now : ℕ) × W.can_tick now × ClosesStalled now self.old.plan.stall self.old.clients self.new.clients }
+        ensures queue { self.new.clients.queue ≡ self.old.clients.queue }
     {
         let now = env.millis();
-        let Ok(tokens) = self.clients.stalled(self.alloc, now, self.plan.stall) else {
-            return;
-        };
-        for token in tokens {
+        let mut at = self.clients.first();
+        while let Some(token) = at {
+            self.drop_if_stalled(token, now, env);
+            at = self.clients.first_after(token);
+        }
+    }
+
+    /// Closes the client of a poll token if it has been blocked on writing for too long.
+    fn drop_if_stalled<W: Time + EventLog>(&mut self, token: usize, now: u64, env: &mut W)
+        ensures goes { Continues S.holds T.remaining T.contents self.old.service self.new.service }
+        ensures rest { OnlyClients self.old self.new }
+        ensures others { OtherClients token self.old.clients self.new.clients }
+        ensures closed { known_at self.new.clients token ≡ unless_stalled (known_at self.old.clients token) now self.old.plan.stall }
+        ensures queue { self.new.clients.queue ≡ self.old.clients.queue }
+    {
+        if self.clients.is_stalled(token, now, self.plan.stall) {
             self.drop_stalled_client(token, env);
         }
     }
@@ -220,6 +239,8 @@ impl<S: VersionStore, T: Stream + Drop> Daemon<S, T> {
         ensures goes { Continues S.holds T.remaining T.contents self.old.service self.new.service }
         ensures rest { OnlyClients self.old self.new }
         ensures others { OtherClients token self.old.clients self.new.clients }
+        ensures gone { known_at self.new.clients token ≡ None }
+        ensures queue { self.new.clients.queue ≡ self.old.clients.queue }
     {
         if let Some((_client, address)) = self.clients.at(token) {
             let now = env.seconds();
@@ -234,6 +255,8 @@ impl<S: VersionStore, T: Stream + Drop> Daemon<S, T> {
         ensures goes { Continues S.holds T.remaining T.contents self.old.service self.new.service }
         ensures rest { OnlyClients self.old self.new }
         ensures others { OtherClients token self.old.clients self.new.clients }
+        ensures gone { known_at self.new.clients token ≡ None }
+        ensures queue { self.new.clients.queue ≡ self.old.clients.queue }
     {
         let Some((client, _address)) = self.clients.at(token) else {
             return;

@@ -3,13 +3,14 @@ ghost use Rattle.std.specs.Prelude.{◌≡◌, ◌≤◌, ◌<◌, ℕ, IfErr, I
 ghost use Rattle.points.specs.InUse.{no_points};
 ghost use Rattle.sources.specs.Served.{NoneTaken};
 ghost use Rattle.rtr_server.specs.Clients.{Past, ShowsServer};
-ghost use Rattle.rtr_daemon.specs.Due.{DoesWhatIsDue, FailureNoted, IsChecked, JudgesAges, KeepsFiles, OnlyFiles, OnlyNotes, PollsAll, PublishesIfDue, SamePaths, WakesIfPublished, later_by, second_of_pace};
+ghost use Rattle.rtr_daemon.specs.Due.{DoesWhatIsDue, FailureNoted, IsChecked, IsInTime, IsWait, JudgesAges, KeepsFiles, OnlyFiles, OnlyNotes, PollsAll, PublishesIfDue, SamePaths, WakesIfPublished, later_by, second_of_pace};
 ghost use Rattle.rtr_daemon.specs.Queue.{QueuesBehind, SameClients, WakesIfNew};
 ghost use Rattle.rtr_daemon.specs.Files.{AreNumbered, Loads, LoadsEach, names_of};
 ghost use Rattle.rtr_daemon.specs.PointOffers.{OffersEach, OffersPoint, points_of};
 ghost use Rattle.std.specs.String.{string_bytes};
 ghost use Rattle.rtr_daemon.specs.Origins.{SourcesComeFrom};
 ghost use Rattle.rtr_daemon.specs.Serving.{Continues, GoesOn, IsFresh, LeadsToService};
+ghost use Rattle.rtr_daemon.specs.Stalling.{ClosesStalled};
 
 use crate::accepting::Listeners;
 use crate::client_table::ClientTable;
@@ -140,6 +141,7 @@ impl<S: VersionStore + Drop, T: Stream + Drop> Daemon<S, T> {
         ensures leads { IfOk result (λ daemon. (p : Past) → ShowsServer S.holds T.remaining T.contents p server → LeadsToService W.can_be S.holds T.remaining T.contents p daemon.service) }
         ensures comes { IfOk result (λ daemon. SourcesComeFrom W.answers W.can_be daemon) }
         ensures closed { IfOk result (λ daemon. daemon.is_ready ≡ false) }
+        ensures planned { IfOk result (λ daemon. (daemon.plan ≡ plan) × (daemon.session_ids ≡ session_ids)) }
     {
         let now = env.seconds();
         let millis = env.millis();
@@ -202,7 +204,9 @@ impl<S: VersionStore + Drop, T: Stream + Drop> Daemon<S, T> {
     }
 
     /// The longest wait of the next turn, in milliseconds: 0 if a client is queued, otherwise until something is due.
-    fn longest_wait(&self, millis: u64) -> u64 {
+    fn longest_wait(&self, millis: u64) -> u64
+        ensures { IsWait self.now millis result }
+    {
         if !self.clients.is_idle() {
             return 0;
         }
@@ -210,7 +214,9 @@ impl<S: VersionStore + Drop, T: Stream + Drop> Daemon<S, T> {
     }
 
     /// When something is due next, in milliseconds of the monotonic clock.
-    fn next_moment(&self, millis: u64) -> u64 {
+    fn next_moment(&self, millis: u64) -> u64
+        ensures { IsInTime self.now millis result }
+    {
         let mut next = self.next_check;
         if self.clients.has_blocked() || (self.service.is_pending() && self.held_until <= millis) {
             next = next.min(self.next_round);
@@ -278,13 +284,15 @@ impl<S: VersionStore + Drop, T: Stream + Drop> Daemon<S, T> {
         ensures early { now < self.old.next_round → self.new.next_round ≡ self.old.next_round }
         ensures idle { now < self.old.next_round → self.new ≡ self.old }
         ensures kept { KeepsFiles self.old self.new }
+        ensures closed { self.old.next_round ≤ now → (at : ℕ) × W.can_tick at × ClosesStalled at self.old.plan.stall self.old.clients self.new.clients }
+        ensures queue { QueuesBehind self.old.clients.queue.items self.new.clients }
     {
         if now < self.next_round {
             return;
         }
         self.next_round = now.saturating_add(SOON);
-        self.clients.wake_blocked();
         self.drop_stalled(env);
+        self.clients.wake_blocked();
         self.publish_pending(env);
     }
 

@@ -79,6 +79,8 @@ pub(crate) enum PollResult {
     Unchanged,
     /// Why it was refused.
     Refused,
+    /// It is again as it was loaded, and a refusal was reported before.
+    Restored,
     /// It was loaded: whether a refusal was reported before, and how many of its entries had expired.
     Loaded { again: bool, expired: u64 },
 }
@@ -183,6 +185,14 @@ fn refused_if(is_news: bool) -> PollResult {
     }
 }
 
+fn restored_if(was_reported: bool) -> PollResult {
+    if was_reported {
+        PollResult::Restored
+    } else {
+        PollResult::Unchanged
+    }
+}
+
 /// Polls an export, and loads it if it has changed.
 fn follow<S: VersionStore, T: Stream + Drop, W: Disk>(
     export: &mut WatchedExport,
@@ -199,7 +209,7 @@ fn follow<S: VersionStore, T: Stream + Drop, W: Disk>(
 {
     let anew = export.file.is_loaded_after(now);
     match export.file.look(env, anew) {
-        Look::Unchanged => PollResult::Unchanged,
+        Look::Unchanged => restored_if(export.file.refusals.clear()),
         Look::Unstable => refused_if(export.file.refusals.add(None, Refusal::Changing, now)),
         Look::RefusedBefore => refused_if(export.file.refusals.mark_reported(now)),
         Look::Failed(error) => {
@@ -363,7 +373,7 @@ fn note_offer<W: EventLog>(
 /// Counts the result of a poll, which took this many milliseconds.
 fn count_poll(statistics: &mut Statistics, polled: &PollResult, milliseconds: u64) {
     match polled {
-        PollResult::Unchanged => {}
+        PollResult::Unchanged | PollResult::Restored => {}
         PollResult::Refused => statistics.count_refusal(),
         PollResult::Loaded { .. } => statistics.count_load(milliseconds),
     }
@@ -381,6 +391,7 @@ fn log_poll<W: EventLog>(
     match polled {
         PollResult::Unchanged => {}
         PollResult::Refused => log_refused_file(alloc, &export.file, now, env),
+        PollResult::Restored => env.log(now, &LogEvent::Taken { file: path }),
         PollResult::Loaded { again, expired } => {
             if again {
                 env.log(now, &LogEvent::Taken { file: path });

@@ -61,6 +61,25 @@ pub enum Refusal {
     Clock,
 }
 
+/// The kinds of reasons. While a source stays refused, one refusal of each kind is reported in a row.
+#[derive(Clone, Copy, Debug, PartialEq, Eq)]
+pub(crate) enum RefusalKind {
+    /// It cannot be read.
+    Unreadable,
+    /// Its content is refused.
+    Content,
+    /// It cannot be loaded together with other files.
+    Overlap,
+    /// Another file is refused.
+    OtherFile,
+    /// All sources together are refused.
+    Set,
+    /// It changes while it is read.
+    Changing,
+    /// The clock is out of range.
+    Clock,
+}
+
 impl Refusal {
     ghost use Rattle.rtr_daemon.specs.Files.{IsOfBytes};
 
@@ -86,6 +105,19 @@ impl Refusal {
             None => None,
         };
         Refusal::SlurmUnion(FileFault { fault, words })
+    }
+
+    /// The kind of the reason.
+    pub(crate) fn kind(&self) -> RefusalKind {
+        match self {
+            Refusal::Device(_) => RefusalKind::Unreadable,
+            Refusal::Export(_) | Refusal::Slurm(_) | Refusal::Point(_) => RefusalKind::Content,
+            Refusal::SlurmUnion(_) => RefusalKind::Overlap,
+            Refusal::OtherSlurm => RefusalKind::OtherFile,
+            Refusal::Set(_) => RefusalKind::Set,
+            Refusal::Changing => RefusalKind::Changing,
+            Refusal::Clock => RefusalKind::Clock,
+        }
     }
 
     /// Memory ran out.

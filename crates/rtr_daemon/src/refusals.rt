@@ -3,7 +3,7 @@ ghost use Rattle.std.specs.Prelude.{◌≡◌, true, Some};
 ghost use Rattle.rtr_daemon.specs.Files.{RefusesBytes};
 
 use crate::environment::Stamp;
-use crate::refusal::Refusal;
+use crate::refusal::{Refusal, RefusalKind};
 
 /// How many polls in a row may refuse a source that changes each time before that is reported.
 const UNREPORTED: u8 = 2;
@@ -33,7 +33,9 @@ pub(crate) struct Refusals {
     last: Option<Refused>,
     /// How many polls in a row refused it. The count saturates.
     looks: u8,
-    /// When a refusal was reported, in seconds since 1970.
+    /// The kind of the refusal that was reported last.
+    reported: Option<RefusalKind>,
+    /// When the first refusal was reported, in seconds since 1970.
     reported_at: Option<u64>,
 }
 
@@ -43,6 +45,7 @@ impl Refusals {
         Refusals {
             last: None,
             looks: 0,
+            reported: None,
             reported_at: None,
         }
     }
@@ -52,12 +55,13 @@ impl Refusals {
         let was_reported = self.reported_at.is_some();
         self.last = None;
         self.looks = 0;
+        self.reported = None;
         self.reported_at = None;
         was_reported
     }
 
     /// The source is refused, with this stamp. It returns whether that is reported: if the last refusal had the same stamp, or too many polls in
-    /// a row refused it. Only one refusal is reported until the source is loaded.
+    /// a row refused it. Until the source is loaded, the next refusal is reported only if its reason is of another kind.
     pub(crate) fn add(&mut self, stamp: Option<Stamp>, why: Refusal, now: u64) -> bool {
         let is_same = self.is_of(stamp);
         let is_due = is_same || self.looks >= UNREPORTED;
@@ -66,12 +70,14 @@ impl Refusals {
         is_due && self.mark_reported(now)
     }
 
-    /// Marks a refusal as reported. It returns true if none was reported since the source was last loaded.
+    /// Marks the last refusal as reported. It returns false if the refusal that was reported before is of the same kind.
     pub(crate) fn mark_reported(&mut self, now: u64) -> bool {
-        if self.reported_at.is_some() {
+        let kind = self.last().map(|refusal| refusal.kind());
+        if self.reported_at.is_some() && self.reported == kind {
             return false;
         }
-        self.reported_at = Some(now);
+        self.reported = kind;
+        self.reported_at = self.reported_at.or(Some(now));
         true
     }
 

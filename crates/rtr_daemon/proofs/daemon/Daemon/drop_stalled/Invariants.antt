@@ -1,10 +1,18 @@
--- So far the service went on, and only clients have changed.
+-- So far the service went on, only clients have changed, and the stalled ones before the next token are closed.
+use Rattle.std.proofs.Common.{◌≡◌}
 use Rattle.rtr_daemon.specs.Due.{OnlyClients}
 use Rattle.rtr_daemon.specs.Serving.{Continues}
+use Rattle.rtr_daemon.proofs.StallLaws.{ClosesBefore}
+use Rattle.rtr_daemon.proofs.WakeLaws.{left_from}
 use Rattle.rtr_daemon.proofs.daemon.Daemon.drop_stalled.Given as goal
 
-abbrev pub invariant-loop-token : goal.invariant-loop-token
-invariant-loop-token g l = record {
+abbrev pub invariant-loop-at : goal.invariant-loop-at
+invariant-loop-at g l = record {
   goes : Continues g.S.VersionStore.holds g.T.Stream.remaining g.T.Stream.contents l.initial.self.service l.self.service;
   rest : OnlyClients l.initial.self l.self;
+  closed : ClosesBefore l.now l.initial.self.plan.stall l.initial.self.clients l.self.clients l.at;
+  queue : l.self.clients.queue ≡ l.initial.self.clients.queue;
 }
+
+abbrev pub decreases-loop-at : goal.decreases-loop-at
+decreases-loop-at g l = left_from l.at
