@@ -3,9 +3,9 @@ use Rattle.rtr_ends.proofs.Words.{◌≡◌, ℕ, ◌<◌, Bool, true, false, Li
 use Rattle.rtr_ends.specs.Cache.{finds_memory}
 use Rattle.rtr_ends.specs.Consumed.{consumed, came, IsRouterCall, IsSplit, RouterSplits}
 use Rattle.rtr_ends.specs.LinkRules.{Router, ask}
-use Rattle.rtr_ends.specs.Router.{Receiving, called, RouterCall, Connects, Receives, Pulls, Speaks, clocked, close, connects_at, played, receives, router_byte, router_pulled, router_stops}
+use Rattle.rtr_ends.specs.Router.{Receiving, called, RouterCall, Connects, Receives, Pulls, Speaks, Configures, clocked, close, connects_at, played, receives, router_byte, router_pulled, router_stops}
 use Rattle.rtr_ends.specs.RouterLink.{is_closed, is_reading}
-use Rattle.rtr_ends.specs.Transcript.{choose, Item, At, Opened, Asks, later, of_version}
+use Rattle.rtr_ends.specs.Transcript.{choose, Item, At, Opened, Asks, Configured, later, of_version}
 use Rattle.rtr_ends.proofs.ByteLists.{none_bytes, drop_none}
 use Rattle.rtr_ends.proofs.Effects.{by_byte, by_close, clocked_keeps, goes_so}
 use Rattle.rtr_ends.proofs.FeedingLaws.{fed_keeps}
@@ -110,6 +110,11 @@ called_comes (Speaks version) calls each c =
     same_bytes (record r { speaks = version }) (played calls).items (came calls)
     (still_comes r (record r { speaks = version }) (played calls).items (played calls).items (came calls) (record { held = refl; reads = λ h. h; closed = λ h. h; out = λ h none. none })
     refl (called_tells (Speaks version) r (played calls).items c.tells) c)
+called_comes (Configures config) calls each c =
+    let r : Router = (played calls).router in
+    same_bytes (record r { config = config }) (Configured config ∷ (played calls).items) (came calls)
+    (still_comes r (record r { config = config }) (played calls).items (Configured config ∷ (played calls).items) (came calls) (record { held = refl; reads = λ h. h; closed = λ h. h; out = λ h none. none })
+    refl (called_tells (Configures config) r (played calls).items c.tells) c)
 called_comes call calls each c =
     same_bytes (called call (played calls).router).router ((called call (played calls).router).items ++ (played calls).items) (came calls)
     (by_call (λ r items. Comes r items (came calls)) (steps_come (came calls)) call refl (played calls).router (played calls).items c)

@@ -195,7 +195,7 @@ bytes_come memory b r items bytes byte live none t l =
           none_out = λ c. false_true c;
         })
         (λ tells. reads_come (record r { held = [] }) u items (bytes ++ b ∷ []) refl live
-        (record { kept_is = t.kept_is; due_is = t.due_is; now_is = t.now_is; spoken_is = t.spoken_is; link = t.link }) (unit_read u h) l.any_is tells)
+        (record { kept_is = t.kept_is; due_is = t.due_is; now_is = t.now_is; spoken_is = t.spoken_is; config_is = t.config_is; link = t.link }) (unit_read u h) l.any_is tells)
         (added (Whole u))
 
     by_case : judging.Case (spoken items) (as_read (spoken items) (not r.agreed) seen) (judge (spoken items) (not r.agreed) seen) → NowComes (judge (spoken items) (not r.agreed) seen)

@@ -3,6 +3,7 @@ use Rattle.rtr_ends.proofs.Words.{◌≡◌, ℕ, Bool, true, false, not, ◌&&�
 use Rattle.rtr_ends.specs.declared.link.End.TheVariants as ends
 use Rattle.rtr_ends.specs.LinkRules.{Router, Staged, Stays, Wrong, Over, asking, commit, emptied, ended_by, fails, is_news, is_strange, may_lack, on_unit, reports, stage, staged, told_off}
 use Rattle.rtr_ends.specs.Cache.{finds_memory, is_none}
+use Rattle.rtr_ends.specs.Configuration.{limit_of}
 use Rattle.rtr_ends.specs.Router.{Noted, Receiving, clocked, close, lacks, reads, router_byte, router_stops, with_bytes}
 use Rattle.rtr_ends.specs.RouterLink.{Link, Closed, Idle, Asked, Answering, Ended, is_closed, is_reading}
 use Rattle.rtr_ends.specs.Transcript.{Question, AskReset, AskSerial, Begun, Committed, Item, base_of, choose, is_over, is_serial, is_wrong, later, of_version, retry_of, sum_of}
@@ -36,7 +37,7 @@ pub record UnitDoes (P : Router → Type 0) (link : Link) (u : Unit) (r : Router
   pub begins : (question : Question) (session : ℕ) → P (record r { agreed = true; session = Some session; link = Answering (record { question = question; session = session; withdrawn = []; announced = [] }) })
   pub reported : P (reports 0 u r)
   pub failed : P (fails u r)
-  pub waits : (agreed : Bool) → (r.agreed ≡ true → agreed ≡ true) → P (record r { agreed = agreed; link = Idle; due = Some (sum_of r.now (retry_of r.version)); no_data = true })
+  pub waits : (agreed : Bool) → (r.agreed ≡ true → agreed ≡ true) → P (record r { agreed = agreed; link = Idle; due = Some (sum_of r.now (retry_of r.config r.version)); no_data = true })
   pub told : (agreed : Bool) → (r.agreed ≡ true → agreed ≡ true) → (code : ℕ) → P (ended_by code (record r { agreed = agreed }))
   pub empties : (agreed : Bool) → (r.agreed ≡ true → agreed ≡ true) → (code : ℕ) → P (ended_by code (emptied (record r { agreed = agreed })))
   pub stages : acts link u ≡ true → (answer : Begun) → P (record r { link = Answering answer })
@@ -75,35 +76,36 @@ by_unit P (Asked AskReset) CacheReset r d = d.reported
 by_unit P (Asked q) (ErrorReport e) r d = by_told P (Asked q) (ErrorReport e) r d q e.code true (λ h. refl)
 by_unit P (Asked q) u r d = d.reported
 by_unit P (Answering a) (SerialNotify session serial) r d = by_notify P (Answering a) (SerialNotify session serial) r d session
-by_unit P (Answering a) (Prefix announce v) r d = by_staged P (Answering a) (Prefix announce v) r d refl (stage (base_of a.question r.table) a announce v)
+by_unit P (Answering a) (Prefix announce v) r d = by_staged P (Answering a) (Prefix announce v) r d refl (stage (limit_of r.config) (base_of a.question r.table) a announce v)
 by_unit P (Answering a) (RouterKey key) r d = d.stays
 by_unit P (Answering a) (EndOfData session serial refresh retry expire) r d = by_end P (Answering a) (EndOfData session serial refresh retry expire) r d refl (session == a.session) a _
 by_unit P (Answering a) (EndOfData0 session serial) r d = by_end P (Answering a) (EndOfData0 session serial) r d refl (session == a.session) a _
 by_unit P (Answering a) (ErrorReport e) r d = by_told P (Answering a) (ErrorReport e) r d a.question e.code r.agreed (λ h. h)
 by_unit P (Answering a) u r d = d.reported
 
--- A PDU leaves what is held, the versions, an agreement, and a connection.
+-- A PDU leaves what is held, the versions, the configuration, an agreement, and a connection.
 pub record Keeps (r n : Router) : Type 0 where
   pub held : n.held ≡ r.held
   pub agreed : r.agreed ≡ true → n.agreed ≡ true
   pub spoken : n.spoken ≡ r.spoken
   pub speaks : n.speaks ≡ r.speaks
+  pub config : n.config ≡ r.config
   pub connected : is_closed r.link ≡ false → is_closed n.link ≡ false
 
 pub unit_keeps : (link : Link) (u : Unit) (r : Router) → Keeps r (on_unit link u r)
 unit_keeps link u r = by_unit (Keeps r) link u r (record {
-  stays = record { held = refl; agreed = λ h. h; spoken = refl; speaks = refl; connected = λ h. h };
-  asks = λ agreed h. record { held = refl; agreed = h; spoken = refl; speaks = refl; connected = λ open_so. refl };
-  begins = λ q session. record { held = refl; agreed = λ h. refl; spoken = refl; speaks = refl; connected = λ h. refl };
-  reported = record { held = refl; agreed = λ h. h; spoken = refl; speaks = refl; connected = λ h. refl };
-  failed = record { held = refl; agreed = λ h. h; spoken = refl; speaks = refl; connected = λ h. refl };
-  waits = λ agreed h. record { held = refl; agreed = h; spoken = refl; speaks = refl; connected = λ open_so. refl };
-  told = λ agreed h code. record { held = refl; agreed = h; spoken = refl; speaks = refl; connected = λ open_so. refl };
-  empties = λ agreed h code. record { held = refl; agreed = h; spoken = refl; speaks = refl; connected = λ open_so. refl };
-  stages = λ on a. record { held = refl; agreed = λ h. h; spoken = refl; speaks = refl; connected = λ h. refl };
-  wrong = λ on code. record { held = refl; agreed = λ h. h; spoken = refl; speaks = refl; connected = λ h. refl };
-  over = λ on. record { held = refl; agreed = λ h. h; spoken = refl; speaks = refl; connected = λ h. refl };
-  commits = λ on a version. record { held = refl; agreed = λ h. h; spoken = refl; speaks = refl; connected = λ h. refl };
+  stays = record { held = refl; agreed = λ h. h; spoken = refl; speaks = refl; config = refl; connected = λ h. h };
+  asks = λ agreed h. record { held = refl; agreed = h; spoken = refl; speaks = refl; config = refl; connected = λ open_so. refl };
+  begins = λ q session. record { held = refl; agreed = λ h. refl; spoken = refl; speaks = refl; config = refl; connected = λ h. refl };
+  reported = record { held = refl; agreed = λ h. h; spoken = refl; speaks = refl; config = refl; connected = λ h. refl };
+  failed = record { held = refl; agreed = λ h. h; spoken = refl; speaks = refl; config = refl; connected = λ h. refl };
+  waits = λ agreed h. record { held = refl; agreed = h; spoken = refl; speaks = refl; config = refl; connected = λ open_so. refl };
+  told = λ agreed h code. record { held = refl; agreed = h; spoken = refl; speaks = refl; config = refl; connected = λ open_so. refl };
+  empties = λ agreed h code. record { held = refl; agreed = h; spoken = refl; speaks = refl; config = refl; connected = λ open_so. refl };
+  stages = λ on a. record { held = refl; agreed = λ h. h; spoken = refl; speaks = refl; config = refl; connected = λ h. refl };
+  wrong = λ on code. record { held = refl; agreed = λ h. h; spoken = refl; speaks = refl; config = refl; connected = λ h. refl };
+  over = λ on. record { held = refl; agreed = λ h. h; spoken = refl; speaks = refl; config = refl; connected = λ h. refl };
+  commits = λ on a version. record { held = refl; agreed = λ h. h; spoken = refl; speaks = refl; config = refl; connected = λ h. refl };
 })
 
 -- A link that continues if what is held expires: one that waits for no changes
@@ -119,25 +121,26 @@ pub by_clock : (P : Router → Type 0) (now : ℕ) (r : Router) → (is_over r.v
 unfolding clocked
 by_clock P now r same gone ended = search rules
 
--- It leaves what is held, agreement and the versions, opens and closes nothing, and puts nothing out.
+-- It leaves what is held, agreement, the versions and the configuration, opens and closes nothing, and puts nothing out.
 pub record Clocks (r n : Router) : Type 0 where
   pub held : n.held ≡ r.held
   pub agreed : n.agreed ≡ r.agreed
   pub spoken : n.spoken ≡ r.spoken
   pub speaks : n.speaks ≡ r.speaks
+  pub config : n.config ≡ r.config
   pub out : r.out ≡ [] → n.out ≡ []
   pub reads_on : is_reading n.link ≡ true → is_reading r.link ≡ true
   pub closed_on : is_closed n.link ≡ is_closed r.link
 
 pub clocked_keeps : (now : ℕ) (r : Router) → Clocks r (clocked now r)
 clocked_keeps now r = by_clock (Clocks r) now r
-    (λ holds. record { held = refl; agreed = refl; spoken = refl; speaks = refl; out = λ none. none; reads_on = λ h. h; closed_on = refl })
-    (λ over on. record { held = refl; agreed = refl; spoken = refl; speaks = refl; out = λ none. none; reads_on = λ h. h; closed_on = refl })
-    (λ over live open_so. record { held = refl; agreed = refl; spoken = refl; speaks = refl; out = λ none. refl; reads_on = λ h. live; closed_on = sym open_so })
+    (λ holds. record { held = refl; agreed = refl; spoken = refl; speaks = refl; config = refl; out = λ none. none; reads_on = λ h. h; closed_on = refl })
+    (λ over on. record { held = refl; agreed = refl; spoken = refl; speaks = refl; config = refl; out = λ none. none; reads_on = λ h. h; closed_on = refl })
+    (λ over live open_so. record { held = refl; agreed = refl; spoken = refl; speaks = refl; config = refl; out = λ none. refl; reads_on = λ h. live; closed_on = sym open_so })
 
 -- A close: nothing on a closed link.
 pub by_close : (P : Router → Type 0) (r : Router) → (is_closed r.link ≡ true → P r)
-    → (is_closed r.link ≡ false → P (record r { link = Closed; agreed = false; session = None; held = []; out = []; due = Some (sum_of r.now (retry_of r.version)) })) → P (close r)
+    → (is_closed r.link ≡ false → P (record r { link = Closed; agreed = false; session = None; held = []; out = []; due = Some (sum_of r.now (retry_of r.config r.version)) })) → P (close r)
 by_close P r stays shuts = either P (is_closed r.link) _ _ stays shuts
 
 -- A PDU that has come whole: memory runs out at it, or it is read.

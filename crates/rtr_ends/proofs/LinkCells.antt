@@ -1,6 +1,7 @@
 -- What no test of a router shows, worked out: tables that are too large, memory, the mark of what is emptied, and transcripts.
 use Rattle.rtr_ends.proofs.Words.{Bool, List, None, Some, [], ap, drop, false, if◌then◌else◌, nat_lt, not, refl, take, true, ℕ, ◌&&◌, ◌++◌, ◌||◌, ◌∙◌, ◌∷◌, ◌≡◌, Payload, VrpSet, empty, has, set_of, size, has-empty, judge, as_read, CacheReset, CacheResponse, EndOfData, EndOfData0, Prefix, SerialNotify, V0, V1}
 use Rattle.rtr_ends.specs.Answer.{report, sent}
+use Rattle.rtr_ends.specs.Configuration.{limit_of}
 use Rattle.rtr_ends.specs.LinkRules.{Over, Router, Staged, Stays, Wrong, is_staged, may_lack, new_router, on_unit, stage, staged}
 use Rattle.rtr_ends.specs.Router.{Closes, Connects, Noted, Pulls, Receives, Speaks, Ticks, asked_by, called, clocked, closed_at, connects_at, lacks, played, receives, router_byte, router_pulled, ticks_at}
 use Rattle.rtr_ends.specs.RouterLaws.{pulled_by, questions_in}
@@ -42,10 +43,10 @@ abbrev changes : Router
 changes = record holds_v { link = Answering since_v }
 
 -- A record too many
-over : (base : VrpSet) (a : Begun) (x : Payload) → has base x ≡ false → is_among x a.announced ≡ false → nat_lt 16777215 (size (led_to base a.withdrawn (x ∷ a.announced))) ≡ true → stage base a true x ≡ Over
+over : (base : VrpSet) (a : Begun) (x : Payload) → has base x ≡ false → is_among x a.announced ≡ false → nat_lt 16777215 (size (led_to base a.withdrawn (x ∷ a.announced))) ≡ true → stage 16777215 base a true x ≡ Over
 over base a x known once much = λ i. if known i || once i then Wrong 7 else if much i then Over else Stays (record a { announced = x ∷ a.announced })
 
-not_over : (base : VrpSet) (a : Begun) (x : Payload) → has base x ≡ false → is_among x a.announced ≡ false → nat_lt 16777215 (size (led_to base a.withdrawn (x ∷ a.announced))) ≡ false → stage base a true x ≡ Stays (record a { announced = x ∷ a.announced })
+not_over : (base : VrpSet) (a : Begun) (x : Payload) → has base x ≡ false → is_among x a.announced ≡ false → nat_lt 16777215 (size (led_to base a.withdrawn (x ∷ a.announced))) ≡ false → stage 16777215 base a true x ≡ Stays (record a { announced = x ∷ a.announced })
 not_over base a x known once much = λ i. if known i || once i then Wrong 7 else if much i then Over else Stays (record a { announced = x ∷ a.announced })
 
 -- ends the link, and nothing is sent.
@@ -55,7 +56,7 @@ by_stage now x announce r st =
     let n : Noted = if is_staged st && false then lacks (Prefix announce x) r else record { router = k; items = asked_by k.link k.out ++ Reads (Prefix announce x) ∷ [] } in
     record { router = n.router; items = n.items ++ At now ∷ [] }
 
-too_many : (a : Begun) → stage (base_of a.question just_v) a true v ≡ Over → (called (Receives 100 None v_bytes) (record changes { link = Answering a })).router ≡ record changes { link = Ended ends.TooMany }
+too_many : (a : Begun) → stage 16777215 (base_of a.question just_v) a true v ≡ Over → (called (Receives 100 None v_bytes) (record changes { link = Answering a })).router ≡ record changes { link = Ended ends.TooMany }
 unfolding receives router_byte clocked on_unit judge as_read
 too_many a h = ap (λ st. (by_stage 100 v true (record changes { link = Answering a }) st).router) h
 
@@ -70,7 +71,7 @@ takes_memory : (may_lack (Answering since_v) (EndOfData 0x1234 6 3600 600 7200) 
     × (is_staged (Stays since_v) ≡ true)
 takes_memory = (refl, refl, refl)
 
-record_takes : (a : Begun) (announce : Bool) (x : Payload) (r : Router) → may_lack (Answering a) (Prefix announce x) r ≡ is_staged (stage (base_of a.question r.table) a announce x)
+record_takes : (a : Begun) (announce : Bool) (x : Payload) (r : Router) → may_lack (Answering a) (Prefix announce x) r ≡ is_staged (stage (limit_of r.config) (base_of a.question r.table) a announce x)
 record_takes a announce x r = refl
 
 takes_none : (may_lack (Answering since_v) (EndOfData 0x2222 6 3600 600 7200) changes ≡ false) × (may_lack (Answering since_v) (EndOfData0 0x2222 6) changes ≡ false)

@@ -7,8 +7,10 @@ use Rattle.rtr_ends.specs.LinkRules as rules
 use Rattle.rtr_ends.specs.LinkRules.{Router, ask, asking, commit, fails, is_news, is_staged, is_strange, may_lack, on_unit, reports, stage, staged, ended_by, told_off}
 use Rattle.rtr_ends.specs.Router.{asks, asks_if, clocked, close, closed_at, connects_at, expired, judged_by_clock, ticks_at}
 use Rattle.rtr_ends.specs.RouterLink.{Link, Closed, Idle, Asked, Answering, Ended, is_due, is_idle}
-use Rattle.rtr_ends.specs.Timing.{default_intervals}
-use Rattle.rtr_ends.specs.Transcript.{Question, AskReset, AskSerial, Begun, base_of, bounded, is_over, is_wrong, later, of_version, query, sum_of, within}
+use Rattle.rtr_ends.specs.Configuration.{chosen, limit_of, own_if}
+use Rattle.rtr_ends.specs.Timing.{InRange, Intervals, intervals}
+use Rattle.rtr_ends.specs.declared.configuration.RouterConfig.{RouterConfig}
+use Rattle.rtr_ends.specs.Transcript.{Question, AskReset, AskSerial, Begun, Committed, base_of, bounded, is_over, is_wrong, later, of_version, query, sum_of, within}
 use Rattle.rtr_ends.specs.Seen.{Does, EndsLink, IsStaged, UnitIsRead, ShowsRouter, Stages, begun_with, seen, seen_link, seen_question, seen_version, seen_versions}
 use Rattle.rtr_ends.specs.Staging.{StagesRecord, GoesTo, LeadsToSet}
 use Rattle.rtr_ends.specs.declared.staging.Staging.{Staging}
@@ -211,26 +213,26 @@ module _ (old : Machine) (q : Question.Question) (session : ℕ) (is : old.state
   abbrev a_of : List Payload → List Payload → Begun
   a_of withdrawn announced = begun_with q session withdrawn announced
 
-  reads_record : (a : Begun) (r : Router) → on_unit (Answering a) u r ≡ staged u (stage (base_of a.question r.table) a announce v) r
+  reads_record : (a : Begun) (r : Router) → on_unit (Answering a) u r ≡ staged u (stage (limit_of r.config) (base_of a.question r.table) a announce v) r
   unfolding on_unit
-  reads_record a r = subst (λ x. on_unit (Answering a) x r ≡ staged x (stage (base_of a.question r.table) a announce v) r) (sym unit_is) refl
+  reads_record a r = subst (λ x. on_unit (Answering a) x r ≡ staged x (stage (limit_of r.config) (base_of a.question r.table) a announce v) r) (sym unit_is) refl
 
-  lacks_record : (a : Begun) (r : Router) → may_lack (Answering a) u r ≡ is_staged (stage (base_of a.question r.table) a announce v)
+  lacks_record : (a : Begun) (r : Router) → may_lack (Answering a) u r ≡ is_staged (stage (limit_of r.config) (base_of a.question r.table) a announce v)
   lacks_record a r = ap (λ x. may_lack (Answering a) x r) unit_is
 
   -- what is known of the answer
   abbrev Goes : Result Staged SetFault → Staging → Type 0
-  Goes answer s = (base : VrpSet) (b : Begun) → IsStaged base b.withdrawn b.announced old.staging → in_base ≡ has base v → GoesTo base b announce v answer s
+  Goes answer s = (base : VrpSet) (b : Begun) → IsStaged base b.withdrawn b.announced old.staging → in_base ≡ has base v → GoesTo (limit_of old.config) base b announce v answer s
 
-  goes : (answer : Result Staged SetFault) (s : Staging) → Goes answer s → (withdrawn announced : List Payload) → IsStaged base withdrawn announced old.staging → StagesRecord base (a_of withdrawn announced) (stage base (a_of withdrawn announced) announce v) answer s
+  goes : (answer : Result Staged SetFault) (s : Staging) → Goes answer s → (withdrawn announced : List Payload) → IsStaged base withdrawn announced old.staging → StagesRecord base (a_of withdrawn announced) (stage (limit_of old.config) base (a_of withdrawn announced) announce v) answer s
   goes answer s g withdrawn announced st = g base (a_of withdrawn announced) st known
 
   pub stays_staged : (s : Staging) → Goes (Ok code.Stays) s → Does (λ r. on_unit r.link u r) old (record old { staging = s })
   stays_staged s g = unit_does u (states.Answering q session) old (record old { staging = s }) is (λ withdrawn announced held st.
       let r = seen old withdrawn announced held in
-      by_staged withdrawn announced held (stage base (a_of withdrawn announced) announce v) refl (goes (Ok code.Stays) s g withdrawn announced st))
+      by_staged withdrawn announced held (stage (limit_of old.config) base (a_of withdrawn announced) announce v) refl (goes (Ok code.Stays) s g withdrawn announced st))
     where
-      by_staged : (withdrawn announced : List Payload) (held : List ℕ) (x : rules.Staged) → stage base (a_of withdrawn announced) announce v ≡ x → StagesRecord base (a_of withdrawn announced) x (Ok code.Stays) s
+      by_staged : (withdrawn announced : List Payload) (held : List ℕ) (x : rules.Staged) → stage (limit_of old.config) base (a_of withdrawn announced) announce v ≡ x → StagesRecord base (a_of withdrawn announced) x (Ok code.Stays) s
           → ShowsRouter (on_unit (Answering (a_of withdrawn announced)) u (seen old withdrawn announced held)) (record old { staging = s })
       by_staged withdrawn announced held (rules.Stays a) e h =
           shown_as (on_unit (Answering (a_of withdrawn announced)) u (seen old withdrawn announced held)) (record old { staging = s }) a.withdrawn a.announced held
@@ -245,9 +247,9 @@ module _ (old : Machine) (q : Question.Question) (session : ℕ) (is : old.state
   pub wrong_staged : (s : Staging) (n : ℕ) (new : Machine) → Goes (Ok (code.Wrong n)) s → new ≡ record old { staging = s; state = states.Ended (ends.Reported n); out = sent old.spoken (report n (sent old.spoken u)) }
       → Does (λ r. on_unit r.link u r) old (record new { mark = true })
   wrong_staged s n new g e = unit_does u (states.Answering q session) old (record new { mark = true }) is (λ withdrawn announced held st.
-      by_staged withdrawn announced held (stage base (a_of withdrawn announced) announce v) refl (goes (Ok (code.Wrong n)) s g withdrawn announced st))
+      by_staged withdrawn announced held (stage (limit_of old.config) base (a_of withdrawn announced) announce v) refl (goes (Ok (code.Wrong n)) s g withdrawn announced st))
     where
-      by_staged : (withdrawn announced : List Payload) (held : List ℕ) (x : rules.Staged) → stage base (a_of withdrawn announced) announce v ≡ x → StagesRecord base (a_of withdrawn announced) x (Ok (code.Wrong n)) s
+      by_staged : (withdrawn announced : List Payload) (held : List ℕ) (x : rules.Staged) → stage (limit_of old.config) base (a_of withdrawn announced) announce v ≡ x → StagesRecord base (a_of withdrawn announced) x (Ok (code.Wrong n)) s
           → ShowsRouter (on_unit (Answering (a_of withdrawn announced)) u (seen old withdrawn announced held)) (record new { mark = true })
       by_staged withdrawn announced held (rules.Stays a) k h = absurd h
       by_staged withdrawn announced held (rules.Wrong m) k h =
@@ -269,7 +271,7 @@ module _ (old : Machine) (q : Question.Question) (session : ℕ) (is : old.state
           let st : IsStaged base shows.withdrawn shows.announced old.staging = subst (λ x. Stages x old.table shows.withdrawn shows.announced old.staging) is shows.staged in
           ap (λ (x : Router). may_lack x.link u x) shows.is ∙ ap (λ x. may_lack (seen_link x shows.withdrawn shows.announced) u (seen old shows.withdrawn shows.announced r.held)) is
           ∙ lacks_record (a_of shows.withdrawn shows.announced) (seen old shows.withdrawn shows.announced r.held)
-          ∙ by_staged (a_of shows.withdrawn shows.announced) (stage base (a_of shows.withdrawn shows.announced) announce v) (goes (Err Memory) s g shows.withdrawn shows.announced st)
+          ∙ by_staged (a_of shows.withdrawn shows.announced) (stage (limit_of old.config) base (a_of shows.withdrawn shows.announced) announce v) (goes (Err Memory) s g shows.withdrawn shows.announced st)
   refused_staged s TooMany g = (ends_so old s, λ r shows. over r shows)
     where
       by_staged : (r : Router) (b : Begun) (x : rules.Staged) → StagesRecord base b x (Err TooMany) s → staged u x r ≡ record r { link = Ended ends.TooMany }
@@ -283,35 +285,36 @@ module _ (old : Machine) (q : Question.Question) (session : ℕ) (is : old.state
           let m : Router = seen old shows.withdrawn shows.announced r.held in
           ap (λ (x : Router). on_unit x.link u x) shows.is ∙ ap (λ x. on_unit (seen_link x shows.withdrawn shows.announced) u m) is
           ∙ reads_record (a_of shows.withdrawn shows.announced) m
-          ∙ by_staged m (a_of shows.withdrawn shows.announced) (stage base (a_of shows.withdrawn shows.announced) announce v) (goes (Err TooMany) s g shows.withdrawn shows.announced st)
+          ∙ by_staged m (a_of shows.withdrawn shows.announced) (stage (limit_of old.config) base (a_of shows.withdrawn shows.announced) announce v) (goes (Err TooMany) s g shows.withdrawn shows.announced st)
           ∙ ap (λ (x : Router). record x { link = Ended ends.TooMany }) (sym shows.is)
 
 module _ (old : Machine) (q : Question.Question) (session serial refresh retry expire : ℕ) (is : old.state ≡ states.Answering q session) where
   abbrev last_unit : Unit
   last_unit = EndOfData session serial refresh retry expire
 
-  abbrev version_now : CommittedVersion
-  version_now = record { version = old.spoken; session = session; serial = record { 0 = serial }; moment = old.clock; refresh = within 1 86400 refresh; retry = within 1 7200 retry; expire = within 600 172800 expire }
+  abbrev version_now : Committed
+  version_now = record { version = old.spoken; session = session; serial = serial; moment = old.clock; intervals = chosen old.config (bounded refresh retry expire) }
 
-  reads_end : (a : Begun) (r : Router) → a.session ≡ session → on_unit (Answering a) last_unit r ≡ commit a (record { version = r.spoken; session = session; serial = serial; moment = r.now; intervals = bounded refresh retry expire }) r
+  reads_end : (a : Begun) (r : Router) → a.session ≡ session → on_unit (Answering a) last_unit r ≡ commit a (record { version = r.spoken; session = session; serial = serial; moment = r.now; intervals = chosen r.config (bounded refresh retry expire) }) r
   unfolding on_unit
   reads_end a r e =
-      ap (λ b. if b then commit a (record { version = r.spoken; session = session; serial = serial; moment = r.now; intervals = bounded refresh retry expire }) r else fails last_unit r)
+      ap (λ b. if b then commit a (record { version = r.spoken; session = session; serial = serial; moment = r.now; intervals = chosen r.config (bounded refresh retry expire) }) r else fails last_unit r)
       (ap (λ n. session == n) e ∙ eq_self session)
 
   -- what is led to
   abbrev LeadsSo : Result VrpSet SetFault → Type 0
   LeadsSo result = (b : Begun) → IsStaged (base_of (seen_question q) old.table) b.withdrawn b.announced old.staging → LeadsToSet (base_of (seen_question q) old.table) b result
 
-  pub commits_so : (table : VrpSet) (due : ℕ) (s : Staging) (new : Machine) → LeadsSo (Ok table) → due ≡ sum_of old.clock (within 1 86400 refresh)
-      → new ≡ record old { table = table; before = old.table; version = Some version_now; mark = false; due = Some due; no_data = false; state = states.Idle; staging = s }
+  pub commits_so : (table : VrpSet) (v : CommittedVersion) (due : ℕ) (s : Staging) (new : Machine) → LeadsSo (Ok table) → seen_version v ≡ version_now → due ≡ sum_of old.clock v.refresh
+      → new ≡ record old { table = table; before = old.table; version = Some v; mark = false; due = Some due; no_data = false; state = states.Idle; staging = s }
       → Does (λ r. on_unit r.link last_unit r) old new
-  commits_so table due s new leads at e = unit_does last_unit (states.Answering q session) old new is (λ withdrawn announced held st.
+  commits_so table v due s new leads named at e = unit_does last_unit (states.Answering q session) old new is (λ withdrawn announced held st.
       let a : Begun = begun_with q session withdrawn announced in
       let r : Router = seen old withdrawn announced held in
+      let due_is : sum_of old.clock version_now.intervals.refresh ≡ due = ap (λ (x : Committed). sum_of old.clock x.intervals.refresh) (sym named) ∙ sym at in
       subst (λ n. ShowsRouter (on_unit (Answering a) last_unit r) n) (sym e)
-      (shown_as (on_unit (Answering a) last_unit r) (record old { table = table; before = old.table; version = Some version_now; mark = false; due = Some due; no_data = false; state = states.Idle; staging = s }) withdrawn announced held
-      (reads_end a r refl ∙ (λ i. record r { table = sym (leads a st) i; before = r.table; version = Some (seen_version version_now); mark = false; due = Some (sym at i); no_data = false; link = Idle })) tt))
+      (shown_as (on_unit (Answering a) last_unit r) (record old { table = table; before = old.table; version = Some v; mark = false; due = Some due; no_data = false; state = states.Idle; staging = s }) withdrawn announced held
+      (reads_end a r refl ∙ (λ i. record r { table = sym (leads a st) i; before = r.table; version = Some (sym named i); mark = false; due = Some (due_is i); no_data = false; link = Idle })) tt))
 
   pub lacks_end : (s : Staging) (fault : SetFault) → LeadsSo (Err fault) → UnitIsRead (Err fault) last_unit old (record old { staging = s })
   lacks_end s Memory leads = (ends_so old s, λ r shows. ap (λ (x : Router). may_lack x.link last_unit x) shows.is ∙ ap (λ x. may_lack (seen_link x shows.withdrawn shows.announced) last_unit (seen old shows.withdrawn shows.announced r.held)) is ∙ eq_self session)
@@ -329,39 +332,61 @@ pub answering_ends : (q : Question.Question) (session named serial refresh retry
 unfolding on_unit
 answering_ends q session named serial refresh retry expire u is other withdrawn announced r =
     subst (λ x. on_unit (Answering (begun_with q session withdrawn announced)) x r ≡ fails x r) (sym is)
-    (ap (λ b. if b then commit (begun_with q session withdrawn announced) (record { version = r.spoken; session = named; serial = serial; moment = r.now; intervals = bounded refresh retry expire }) r else fails (EndOfData named serial refresh retry expire) r) (no_code named named session refl other))
+    (ap (λ b. if b then commit (begun_with q session withdrawn announced) (record { version = r.spoken; session = named; serial = serial; moment = r.now; intervals = chosen r.config (bounded refresh retry expire) }) r else fails (EndOfData named serial refresh retry expire) r) (no_code named named session refl other))
 
 pub answering_ends_0 : (q : Question.Question) (session named serial : ℕ) (u : Unit) → u ≡ EndOfData0 named serial → (named ≡ session → ⊥) → (withdrawn announced : List Payload) (r : Router)
     → on_unit (Answering (begun_with q session withdrawn announced)) u r ≡ fails u r
 unfolding on_unit
 answering_ends_0 q session named serial u is other withdrawn announced r =
     subst (λ x. on_unit (Answering (begun_with q session withdrawn announced)) x r ≡ fails x r) (sym is)
-    (ap (λ b. if b then commit (begun_with q session withdrawn announced) (record { version = r.spoken; session = named; serial = serial; moment = r.now; intervals = default_intervals }) r else fails (EndOfData0 named serial) r) (no_code named named session refl other))
+    (ap (λ b. if b then commit (begun_with q session withdrawn announced) (record { version = r.spoken; session = named; serial = serial; moment = r.now; intervals = r.config.intervals }) r else fails (EndOfData0 named serial) r) (no_code named named session refl other))
 
--- An End of Data of this session without intervals does what one with the recommended ones does.
-pub end_as_default : (old new : Machine) (q : Question.Question) (session serial : ℕ) (result : Result ⊤ SetFault) → old.state ≡ states.Answering q session
-    → UnitIsRead result (EndOfData session serial 3600 600 7200) old new → UnitIsRead result (EndOfData0 session serial) old new
-unfolding on_unit
-end_as_default old new q session serial result is h = by_result result h
-  where
-    by_link : (l : Link) (withdrawn announced : List Payload) (r : Router) → l ≡ seen_link (states.Answering q session) withdrawn announced → (on_unit l (EndOfData session serial 3600 600 7200) r ≡ on_unit l (EndOfData0 session serial) r) × (may_lack l (EndOfData session serial 3600 600 7200) r ≡ may_lack l (EndOfData0 session serial) r)
-    by_link l withdrawn announced r e =
-        subst (λ x. (on_unit x (EndOfData session serial 3600 600 7200) r ≡ on_unit x (EndOfData0 session serial) r) × (may_lack x (EndOfData session serial 3600 600 7200) r ≡ may_lack x (EndOfData0 session serial) r)) (sym e)
-        (same_session r (session == session) (eq_self session) (begun_with q session withdrawn announced), refl)
-      where
-        same_session : (r : Router) (b : Bool) → b ≡ true → (a : Begun)
-            → (if b then commit a (record { version = r.spoken; session = session; serial = serial; moment = r.now; intervals = default_intervals }) r else fails (EndOfData session serial 3600 600 7200) r)
-            ≡ (if b then commit a (record { version = r.spoken; session = session; serial = serial; moment = r.now; intervals = default_intervals }) r else fails (EndOfData0 session serial) r)
-        same_session r true e a = refl
-        same_session r false e a = false_true e
+-- An interval in range stays as it is.
+not_less : (a b : ℕ) → b ≤ a → nat_lt a b ≡ false
+not_less a b h = grind (arith, nat_tests)
 
-    same : (r : Router) → ShowsRouter r old → (on_unit r.link (EndOfData session serial 3600 600 7200) r ≡ on_unit r.link (EndOfData0 session serial) r) × (may_lack r.link (EndOfData session serial 3600 600 7200) r ≡ may_lack r.link (EndOfData0 session serial) r)
-    same r s = by_link r.link s.withdrawn s.announced r (ap (λ (x : Router). x.link) s.is ∙ ap (λ x. seen_link x s.withdrawn s.announced) is)
+within_range : (low high n : ℕ) → low ≤ n → n ≤ high → within low high n ≡ n
+within_range low high n from to = λ i. if not_less n low from i then low else if not_less high n to i then high else n
 
-    by_result : (result : Result ⊤ SetFault) → UnitIsRead result (EndOfData session serial 3600 600 7200) old new → UnitIsRead result (EndOfData0 session serial) old new
-    by_result (Ok done) h = λ r s. subst (λ n. ShowsRouter n new) (same r s).0 (h r s)
-    by_result (Err Memory) h = (h.0, λ r s. sym (same r s).1 ∙ h.1 r s)
-    by_result (Err TooMany) h = (h.0, λ r s. sym (same r s).0 ∙ h.1 r s)
+own_same : (keeps : Bool) (own told : ℕ) → told ≡ own → own_if keeps own told ≡ own
+own_same true own told e = refl
+own_same false own told e = e
+
+-- A configuration's own intervals are those of a commit that has them.
+own_chosen : (c : RouterConfig) → InRange c.intervals → chosen c (bounded c.intervals.refresh c.intervals.retry c.intervals.expire) ≡ c.intervals
+own_chosen c t =
+    let refresh = own_same c.keeps_refresh c.intervals.refresh _ (within_range 1 86400 c.intervals.refresh t.refresh_from t.refresh_to) in
+    let retry = own_same c.keeps_retry c.intervals.retry _ (within_range 1 7200 c.intervals.retry t.retry_from t.retry_to) in
+    let expire = own_same c.keeps_expire c.intervals.expire _ (within_range 600 172800 c.intervals.expire t.expire_from t.expire_to) in
+    λ i. intervals (refresh i) (retry i) (expire i)
+
+-- An End of Data of this session without intervals does what one with the router's own does.
+module _ (old new : Machine) (q : Question.Question) (session serial : ℕ) (is : old.state ≡ states.Answering q session) (t : InRange old.config.intervals) where
+  abbrev own_unit : Unit
+  own_unit = EndOfData session serial old.config.intervals.refresh old.config.intervals.retry old.config.intervals.expire
+
+  abbrev SameAt : Link → Router → Type 0
+  SameAt l r = (on_unit l own_unit r ≡ on_unit l (EndOfData0 session serial) r) × (may_lack l own_unit r ≡ may_lack l (EndOfData0 session serial) r)
+
+  same_session : (b : Bool) → b ≡ true → (a : Begun) (r : Router) (own : Intervals) → own ≡ r.config.intervals
+      → (if b then commit a (record { version = r.spoken; session = session; serial = serial; moment = r.now; intervals = own }) r else fails own_unit r)
+      ≡ (if b then commit a (record { version = r.spoken; session = session; serial = serial; moment = r.now; intervals = r.config.intervals }) r else fails (EndOfData0 session serial) r)
+  same_session true e a r own h = ap (λ x. commit a (record { version = r.spoken; session = session; serial = serial; moment = r.now; intervals = x }) r) h
+  same_session false e a r own h = false_true e
+
+  same_seen : (withdrawn announced : List Payload) (held : List ℕ) → SameAt (seen_link (states.Answering q session) withdrawn announced) (seen old withdrawn announced held)
+  unfolding on_unit
+  same_seen withdrawn announced held = (same_session (session == session) (eq_self session) (begun_with q session withdrawn announced) (seen old withdrawn announced held) _ (own_chosen old.config t), refl)
+
+  same : (r : Router) → ShowsRouter r old → SameAt r.link r
+  same r s =
+      subst (λ (x : Router). SameAt x.link x) (sym s.is)
+      (subst (λ x. SameAt (seen_link x s.withdrawn s.announced) (seen old s.withdrawn s.announced r.held)) (sym is) (same_seen s.withdrawn s.announced r.held))
+
+  pub end_as_own : (result : Result ⊤ SetFault) → UnitIsRead result own_unit old new → UnitIsRead result (EndOfData0 session serial) old new
+  end_as_own (Ok done) h = λ r s. subst (λ n. ShowsRouter n new) (same r s).0 (h r s)
+  end_as_own (Err Memory) h = (h.0, λ r s. sym (same r s).1 ∙ h.1 r s)
+  end_as_own (Err TooMany) h = (h.0, λ r s. sym (same r s).0 ∙ h.1 r s)
 
 pub answering_key : (key : Key) (u : Unit) → u ≡ RouterKey key → (a : Begun) (r : Router) → on_unit (Answering a) u r ≡ r
 unfolding on_unit

@@ -1,8 +1,9 @@
 -- A router's questions are those that its transcript calls for.
 use Rattle.rtr_ends.proofs.Words.{◌≡◌, ◌⊎◌, ℕ, Bool, true, false, not, ◌&&◌, ◌||◌, ◌==◌, nat_lt, List, [], ◌∷◌, ◌++◌, Some, None, ⊤, refl, sym, ap, ◌∙◌, subst, append_assoc, inl, inr, has, size, Begins, Whole, Faulty, Unit, Prefix, EndOfData, EndOfData0, CacheReset}
 use Rattle.rtr_ends.specs.Answer.{sent}
+use Rattle.rtr_ends.specs.Configuration.{limit_of}
 use Rattle.rtr_ends.specs.LinkRules.{Router, asking, on_unit, staged}
-use Rattle.rtr_ends.specs.Router.{RouterCall, Connects, Receives, Pulls, Speaks, called, played, clocked, close, connects_at, router_pulled, asked_by, reads}
+use Rattle.rtr_ends.specs.Router.{RouterCall, Connects, Receives, Pulls, Speaks, Configures, called, played, clocked, close, connects_at, router_pulled, asked_by, reads}
 use Rattle.rtr_ends.specs.RouterLaws.{RouterAsks, LinkTells}
 use Rattle.rtr_ends.specs.RouterLink.{Link, Closed, Idle, Asked, Answering, Ended, is_idle, is_reading}
 use Rattle.rtr_ends.specs.Transcript.{Question, AskReset, AskSerial, AsksRightly, Begun, Item, At, Opened, Reads, acts_once, acts_wrongly, base_of, choose, does_commit, is_among, kept, later, led_to, marked, next_question, of_version, query, spoken, under_way}
@@ -88,7 +89,7 @@ answering_asks a (Prefix false v) r items none w k once m =
 answering_asks a (Prefix true v) r items none w k once m =
     either (λ s. After (Prefix true v) (staged (Prefix true v) s r) items) (has (base_of a.question r.table) v || is_among v a.announced) _ _
     (λ wrong. record { mark = inr (rw (w, k, wrong)); puts = tt })
-    (λ new. either (λ s. After (Prefix true v) (staged (Prefix true v) s r) items) (nat_lt 16777215 (size (led_to (base_of a.question r.table) a.withdrawn (v ∷ a.announced)))) _ _
+    (λ new. either (λ s. After (Prefix true v) (staged (Prefix true v) s r) items) (nat_lt (limit_of r.config) (size (led_to (base_of a.question r.table) a.withdrawn (v ∷ a.announced)))) _ _
     (λ much. record { mark = rw (w, k, new) m; puts = tt }) (λ fits. record { mark = rw (w, k, new) m; puts = tt }))
 answering_asks a (EndOfData session serial refresh retry expire) r items none w k once m = either (λ n. After (EndOfData session serial refresh retry expire) n items) (session == a.session) _ _
     (λ own. record { mark = inr (rw (w, k, own, once)); puts = tt }) (λ other. record { mark = inl refl; puts = tt })
@@ -177,7 +178,7 @@ bytes_choose memory bytes r (Faulty fault) items some live none c = record { tel
 bytes_choose memory bytes r (Whole u) items some live none c = by_whole (λ n. Tells n.router (n.items ++ items) → Chooses n.router (n.items ++ items)) memory bytes r u
     (λ tells. record { tells = tells; mark = c.mark; asked = c.asked; not_reset = λ h. false_true h })
     (λ tells. reads_choose (record r { held = [] }) u items live none
-    (record { tells = record { kept_is = c.tells.kept_is; due_is = c.tells.due_is; now_is = c.tells.now_is; spoken_is = c.tells.spoken_is; link = c.tells.link }; mark = c.mark; asked = c.asked; not_reset = c.not_reset }) tells)
+    (record { tells = record { kept_is = c.tells.kept_is; due_is = c.tells.due_is; now_is = c.tells.now_is; spoken_is = c.tells.spoken_is; config_is = c.tells.config_is; link = c.tells.link }; mark = c.mark; asked = c.asked; not_reset = c.not_reset }) tells)
     (bytes_add memory bytes r (Whole u) items live none c.tells).tells
 
 -- the clock
@@ -218,6 +219,7 @@ called_chooses (Connects now) r items c =
 called_chooses (Receives now wanting piece) r items c = by_piece Chooses clocked_chooses bytes_choose now wanting piece r items c
 called_chooses (Pulls most) r items c = record { tells = called_tells (Pulls most) r items c.tells; mark = c.mark; asked = c.asked; not_reset = c.not_reset }
 called_chooses (Speaks version) r items c = record { tells = called_tells (Speaks version) r items c.tells; mark = c.mark; asked = c.asked; not_reset = c.not_reset }
+called_chooses (Configures config) r items c = record { tells = called_tells (Configures config) r items c.tells; mark = c.mark; asked = c.asked; not_reset = λ h. refl }
 called_chooses call r items c = by_call Chooses steps_choose call refl r items c
 
 played_choose : (calls : List RouterCall) → Chooses (played calls).router (played calls).items

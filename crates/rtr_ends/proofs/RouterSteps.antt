@@ -11,6 +11,7 @@ use Rattle.rtr_ends.specs.RouterLink.{Ended, is_closed, is_due, is_idle, is_read
 use Rattle.rtr_ends.specs.Seen.{Does, ReadsOrLacks, ShowsRouter, seen_link}
 use Rattle.rtr_ends.specs.RouterShown.{Arrives, Calls, GoesOn, IsShown, CallsLead, LeadsOn, Led, IsLacking, ReceivesSo, TakesOn, fed, is_lacking, is_wanted_by_router, reading, taking}
 use Rattle.rtr_ends.specs.Transcript.{Item, At}
+use Rattle.rtr_ends.specs.declared.configuration.RouterConfig.{RouterConfig}
 use Rattle.rtr_ends.specs.declared.machine.Machine.{Machine}
 use Rattle.rtr_ends.specs.declared.router.Router as code
 use Rattle.rtr_ends.proofs.ConsumedLaws.{router_splits}
@@ -268,7 +269,7 @@ asks_shown old new r n false k idle s machine same = keeps_shown old new r n mac
 pub idle_shown : (old new : code.Router) (r : Router) → IsShown r old → ShowsRouter (asks r).router new.machine → new.reader ≡ old.reader → IsShown (asks r).router new
 unfolding asks
 idle_shown old new r s machine same =
-    asks_shown old new r r (is_idle r.link) (record { held = refl; agreed = refl; spoken = refl; speaks = refl; out = λ none. none; reads_on = λ h. h; closed_on = refl }) (idle_reads r.link) s machine same
+    asks_shown old new r r (is_idle r.link) (record { held = refl; agreed = refl; spoken = refl; speaks = refl; config = refl; out = λ none. none; reads_on = λ h. h; closed_on = refl }) (idle_reads r.link) s machine same
 
 -- Bytes are pulled.
 pub pulls_shown : (old new : code.Router) (r : Router) (most : ℕ) → new ≡ record old { machine = record old.machine { out = drop most old.machine.out } } → IsShown r old → IsShown (router_pulled most r) new
@@ -278,6 +279,10 @@ pulls_shown old new r most e s = search rules
 -- The version of the next connection is set.
 pub speaks_shown : (old : code.Router) (r : Router) (version : Version) → IsShown r old → IsShown (record r { speaks = version }) (record old { machine = record old.machine { speaks = version } })
 speaks_shown old r version s = search rules
+
+-- A configuration is set.
+pub configures_shown : (old : code.Router) (r : Router) (config : RouterConfig) → IsShown r old → IsShown (record r { config = config }) (record old { machine = record old.machine { config = config } })
+configures_shown old r config s = search rules
 
 -- The clock advances to a moment, and an idle link asks if that is due.
 pub ticks_shown : (old new : code.Router) (now : ℕ) (r : Router) → IsShown r old → ShowsRouter (ticks_at now r).router new.machine → new.reader ≡ old.reader → IsShown (ticks_at now r).router new

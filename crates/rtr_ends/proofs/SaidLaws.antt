@@ -7,7 +7,7 @@ use Rattle.rtr_ends.specs.declared.link.End.TheVariants as ends
 use Rattle.rtr_ends.specs.Answer.{report, sent, sent_all}
 use Rattle.rtr_ends.specs.Connection.{agreed_version, fault_code, fault_report}
 use Rattle.rtr_ends.specs.LinkRules.{Router, ask, asking, commit, emptied, on_unit, reports, ended_by}
-use Rattle.rtr_ends.specs.Router.{RouterCall, Connects, Receives, Pulls, Speaks, asked_by, called, clocked, close, connects_at, fault_end, played, reads, router_pulled}
+use Rattle.rtr_ends.specs.Router.{RouterCall, Connects, Receives, Pulls, Speaks, Configures, asked_by, called, clocked, close, connects_at, fault_end, played, reads, router_pulled}
 use Rattle.rtr_ends.specs.RouterLaws.{HasSaid, RouterSays, SaysLast, is_cut, pulled_by, questions_in}
 use Rattle.rtr_ends.specs.RouterLink.{Link, Closed, Idle, Asked, Answering, Ended, is_idle, is_reading}
 use Rattle.rtr_ends.specs.Transcript.{Question, AskReset, AskSerial, Asks, Item, At, Reads, Shut, choose, later, of_version, query, retry_of, sum_of}
@@ -61,7 +61,7 @@ unit_says u r live none = by_unit (UnitSays r.spoken) r.link u r (record {
   begins = λ q session. quiet (record r { agreed = true; session = Some session; link = Answering (record { question = q; session = session; withdrawn = []; announced = [] }) }) none refl refl;
   reported = says_report 0 u r;
   failed = says_report 0 u (emptied r);
-  waits = λ agreed h. quiet (record r { agreed = agreed; link = Idle; due = Some (sum_of r.now (retry_of r.version)); no_data = true }) none refl refl;
+  waits = λ agreed h. quiet (record r { agreed = agreed; link = Idle; due = Some (sum_of r.now (retry_of r.config r.version)); no_data = true }) none refl refl;
   told = λ agreed h code. quiet (ended_by code (record r { agreed = agreed })) none refl refl;
   empties = λ agreed h code. quiet (ended_by code (emptied (record r { agreed = agreed }))) none refl refl;
   stages = λ on a. quiet (record r { link = Answering a }) none refl refl;
@@ -197,7 +197,7 @@ last_closed _ version report e = inl e
 close_says : (given : List ℕ) (r : Router) (items : List Item) → Says given r items → Says given (close r) (Shut ∷ items)
 close_says given r items s = by_close (λ n. Says given n (Shut ∷ items)) r
     (λ is. record { said = record { report = s.said.report; reported = s.said.reported; dropped = s.said.dropped; said = s.said.said; whole = s.said.whole }; idle = s.idle })
-    (λ is. cuts given r (record r { link = Closed; agreed = false; session = None; held = []; out = []; due = Some (sum_of r.now (retry_of r.version)) }) items (Shut ∷ items) refl refl refl refl refl s.said
+    (λ is. cuts given r (record r { link = Closed; agreed = false; session = None; held = []; out = []; due = Some (sum_of r.now (retry_of r.config r.version)) }) items (Shut ∷ items) refl refl refl refl refl s.said
     (last_closed r.link r.spoken s.said.report s.said.reported))
 
 -- an idle link asks
@@ -231,6 +231,8 @@ called_says (Pulls most) given r items s = record {
   idle = λ k. drop_none most r.out (s.idle k);
 }
 called_says (Speaks version) given r items s =
+    record { said = record { report = s.said.report; reported = s.said.reported; dropped = s.said.dropped; said = s.said.said; whole = s.said.whole }; idle = s.idle }
+called_says (Configures config) given r items s =
     record { said = record { report = s.said.report; reported = s.said.reported; dropped = s.said.dropped; said = s.said.said; whole = s.said.whole }; idle = s.idle }
 called_says call given r items s = by_call (Says given) (steps_say given) call refl r items s
 

@@ -1,7 +1,7 @@
 -- A router speaks the version that was set, from the next connection.
 use Rattle.rtr_ends.proofs.Words.{◌≡◌, List, [], ◌∷◌, ◌++◌, refl, ◌∙◌, ap, Version, Unit, Begins, Whole, Faulty}
 use Rattle.rtr_ends.specs.LinkRules.{Router, on_unit}
-use Rattle.rtr_ends.specs.Router.{RouterCall, Connects, Receives, Pulls, Speaks, clocked, close, connects_at, played, reads, router_pulled}
+use Rattle.rtr_ends.specs.Router.{RouterCall, Connects, Receives, Pulls, Speaks, Configures, clocked, close, connects_at, played, reads, router_pulled}
 use Rattle.rtr_ends.specs.RouterLaws.{RouterSpeaks, connected_version, told_version}
 use Rattle.rtr_ends.specs.Transcript.{Item, spoken}
 use Rattle.rtr_ends.proofs.ConsumedUnits.{asked_view}
@@ -54,6 +54,7 @@ called_tells (Receives now wanting piece) calls t =
     by_piece (Told (told_version calls) (connected_version calls)) (steps_tell (told_version calls) (connected_version calls)).clock (bytes_tell (told_version calls) (connected_version calls)) now wanting piece (played calls).router (played calls).items t
 called_tells (Pulls most) calls t = record { speaks = t.speaks; spoken = t.spoken }
 called_tells (Speaks version) calls t = record { speaks = refl; spoken = t.spoken }
+called_tells (Configures config) calls t = record { speaks = t.speaks; spoken = t.spoken }
 called_tells call calls t = by_call (Told (told_version calls) (connected_version calls)) (steps_tell (told_version calls) (connected_version calls)) call refl (played calls).router (played calls).items t
 
 played_tells : (calls : List RouterCall) → Tells calls

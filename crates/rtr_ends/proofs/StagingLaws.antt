@@ -88,21 +88,21 @@ begins q session count old new is fits s made e r shows =
       is = ap (λ (x : Router). record x { agreed = true; session = Some session; link = linked.Answering (begun_with q session [] []) }) shows.is;
     })
 
-module _ (base : VrpSet) (b : Begun) (v : Payload) (s : Staging) (st : IsStaged base b.withdrawn b.announced s) where
+module _ (most : ℕ) (base : VrpSet) (b : Begun) (v : Payload) (s : Staging) (st : IsStaged base b.withdrawn b.announced s) where
   listed_withdrawn : (found : Bool) → found ≡ has s.withdrawn v → is_among v b.withdrawn ≡ found
   listed_withdrawn found is = sym (is ∙ ap (λ x. has x v) st.withdrawn_are ∙ has-set_of b.withdrawn v)
 
   listed_announced : (found : Bool) → found ≡ has s.announced v → is_among v b.announced ≡ found
   listed_announced found is = sym (is ∙ ap (λ x. has x v) st.announced_are ∙ has-set_of b.announced v)
 
-  pub twice_withdrawn : (new : Staging) → has s.withdrawn v ≡ true → GoesTo base b false v (Ok (Wrong 6)) new
+  pub twice_withdrawn : (new : Staging) → has s.withdrawn v ≡ true → GoesTo most base b false v (Ok (Wrong 6)) new
   twice_withdrawn new found = rw (listed_withdrawn true (sym found), and-false (has base v)) refl
 
-  pub lacks_withdrawn : (new : Staging) → has base v ≡ true → has s.withdrawn v ≡ false → GoesTo base b false v (Err Memory) new
+  pub lacks_withdrawn : (new : Staging) → has base v ≡ true → has s.withdrawn v ≡ false → GoesTo most base b false v (Err Memory) new
   lacks_withdrawn new known fresh = rw (known, listed_withdrawn false (sym fresh)) tt
 
   pub stays_withdrawn : (set : VrpSet) (count : ℕ) → has base v ≡ true → has s.withdrawn v ≡ false → set ≡ with_member s.withdrawn v → count ≡ s.count - 1
-      → GoesTo base b false v (Ok Stays) (record s { withdrawn = set; count = count })
+      → GoesTo most base b false v (Ok Stays) (record s { withdrawn = set; count = count })
   stays_withdrawn set count known fresh more less =
       rw (known, unlisted) (staged, refl, refl)
     where
@@ -121,7 +121,7 @@ module _ (base : VrpSet) (b : Begun) (v : Payload) (s : Staging) (st : IsStaged 
         fits = omega (arith, less, st.fits);
       }
 
-  pub twice_announced : (new : Staging) → has s.announced v ≡ true → GoesTo base b true v (Ok (Wrong 7)) new
+  pub twice_announced : (new : Staging) → has s.announced v ≡ true → GoesTo most base b true v (Ok (Wrong 7)) new
   twice_announced new found = rw (listed_announced true (sym found), or-true (has base v)) refl
 
   module _ (out : has base v ≡ false) (fresh : has s.announced v ≡ false) where
@@ -131,18 +131,18 @@ module _ (base : VrpSet) (b : Begun) (v : Payload) (s : Staging) (st : IsStaged 
     more_so : size (led_to base b.withdrawn (v ∷ b.announced)) ≡ s.count + 1
     more_so = size_announced base b.withdrawn b.announced v out unlisted_so ∙ ap (λ n. n + 1) (sym st.count)
 
-    pub over_announced : (new : Staging) → 16777215 ≤ s.count → GoesTo base b true v (Err TooMany) new
-    over_announced new full = rw (out, unlisted_so, more_so, lt_true 16777215 (s.count + 1) (omega (arith, full))) tt
+    pub over_announced : (new : Staging) → most ≤ s.count → GoesTo most base b true v (Err TooMany) new
+    over_announced new full = rw (out, unlisted_so, more_so, lt_true most (s.count + 1) (omega (arith, full))) tt
 
-    fits_so : s.count < 16777215 → nat_lt 16777215 (size (led_to base b.withdrawn (v ∷ b.announced))) ≡ false
+    fits_so : s.count < most → nat_lt most (size (led_to base b.withdrawn (v ∷ b.announced))) ≡ false
     fits_so room = rw more_so (grind (arith, nat_tests))
 
-    pub lacks_announced : (new : Staging) → s.count < 16777215 → GoesTo base b true v (Err Memory) new
+    pub lacks_announced : (new : Staging) → s.count < most → GoesTo most base b true v (Err Memory) new
     lacks_announced new room = rw (out, unlisted_so, fits_so room) tt
 
-    pub stays_announced : (set : VrpSet) (count : ℕ) → s.count < 16777215 → set ≡ with_member s.announced v → count ≡ s.count + 1
-        → GoesTo base b true v (Ok Stays) (record s { announced = set; count = count })
-    stays_announced set count room more one =
+    pub stays_announced : (set : VrpSet) (count : ℕ) → most ≤ 16777215 → s.count < most → set ≡ with_member s.announced v → count ≡ s.count + 1
+        → GoesTo most base b true v (Ok Stays) (record s { announced = set; count = count })
+    stays_announced set count few room more one =
         rw (out, unlisted_so, fits_so room) (staged, refl, refl)
       where
         once : (w : Bool) → (w && may_announce base b.announced) ≡ true → (w && ((not (has base v) && not (is_among v b.announced)) && may_announce base b.announced)) ≡ true
@@ -154,7 +154,7 @@ module _ (base : VrpSet) (b : Begun) (v : Payload) (s : Staging) (st : IsStaged 
           announced_are = more ∙ ap (λ x. with_member x v) st.announced_are;
           once = once (may_withdraw base b.withdrawn) st.once;
           count = one ∙ sym more_so;
-          fits = omega (arith, one, room);
+          fits = omega (arith, one, room, few);
         }
 
 -- Sets that are staged fit.

@@ -8,7 +8,7 @@ use Rattle.rtr_pdu.specs.Payloads.{AreBytes}
 use Rattle.rtr_pdu.specs.declared.device.WriteFailed.{WriteFailed as Failed}
 use Rattle.rtr_ends.specs.Consumed.{came}
 use Rattle.rtr_ends.specs.LinkRules.{Router}
-use Rattle.rtr_ends.specs.Router.{RouterCall, Connects, Receives, Pulls, Closes, AsksNow, Ticks, Speaks, played}
+use Rattle.rtr_ends.specs.Router.{RouterCall, Connects, Receives, Pulls, Closes, AsksNow, Ticks, Speaks, Configures, played}
 use Rattle.rtr_ends.specs.RouterLink.{Link, Idle, Asked, Answering, Ended, is_reading}
 use Rattle.rtr_ends.specs.RouterShown.{CallsLead, Led}
 use Rattle.rtr_ends.specs.declared.fetching.Fetched.{Fetched}
@@ -26,6 +26,7 @@ IsFetchCall now (Closes at) = ⊥
 IsFetchCall now AsksNow = ⊥
 IsFetchCall now (Ticks at) = ⊥
 IsFetchCall now (Speaks version) = ⊥
+IsFetchCall now (Configures config) = ⊥
 
 -- The bytes that these calls, the last first, pulled on the latest connection: questions and reports
 abbrev pub pulled_by : List RouterCall → List ℕ

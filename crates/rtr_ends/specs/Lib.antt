@@ -2,6 +2,7 @@ pub mod Answer
 pub mod Cache
 pub mod CacheState
 pub mod Commit
+pub mod Configuration
 pub mod Connection
 pub mod Consumed
 pub mod Feeding

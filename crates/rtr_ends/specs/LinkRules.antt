@@ -11,15 +11,17 @@ use Rattle.rtr_pdu.specs.declared.version.Version.{Version}
 use Rattle.rtr_pdu.specs.declared.version.Version.TheVariants.{V1}
 use Rattle.rtr_ends.specs.Answer.{report, sent}
 use Rattle.rtr_ends.specs.Transcript.{Question, AskReset, AskSerial, query, Begun, Committed, choose, is_among, led_to, base_of, of_version, session_of, differs, is_serial, is_wrong, bounded, sum_of, retry_of}
-use Rattle.rtr_ends.specs.Timing.{default_intervals}
+use Rattle.rtr_ends.specs.Configuration.{chosen, default_config, limit_of}
+use Rattle.rtr_ends.specs.declared.configuration.RouterConfig.{RouterConfig}
 use Rattle.rtr_ends.specs.RouterLink.{Link, Closed, Idle, Asked, Answering, Ended}
 
--- What a router holds. Of what it committed: the table and the version, the table before the latest commit, and the mark that the next
+-- What a router holds. The configuration in force. Of what it committed: the table and the version, the table before the latest commit, and the mark that the next
 -- query must be a Reset Query. Of time: when an idle link asks, and the greatest moment so far. `no_data`: whether code 2, No Data
 -- Available, and no commit brought a link to idle last. The version of its next connection, and that of its connection, or of the latest
 -- one. Of its connection: the link, whether a version is agreed on, and the session of the latest Cache Response. And what has arrived of a
 -- PDU, and the pending bytes.
 pub record Router : Type 0 where
+  pub config : RouterConfig
   pub table : VrpSet
   pub before : VrpSet
   pub version : Option Committed
@@ -36,7 +38,7 @@ pub record Router : Type 0 where
   pub out : List ℕ
 
 abbrev pub new_router : Router
-new_router = record { table = empty; before = empty; version = None; mark = false; due = None; no_data = false; now = 0; speaks = V1; spoken = V1; link = Closed; agreed = false; session = None; held = []; out = [] }
+new_router = record { config = default_config; table = empty; before = empty; version = None; mark = false; due = None; no_data = false; now = 0; speaks = V1; spoken = V1; link = Closed; agreed = false; session = None; held = []; out = [] }
 
 abbrev pub asking : Question → Router → Router
 asking question r = record r { link = Asked question; out = sent r.spoken (query question) }
@@ -68,7 +70,7 @@ abbrev pub is_news : Option Committed → ℕ → Bool
 is_news None serial = true
 is_news (Some version) serial = is_before version.serial serial
 
--- What a record does to an answer: it is staged, or acts wrongly with this code, or makes the table too large.
+-- What a record does to an answer: it is staged, or acts wrongly with this code, or makes the table larger than it may be.
 pub data Staged : Type 0 where
   Stays : (answer : Begun) → Staged
   Wrong : (code : ℕ) → Staged
@@ -76,12 +78,12 @@ pub data Staged : Type 0 where
 
 -- Code 6, Withdrawal of Unknown Record: it is not in the base, or was withdrawn already. Code 7, Duplicate Announcement Received:
 -- it is in the base, or was announced already.
-abbrev pub stage : VrpSet → Begun → Bool → Payload → Staged
-stage base a false v =
+abbrev pub stage : (most : ℕ) → VrpSet → Begun → Bool → Payload → Staged
+stage most base a false v =
     if has base v && not (is_among v a.withdrawn) then Stays (record a { withdrawn = v ∷ a.withdrawn }) else Wrong UNKNOWN_WITHDRAWAL
-stage base a true v =
+stage most base a true v =
     if has base v || is_among v a.announced then Wrong DUPLICATE_ANNOUNCEMENT
-    else if nat_lt 16777215 (size (led_to base a.withdrawn (v ∷ a.announced))) then Over
+    else if nat_lt most (size (led_to base a.withdrawn (v ∷ a.announced))) then Over
     else Stays (record a { announced = v ∷ a.announced })
 
 abbrev pub staged : Unit → Staged → Router → Router
@@ -104,7 +106,7 @@ commit a version r = record r {
 -- Query empties. All codes but 2 end the link.
 abbrev pub told_off : Question → ℕ → Router → Router
 told_off question code r =
-    if code == NO_DATA_AVAILABLE then record r { link = Idle; due = Some (sum_of r.now (retry_of r.version)); no_data = true }
+    if code == NO_DATA_AVAILABLE then record r { link = Idle; due = Some (sum_of r.now (retry_of r.config r.version)); no_data = true }
     else if code == CORRUPT_DATA && is_serial (Some question) then ended_by code (emptied r)
     else ended_by code r
 
@@ -126,15 +128,15 @@ on_unit (Asked (AskSerial session serial)) CacheReset r = asking AskReset (recor
 on_unit (Asked question) (ErrorReport e) r = told_off question e.code (record r { agreed = true })
 on_unit (Asked question) u r = reports 0 u r
 on_unit (Answering a) (SerialNotify session serial) r = if is_strange r session then fails (SerialNotify session serial) r else r
-on_unit (Answering a) (Prefix announce v) r = staged (Prefix announce v) (stage (base_of a.question r.table) a announce v) r
+on_unit (Answering a) (Prefix announce v) r = staged (Prefix announce v) (stage (limit_of r.config) (base_of a.question r.table) a announce v) r
 on_unit (Answering a) (RouterKey key) r = r
 on_unit (Answering a) (EndOfData session serial refresh retry expire) r =
     if session == a.session
-    then commit a (record { version = r.spoken; session = session; serial = serial; moment = r.now; intervals = bounded refresh retry expire }) r
+    then commit a (record { version = r.spoken; session = session; serial = serial; moment = r.now; intervals = chosen r.config (bounded refresh retry expire) }) r
     else fails (EndOfData session serial refresh retry expire) r
 on_unit (Answering a) (EndOfData0 session serial) r =
     if session == a.session
-    then commit a (record { version = r.spoken; session = session; serial = serial; moment = r.now; intervals = default_intervals }) r
+    then commit a (record { version = r.spoken; session = session; serial = serial; moment = r.now; intervals = r.config.intervals }) r
     else fails (EndOfData0 session serial) r
 on_unit (Answering a) (ErrorReport e) r = told_off a.question e.code r
 on_unit (Answering a) u r = reports 0 u r
@@ -145,7 +147,7 @@ is_staged (Stays a) = true
 is_staged other = false
 
 abbrev pub may_lack : Link → Unit → Router → Bool
-may_lack (Answering a) (Prefix announce v) r = is_staged (stage (base_of a.question r.table) a announce v)
+may_lack (Answering a) (Prefix announce v) r = is_staged (stage (limit_of r.config) (base_of a.question r.table) a announce v)
 may_lack (Answering a) (EndOfData session serial refresh retry expire) r = session == a.session
 may_lack (Answering a) (EndOfData0 session serial) r = session == a.session
 may_lack link u r = false

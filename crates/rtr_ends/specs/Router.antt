@@ -6,13 +6,14 @@ use Rattle.rtr_pdu.specs.Judging.{Judgement, Begins, Whole, Faulty, judge}
 use Rattle.rtr_pdu.specs.Stream.{is_kind}
 use Rattle.rtr_pdu.specs.declared.unit.Unit.{Unit}
 use Rattle.rtr_pdu.specs.declared.unit.UnitFault.{UnitFault}
+use Rattle.rtr_ends.specs.declared.configuration.RouterConfig.{RouterConfig}
 use Rattle.rtr_ends.specs.declared.link.End.{End}
 use Rattle.rtr_ends.specs.declared.link.End.TheVariants as ends
 use Rattle.rtr_ends.specs.Answer.{sent_all}
 use Rattle.rtr_ends.specs.Cache.{is_none, finds_memory, counted}
 use Rattle.rtr_ends.specs.Connection.{agreed_version, fault_code, fault_report}
 use Rattle.rtr_ends.specs.Feeding.{FedPiece, feed}
-use Rattle.rtr_ends.specs.Transcript.{AskSerial, Item, At, Opened, Asks, Reads, Lacks, Breaks, Shut, choose, of_version, is_serial, is_over, later, sum_of, retry_of}
+use Rattle.rtr_ends.specs.Transcript.{AskSerial, Item, At, Opened, Asks, Reads, Lacks, Breaks, Shut, Configured, choose, of_version, is_serial, is_over, later, sum_of, retry_of}
 use Rattle.rtr_ends.specs.LinkRules.{Router, new_router, ask, emptied, on_unit, may_lack}
 use Rattle.rtr_ends.specs.RouterLink.{Link, Closed, Asked, Answering, Ended, is_reading, is_closed, is_due, is_idle}
 
@@ -92,7 +93,7 @@ close r = if is_closed r.link then r else record r {
   session = None;
   held = [];
   out = [];
-  due = Some (sum_of r.now (retry_of r.version));
+  due = Some (sum_of r.now (retry_of r.config r.version));
 }
 
 abbrev pub asks_if : Bool → Router → Noted
@@ -125,7 +126,7 @@ unfoldable pub router_pulled : ℕ → Router → Router
 router_pulled most r = record r { out = drop most r.out }
 
 -- What is called on a router. At `receive` memory may run out at a PDU of the piece, counted from 0. `speak` sets the version of
--- the next connection.
+-- the next connection, `configure` the configuration from now on.
 pub data RouterCall : Type 0 where
   Connects : (now : ℕ) → RouterCall
   Receives : (now : ℕ) → (wanting : Option ℕ) → (piece : List ℕ) → RouterCall
@@ -134,6 +135,7 @@ pub data RouterCall : Type 0 where
   AsksNow : RouterCall
   Ticks : (now : ℕ) → RouterCall
   Speaks : (version : Version) → RouterCall
+  Configures : (config : RouterConfig) → RouterCall
 
 abbrev pub of_received : FedPiece Receiving → Noted
 of_received f = record { router = f.machine.router; items = f.machine.items }
@@ -146,6 +148,7 @@ called (Closes now) r = closed_at now r
 called AsksNow r = asks r
 called (Ticks now) r = ticks_at now r
 called (Speaks version) r = silent (record r { speaks = version })
+called (Configures config) r = record { router = record r { config = config }; items = Configured config ∷ [] }
 
 -- a new router and its transcript after these calls, the last first
 abbrev pub played : List RouterCall → Noted

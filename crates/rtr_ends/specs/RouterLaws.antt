@@ -7,7 +7,7 @@ use Rattle.rtr_pdu.specs.Judging.{Begins, judge}
 use Rattle.rtr_ends.specs.declared.link.End.TheVariants as ends
 use Rattle.rtr_ends.specs.Answer.{report, sent}
 use Rattle.rtr_ends.specs.Feeding.{IsTaken}
-use Rattle.rtr_ends.specs.Transcript.{Item, At, Opened, Asks, choose, query, spoken, of_version, base_of, kept, due, moment, is_connected, waiting, under_way, has_agreed, responded, acts_once, marked, AsksRightly}
+use Rattle.rtr_ends.specs.Transcript.{Item, At, Opened, Asks, choose, query, spoken, of_version, base_of, kept, due, moment, is_connected, configured, waiting, under_way, has_agreed, responded, acts_once, marked, AsksRightly}
 use Rattle.rtr_ends.specs.LinkRules.{Router}
 use Rattle.rtr_ends.specs.Router.{router_stops, Receiving, router_byte, clocked, receives, RouterCall, Connects, Pulls, Speaks, played}
 use Rattle.rtr_ends.specs.RouterLink.{Link, Closed, Idle, Asked, Answering, Ended}
@@ -39,8 +39,8 @@ LinkTells (Answering a) agreed session table items =
     (is_connected items ≡ true) × (waiting items ≡ None) × (under_way items ≡ Some a) × (has_agreed items ≡ agreed) × (responded items ≡ session) × (agreed ≡ true)
     × (acts_once (base_of a.question table) a.withdrawn a.announced ≡ true)
 
--- What a router holds, when it asks, the greatest moment it was given and the version of its latest connection are those of its transcript.
--- Its link is as the transcript says.
+-- What a router holds, when it asks, the greatest moment it was given, the version of its latest connection and its configuration are those
+-- of its transcript. Its link is as the transcript says.
 pub record IsKept (r : Router) (items : List Item) : Type 0 where
   pub table : r.table ≡ (kept items).table
   pub before : r.before ≡ (kept items).before
@@ -48,6 +48,7 @@ pub record IsKept (r : Router) (items : List Item) : Type 0 where
   pub due : r.due ≡ due items
   pub now : r.now ≡ moment items
   pub spoken : r.spoken ≡ spoken items
+  pub config : r.config ≡ configured items
   pub link : LinkTells r.link r.agreed r.session r.table items
 
 abbrev pub RouterKeeps : Type 0

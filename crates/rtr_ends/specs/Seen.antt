@@ -47,6 +47,7 @@ seen_link (states.Ended end) withdrawn announced = Ended end
 -- the router, if these were staged and these bytes have arrived of a PDU
 abbrev pub seen : Machine → List Payload → List Payload → List ℕ → Router
 seen m withdrawn announced held = record {
+  config = m.config;
   table = m.table;
   before = m.before;
   version = seen_versions m.version;

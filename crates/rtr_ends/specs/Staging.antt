@@ -1,5 +1,5 @@
 -- What a record does to what is staged.
-use Rattle.std.specs.Prelude.{◌≡◌, Bool, Result, Ok, Err, ⊤}
+use Rattle.std.specs.Prelude.{◌≡◌, ℕ, Bool, Result, Ok, Err, ⊤}
 use Rattle.prefixes.specs.Payload.{Payload}
 use Rattle.vrps.specs.VrpSet.{VrpSet}
 use Rattle.vrps.specs.declared.set.SetFault.{SetFault}
@@ -19,8 +19,8 @@ StagesRecord base b (rules.Wrong code) (Ok (Wrong told)) new = told ≡ code
 StagesRecord base b rules.Over (Err TooMany) new = ⊤
 StagesRecord base b staged answer new = ⊥
 
-abbrev pub GoesTo : VrpSet → Begun → Bool → Payload → Result Staged SetFault → Staging → Type 0
-GoesTo base b announce v answer new = StagesRecord base b (rules.stage base b announce v) answer new
+abbrev pub GoesTo : (most : ℕ) → VrpSet → Begun → Bool → Payload → Result Staged SetFault → Staging → Type 0
+GoesTo most base b announce v answer new = StagesRecord base b (rules.stage most base b announce v) answer new
 
 -- The answer ends. Out of memory is the only error.
 abbrev pub LeadsToSet : VrpSet → Begun → Result VrpSet SetFault → Type 0

@@ -13,7 +13,9 @@ use Rattle.rtr_pdu.specs.declared.unit.Unit.{Unit}
 use Rattle.rtr_pdu.specs.declared.unit.Unit.TheVariants.{SerialNotify, SerialQuery, ResetQuery, CacheResponse, Prefix, EndOfData, EndOfData0, CacheReset, RouterKey, ErrorReport}
 use Rattle.rtr_pdu.specs.declared.unit.UnitFault.{UnitFault}
 use Rattle.rtr_ends.specs.Commit.{Commits}
-use Rattle.rtr_ends.specs.Timing.{Intervals, default_intervals, intervals}
+use Rattle.rtr_ends.specs.Configuration.{chosen, default_config}
+use Rattle.rtr_ends.specs.Timing.{Intervals, intervals}
+use Rattle.rtr_ends.specs.declared.configuration.RouterConfig.{RouterConfig}
 
 -- A question: for all, or for what changed since a version (RFC 8210 sections 5.3 and 5.4)
 pub data Question : Type 0 where
@@ -25,7 +27,8 @@ query AskReset = ResetQuery
 query (AskSerial session serial) = SerialQuery session serial
 
 -- What happens at a router. A moment is given, a connection is made, of a version, or closed, or a question is put. A PDU is read, or it is
--- and memory for it runs out, or bytes show a fault. The world refuses an event because memory ran out. The router is a new one.
+-- and memory for it runs out, or bytes show a fault. The world refuses an event because memory ran out. The router is a new one. A
+-- configuration is set.
 pub data Item : Type 0 where
   At : (now : ℕ) → Item
   Opened : (version : Version) → Item
@@ -36,6 +39,7 @@ pub data Item : Type 0 where
   Refused : Item
   Shut : Item
   Restarts : Item
+  Configured : (config : RouterConfig) → Item
 
 -- the greatest moment given
 abbrev pub later : ℕ → ℕ → ℕ
@@ -62,12 +66,20 @@ spoken (Restarts ∷ items) = V1
 spoken (Opened version ∷ items) = version
 spoken (item ∷ items) = spoken items
 
--- the question of which no answer has begun. Notifies and moments leave it.
+-- the configuration in force: the one that was set last for this router, else the default
+abbrev pub configured : List Item → RouterConfig
+configured [] = default_config
+configured (Restarts ∷ items) = default_config
+configured (Configured config ∷ items) = config
+configured (item ∷ items) = configured items
+
+-- the question of which no answer has begun. Notifies, moments and configurations leave it.
 abbrev pub waiting : List Item → Option Question
 waiting [] = None
 waiting (Asks question ∷ items) = Some question
 waiting (Reads (SerialNotify session serial) ∷ items) = waiting items
 waiting (At now ∷ items) = waiting items
+waiting (Configured config ∷ items) = waiting items
 waiting (item ∷ items) = None
 
 -- an answer that has begun: its question, the session of its Cache Response, and its records
@@ -86,7 +98,8 @@ with_record announce v None = None
 with_record false v (Some a) = Some (record a { withdrawn = v ∷ a.withdrawn })
 with_record true v (Some a) = Some (record a { announced = v ∷ a.announced })
 
--- A Cache Response to the question that waits, then records, Router Keys and notifies alone (RFC 8210 section 8.1)
+-- A Cache Response to the question that waits, then records, Router Keys and notifies alone (RFC 8210 section 8.1). Moments and
+-- configurations leave it.
 abbrev pub under_way : List Item → Option Begun
 under_way [] = None
 under_way (Reads (CacheResponse session) ∷ items) = begun (waiting items) session
@@ -94,6 +107,7 @@ under_way (Reads (Prefix announce v) ∷ items) = with_record announce v (under_
 under_way (Reads (SerialNotify session serial) ∷ items) = under_way items
 under_way (Reads (RouterKey key) ∷ items) = under_way items
 under_way (At now ∷ items) = under_way items
+under_way (Configured config ∷ items) = under_way items
 under_way (item ∷ items) = None
 
 -- the question that is outstanding, answered in part or not at all
@@ -234,11 +248,13 @@ at_end_of_data (Some a) version k =
 
 -- What a PDU that is read changes. That is an End of Data, or one of three that drop what is kept. The three are: a notify of another
 -- session than the connection's after agreement, a Cache Response of another session to a Serial Query, and code 0, Corrupt Data, to one.
+-- A commit has the intervals of the End of Data, but for those that the configuration keeps. In version 0 it has the configured ones, since
+-- the End of Data has none (RFC 6810 section 5.8).
 abbrev pub kept_unit : Unit → List Item → Kept → Kept
 kept_unit (EndOfData session serial refresh retry expire) items k =
-    at_end_of_data (under_way items) (record { version = spoken items; session = session; serial = serial; moment = moment items; intervals = bounded refresh retry expire }) k
+    at_end_of_data (under_way items) (record { version = spoken items; session = session; serial = serial; moment = moment items; intervals = chosen (configured items) (bounded refresh retry expire) }) k
 kept_unit (EndOfData0 session serial) items k =
-    at_end_of_data (under_way items) (record { version = spoken items; session = session; serial = serial; moment = moment items; intervals = default_intervals }) k
+    at_end_of_data (under_way items) (record { version = spoken items; session = session; serial = serial; moment = moment items; intervals = (configured items).intervals }) k
 kept_unit (SerialNotify session serial) items k = emptied_if (has_agreed items && differs (session_of (responded items) (of_version (spoken items) k.version)) session) k
 kept_unit (CacheResponse session) items k = emptied_if (is_wrong (waiting items) (of_version (spoken items) k.version) session) k
 kept_unit (ErrorReport r) items k = emptied_if (r.code == CORRUPT_DATA && is_serial (outstanding items)) k
@@ -267,17 +283,17 @@ is_commit items = false
 abbrev pub sum_of : ℕ → ℕ → ℕ
 sum_of a b = if nat_lt 18446744073709551615 (a + b) then 18446744073709551615 else a + b
 
--- the retry interval; if nothing is committed, the one that the standard recommends (RFC 8210 section 6)
-abbrev pub retry_of : Option Committed → ℕ
-retry_of None = 600
-retry_of (Some version) = version.intervals.retry
+-- the retry interval; if nothing is committed, the configured one (RFC 8210 section 6)
+abbrev pub retry_of : RouterConfig → Option Committed → ℕ
+retry_of config None = config.intervals.retry
+retry_of config (Some version) = version.intervals.retry
 
 abbrev pub refreshed : Option Committed → Option ℕ
 refreshed None = None
 refreshed (Some version) = Some (sum_of version.moment version.intervals.refresh)
 
 abbrev pub retried : List Item → Option ℕ
-retried items = Some (sum_of (moment items) (retry_of (kept items).version))
+retried items = Some (sum_of (moment items) (retry_of (configured items) (kept items).version))
 
 -- When an idle router asks again: refresh after a commit; retry after the end of a connection, and after code 2, No Data
 -- Available, to a question

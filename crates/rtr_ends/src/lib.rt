@@ -25,6 +25,7 @@
 #![tactic(auto)]
 
 mod cache;
+mod configuration;
 mod fetching;
 pub mod laws;
 mod link;
@@ -46,6 +47,7 @@ mod table;
 mod timing;
 
 pub use cache::{Cache, Conn};
+pub use configuration::RouterConfig;
 pub use fetching::{Fetched, fetch_stream};
 pub use link::{AskFault, End, Link};
 pub use question::CommittedVersion;

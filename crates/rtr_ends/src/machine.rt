@@ -12,6 +12,7 @@ ghost use Rattle.rtr_ends.specs.LinkRules as rules;
 ghost use Rattle.rtr_ends.specs.Seen.{seen_question, seen_versions};
 ghost use Rattle.rtr_ends.specs.Transcript.{choose, of_version, query};
 
+use crate::configuration::RouterConfig;
 use crate::link::End;
 use crate::outbox::Outbox;
 use crate::question::{CommittedVersion, Question};
@@ -37,6 +38,7 @@ pub enum State {
 #[derive(Debug, Drop)]
 pub struct Machine {
     pub alloc: Global,
+    pub config: RouterConfig,
     pub table: Table,
     /// The records before the latest commit, none if nothing is committed.
     pub before: VrpSet,
@@ -71,6 +73,7 @@ impl Machine {
     {
         Machine {
             alloc,
+            config: RouterConfig::default(),
             table: Table::empty(alloc),
             before: VrpSet::empty(alloc),
             version: None,

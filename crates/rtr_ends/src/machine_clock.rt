@@ -109,11 +109,11 @@ impl Machine {
 
     /// When to try again after a failure.
     pub fn retry_moment(&self) -> u64
-        ensures { result ≡ sum_of self.now.clock (retry_of (seen_versions self.now.version)) }
+        ensures { result ≡ sum_of self.now.clock (retry_of self.now.config (seen_versions self.now.version)) }
     {
         let retry = match &self.version {
             Some(version) => version.retry,
-            None => 600,
+            None => self.config.intervals.retry(),
         };
         self.clock.saturating_add(u64::from(retry))
     }

@@ -7,9 +7,11 @@ ghost use Rattle.rtr_ends.specs.Answer.{report, sent};
 ghost use Rattle.rtr_ends.specs.Router as model;
 ghost use Rattle.rtr_ends.specs.RouterLink as linked;
 ghost use Rattle.rtr_ends.specs.LinkRules as rules;
-ghost use Rattle.rtr_ends.specs.Seen.{seen_question, seen_versions};
-ghost use Rattle.rtr_ends.specs.Transcript.{base_of, differs, is_wrong, of_version, session_of};
+ghost use Rattle.rtr_ends.specs.Configuration.{chosen};
+ghost use Rattle.rtr_ends.specs.Seen.{seen_question, seen_version, seen_versions};
+ghost use Rattle.rtr_ends.specs.Transcript.{base_of, bounded, differs, is_wrong, of_version, session_of};
 
+use crate::configuration::own_if;
 use crate::link::End;
 use crate::machine::{Machine, State};
 use crate::question::{CommittedVersion, Question, within};
@@ -244,7 +246,8 @@ impl Machine {
         ensures { (session : ℕ) → self.old.state ≡ states.Answering question session → UnitIsRead result (Unit.Prefix announce vrp.now) self.old self.new }
     {
         let in_base = self.is_in_base(question, vrp);
-        match self.staging.take(in_base, announce, vrp) {
+        let most = self.config.limit();
+        match self.staging.take(most, in_base, announce, vrp) {
             Ok(Staged::Stays) => Ok(()),
             Ok(Staged::Wrong(code)) => {
                 self.send_prefix_report(code, announce, vrp);
@@ -268,6 +271,38 @@ impl Machine {
         self.send_report(code, &unit);
     }
 
+    /// The version that an End of Data commits. The intervals that the configuration keeps are the router's own.
+    fn version_of(
+        &self,
+        session: u16,
+        serial: u32,
+        refresh: u32,
+        retry: u32,
+        expire: u32,
+    ) -> CommittedVersion
+        ensures { seen_version result ≡ record { version = self.now.spoken; session = session; serial = serial; moment = self.now.clock; intervals = chosen self.now.config (bounded refresh retry expire) } }
+    {
+        let config = &self.config;
+        let own = &config.intervals;
+        CommittedVersion {
+            version: self.spoken,
+            session,
+            serial: Serial(serial),
+            moment: self.clock,
+            refresh: own_if(
+                config.keeps_refresh,
+                own.refresh(),
+                within(1, 86_400, refresh),
+            ),
+            retry: own_if(config.keeps_retry, own.retry(), within(1, 7_200, retry)),
+            expire: own_if(
+                config.keeps_expire,
+                own.expire(),
+                within(600, 172_800, expire),
+            ),
+        }
+    }
+
     /// The end of an answer: what is staged becomes the table, under this name.
     fn commit(
         &mut self,
@@ -280,23 +315,15 @@ impl Machine {
     ) -> Result<(), SetFault>
         ensures { self.old.state ≡ states.Answering question session → UnitIsRead result (Unit.EndOfData session serial refresh retry expire) self.old self.new }
     {
+        let version = self.version_of(session, serial, refresh, retry, expire);
         let staging = mem::replace(&mut self.staging, Staging::over(self.alloc, 0));
         match staging.end(self.alloc, question, &self.table) {
             Ok(table) => {
-                let refresh = within(1, 86_400, refresh);
                 let before = mem::replace(&mut self.table, table);
                 self.before = before.into_set();
-                self.version = Some(CommittedVersion {
-                    version: self.spoken,
-                    session,
-                    serial: Serial(serial),
-                    moment: self.clock,
-                    refresh,
-                    retry: within(1, 7_200, retry),
-                    expire: within(600, 172_800, expire),
-                });
+                self.version = Some(version);
                 self.mark = false;
-                self.due = Some(self.clock.saturating_add(u64::from(refresh)));
+                self.due = Some(self.clock.saturating_add(u64::from(version.refresh)));
                 self.no_data = false;
                 self.state = State::Idle;
                 Ok(())
@@ -305,11 +332,14 @@ impl Machine {
         }
     }
 
-    /// The end of an answer of version 0, which carries no intervals: those that the standard recommends are kept.
+    /// The end of an answer of version 0, which carries no intervals: the configured ones count.
     fn commit_0(&mut self, question: Question, session: u16, serial: u32) -> Result<(), SetFault>
         ensures { self.old.state ≡ states.Answering question session → UnitIsRead result (Unit.EndOfData0 session serial) self.old self.new }
     {
-        self.commit(question, session, serial, 3600, 600, 7200)
+        let refresh = self.config.intervals.refresh();
+        let retry = self.config.intervals.retry();
+        let expire = self.config.intervals.expire();
+        self.commit(question, session, serial, refresh, retry, expire)
     }
 
     /// An Error Report to the question that is outstanding. Code 2, No Data Available, leaves the link idle. Code 0, Corrupt Data, to a

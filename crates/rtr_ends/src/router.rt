@@ -7,12 +7,13 @@ ghost use Rattle.rtr_ends.specs.RouterLink as linked;
 ghost use Rattle.rtr_ends.specs.LinkRules as rules;
 ghost use Rattle.rtr_ends.specs.Router.{called};
 ghost use Rattle.rtr_ends.specs.Seen.{ShowsRouter, seen_link, seen_versions};
-ghost use Rattle.rtr_ends.specs.Transcript.{due, kept, last_change};
+ghost use Rattle.rtr_ends.specs.Transcript.{configured, due, kept, last_change};
 ghost use Rattle.rtr_ends.specs.Wake.{WakesAt};
 ghost use Rattle.rtr_ends.specs.Peer.{HasBufferRoom};
 ghost use Rattle.rtr_ends.specs.RouterLink.{asked_on, name_of, told_link};
 ghost use Rattle.vrps.specs.Origin.{covering, state};
 
+use crate::configuration::RouterConfig;
 use crate::link::{AskFault, Link};
 use crate::machine::{Machine, State};
 use crate::question::CommittedVersion;
@@ -48,6 +49,23 @@ impl Router {
         ensures leads { LeadsOn (model.Speaks version) self.old self.new }
     {
         self.machine.speaks = version;
+    }
+
+    /// Sets the configuration, from now on: for the commits to come, and for the records that are still to be staged. What is committed
+    /// keeps its intervals. It sends nothing, and allocates nothing.
+    pub fn configure(&mut self, config: RouterConfig)
+        ensures calls { Calls (λ r. (called (model.Configures config) r).router) self.old self.new }
+        ensures leads { LeadsOn (model.Configures config) self.old self.new }
+    {
+        self.machine.config = config;
+    }
+
+    /// The configuration: the one that was set last, else the default.
+    pub fn config(&self) -> RouterConfig
+        ensures shown { (r : rules.Router) → IsShown r self.now → result ≡ r.config }
+        ensures kept { (calls : List model.RouterCall) → CallsLead calls self.now → result ≡ configured (model.played calls).items }
+    {
+        self.machine.config
     }
 
     /// A connection is made, of the version that was set last, and a query is sent on it. An older connection is closed. It allocates

@@ -1,5 +1,5 @@
 //! What an answer under way has staged over its base.
-ghost use Rattle.std.specs.Prelude.{◌≡◌, IfOk, IsErrOf, true, false};
+ghost use Rattle.std.specs.Prelude.{◌≡◌, ℕ, IfOk, IsErrOf, true, false, ◌≤◌};
 ghost use Rattle.vrps.specs.VrpSet.{VrpSet as Vrps, empty, has, size, set_of, union, without};
 ghost use Rattle.rtr_ends.specs.Transcript.{Begun, base_of};
 
@@ -45,8 +45,8 @@ impl Staging {
 
     /// A record is withdrawn: code 6 if it is not in the base, or was withdrawn already. Without memory nothing is staged.
     pub fn withdraw(&mut self, in_base: bool, vrp: &Vrp) -> Result<Staged, SetFault>
-        ensures { (base : Vrps) (b : Begun) → IsStaged base b.withdrawn b.announced self.old → in_base ≡ has base vrp.now
-            → GoesTo base b false vrp.now result self.new }
+        ensures { (most : ℕ) (base : Vrps) (b : Begun) → IsStaged base b.withdrawn b.announced self.old → in_base ≡ has base vrp.now
+            → GoesTo most base b false vrp.now result self.new }
     {
         if !in_base {
             return Ok(Staged::Wrong(error_code::UNKNOWN_WITHDRAWAL));
@@ -61,16 +61,16 @@ impl Staging {
         }
     }
 
-    /// A record is announced: code 7 if it is in the base, or was announced already; `TooMany` if the table would have more records than a
-    /// set may have. Without memory nothing is staged.
-    pub fn announce(&mut self, in_base: bool, vrp: &Vrp) -> Result<Staged, SetFault>
-        ensures { (base : Vrps) (b : Begun) → IsStaged base b.withdrawn b.announced self.old → in_base ≡ has base vrp.now
-            → GoesTo base b true vrp.now result self.new }
+    /// A record is announced: code 7 if it is in the base, or was announced already; `TooMany` if the table would have more records than
+    /// `most`. Without memory nothing is staged.
+    pub fn announce(&mut self, most: usize, in_base: bool, vrp: &Vrp) -> Result<Staged, SetFault>
+        ensures { (base : Vrps) (b : Begun) → most ≤ 16777215 → IsStaged base b.withdrawn b.announced self.old → in_base ≡ has base vrp.now
+            → GoesTo most base b true vrp.now result self.new }
     {
         if in_base {
             return Ok(Staged::Wrong(error_code::DUPLICATE_ANNOUNCEMENT));
         }
-        if self.count >= VrpSet::LIMIT {
+        if self.count >= most {
             if self.announced.contains(vrp) {
                 return Ok(Staged::Wrong(error_code::DUPLICATE_ANNOUNCEMENT));
             }
@@ -87,12 +87,18 @@ impl Staging {
     }
 
     /// A record comes: it is staged, or acts wrongly.
-    pub fn take(&mut self, in_base: bool, announce: bool, vrp: &Vrp) -> Result<Staged, SetFault>
-        ensures { (base : Vrps) (b : Begun) → IsStaged base b.withdrawn b.announced self.old → in_base ≡ has base vrp.now
-            → GoesTo base b announce vrp.now result self.new }
+    pub fn take(
+        &mut self,
+        most: usize,
+        in_base: bool,
+        announce: bool,
+        vrp: &Vrp,
+    ) -> Result<Staged, SetFault>
+        ensures { (base : Vrps) (b : Begun) → most ≤ 16777215 → IsStaged base b.withdrawn b.announced self.old → in_base ≡ has base vrp.now
+            → GoesTo most base b announce vrp.now result self.new }
     {
         if announce {
-            self.announce(in_base, vrp)
+            self.announce(most, in_base, vrp)
         } else {
             self.withdraw(in_base, vrp)
         }

@@ -1,0 +1,60 @@
+//! What a caller configures of a router.
+ghost use Rattle.std.specs.Prelude.{◌≡◌, ◌≤◌};
+ghost use Rattle.rtr_ends.specs.Configuration.{default_config, limit_of, own_if};
+
+use crate::timing::Timing;
+use vrps::VrpSet;
+
+/// The configuration of a router: intervals of its own, in seconds (RFC 8210 section 6), and the most records. An interval that is kept
+/// stands whatever an End of Data says. The others apply where no End of Data says any: in version 0, which carries none (RFC 6810), and,
+/// for retry, before the first commit.
+#[derive(Clone, Copy, Debug, PartialEq, Eq)]
+pub struct RouterConfig {
+    /// The router's own intervals.
+    pub intervals: Timing,
+    /// Whether refresh is kept.
+    pub keeps_refresh: bool,
+    /// Whether retry is kept.
+    pub keeps_retry: bool,
+    /// Whether expire is kept.
+    pub keeps_expire: bool,
+    /// The most records of the table to which an answer may lead. More than 16,777,215 counts as that.
+    pub most: u32,
+}
+
+impl RouterConfig {
+    /// The most records of a table.
+    pub(crate) fn limit(&self) -> usize
+        ensures limit { result ≡ limit_of self.now }
+        ensures fits { result ≤ 16777215 }
+    {
+        let most = self.most as usize;
+        if VrpSet::LIMIT < most {
+            VrpSet::LIMIT
+        } else {
+            most
+        }
+    }
+}
+
+impl Default for RouterConfig {
+    ghost is_default = { λ c. c ≡ default_config };
+
+    /// The intervals of `Timing::default()`, none of which is kept, and at most 16,777,215 records.
+    fn default() -> RouterConfig {
+        RouterConfig {
+            intervals: Timing::default(),
+            keeps_refresh: false,
+            keeps_retry: false,
+            keeps_expire: false,
+            most: 16_777_215,
+        }
+    }
+}
+
+/// An interval of a router's own if it keeps that, else the one of an End of Data.
+pub fn own_if(keeps: bool, own: u32, told: u32) -> u32
+    ensures { result ≡ own_if keeps own told }
+{
+    if keeps { own } else { told }
+}
