@@ -83,7 +83,8 @@ closing l r items is t h = record {
   kept_is = t.kept_is;
   due_is = rw (connected l r.agreed r.session r.table items refl h, t.now_is, t.kept_is, t.config_is);
   now_is = t.now_is;
-  spoken_is = t.spoken_is; config_is = t.config_is;
+  spoken_is = t.spoken_is;
+  config_is = t.config_is;
   closed = refl;
   agreed = refl;
   session = refl;

@@ -8,6 +8,7 @@ pub mod CallRows
 pub mod CallSteps
 pub mod CommitLaws
 pub mod CountedRows
+pub mod ConfigurationRows
 pub mod ConsumedLaws
 pub mod ConsumedUnits
 pub mod Effects

@@ -50,7 +50,7 @@ not_over : (base : VrpSet) (a : Begun) (x : Payload) → has base x ≡ false �
 not_over base a x known once much = λ i. if known i || once i then Wrong 7 else if much i then Over else Stays (record a { announced = x ∷ a.announced })
 
 -- ends the link, and nothing is sent.
-abbrev by_stage : ℕ → Payload → Bool → Router → Staged → Noted
+abbrev pub by_stage : ℕ → Payload → Bool → Router → Staged → Noted
 by_stage now x announce r st =
     let k : Router = staged (Prefix announce x) st r in
     let n : Noted = if is_staged st && false then lacks (Prefix announce x) r else record { router = k; items = asked_by k.link k.out ++ Reads (Prefix announce x) ∷ [] } in

@@ -1,5 +1,5 @@
 -- What a caller configures of a router: intervals of its own, and the most records (RFC 8210 section 6).
-use Rattle.std.specs.Prelude.{ℕ, Bool, true, false, nat_lt, if◌then◌else◌}
+use Rattle.std.specs.Prelude.{ℕ, Bool, false, nat_lt, if◌then◌else◌}
 use Rattle.rtr_ends.specs.Timing.{Intervals, default_intervals, intervals}
 use Rattle.rtr_ends.specs.declared.configuration.RouterConfig.{RouterConfig}
 

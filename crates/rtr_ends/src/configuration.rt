@@ -5,9 +5,9 @@ ghost use Rattle.rtr_ends.specs.Configuration.{default_config, limit_of, own_if}
 use crate::timing::Timing;
 use vrps::VrpSet;
 
-/// The configuration of a router: intervals of its own, in seconds (RFC 8210 section 6), and the most records. An interval that is kept
-/// stands whatever an End of Data says. The others apply where no End of Data says any: in version 0, which carries none (RFC 6810), and,
-/// for retry, before the first commit.
+/// The configuration of a router: its own intervals (RFC 8210 section 6), and the most records. An interval that is kept holds whatever an
+/// End of Data says. The others hold where no End of Data says any: in version 0, which has none (RFC 6810), and, for retry, before the
+/// first commit. If only some are kept, expire is not compared with the others: data may expire before they are refreshed.
 #[derive(Clone, Copy, Debug, PartialEq, Eq)]
 pub struct RouterConfig {
     /// The router's own intervals.

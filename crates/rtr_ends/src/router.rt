@@ -61,11 +61,11 @@ impl Router {
     }
 
     /// The configuration: the one that was set last, else the default.
-    pub fn config(&self) -> RouterConfig
-        ensures shown { (r : rules.Router) → IsShown r self.now → result ≡ r.config }
-        ensures kept { (calls : List model.RouterCall) → CallsLead calls self.now → result ≡ configured (model.played calls).items }
+    pub fn config(&self) -> &RouterConfig
+        ensures shown { (r : rules.Router) → IsShown r self.now → result.now ≡ r.config }
+        ensures kept { (calls : List model.RouterCall) → CallsLead calls self.now → result.now ≡ configured (model.played calls).items }
     {
-        self.machine.config
+        &self.machine.config
     }
 
     /// A connection is made, of the version that was set last, and a query is sent on it. An older connection is closed. It allocates
