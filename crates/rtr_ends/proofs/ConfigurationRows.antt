@@ -49,7 +49,7 @@ end_0 = EndOfData0 0x1234 5
 abbrev with_intervals : Version → Intervals → Committed
 with_intervals version own = record { version = version; session = 0x1234; serial = 5; moment = 200; intervals = own }
 
--- A commit of version 1 has its own intervals where they are kept, one of version 0 has all of them. The next question is due by them.
+-- A commit of version 1 has those of its own intervals that are kept, one of version 0 has all. The next question is due by them.
 commits_own : ((kept (answered V1 end_1 (Configured (keeps false true false) ∷ []))).version ≡ Some (with_intervals V1 (intervals 3600 60 7200)))
     × ((kept (answered V0 end_0 (Configured none ∷ []))).version ≡ Some (with_intervals V0 (intervals 900 60 1800)))
     × ((kept (answered V0 end_0 [])).version ≡ Some (with_intervals V0 default_intervals)) × (due (answered V1 end_1 (Configured all ∷ [])) ≡ Some 1100)

@@ -8,7 +8,7 @@ use Rattle.rtr_ends.specs.declared.configuration.RouterConfig.{RouterConfig}
 abbrev pub default_config : RouterConfig
 default_config = record { intervals = default_intervals; keeps_refresh = false; keeps_retry = false; keeps_expire = false; most = 16777215 }
 
--- an interval of its own if that is kept, else the one of an End of Data
+-- an interval of its own if that is kept, otherwise the one of an End of Data
 abbrev pub own_if : Bool → ℕ → ℕ → ℕ
 own_if keeps own told = if keeps then own else told
 

@@ -66,7 +66,7 @@ spoken (Restarts ∷ items) = V1
 spoken (Opened version ∷ items) = version
 spoken (item ∷ items) = spoken items
 
--- the configuration in force: the one that was set last for this router, else the default
+-- the configuration: the one that was set last for this router, the default if none was set
 abbrev pub configured : List Item → RouterConfig
 configured [] = default_config
 configured (Restarts ∷ items) = default_config

@@ -6,8 +6,8 @@ use crate::timing::Timing;
 use vrps::VrpSet;
 
 /// The configuration of a router: its own intervals (RFC 8210 section 6), and the most records. An interval that is kept holds whatever an
-/// End of Data says. The others hold where no End of Data says any: in version 0, which has none (RFC 6810), and, for retry, before the
-/// first commit. If only some are kept, expire is not compared with the others: data may expire before they are refreshed.
+/// End of Data says. The others hold if no End of Data says any: in version 0 (RFC 6810), and, for retry, before the first commit. If only
+/// some are kept, expire is not compared with the others: data may expire before they are refreshed.
 #[derive(Clone, Copy, Debug, PartialEq, Eq)]
 pub struct RouterConfig {
     /// The router's own intervals.
@@ -52,7 +52,7 @@ impl Default for RouterConfig {
     }
 }
 
-/// An interval of a router's own if it keeps that, else the one of an End of Data.
+/// An interval of a router's own if it keeps that, otherwise the one of an End of Data.
 pub fn own_if(keeps: bool, own: u32, told: u32) -> u32
     ensures { result ≡ own_if keeps own told }
 {

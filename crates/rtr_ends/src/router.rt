@@ -60,7 +60,7 @@ impl Router {
         self.machine.config = config;
     }
 
-    /// The configuration: the one that was set last, else the default.
+    /// The configuration that was set last, the default if none was set.
     pub fn config(&self) -> &RouterConfig
         ensures shown { (r : rules.Router) → IsShown r self.now → result.now ≡ r.config }
         ensures kept { (calls : List model.RouterCall) → CallsLead calls self.now → result.now ≡ configured (model.played calls).items }
