@@ -104,7 +104,7 @@ module _ (base set : VrpSet) (ws vs : List Payload) (c : Commits base ws vs set)
   announces a (w ∷ rest) once known none gone come =
       let less = size_le (led_to base a.withdrawn (w ∷ a.announced)) set (within a w rest gone come) in
       let room : nat_lt 16777215 (size (led_to base a.withdrawn (w ∷ a.announced))) ≡ false = not_over (size (led_to base a.withdrawn (w ∷ a.announced))) (omega (arith, less, fits)) in
-      let e : stage base a true w ≡ Stays (record a { announced = w ∷ a.announced }) = λ i. if known.0 i || none.0 i then Wrong 7 else if room i then Over else Stays (record a { announced = w ∷ a.announced }) in
+      let e : stage 16777215 base a true w ≡ Stays (record a { announced = w ∷ a.announced }) = λ i. if known.0 i || none.0 i then Wrong 7 else if room i then Over else Stays (record a { announced = w ∷ a.announced }) in
       subst (λ st. after_stage st (λ b. Leads base b (map (λ v. Prefix true v) rest ++ end) session serial set)) (sym e)
       (announces (record a { announced = w ∷ a.announced }) rest once.1 known.1 (none_more w a.announced rest once.0 none.1) gone (one_more vs w rest a.announced come))
     where
@@ -117,7 +117,7 @@ module _ (base set : VrpSet) (ws vs : List Payload) (c : Commits base ws vs set)
   unfolding IsDistinct
   withdraws a [] once known none gone nothing = announces a vs c.announced_once c.unknown (subst (λ x. NoneListed x vs) (sym nothing) (none_of vs)) gone (subst (Together vs vs) (sym nothing) (none_before vs))
   withdraws a (w ∷ rest) once known none gone nothing =
-      let e : stage base a false w ≡ Stays (record a { withdrawn = w ∷ a.withdrawn }) = λ i. if known.0 i && not (none.0 i) then Stays (record a { withdrawn = w ∷ a.withdrawn }) else Wrong 6 in
+      let e : stage 16777215 base a false w ≡ Stays (record a { withdrawn = w ∷ a.withdrawn }) = λ i. if known.0 i && not (none.0 i) then Stays (record a { withdrawn = w ∷ a.withdrawn }) else Wrong 6 in
       subst (λ st. after_stage st (λ b. Leads base b ((map (λ v. Prefix false v) rest ++ map (λ v. Prefix true v) vs) ++ end) session serial set)) (sym e)
       (withdraws (record a { withdrawn = w ∷ a.withdrawn }) rest once.1 known.1 (none_more w a.withdrawn rest once.0 none.1) (one_more ws w rest a.withdrawn gone) nothing)
 

@@ -134,7 +134,7 @@ module _ (all : List Instance) (i : Instance) (p : Present all i) (keep : ℕ) (
   GoodC o up = GoodRouter all i home (Some o) up down r
 
   byte_good : (m : Taking) (b : ℕ) (bs : List ℕ) → conn_stops m.conn ≡ false → GoodC m.conn (b ∷ bs) → GoodRouter all i (seen_after i (moment_reads (brings i m b)) home) (Some (conn_byte keep timing i m b).conn) bs down r
-  byte_good m b bs on g = record { table = g.table; unmarked = g.unmarked; link = by_link (is_reading r.link) refl }
+  byte_good m b bs on g = record { table = g.table; unmarked = g.unmarked; config = g.config; link = by_link (is_reading r.link) refl }
     where
       by_link : (live : Bool) → is_reading r.link ≡ live → GoodLink all i (seen_after i (moment_reads (brings i m b)) home) r.link r (Some (conn_byte keep timing i m b).conn) bs down
       by_link false dead = dead_link r.link all i home (seen_after i (moment_reads (brings i m b)) home) r (Some m.conn) (Some (conn_byte keep timing i m b).conn) (b ∷ bs) bs down down dead g.link
@@ -234,7 +234,7 @@ module _ (all : List Instance) (i : Instance) (p : Present all i) (keep : ℕ) (
   notified_good o up g = either (λ x. GoodC x up) (can_notify i o) o' o (λ e.
       let parts = and_parts (is_published i) (not (conn_stops o)) e in
       let stops = or_parts o.state.ended (not (is_none o.state.due)) (false_of_not (conn_stops o) parts.1) in
-      record { table = g.table; unmarked = g.unmarked; link = by_link (is_reading r.link) refl (nothing_out o.state.due (true_of_not (is_none o.state.due) stops.1)) }) (λ e. g)
+      record { table = g.table; unmarked = g.unmarked; config = g.config; link = by_link (is_reading r.link) refl (nothing_out o.state.due (true_of_not (is_none o.state.due) stops.1)) }) (λ e. g)
     where
       o' : Conn
       o' = told o (speaks_in o)

@@ -1,5 +1,5 @@
 -- A round of all bytes: the question is read whole, and its reply is read whole.
-use Rattle.rtr_world.proofs.Words.{◌≡◌, ◌⊎◌, ℕ, ◌≤◌, Bool, true, false, not, List, [], ◌∷◌, ◌++◌, length, take, Option, Some, None, is_some, ⊤, refl, suc, ◌*◌, ◌==◌, map, IsSome, sym, ap, ◌∙◌, subst, arith, inl, inr, subst₂, AllByRecursion, drop_of_length-le, le-min, take_all, length-append, length-map, VrpSet, IsVrpSet, listing, without, Version, IsUnitOf, Unit, sent_most, some_sent, either, answer, report, sent, sent_all, session_in, announcements, end_of_data, response, serial_answer, step_answer, whole_answer, withdrawals, Conn, conn_pulled, conn_takes, new_conn, in_version, IsLater, clocked, receives, router_pulled, close, connects_at, Closed, Idle, Asked, is_reading, Link, AskReset, Committed, Question, base_of, is_serial, of_version, query, AskSerial, choose, Instance, NumberedSet, versions_from, with_serial, serial_at, part_is_set, size_of_listing, Prefix, Router, false_true}
+use Rattle.rtr_world.proofs.Words.{◌≡◌, ◌⊎◌, ℕ, ◌≤◌, Bool, true, false, not, List, [], ◌∷◌, ◌++◌, length, take, Option, Some, None, is_some, ⊤, refl, suc, ◌*◌, ◌==◌, map, IsSome, sym, ap, ◌∙◌, subst, arith, inl, inr, subst₂, AllByRecursion, drop_of_length-le, le-min, take_all, length-append, length-map, VrpSet, IsVrpSet, listing, without, Version, IsUnitOf, Unit, sent_most, some_sent, either, answer, report, sent, sent_all, session_in, announcements, end_of_data, response, serial_answer, step_answer, whole_answer, withdrawals, Conn, conn_pulled, conn_takes, new_conn, in_version, IsLater, clocked, receives, router_pulled, close, connects_at, Closed, Idle, Asked, is_reading, Link, AskReset, Committed, Question, base_of, is_serial, of_version, query, AskSerial, choose, Instance, NumberedSet, versions_from, with_serial, serial_at, part_is_set, size_of_listing, Prefix, Router, false_true, default_config, RouterConfig}
 use Rattle.rtr_ends.specs.Answer.{Reply as Answered}
 use Rattle.rtr_world.specs.CatchUp.{IsAll, IsQuiet, read_up, round, sent_down, sent_up, EachCatchesUp, IdleNext, IdleSoon, RestsNext, RestsSo, RestsSoon, RoundsEnd}
 use Rattle.rtr_world.specs.History.{conn_due}
@@ -18,7 +18,7 @@ use Rattle.rtr_world.proofs.WorldSteps.{always}
 -- A question that is open goes to the cache whole.
 module _ (w : World) (p : Present (instances w) w.present) (h : Seen) where
   -- What is known of the connection and of the question: it fits what is committed.
-  pub record Knows (pv : Version) (q : Question) (version : Option Committed) (table : VrpSet) : Type 0 where
+  pub record Knows (pv : Version) (q : Question) (version : Option Committed) (table : VrpSet) (own : RouterConfig) : Type 0 where
     pub session : h.session ≡ session_in pv w.present
     pub made : length h.sets ≤ length w.present.sets
     pub later : IsLater h.made w.present
@@ -26,6 +26,7 @@ module _ (w : World) (p : Present (instances w) w.present) (h : Seen) where
     pub keeps : h.keep ≡ w.keep
     pub fits : QuestionFits h.session q (of_version pv version)
     pub table_at : TableAt (instances w) version table
+    pub config : own ≡ default_config
 
   -- The connection is open, with nothing to be pulled.
   pub record Quiet (pv : Version) (o : Option Conn) : Type 0 where
@@ -38,7 +39,7 @@ module _ (w : World) (p : Present (instances w) w.present) (h : Seen) where
 
   -- The question is still to be pulled,
   pub record Asks (q : Question) (s : Side) : Type 0 where
-    pub knows : Knows s.router.spoken q s.router.version s.router.table
+    pub knows : Knows s.router.spoken q s.router.version s.router.table s.router.config
     pub quiet : Quiet s.router.spoken s.conn
     pub open quiet use *
     pub up : s.up ≡ []
@@ -49,7 +50,7 @@ module _ (w : World) (p : Present (instances w) w.present) (h : Seen) where
 
   -- or is on the wire.
   pub record Sent (q : Question) (s : Side) : Type 0 where
-    pub knows : Knows s.router.spoken q s.router.version s.router.table
+    pub knows : Knows s.router.spoken q s.router.version s.router.table s.router.config
     pub quiet : Quiet s.router.spoken s.conn
     pub open quiet use *
     pub up : s.up ≡ sent s.router.spoken (query q)
@@ -62,7 +63,7 @@ module _ (w : World) (p : Present (instances w) w.present) (h : Seen) where
   reading q l e = ap is_reading e
 
   -- a question is short
-  pub question_few : (q : Question) (most : ℕ) (s : Side) → IsAll most → Knows s.router.spoken q s.router.version s.router.table → length (sent s.router.spoken (query q)) ≤ most
+  pub question_few : (q : Question) (most : ℕ) (s : Side) → IsAll most → Knows s.router.spoken q s.router.version s.router.table s.router.config → length (sent s.router.spoken (query q)) ≤ most
   question_few q most s enough k =
       let unit = query_unit (instances w) s.router.spoken h.session q (of_version s.router.spoken s.router.version) s.router.table k.fits (held_at (instances w) s.router.spoken s.router.version s.router.table k.table_at) in
       omega (arith, enough, sent_most s.router.spoken (query q) unit.0 unit.1)
@@ -143,7 +144,7 @@ module _ (w : World) (p : Present (instances w) w.present) (h : Seen) where
 
     -- It is still to be pulled,
     record Got (q : Question) (s : Side) : Type 0 where
-      knows : Knows w p h s.router.spoken q s.router.version s.router.table
+      knows : Knows w p h s.router.spoken q s.router.version s.router.table s.router.config
       units : List Unit
       reply : Reply s.router.spoken q s.router.table units
       conn : Conn
@@ -160,7 +161,7 @@ module _ (w : World) (p : Present (instances w) w.present) (h : Seen) where
 
     -- or is on the wire.
     record Given (q : Question) (s : Side) : Type 0 where
-      knows : Knows w p h s.router.spoken q s.router.version s.router.table
+      knows : Knows w p h s.router.spoken q s.router.version s.router.table s.router.config
       units : List Unit
       reply : Reply s.router.spoken q s.router.table units
       conn : (s.conn ≡ None) ⊎ Quiet w p h s.router.spoken s.conn
@@ -172,9 +173,9 @@ module _ (w : World) (p : Present (instances w) w.present) (h : Seen) where
       router_held : s.router.held ≡ []
 
     -- what is due is a whole reply
-    is_reply : (pv : Version) (q : Question) (version : Option Committed) (table : VrpSet) (unit : IsUnitOf pv (query q)) (ended : Bool) (units : List Unit) → Knows w p h pv q version table → IsDue w.keep w.present pv (query q) unit at_cache ended units
+    is_reply : (pv : Version) (q : Question) (version : Option Committed) (table : VrpSet) (own : RouterConfig) (unit : IsUnitOf pv (query q)) (ended : Bool) (units : List Unit) → Knows w p h pv q version table own → IsDue w.keep w.present pv (query q) unit at_cache ended units
         → Reply pv q table units × Shows (ended ≡ false) units
-    is_reply pv q version table unit ended units k (inl e) =
+    is_reply pv q version table own unit ended units k (inl e) =
         let a = answer_answers (instances w) w.present p pv h k.session k.made w.keep q (of_version pv version) table k.fits (held_at (instances w) pv version table k.table_at) (from_now (instances w) w.present p pv h k.session k.made q w.keep k.keeps k.later k.read) in (
           record {
             replies = subst (λ x. Replies (instances w) pv h q (base_of q table) x) (sym e.0) a.replies;
@@ -184,7 +185,7 @@ module _ (w : World) (p : Present (instances w) w.present) (h : Seen) where
           },
           elim (goes_or_other pv w.present w.keep q) [ inl on ↦ inl (inl (e.1 ∙ ap not on)) | inr other ↦ inr (other.0, e.0 ∙ other.1) ],
         )
-    is_reply pv q version table unit ended units k (inr e) = (
+    is_reply pv q version table own unit ended units k (inr e) = (
       record {
         replies = no_memory e.0;
         fit = subst (AllByRecursion (IsUnitOf pv)) (sym e.0) (answered_report pv 1 [] (omega arith) (all_bytes [] tt)).fit;
@@ -211,7 +212,7 @@ module _ (w : World) (p : Present (instances w) w.present) (h : Seen) where
         let unit = query_unit (instances w) s.router.spoken h.session q (of_version s.router.spoken s.router.version) s.router.table k.fits (held_at (instances w) s.router.spoken s.router.version s.router.table k.table_at) in
         let read = is_read w.keep w.present s.router.spoken (query q) unit at_cache (take most s.up) a.conn (take_all most s.up all ∙ a.up) a.held a.spoken a.due a.on in
         let o : Conn = (conn_takes w.keep timing w.present at_cache (take most s.up) a.conn).machine.conn in
-        let reply = is_reply s.router.spoken q s.router.version s.router.table unit (conn_takes w.keep timing w.present at_cache (take most s.up) a.conn).machine.conn.state.ended read.1.units k read.1.reply in
+        let reply = is_reply s.router.spoken q s.router.version s.router.table s.router.config unit (conn_takes w.keep timing w.present at_cache (take most s.up) a.conn).machine.conn.state.ended read.1.units k read.1.reply in
         let got : Got q (gets_at w most at_cache s (Some a.conn)) =
         record {
           knows = k;
@@ -273,8 +274,8 @@ module _ (w : World) (p : Present (instances w) w.present) (h : Seen) where
       closes : s.router.link ≡ Closed → Lacking ⊎ ((is_serial (Some q) ≡ true) × Emptied s.router) → Ends q s
       asks_all : is_serial (Some q) ≡ true → Asks w p h AskReset s → Ends q s
 
-    knows_again : (pv pv' : Version) (q : Question) (version version' : Option Committed) (table table' : VrpSet) → Mine h.session (of_version pv' version') → TableAt (instances w) version' table' → pv' ≡ pv → Knows w p h pv q version table → Knows w p h pv' AskReset version' table'
-    knows_again pv pv' q version version' table table' mine t same k = record { session = k.session ∙ ap (λ v. session_in v w.present) (sym same); made = k.made; later = k.later; read = k.read; keeps = k.keeps; fits = mine; table_at = t }
+    knows_again : (pv pv' : Version) (q : Question) (version version' : Option Committed) (table table' : VrpSet) (own own' : RouterConfig) → Mine h.session (of_version pv' version') → TableAt (instances w) version' table' → own' ≡ default_config → pv' ≡ pv → Knows w p h pv q version table own → Knows w p h pv' AskReset version' table' own'
+    knows_again pv pv' q version version' table table' own own' mine t plain same k = record { session = k.session ∙ ap (λ v. session_in v w.present) (sym same); made = k.made; later = k.later; read = k.read; keeps = k.keeps; fits = mine; table_at = t; config = plain }
 
     has_memory : (wanting : Option ℕ) → at_router ≡ wanting → (wanting ≡ None) ⊎ Lacking
     has_memory None e = inl refl
@@ -301,7 +302,7 @@ module _ (w : World) (p : Present (instances w) w.present) (h : Seen) where
         stream = record { whole = (λ j. a.router_held j ++ bytes j) ∙ sym (bytes_of_version s.router.spoken a.units); part = none_part s.router.held (in_version s.router.spoken a.units) a.router_held; fit = all_sent s.router.spoken a.units a.reply.fit }
 
         phase : Phase (instances w) h s.router.spoken q Lacking Stays (take most s.down) (clocked s.router.now s.router)
-        phase = clocked_waits (instances w) h s.router.spoken Lacking Stays q s.router.now (take most s.down) s.router a.units a.link a.out a.knows.fits a.knows.table_at stream a.reply.replies a.reply.memory a.shown refl
+        phase = clocked_waits (instances w) h s.router.spoken Lacking Stays q s.router.now (take most s.down) s.router a.units a.link a.out a.knows.fits a.knows.table_at stream a.reply.replies a.reply.memory a.shown a.knows.config refl
 
         none_down : (receives s.router.now at_router (take most s.down) s.router).rest ≡ [] → n.down ≡ []
         none_down none = (λ j. none j ++ drop_of_length-le s.down all j)
@@ -320,9 +321,9 @@ module _ (w : World) (p : Present (instances w) w.present) (h : Seen) where
             (λ c. subst (λ x. Ends q x) (sym (settled c (ap is_reading is)))
             (idles is (record { is_open = ap is_some c.conn_is; out = out; up = a.up; due = ap conn_due c.conn_is ∙ c.due; down = none_down none }))) on
         by_read (has_ended end is none (inl l)) = closes (settle_closes (instances w) n end is none) (inl l)
-        by_read (has_ended end is none (inr e)) = closes (settle_closes (instances w) n end is none) (inr (e.0, settle_empties (instances w) n end is none e.1 e.2))
-        by_read (asks_again serial is out held mine table none on same) = waits_or (ap is_reading is) none (λ c. asks_all serial (subst (λ x. Asks w p h AskReset x) (sym (settled c (ap is_reading is))) (record {
-          knows = knows_again s.router.spoken n.router.spoken q s.router.version n.router.version s.router.table n.router.table mine table same a.knows;
+        by_read (has_ended end is none (inr e)) = closes (settle_closes (instances w) n end is none) (inr (e.0, settle_empties (instances w) n end is none e.1 e.2 e.3))
+        by_read (asks_again serial is out held mine table none on plain same) = waits_or (ap is_reading is) none (λ c. asks_all serial (subst (λ x. Asks w p h AskReset x) (sym (settled c (ap is_reading is))) (record {
+          knows = knows_again s.router.spoken n.router.spoken q s.router.version n.router.version s.router.table n.router.table s.router.config n.router.config mine table plain same a.knows;
           quiet = subst (λ v. Quiet w p h v s.conn) (sym same) c;
           up = a.up;
           down = none_down none;
@@ -364,10 +365,10 @@ module _ (w : World) (p : Present (instances w) w.present) where
   seen_new s = record (seen_at w.keep (closed_of s).speaks w.present) { read = Some w.present }
 
   asks_new : (s : Side) (q : Question) → choose (of_version (closed_of s).speaks (closed_of s).version) (closed_of s).mark ≡ q → (closed_of s).held ≡ []
-      → QuestionFits (session_in (closed_of s).speaks w.present) q (of_version (closed_of s).speaks (closed_of s).version) → TableAt (instances w) (closed_of s).version (closed_of s).table
+      → QuestionFits (session_in (closed_of s).speaks w.present) q (of_version (closed_of s).speaks (closed_of s).version) → TableAt (instances w) (closed_of s).version (closed_of s).table → (closed_of s).config ≡ default_config
       → Asks w p (seen_new s) q (settle (instances w) (connects w s))
   unfolding connects connects_at
-  asks_new s q e held fits table =
+  asks_new s q e held fits table config =
       let same = settle_open (instances w) (connects w s) (new_conn w.present) refl (λ e. absurd (let k : false ≡ true = e in cc)) refl in
       subst (λ x. Asks w p (seen_new s) q x) (sym same) (record {
         knows = record {
@@ -378,6 +379,7 @@ module _ (w : World) (p : Present (instances w) w.present) where
           keeps = refl;
           fits = fits;
           table_at = table;
+          config = config;
         };
         quiet = record { conn = new_conn w.present; conn_is = refl; held = refl; spoken = tt; due = refl; on = refl };
         up = refl;
@@ -398,14 +400,14 @@ module _ (w : World) (p : Present (instances w) w.present) where
       let shut = close_shut (instances w) w.present g.seen s.conn s.up s.down (clocked s.router.now s.router) told in
       let r : Router = close (clocked s.router.now s.router) in
       let q : Question = choose (of_version r.speaks r.version) r.mark in
-      (q, (asks_new s q refl shut.held (first_fits (session_in r.speaks w.present) (of_version r.speaks r.version) r.mark shut.unmarked) shut.table, holds_some s.router.now s.router s.router.version refl))
+      (q, (asks_new s q refl shut.held (first_fits (session_in r.speaks w.present) (of_version r.speaks r.version) r.mark shut.unmarked) shut.table shut.config, holds_some s.router.now s.router s.router.version refl))
 
   -- A router that was emptied asks for all.
   emptied_asks : (s : Side) → Emptied s.router → Asks w p (seen_new s) AskReset (settle (instances w) (connects w s))
   emptied_asks s e =
       let k = clocked_emptied s.router.now s.router e in
       let r : Router = close (clocked s.router.now s.router) in
-      asks_new s AskReset (ap (λ v. choose (of_version r.speaks v) r.mark) k.version) k.held (subst (λ v. Mine (session_in r.speaks w.present) (of_version r.speaks v)) (sym k.version) tt) (subst₂ (λ v t. TableAt (instances w) v t) (sym k.version) (sym k.table) refl)
+      asks_new s AskReset (ap (λ v. choose (of_version r.speaks v) r.mark) k.version) k.held (subst (λ v. Mine (session_in r.speaks w.present) (of_version r.speaks v)) (sym k.version) tt) (subst₂ (λ v t. TableAt (instances w) v t) (sym k.version) (sym k.table) refl) k.config
 
   -- if memory did not run out
   idle_next : (h : Seen) (s : Side) → Asks w p h AskReset s → IdleNext w s

@@ -1,5 +1,5 @@
 -- What the clean-up after an event does to a side on which bytes continue, and to one whose link has ended.
-use Rattle.rtr_world.proofs.Words.{◌≡◌, ◌⊎◌, ℕ, true, false, List, [], Some, None, refl, sym, ap, ◌∙◌, subst, inl, inr, Instance, empty, End, Conn, Router, clocked, close, closed_at, Closed, Ended, is_closed, is_reading, false_true, open_link, by_clock, by_close, cases_Bool}
+use Rattle.rtr_world.proofs.Words.{◌≡◌, ◌⊎◌, ℕ, true, false, List, [], Some, None, refl, sym, ap, ◌∙◌, subst, inl, inr, Instance, empty, End, Conn, Router, clocked, close, closed_at, Closed, Ended, is_closed, is_reading, false_true, open_link, by_clock, by_close, cases_Bool, default_config}
 use Rattle.rtr_world.specs.World.{Side, close_ended, settle, settle_conn, settle_link, settle_rest, settle_wire, tell_closed}
 use Rattle.rtr_world.specs.CaughtUp.{IsOff}
 use Rattle.rtr_world.proofs.EventCalls.{still_by, told_closes, closed_by, closed_link, behind_link, Lessens, reading_on}
@@ -63,14 +63,16 @@ pub record Emptied (r : Router) : Type 0 where
   pub held : r.held ≡ []
   pub version : r.version ≡ None
   pub table : r.table ≡ empty
+  pub config : r.config ≡ default_config
 
 record EndedEmpty (end : End) (r : Router) : Type 0 where
   link : r.link ≡ Ended end
   version : r.version ≡ None
   table : r.table ≡ empty
+  config : r.config ≡ default_config
 
 clocked_ended : (end : End) (now : ℕ) (r : Router) → EndedEmpty end r → EndedEmpty end (clocked now r)
-clocked_ended end now r e = by_clock (EndedEmpty end) now r (λ holds. record { link = e.link; version = e.version; table = e.table }) (λ over on. record { link = e.link; version = refl; table = refl })
+clocked_ended end now r e = by_clock (EndedEmpty end) now r (λ holds. record { link = e.link; version = e.version; table = e.table; config = e.config }) (λ over on. record { link = e.link; version = refl; table = refl; config = e.config })
     (λ over live open_so. false_true (sym (ap is_reading e.link) ∙ live))
 
 -- A router that is notified of a close is closed, and what was emptied stays so.
@@ -79,12 +81,12 @@ unfolding closed_at
 told_ended all end s e =
     closed_by (λ t. Emptied t.router) all s (λ shut. false_true (sym (ap is_closed e.link) ∙ shut)) (λ on.
     let k = clocked_ended end s.router.now s.router e in
-    by_close Emptied (clocked s.router.now s.router) (λ shut. false_true (sym (ap is_closed k.link) ∙ shut)) (λ still. record { closed = refl; held = refl; version = k.version; table = k.table }))
+    by_close Emptied (clocked s.router.now s.router) (λ shut. false_true (sym (ap is_closed k.link) ∙ shut)) (λ still. record { closed = refl; held = refl; version = k.version; table = k.table; config = k.config }))
 
-pub settle_empties : (all : List Instance) (s : Side) (end : End) → s.router.link ≡ Ended end → s.router.out ≡ [] → s.router.version ≡ None → s.router.table ≡ empty → Emptied (settle all s).router
-settle_empties all s end is none version table =
+pub settle_empties : (all : List Instance) (s : Side) (end : End) → s.router.link ≡ Ended end → s.router.out ≡ [] → s.router.version ≡ None → s.router.table ≡ empty → s.router.config ≡ default_config → Emptied (settle all s).router
+settle_empties all s end is none version table config =
     settle_ended all (λ x. Emptied x.router) (λ x c u d k. k) (λ x k. closed_by (λ t. Emptied t.router) all x (λ shut. k) (λ on. false_true (sym on ∙ k.closed))) s end is none
-    (λ a e. told_ended all end a (subst (λ r. EndedEmpty end r) (sym e) (record { link = is; version = version; table = table })))
+    (λ a e. told_ended all end a (subst (λ r. EndedEmpty end r) (sym e) (record { link = is; version = version; table = table; config = config })))
 
 -- A router that holds no session holds none when it connects.
 pub clocked_none : (now : ℕ) (r : Router) → r.version ≡ None → (close (clocked now r)).version ≡ None
@@ -95,6 +97,6 @@ clocked_none now r none =
 -- When it connects again, it holds nothing.
 pub clocked_emptied : (now : ℕ) (r : Router) → Emptied r → Emptied (close (clocked now r))
 clocked_emptied now r e =
-    let k : Emptied (clocked now r) = by_clock Emptied now r (λ holds. record { closed = e.closed; held = e.held; version = e.version; table = e.table })
-    (λ over on. record { closed = e.closed; held = e.held; version = refl; table = refl }) (λ over live open_so. false_true (sym open_so ∙ e.closed)) in
+    let k : Emptied (clocked now r) = by_clock Emptied now r (λ holds. record { closed = e.closed; held = e.held; version = e.version; table = e.table; config = e.config })
+    (λ over on. record { closed = e.closed; held = e.held; version = refl; table = refl; config = e.config }) (λ over live open_so. false_true (sym open_so ∙ e.closed)) in
     by_close Emptied (clocked now r) (λ shut. k) (λ on. false_true (sym on ∙ k.closed))

@@ -1,5 +1,5 @@
 -- Each link ends lawfully, each end is noted, also if an event is refused, and none is dropped.
-use Rattle.rtr_world.proofs.Words.{◌≡◌, ℕ, true, false, List, [], ◌∷◌, ◌++◌, Option, Some, None, zero, suc, Bool, refl, take, ⊤, not, ◌&&◌, ◌==◌, AllByRecursion, sym, ap, ◌∙◌, subst, inl, inr, subst₂, append_assoc, Instance, Unit, Judgement, Begins, Whole, Faulty, judge, type_of, End, Noted, called, RouterCall, clocked, close, closed_at, Connects, Receives, Pulls, Closes, AsksNow, Ticks, Speaks, router_pulled, asked_by, asks_if, connects_at, ticks_at, asks, receives, of_received, Receiving, router_byte, router_stops, with_bytes, Link, Ended, Asked, is_due, is_idle, outstanding, spoken, Item, Question, AskSerial, At, Reads, question_of, Router, on_unit, may_lack, LinkTells, counted, finds_memory, feed, Tells, feed_keeps, and_parts, false_true, by_unit, either, option_map}
+use Rattle.rtr_world.proofs.Words.{◌≡◌, ℕ, true, false, List, [], ◌∷◌, ◌++◌, Option, Some, None, zero, suc, Bool, refl, take, ⊤, not, ◌&&◌, ◌==◌, AllByRecursion, sym, ap, ◌∙◌, subst, inl, inr, subst₂, append_assoc, Instance, Unit, Judgement, Begins, Whole, Faulty, judge, type_of, End, Noted, called, RouterCall, clocked, close, closed_at, Connects, Receives, Pulls, Closes, AsksNow, Ticks, Speaks, router_pulled, asked_by, asks_if, connects_at, ticks_at, asks, receives, of_received, Receiving, router_byte, router_stops, with_bytes, Link, Ended, Asked, is_due, is_idle, outstanding, spoken, Item, Question, AskSerial, At, Reads, question_of, Router, on_unit, may_lack, LinkTells, counted, finds_memory, feed, Tells, feed_keeps, and_parts, false_true, by_unit, either, option_map, Configures}
 use Rattle.rtr_world.specs.World.{Ending, Side, World, instances, SideEvent, is_ended, ending_at, newly_ended, noted, outstanding_before_last, router_restarts, cut, side_part, side_refused, side_step, with_end, Publish, Restart, On, cache_gone, settle, tell_closed, RouterGets, Event}
 use Rattle.rtr_world.specs.Claims.{EndsNoted, NotesEnds, EndsKept, NoneDropped, OneMore, IsLawfulEnd, OfAnother, LawfulEnds, NamesNone, NoneByMemory, NotByMemory}
 use Rattle.rtr_world.specs.History.{Done, Memory, Outcome, Entry, LeadsFrom, after, side_at}
@@ -81,6 +81,7 @@ call_lawful w s call own h = noted_lawful (instances w) (called call s.router) s
     link : (call : RouterCall) → IsOwnCall call → is_ended s.router.link ≡ false → LawfulLink (called call s.router).router.link ((called call s.router).items ++ s.items) s.home
     link (Connects now) own on = tt
     link (Receives now wanting piece) own on = absurd own
+    link (Configures config) own on = absurd own
     link (Closes now) own on = lawful_on (close (clocked now s.router)).link ((closed_at now s.router).items ++ s.items) s.home (closed_so (clocked now s.router))
     link AsksNow own on = asks_lawful s.router (is_idle s.router.link) s.items s.home (lawful_on s.router.link s.items s.home on)
     link (Ticks now) own on =
@@ -278,6 +279,7 @@ own_spared w s call own h = noted_spared (instances w) (called call s.router) s 
     free AsksNow own = asks_by (λ n. Free n.router.link) (is_idle s.router.link) s.router tt h.free
     free (Ticks now) own = let k : Router = clocked now s.router in asks_by (λ n. Free n.router.link) (is_due k.link k.due k.now) k tt (clocked_free now s.router h.free)
     free (Speaks version) own = h.free
+    free (Configures config) own = absurd own
 
 spared_wires : (s : Side) → Spared s → Rewired Spared s
 spared_wires s h conn up down home read = record { free = h.free; endings = h.endings }

@@ -1,5 +1,5 @@
 -- What happens at a side is at most one call on its router, and changes of its wires: what each call and each wire keeps, each event keeps.
-use Rattle.rtr_world.proofs.Words.{◌≡◌, ℕ, Bool, true, false, List, [], ◌∷◌, ◌++◌, map, take, Option, Some, None, refl, ⊤, if◌then◌else◌, AllByRecursion, ◌∙◌, sym, ap, subst, Instance, Conn, new_conn, Router, RouterCall, Connects, Receives, Pulls, Closes, AsksNow, Ticks, Speaks, called, silent, clocked, close, router_pulled, closed_at, Link, Closed, Ended, is_closed, is_reading, Refused, either, false_true, by_close}
+use Rattle.rtr_world.proofs.Words.{◌≡◌, ℕ, Bool, true, false, List, [], ◌∷◌, ◌++◌, map, take, Option, Some, None, refl, ⊤, if◌then◌else◌, AllByRecursion, ◌∙◌, sym, ap, subst, Instance, Conn, new_conn, Router, RouterCall, Connects, Receives, Pulls, Closes, AsksNow, Ticks, Speaks, called, silent, clocked, close, router_pulled, closed_at, Link, Closed, Ended, is_closed, is_reading, Refused, either, false_true, by_close, Configures}
 use Rattle.rtr_world.specs.World.{Side, World, instances, SideEvent, RouterRestart, Speak, Connect, RouterSends, CacheGets, CacheSends, RouterGets, Cut, NotifyRouter, Ask, Tick, is_ended, newly_ended, noted, with_end, connects, router_restarts, speaks, router_sends, sends_from, cache_sends, gets_at, cache_gets, notifies_at, router_gets, cut, on_side, side_step, side_part, side_refused, tell_closed, settle, settle_link, settle_rest, settle_wire, Event, Publish, Restart, On, cache_gone, close_ended, goes_through, is_refused, settle_conn, settled}
 use Rattle.rtr_world.specs.History.{Outcome, Done, Memory, MayEnd, after, refusal, Entry, IsEvent, LeadsFrom}
 use Rattle.rtr_world.proofs.SideLaws.{all_map, all_on_side, all_weaker}
@@ -211,9 +211,10 @@ module _ (P : Side → Type 0) (all : List Instance) where
       let same : s ≡ record s { conn = None; down = [] } = λ i. record s { conn = none i; down = down i } in
       subst (λ (x : Side). P (settle all x)) (sym same) (link_by s s.router.link s.router.out (subst (λ (x : Side). P (record (tell_closed all x) { up = [] })) same h))
 
--- the calls at which nothing comes
+-- the calls of events at which nothing comes. No event configures a router.
 abbrev pub IsOwnCall : RouterCall → Type 0
 IsOwnCall (Receives now wanting piece) = ⊥
+IsOwnCall (Configures config) = ⊥
 IsOwnCall call = ⊤
 
 -- What is known if bytes come to the router

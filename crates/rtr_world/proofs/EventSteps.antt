@@ -47,6 +47,7 @@ module _ (w : World) (p : Present (instances w) w.present) where
     router = record {
       table = g.router.table;
       unmarked = g.router.unmarked;
+      config = g.router.config;
       link = live_map s.router.link (instances w) (instances w) w.present w.present g.seen g.seen s.router (record s.router { out = out }) s.conn conn s.up up s.down down (λ x. x) none refl refl g.router.link (λ l. let f = flow l.0 l.2 in (
         l.0,
         l.1,
@@ -124,6 +125,7 @@ module _ (w : World) (p : Present (instances w) w.present) where
       record {
         table = shut.table;
         unmarked = shut.unmarked;
+        config = shut.config;
         link = (
           seen_at w.keep c.speaks w.present,
           refl,
@@ -188,9 +190,9 @@ module _ (w : World) (p : Present (instances w) w.present) where
 
   pub step_good : (event : SideEvent) (wanting : Option ℕ) (s : Side) → GoodS s → SideTells s → GoodS (side_step w event wanting s)
   unfolding side_step router_restarts speaks router_sends router_pulled cache_sends cache_gets asks ticks_at
-  step_good RouterRestart wanting s g t = record { seen = None; is_seen = tt; is_read = tt; order = ordered_none w.past w.present s.places g.seen g.order; router = record { table = refl; unmarked = refl; link = (refl, refl, refl, refl) } }
+  step_good RouterRestart wanting s g t = record { seen = None; is_seen = tt; is_read = tt; order = ordered_none w.past w.present s.places g.seen g.order; router = record { table = refl; unmarked = refl; config = refl; link = (refl, refl, refl, refl) } }
   -- The version of the next connection changes nothing of this one.
-  step_good (Speak version) wanting s g t = record { seen = g.seen; is_seen = g.is_seen; is_read = g.is_read; order = g.order; router = record { table = g.router.table; unmarked = g.router.unmarked; link = g.router.link } }
+  step_good (Speak version) wanting s g t = record { seen = g.seen; is_seen = g.is_seen; is_read = g.is_read; order = g.order; router = record { table = g.router.table; unmarked = g.router.unmarked; config = g.router.config; link = g.router.link } }
   step_good Connect wanting s g t = connects_good s g
   step_good (RouterSends most) wanting s g t = wired_good s (drop most s.router.out) s.conn (s.up ++ take most s.router.out) s.down (drop_none most s.router.out) g
       (λ h f. (f.lost, refl, open_sent w.present s.router.spoken h most s.router.out s.up f.wanted f.coming s.router.agreed f.lost s.conn f.open_at))
@@ -212,7 +214,7 @@ module _ (w : World) (p : Present (instances w) w.present) where
   -- a closed router is so, whatever its connection
   shut_good : (seen : Option Seen) (c : Option Conn) (u d : List ℕ) (r : Router) → Shut (instances w) w.present seen c u d r → (home : Option Seen) (conn : Option Conn) (up down : List ℕ) → GoodRouter (instances w) w.present home conn up down r
   shut_good seen c u d r shut home conn up down =
-      record { table = shut.table; unmarked = shut.unmarked; link = subst (λ l. GoodLink (instances w) w.present home l r conn up down) (sym shut.closed) (shut.held, shut.agreed, shut.session, shut.out) }
+      record { table = shut.table; unmarked = shut.unmarked; config = shut.config; link = subst (λ l. GoodLink (instances w) w.present home l r conn up down) (sym shut.closed) (shut.held, shut.agreed, shut.session, shut.out) }
 
   shut_of : (s : Side) → is_closed s.router.link ≡ true → (g : GoodS s) (home : Option Seen) (conn : Option Conn) (up down : List ℕ) → GoodRouter (instances w) w.present home conn up down s.router
   shut_of s e g = shut_good g.seen s.conn s.up s.down s.router (closed_shut (instances w) w.present g.seen s.conn s.up s.down s.router.link s.router refl e g.router g.router.link)

@@ -1,5 +1,5 @@
 -- What holds of a router, its connection and the wires between two bytes.
-use Rattle.rtr_world.proofs.Words.{◌≡◌, ◌⊎◌, ℕ, ◌+◌, ◌≤◌, Bool, true, false, List, [], ◌∷◌, ◌++◌, length, Option, Some, None, ⊤, Payload, Instance, VrpSet, Unit, header_version, SerialNotify, CacheResponse, Prefix, EndOfData, EndOfData0, CacheReset, Version, V1, answer, report, session_in, Conn, Commits, IsLater, Sent, in_version, takes_memory, AllByRecursion, Router, Staged, Stays, stage, Link, Closed, Idle, Asked, Answering, Ended, Begun, Committed, Question, AskReset, AskSerial, query, base_of, led_to, of_version}
+use Rattle.rtr_world.proofs.Words.{◌≡◌, ◌⊎◌, ℕ, ◌+◌, ◌≤◌, Bool, true, false, List, [], ◌∷◌, ◌++◌, length, Option, Some, None, ⊤, Payload, Instance, VrpSet, Unit, header_version, SerialNotify, CacheResponse, Prefix, EndOfData, EndOfData0, CacheReset, Version, V1, answer, report, session_in, Conn, Commits, IsLater, Sent, in_version, takes_memory, AllByRecursion, Router, Staged, Stays, stage, Link, Closed, Idle, Asked, Answering, Ended, Begun, Committed, Question, AskReset, AskSerial, query, base_of, led_to, of_version, default_config}
 use Rattle.rtr_world.specs.History.{conn_due}
 use Rattle.rtr_world.specs.OneAnswer.{EndsWith, OwnNotifies, announced_in, units_in, withdrawn_in, without_notifies}
 use Rattle.rtr_world.specs.World.{Side, timing}
@@ -13,7 +13,7 @@ after_stage _ Goes = ⊥
 
 -- These PDUs are the rest of an answer: they lead from the base, and from what is staged, to a set under a session and a serial.
 abbrev pub Leads : VrpSet → Begun → List Unit → ℕ → ℕ → VrpSet → Type 0
-Leads base a (Prefix announce v ∷ units) session serial set = after_stage (stage base a announce v) (λ b. Leads base b units session serial set)
+Leads base a (Prefix announce v ∷ units) session serial set = after_stage (stage 16777215 base a announce v) (λ b. Leads base b units session serial set)
 Leads base a (EndOfData one number refresh retry expire ∷ units) session serial set =
     (units ≡ []) × (one ≡ session) × (number ≡ serial) × (led_to base a.withdrawn a.announced ≡ set)
 Leads base a (EndOfData0 one number ∷ units) session serial set =
@@ -198,6 +198,7 @@ GoodLink all i home l r conn up down = GoodLinkOf all i home l (talk r) r.held r
 pub record GoodRouter (all : List Instance) (i : Instance) (home : Option Seen) (conn : Option Conn) (up down : List ℕ) (r : Router) : Type 0 where
   pub table : TableAt all r.version r.table
   pub unmarked : r.mark ≡ false
+  pub config : r.config ≡ default_config
   pub link : GoodLink all i home r.link r conn up down
 
 pub record Good (keep : ℕ) (past : List Instance) (i : Instance) (s : Side) : Type 0 where

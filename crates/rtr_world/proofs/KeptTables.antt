@@ -13,7 +13,7 @@ kept_tells w = record {
   wires = λ s h conn up down home read. record { tells = h.tells };
   own = λ s call is h. record { tells = called_tells call s.router s.items h.tells };
   gets = λ s most wanting comes h. record { tells = called_tells (Receives s.router.now wanting (take most s.down)) s.router s.items h.tells };
-  restart = λ s h. record { tells = record { kept_is = refl; due_is = refl; now_is = refl; spoken_is = refl; link = (refl, refl, refl) } };
+  restart = λ s h. record { tells = record { kept_is = refl; due_is = refl; now_is = refl; spoken_is = refl; config_is = refl; link = (refl, refl, refl) } };
   refused = λ s h. closed_by SideTells (instances w) (refused_at s) (λ e. record { tells = refused_closed s.router s.items (closed_link s.router.link e) h.tells }) (λ e. record { tells = refused_closes s.router.now s.router s.items h.tells });
 }
 

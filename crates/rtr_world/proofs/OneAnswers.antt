@@ -1,5 +1,5 @@
 -- What is on its way to a router is at most one answer, after every list of events.
-use Rattle.rtr_world.proofs.Words.{◌≡◌, ◌⊎◌, ℕ, Bool, true, false, List, [], ◌∷◌, ◌++◌, Option, Some, None, IsSome, refl, take, ⊤, sym, ap, ◌∙◌, subst, inl, inr, append_assoc, Instance, VrpSet, Unit, Version, SerialNotify, Prefix, answer, Conn, LinkTells, Link, Closed, Idle, Asked, Answering, Ended, is_closed, is_reading, is_due, is_idle, AskReset, AskSerial, Begun, Committed, Question, base_of, of_version, query, under_way, Item, At, Reads, Shut, Router, on_unit, asked_by, clocked, close, asks_if, connects_at, closed_at, ticks_at, asks, router_pulled, Connects, Closes, called, Ticks, Receives, AsksNow, RouterCall, false_true}
+use Rattle.rtr_world.proofs.Words.{◌≡◌, ◌⊎◌, ℕ, Bool, true, false, List, [], ◌∷◌, ◌++◌, Option, Some, None, IsSome, refl, take, ⊤, sym, ap, ◌∙◌, subst, inl, inr, append_assoc, Instance, VrpSet, Unit, Version, SerialNotify, Prefix, answer, Conn, LinkTells, Link, Closed, Idle, Asked, Answering, Ended, is_closed, is_reading, is_due, is_idle, AskReset, AskSerial, Begun, Committed, Question, base_of, of_version, query, under_way, Item, At, Reads, Shut, Router, on_unit, asked_by, clocked, close, asks_if, connects_at, closed_at, ticks_at, asks, router_pulled, Connects, Closes, called, Ticks, Receives, AsksNow, RouterCall, false_true, Configures}
 use Rattle.rtr_world.specs.Claims.{OneAnswerAlways}
 use Rattle.rtr_world.specs.OneAnswer.{Between, ComesOn, Fits, IfResponse, IsAnswer, IsReply, IsWholeAnswer, LeadsToPublished, OneAnswer, WasSo, answered, units_in, without_notifies}
 use Rattle.rtr_world.specs.World.{Side, World, instances, is_ended, timing, noted, router_restarts, tell_closed}
@@ -73,6 +73,7 @@ gets_so w s most wanting known h =
 own_so : (w : World) (s : Side) (call : RouterCall) → IsOwnCall call → SideReads s → SideReads (noted (instances w) (called call s.router) s)
 unfolding connects_at closed_at ticks_at asks router_pulled
 own_so w s (Receives now wanting piece) own h = absurd own
+own_so w s (Configures config) own h = absurd own
 own_so w s (Connects now) own h = tt
 own_so w s (Closes now) own h = closed_reads (close (clocked now s.router)).link (Shut ∷ At now ∷ s.items) (closes (clocked now s.router))
 own_so w s AsksNow own h = asks_so s.router (is_idle s.router.link) s.items h

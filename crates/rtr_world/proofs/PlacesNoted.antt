@@ -1,5 +1,5 @@
 -- Each commit has its place, and the last place is that of the version that is held.
-use Rattle.rtr_world.proofs.Words.{◌≡◌, ◌⊎◌, ℕ, suc, Bool, true, false, ◌&&◌, ◌||◌, ◌==◌, List, [], ◌∷◌, ◌++◌, length, map, take, Option, Some, None, if◌then◌else◌, refl, ⊤, sym, ap, ◌∙◌, subst, append_assoc, inl, inr, AllByRecursion, either, and_parts, cases_Bool, Instance, is_current, VrpSet, SerialNotify, CacheResponse, EndOfData, EndOfData0, ErrorReport, Version, session_in, default_intervals, Noted, Closes, called, Receives, Begun, Committed, Item, At, Reads, Refused, Restarts, Kept, acts_once, at_end_of_data, base_of, bounded, differs, does_commit, emptied_if, has_agreed, is_commit, is_over, is_serial, is_wrong, kept, later, moment, of_version, outstanding, responded, session_of, spoken, under_way, waiting}
+use Rattle.rtr_world.proofs.Words.{◌≡◌, ◌⊎◌, ℕ, suc, Bool, true, false, ◌&&◌, ◌||◌, ◌==◌, List, [], ◌∷◌, ◌++◌, length, map, take, Option, Some, None, if◌then◌else◌, refl, ⊤, sym, ap, ◌∙◌, subst, append_assoc, inl, inr, AllByRecursion, either, and_parts, cases_Bool, Instance, is_current, VrpSet, SerialNotify, CacheResponse, EndOfData, EndOfData0, ErrorReport, Version, session_in, Noted, Closes, called, Receives, Begun, Committed, Item, At, Reads, Refused, Restarts, Kept, acts_once, at_end_of_data, base_of, bounded, differs, does_commit, emptied_if, has_agreed, is_commit, is_over, is_serial, is_wrong, kept, later, moment, of_version, outstanding, responded, session_of, spoken, under_way, waiting, chosen, configured}
 use Rattle.rtr_world.specs.Claims.{HasPlaces, IsLastPlace, PlacesNoted}
 use Rattle.rtr_world.specs.History.{Outcome, Done, Memory, MayEnd, after, all_have_room, refusal, room_for, room_since}
 use Rattle.rtr_world.specs.VersionPlaces.{VersionPlace, version_place_of}
@@ -28,9 +28,9 @@ end_leaves (Some a) version k none = either (λ (x : Kept). Leaves k.version x.v
 
 item_leaves : (item : Item) (items : List Item) → is_commit (item ∷ items) ≡ false → Leaves (kept items).version (kept (item ∷ items)).version
 item_leaves (Reads (EndOfData session serial refresh retry expire)) items none =
-    end_leaves (under_way items) (record { version = spoken items; session = session; serial = serial; moment = moment items; intervals = bounded refresh retry expire }) (kept items) none
+    end_leaves (under_way items) (record { version = spoken items; session = session; serial = serial; moment = moment items; intervals = chosen (configured items) (bounded refresh retry expire) }) (kept items) none
 item_leaves (Reads (EndOfData0 session serial)) items none =
-    end_leaves (under_way items) (record { version = spoken items; session = session; serial = serial; moment = moment items; intervals = default_intervals }) (kept items) none
+    end_leaves (under_way items) (record { version = spoken items; session = session; serial = serial; moment = moment items; intervals = (configured items).intervals }) (kept items) none
 item_leaves (Reads (SerialNotify session serial)) items none = emptied_leaves (has_agreed items && differs (session_of (responded items) (of_version (spoken items) (kept items).version)) session) (kept items)
 item_leaves (Reads (CacheResponse session)) items none = emptied_leaves (is_wrong (waiting items) (of_version (spoken items) (kept items).version) session) (kept items)
 item_leaves (Reads (ErrorReport r)) items none = emptied_leaves (r.code == 0 && is_serial (outstanding items)) (kept items)

@@ -1,5 +1,5 @@
 -- Memory runs out at just those PDUs of an event that allocate memory, of all that it reads, and then no further bytes are consumed.
-use Rattle.rtr_world.proofs.Words.{◌≡◌, ◌≤◌, ℕ, zero, suc, length, Bool, true, false, not, ◌&&◌, ◌||◌, ◌==◌, List, [], ◌∷◌, ◌++◌, Option, Some, None, slice_get, if◌then◌else◌, refl, sym, ap, ◌∙◌, subst, subst₂, flat_map-append, append-nil, list_any-append, flat_map, list_any, Instance, Unit, SerialNotify, CacheResponse, Prefix, EndOfData, EndOfData0, CacheReset, ErrorReport, Version, Judgement, Begins, Whole, Faulty, judge, Conn, Taking, conn_byte, conn_judged, conn_stops, conn_takes, counted, finds_memory, version_at, with_moment, ConnMoment, Fault, Read, Wanting, is_wanting, takes_memory, Router, Staged, Stays, ask, commit, emptied, ended_by, fails, is_news, is_strange, may_lack, on_unit, stage, staged, told_off, Receiving, asked_by, breaks, clocked, lacks, reads, receives, router_byte, router_judged, router_stops, with_read, Link, Closed, Idle, Asked, Answering, Ended, is_lacking, taking, Item, At, AskReset, AskSerial, Question, Reads, base_of, bounded, is_serial, is_wrong, of_version, retry_of, sum_of, default_intervals, false_true}
+use Rattle.rtr_world.proofs.Words.{◌≡◌, ◌≤◌, ℕ, zero, suc, length, Bool, true, false, not, ◌&&◌, ◌||◌, ◌==◌, List, [], ◌∷◌, ◌++◌, Option, Some, None, slice_get, if◌then◌else◌, refl, sym, ap, ◌∙◌, subst, subst₂, flat_map-append, append-nil, list_any-append, flat_map, list_any, Instance, Unit, SerialNotify, CacheResponse, Prefix, EndOfData, EndOfData0, CacheReset, ErrorReport, Version, Judgement, Begins, Whole, Faulty, judge, Conn, Taking, conn_byte, conn_judged, conn_stops, conn_takes, counted, finds_memory, version_at, with_moment, ConnMoment, Fault, Read, Wanting, is_wanting, takes_memory, Router, Staged, Stays, ask, commit, emptied, ended_by, fails, is_news, is_strange, may_lack, on_unit, stage, staged, told_off, Receiving, asked_by, breaks, clocked, lacks, reads, receives, router_byte, router_judged, router_stops, with_read, Link, Closed, Idle, Asked, Answering, Ended, is_lacking, taking, Item, At, AskReset, AskSerial, Question, Reads, base_of, bounded, is_serial, is_wrong, of_version, retry_of, sum_of, false_true, chosen, limit_of}
 use Rattle.rtr_world.proofs.Beside.{After, Beside, Takes, beside, has, told}
 use Rattle.rtr_world.specs.History.{conn_reading, router_readings, units_read}
 use Rattle.rtr_world.specs.World.{timing}
@@ -36,7 +36,7 @@ staged_aside u _ r held = refl
 
 told_aside : (q : Question) (code : ℕ) (r : Router) (held : List ℕ) → told_off q code (record r { held = held }) ≡ record (told_off q code r) { held = held }
 told_aside q code r held =
-    either (code == 2) (λ x. record x { link = Idle; due = Some (sum_of x.now (retry_of x.version)); no_data = true }) (λ x. if code == 0 && is_serial (Some q) then ended_by code (emptied x) else ended_by code x) r held refl
+    either (code == 2) (λ x. record x { link = Idle; due = Some (sum_of x.now (retry_of x.config x.version)); no_data = true }) (λ x. if code == 0 && is_serial (Some q) then ended_by code (emptied x) else ended_by code x) r held refl
     (either (code == 0 && is_serial (Some q)) (λ x. ended_by code (emptied x)) (ended_by code) r held refl refl)
 
 unit_aside : (l : Link) (u : Unit) (r : Router) (held : List ℕ) → on_unit l u (record r { held = held }) ≡ record (on_unit l u r) { held = held }
@@ -54,11 +54,11 @@ unit_aside (Asked AskReset) CacheReset r held = refl
 unit_aside (Asked (AskSerial session serial)) CacheReset r held = refl
 unit_aside (Asked q) (ErrorReport e) r held = told_aside q e.code (record r { agreed = true }) held
 unit_aside (Answering a) (SerialNotify session serial) r held = either (is_strange r session) (fails (SerialNotify session serial)) (λ x. x) r held refl refl
-unit_aside (Answering a) (Prefix announce v) r held = staged_aside (Prefix announce v) (stage (base_of a.question r.table) a announce v) r held
+unit_aside (Answering a) (Prefix announce v) r held = staged_aside (Prefix announce v) (stage (limit_of r.config) (base_of a.question r.table) a announce v) r held
 unit_aside (Answering a) (EndOfData session serial refresh retry expire) r held =
-    either (session == a.session) (λ x. commit a (record { version = x.spoken; session = session; serial = serial; moment = x.now; intervals = bounded refresh retry expire }) x) (fails (EndOfData session serial refresh retry expire)) r held refl refl
+    either (session == a.session) (λ x. commit a (record { version = x.spoken; session = session; serial = serial; moment = x.now; intervals = chosen x.config (bounded refresh retry expire) }) x) (fails (EndOfData session serial refresh retry expire)) r held refl refl
 unit_aside (Answering a) (EndOfData0 session serial) r held =
-    either (session == a.session) (λ x. commit a (record { version = x.spoken; session = session; serial = serial; moment = x.now; intervals = default_intervals }) x) (fails (EndOfData0 session serial)) r held refl refl
+    either (session == a.session) (λ x. commit a (record { version = x.spoken; session = session; serial = serial; moment = x.now; intervals = x.config.intervals }) x) (fails (EndOfData0 session serial)) r held refl refl
 unit_aside (Answering a) (ErrorReport e) r held = told_aside a.question e.code r held
 unit_aside _ _ r held = refl
 

@@ -15,7 +15,7 @@ expired_by P _ r on ended = on
 pub clocked_by : (P : Router → Type 0) (now : ℕ) (r : Router) → let k : Router = record r { now = later r.now now } in P k → P (emptied k) → P (record (emptied k) { link = Ended ends.Expired; out = [] }) → P (clocked now r)
 clocked_by P now r still on ended = by_clock P now r (λ lasts. still) (λ over goes. on) (λ over live opened. ended)
 
-pub close_by : (P : Router → Type 0) (r : Router) → (is_closed r.link ≡ true → P r) → (is_closed r.link ≡ false → P (record r { link = Closed; agreed = false; session = None; held = []; out = []; due = Some (sum_of r.now (retry_of r.version)) })) → P (close r)
+pub close_by : (P : Router → Type 0) (r : Router) → (is_closed r.link ≡ true → P r) → (is_closed r.link ≡ false → P (record r { link = Closed; agreed = false; session = None; held = []; out = []; due = Some (sum_of r.now (retry_of r.config r.version)) })) → P (close r)
 close_by P r same shut = by_close P r same shut
 
 pub asks_by : (P : Noted → Type 0) (b : Bool) (r : Router) → P (record { router = ask r; items = Asks (choose (of_version r.spoken r.version) r.mark) ∷ [] }) → P (silent r) → P (asks_if b r)

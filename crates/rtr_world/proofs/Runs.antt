@@ -1,5 +1,5 @@
 -- Each router of a world is one to which calls lead.
-use Rattle.rtr_world.proofs.Words.{◌≡◌, ℕ, Bool, true, false, not, ◌&&◌, List, [], ◌∷◌, ◌++◌, take, Option, refl, ⊤, drop, Some, None, IfSome, map, AllByRecursion, ◌∙◌, sym, ap, subst, inl, inr, Instance, IsInstance, published, Judgement, Begins, Whole, Faulty, judge, finds_memory, is_none, Conn, Gives, Notifies, Taking, Takes, conn_byte, conn_notified, conn_pulled, conn_stops, conn_takes, ConnCall, IsConnCall, serving, IsRouterCall, Router, on_unit, may_lack, Receiving, RouterCall, Connects, Receives, Closes, AsksNow, Ticks, called, asked_by, with_bytes, router_stops, router_byte, clocked, asks, asks_if, connects_at, closed_at, ticks_at, receives, Link, Asked, is_due, is_idle, is_reading, Closed, Ended, Item, At, Reads, Refused, Restarts, in_version, cases_Bool, IfSome_then, all_both, none_bytes, feed_keeps, stopped, feed_takes}
+use Rattle.rtr_world.proofs.Words.{◌≡◌, ℕ, Bool, true, false, not, ◌&&◌, List, [], ◌∷◌, ◌++◌, take, Option, refl, ⊤, drop, Some, None, IfSome, map, AllByRecursion, ◌∙◌, sym, ap, subst, inl, inr, Instance, IsInstance, published, Judgement, Begins, Whole, Faulty, judge, finds_memory, is_none, Conn, Gives, Notifies, Taking, Takes, conn_byte, conn_notified, conn_pulled, conn_stops, conn_takes, ConnCall, IsConnCall, serving, IsRouterCall, Router, on_unit, may_lack, Receiving, RouterCall, Connects, Receives, Closes, AsksNow, Ticks, called, asked_by, with_bytes, router_stops, router_byte, clocked, asks, asks_if, connects_at, closed_at, ticks_at, receives, Link, Asked, is_due, is_idle, is_reading, Closed, Ended, Item, At, Reads, Refused, Restarts, in_version, cases_Bool, IfSome_then, all_both, none_bytes, feed_keeps, stopped, feed_takes, Configures}
 use Rattle.rtr_ends.specs.Cache.{Publishes}
 use Rattle.rtr_world.specs.Claims.{IsRun, RoutersRun, since_restart, ConnsRun, IsConnRun}
 use Rattle.rtr_world.specs.History.{conn_due, Outcome, Done, Memory, IsEvent, after}
@@ -63,6 +63,7 @@ call_of_call AsksNow r = asks_of_call (is_idle r.link) r
 call_of_call (Ticks now) r =
     let told : Router = clocked now r in
     all_both IsOfCall (asks_if (is_due told.link told.due told.now) told).items (At now ∷ []) (asks_of_call (is_due told.link told.due told.now) told) (tt, tt)
+call_of_call (Configures config) r = (tt, tt)
 call_of_call _ r = tt
 
 -- one call more

@@ -1,5 +1,5 @@
 -- What happens at one router, its connection and its wires keeps the invariant.
-use Rattle.rtr_world.proofs.Words.{◌≡◌, ℕ, Bool, true, false, not, List, [], ◌∷◌, ◌++◌, Option, Some, None, refl, sym, ap, ◌∙◌, subst, Instance, VrpSet, empty, header_version, Version, judge, Unit, Sent, in_version, Conn, finds_memory, Router, emptied, on_unit, Noted, Receiving, lacks, reads, silent, with_bytes, router_stops, router_byte, clocked, close, asks_if, Link, Closed, Idle, Asked, Answering, Ended, is_reading, is_closed, is_idle, choose, Committed, Question, AskReset, AskSerial, is_serial, later, of_version, same_base, false_true, is_notify, by_clock, by_close, goes_on, goes_so, false_of_not}
+use Rattle.rtr_world.proofs.Words.{◌≡◌, ℕ, Bool, true, false, not, List, [], ◌∷◌, ◌++◌, Option, Some, None, refl, sym, ap, ◌∙◌, subst, Instance, VrpSet, empty, header_version, Version, judge, Unit, Sent, in_version, Conn, finds_memory, Router, emptied, on_unit, Noted, Receiving, lacks, reads, silent, with_bytes, router_stops, router_byte, clocked, close, asks_if, Link, Closed, Idle, Asked, Answering, Ended, is_reading, is_closed, is_idle, choose, Committed, Question, AskReset, AskSerial, is_serial, later, of_version, same_base, false_true, is_notify, by_clock, by_close, goes_on, goes_so, false_of_not, default_config}
 use Rattle.rtr_world.specs.History.{conn_due}
 use Rattle.rtr_world.specs.OneAnswer.{OwnNotifies, units_in, without_notifies}
 use Rattle.rtr_world.proofs.Invariant.{OfAnswer, Shape, QuestionFits, Open, Unheard, Flow, Live, GoodLink, GoodRouter, if_open}
@@ -41,6 +41,7 @@ module _ (all : List Instance) (i : Instance) (home : Option Seen) (conn : Optio
       case_by P r b memory (down ++ (conn_due conn ++ f.lost)) f.coming (byte_case r.agreed r.spoken h.made r.held b (down ++ (conn_due conn ++ f.lost)) f.coming f.notifies f.downward) (part h f l.1) (λ u w. lack h u l.1)
       (λ u more is s. read h f l.1 u more is s (record {
         live = live;
+        config = g.config;
         quiet = λ one serial e. not_strange h r u more one serial f.session (subst (OwnNotifies r.agreed r.spoken h.made) is f.notifies) e f.own f.mine;
         shape = subst (λ x. Shape all r.spoken h r.link r.agreed r.version r.table f.wanted (without_notifies (units_in x))) is f.shape;
       }))
@@ -51,8 +52,9 @@ module _ (all : List Instance) (i : Instance) (home : Option Seen) (conn : Optio
       router_by (λ n. GoodRouter all i home conn up down n.router) down r b (finds_memory m.wanting) on g (λ h f e s. record {
         table = g.table;
         unmarked = g.unmarked;
+        config = g.config;
         link = live_link all i home conn up down (record r { held = r.held ++ b ∷ [] }) r.link refl (goes_so r on).0 (h, e, record { said = f.said; lost = f.lost; downward = s; open_at = f.open_at });
-      }) (λ h u e. record { table = g.table; unmarked = g.unmarked; link = none }) read
+      }) (λ h u e. record { table = g.table; unmarked = g.unmarked; config = g.config; link = none }) read
     where
       r : Router
       r = m.router
@@ -84,7 +86,7 @@ module _ (all : List Instance) (i : Instance) (home : Option Seen) (conn : Optio
                   f.open_at;
               notifies = λ now same. own_rest r.agreed now r.spoken h.made u more same (subst (OwnNotifies r.agreed r.spoken h.made) is f.notifies);
             };
-            kept = record { held = refl; none = none; table = g.table; unmarked = g.unmarked };
+            kept = record { held = refl; none = none; table = g.table; unmarked = g.unmarked; config = g.config };
             may = λ e. refl;
             own = f.own;
             mine = f.mine;
@@ -105,9 +107,10 @@ module _ (all : List Instance) (i : Instance) (home : Option Seen) (conn : Optio
     shape_emptied pv h _ agreed version table wanted rest on s = tt
 
     pub clocked_good : (now : ℕ) (r : Router) → GoodR r → GoodR (clocked now r)
-    clocked_good now r g = by_clock GoodR now r (λ lasts. record { table = g.table; unmarked = g.unmarked; link = g.link }) (λ over on. record {
+    clocked_good now r g = by_clock GoodR now r (λ lasts. record { table = g.table; unmarked = g.unmarked; config = g.config; link = g.link }) (λ over on. record {
       table = refl;
       unmarked = refl;
+      config = g.config;
       link = live_map r.link all all i i home home r (record (emptied r) { now = later r.now now }) conn conn up up down down (λ e. e) (λ e. e) refl refl g.link (λ l. (
         l.0,
         l.1,
@@ -118,12 +121,13 @@ module _ (all : List Instance) (i : Instance) (home : Option Seen) (conn : Optio
           open_at = l.2.open_at;
         },
       ));
-    }) (λ over live opened. record { table = refl; unmarked = refl; link = refl })
+    }) (λ over live opened. record { table = refl; unmarked = refl; config = g.config; link = refl })
 
     -- a link that is closed
     pub record Shut (r : Router) : Type 0 where
       pub table : TableAt all r.version r.table
       pub unmarked : r.mark ≡ false
+      pub config : r.config ≡ default_config
       pub closed : r.link ≡ Closed
       pub held : r.held ≡ []
       pub agreed : r.agreed ≡ false
@@ -131,11 +135,11 @@ module _ (all : List Instance) (i : Instance) (home : Option Seen) (conn : Optio
       pub out : r.out ≡ []
 
     pub closed_shut : (l : Link) (r : Router) → r.link ≡ l → is_closed l ≡ true → GoodR r → GoodLink all i home l r conn up down → Shut r
-    closed_shut Closed r is e g h = record { table = g.table; unmarked = g.unmarked; closed = is; held = h.0; agreed = h.1; session = h.2; out = h.3 }
+    closed_shut Closed r is e g h = record { table = g.table; unmarked = g.unmarked; config = g.config; closed = is; held = h.0; agreed = h.1; session = h.2; out = h.3 }
     closed_shut _ r is e g h = false_true e
 
     pub close_shut : (r : Router) → GoodR r → Shut (close r)
-    close_shut r g = by_close Shut r (λ e. closed_shut r.link r refl e g g.link) (λ e. record { table = g.table; unmarked = g.unmarked; closed = refl; held = refl; agreed = refl; session = refl; out = refl })
+    close_shut r g = by_close Shut r (λ e. closed_shut r.link r refl e g g.link) (λ e. record { table = g.table; unmarked = g.unmarked; config = g.config; closed = refl; held = refl; agreed = refl; session = refl; out = refl })
 
     -- an idle link asks
     pub asks_good : (l : Link) (r : Router) (b : Bool) → r.link ≡ l → (is_idle l ≡ false → b ≡ false) → GoodR r → GoodR (asks_if b r).router

@@ -144,7 +144,7 @@ module _ (keep : ℕ) (past : List Instance) (i : Instance) (home read : Option 
               (λ o op. record { linked = record { whole = op.whole; session = op.session; made = young (of ∙ f.version) op.session; later = op.later }; upward = op.upward; spoken = op.spoken; unheard = op.unheard }) f.open_at;
         },
       ) in
-      record { table = g.table; unmarked = g.unmarked; link = subst (λ x. GoodLink (i ∷ past) i (Some (record h { sets = set ∷ a.older })) x r conn up down) (sym is) live }
+      record { table = g.table; unmarked = g.unmarked; config = g.config; link = subst (λ x. GoodLink (i ∷ past) i (Some (record h { sets = set ∷ a.older })) x r conn up down) (sym is) live }
     where
       young : pv ≡ r.spoken → h.session ≡ session_in r.spoken i → length (set ∷ a.older) ≤ length i.sets
       young of here =
@@ -194,7 +194,7 @@ module _ (keep : ℕ) (past : List Instance) (i : Instance) (home read : Option 
         h,
         e,
         unit_adds past i h (record r { held = [] }) u.unit (m.items ++ items) f.version
-            (live_unit (record r { held = [] }) r.link u.unit (m.items ++ items) c.live refl (record { kept_is = g.tells.kept_is; due_is = g.tells.due_is; now_is = g.tells.now_is; spoken_is = g.tells.spoken_is; none = (goes_so r on).1 }) g.tells.link)
+            (live_unit (record r { held = [] }) r.link u.unit (m.items ++ items) c.live refl (record { kept_is = g.tells.kept_is; due_is = g.tells.due_is; now_is = g.tells.now_is; spoken_is = g.tells.spoken_is; config_is = g.tells.config_is; none = (goes_so r on).1 }) g.tells.link)
             (unit_brings (i ∷ past) h (record r { held = [] }) u.unit (units_in more) f.wanted c),
       )) in
       adds_goes items places (rest ++ tail) m n (router_byte m b).wanting g.seen adds.0 adds.1 adds.2 (byte_good (i ∷ past) i g.seen conn up (rest ++ tail) m b on g.good) (byte_tells m b items on g.tells) g.is_seen g.is_read g.order

@@ -1,6 +1,6 @@
 -- What a PDU does to a router, if it belongs there: a notify, the reply to a question, or more of an answer. A law of each effect is one of
 -- the PDU.
-use Rattle.rtr_world.proofs.Words.{◌≡◌, ℕ, ◌+◌, ◌≤◌, ◌<◌, Bool, true, false, not, ◌&&◌, ◌==◌, List, [], ◌∷◌, ◌++◌, length, Option, Some, None, if◌then◌else◌, refl, sym, ap, ◌∙◌, inl, inr, subst, subst₂, Payload, eq_true, Instance, VrpSet, Unit, SerialNotify, CacheResponse, Prefix, EndOfData, EndOfData0, CacheReset, report, session_in, Sent, Router, Staged, Stays, asking, ask, commit, emptied, ended_by, fails, is_news, is_strange, on_unit, stage, staged, Link, Idle, Asked, Answering, is_reading, Intervals, default_intervals, Begun, Committed, Question, AskReset, AskSerial, base_of, bounded, differs, is_wrong, led_to, of_version, retry_of, session_of, sum_of, either, false_true}
+use Rattle.rtr_world.proofs.Words.{◌≡◌, ℕ, ◌+◌, ◌≤◌, ◌<◌, Bool, true, false, not, ◌&&◌, ◌==◌, List, [], ◌∷◌, ◌++◌, length, Option, Some, None, if◌then◌else◌, refl, sym, ap, ◌∙◌, inl, inr, subst, subst₂, Payload, eq_true, Instance, VrpSet, Unit, SerialNotify, CacheResponse, Prefix, EndOfData, EndOfData0, CacheReset, report, session_in, Sent, Router, Staged, Stays, asking, ask, commit, emptied, ended_by, fails, is_news, is_strange, on_unit, stage, staged, Link, Idle, Asked, Answering, is_reading, Intervals, Begun, Committed, Question, AskReset, AskSerial, base_of, bounded, differs, is_wrong, led_to, of_version, retry_of, session_of, sum_of, either, false_true, chosen, default_config, limit_of}
 use Rattle.rtr_world.specs.OneAnswer.{NotifiesOf, OwnNotifies, units_in, without_notifies}
 use Rattle.rtr_world.proofs.Invariant.{after_stage, IsOwn, Leads, Mine, OfAnswer, OneReply, OwnSession, QuestionFits, Replies, no_data, not_kept, other_session, no_memory, response, Shape, nothing_yet}
 use Rattle.rtr_world.proofs.SentLaws.{HeadCase, a_notify, another, head_case}
@@ -41,7 +41,7 @@ right_response session (AskSerial one serial) (Some version) f own = same_sessio
 module _ (all : List Instance) (h : Seen) (r : Router) where
   -- the first PDU of a reply, with what is left of it
   pub record ReplyDoes (P : Question → Unit → Router → Type 0) (rest : List Unit) : Type 0 where
-    pub idles : (copy : List ℕ) → rest ≡ [] → P AskReset (report 2 copy) (record r { agreed = true; link = Idle; due = Some (sum_of r.now (retry_of r.version)); no_data = true })
+    pub idles : (copy : List ℕ) → rest ≡ [] → P AskReset (report 2 copy) (record r { agreed = true; link = Idle; due = Some (sum_of r.now (retry_of r.config r.version)); no_data = true })
     pub again : (serial : ℕ) → rest ≡ [] → P (AskSerial h.session serial) CacheReset (asking AskReset (record r { agreed = true }))
     pub other : (session serial : ℕ) (copy : List ℕ) → (session ≡ h.session → ⊥) → P (AskSerial session serial) (report 0 copy) (ended_by 0 (emptied (record r { agreed = true })))
     pub lacks : (q : Question) → rest ≡ [] → P q (report 1 []) (ended_by 1 (record r { agreed = true }))
@@ -68,24 +68,25 @@ module _ (all : List Instance) (h : Seen) (r : Router) where
 
   -- a PDU of the rest of an answer: a record, or the End of Data
   pub record AnswerDoes (P : Unit → Router → Type 0) (a : Begun) (rest : List Unit) : Type 0 where
-    pub stages : (announce : Bool) (v : Payload) (b : Begun) → stage (base_of a.question r.table) a announce v ≡ Stays b → P (Prefix announce v) (record r { link = Answering b })
+    pub stages : (announce : Bool) (v : Payload) (b : Begun) → stage 16777215 (base_of a.question r.table) a announce v ≡ Stays b → P (Prefix announce v) (record r { link = Answering b })
     pub commits : (u : Unit) (one number : ℕ) (intervals : Intervals) → ((serial : ℕ) (set : VrpSet) → Leads (base_of a.question r.table) a (u ∷ rest) h.session serial set → Leaves a rest one number serial set)
         → P u (commit a (record { version = r.spoken; session = one; serial = number; moment = r.now; intervals = intervals }) r)
 
-  pub by_answer : (P : Unit → Router → Type 0) (a : Begun) (u : Unit) (rest : List Unit) (serial : ℕ) (set : VrpSet) → a.session ≡ h.session → Leads (base_of a.question r.table) a (u ∷ rest) h.session serial set → AnswerDoes P a rest → P u (on_unit (Answering a) u r)
+  pub by_answer : (P : Unit → Router → Type 0) (a : Begun) (u : Unit) (rest : List Unit) (serial : ℕ) (set : VrpSet) → r.config ≡ default_config → a.session ≡ h.session → Leads (base_of a.question r.table) a (u ∷ rest) h.session serial set → AnswerDoes P a rest → P u (on_unit (Answering a) u r)
   unfolding on_unit
-  by_answer P a (Prefix announce v) rest serial set own leads d = by_stage (stage (base_of a.question r.table) a announce v) refl leads
+  by_answer P a (Prefix announce v) rest serial set plain own leads d =
+      subst (λ c. P (Prefix announce v) (staged (Prefix announce v) (stage (limit_of c) (base_of a.question r.table) a announce v) r)) (sym plain) (by_stage (stage 16777215 (base_of a.question r.table) a announce v) refl leads)
     where
-      by_stage : (s : Staged) → stage (base_of a.question r.table) a announce v ≡ s → after_stage s (λ b. Leads (base_of a.question r.table) b rest h.session serial set) → P (Prefix announce v) (staged (Prefix announce v) s r)
+      by_stage : (s : Staged) → stage 16777215 (base_of a.question r.table) a announce v ≡ s → after_stage s (λ b. Leads (base_of a.question r.table) b rest h.session serial set) → P (Prefix announce v) (staged (Prefix announce v) s r)
       by_stage (Stays b) e on = d.stages announce v b e
       by_stage _ e on = absurd on
-  by_answer P a (EndOfData one number refresh retry expire) rest serial set own leads d =
-      subst (λ b. P (EndOfData one number refresh retry expire) (if b then commit a (record { version = r.spoken; session = one; serial = number; moment = r.now; intervals = bounded refresh retry expire }) r else fails (EndOfData one number refresh retry expire) r))
-      (sym (eq_true one a.session (leads.1 ∙ sym own))) (d.commits (EndOfData one number refresh retry expire) one number (bounded refresh retry expire) (λ serial set l. l))
-  by_answer P a (EndOfData0 one number) rest serial set own leads d =
-      subst (λ b. P (EndOfData0 one number) (if b then commit a (record { version = r.spoken; session = one; serial = number; moment = r.now; intervals = default_intervals }) r else fails (EndOfData0 one number) r))
-      (sym (eq_true one a.session (leads.1 ∙ sym own))) (d.commits (EndOfData0 one number) one number default_intervals (λ serial set l. l))
-  by_answer P a u rest serial set own leads d = absurd leads
+  by_answer P a (EndOfData one number refresh retry expire) rest serial set plain own leads d =
+      subst (λ b. P (EndOfData one number refresh retry expire) (if b then commit a (record { version = r.spoken; session = one; serial = number; moment = r.now; intervals = chosen r.config (bounded refresh retry expire) }) r else fails (EndOfData one number refresh retry expire) r))
+      (sym (eq_true one a.session (leads.1 ∙ sym own))) (d.commits (EndOfData one number refresh retry expire) one number (chosen r.config (bounded refresh retry expire)) (λ serial set l. l))
+  by_answer P a (EndOfData0 one number) rest serial set plain own leads d =
+      subst (λ b. P (EndOfData0 one number) (if b then commit a (record { version = r.spoken; session = one; serial = number; moment = r.now; intervals = r.config.intervals }) r else fails (EndOfData0 one number) r))
+      (sym (eq_true one a.session (leads.1 ∙ sym own))) (d.commits (EndOfData0 one number) one number r.config.intervals (λ serial set l. l))
+  by_answer P a u rest serial set plain own leads d = absurd leads
 
   -- what an answer leads to is under the name of its End of Data
   stands_as : (one number session serial : ℕ) (led set : VrpSet) → one ≡ session → number ≡ serial → led ≡ set → (s : Stands all r.spoken session serial set) → (t : Stands all r.spoken one number led) × (t.older ≡ s.older)
@@ -100,7 +101,7 @@ module _ (all : List Instance) (h : Seen) (r : Router) where
     pub stays : (l : Link) (one serial : ℕ) → r.link ≡ l → is_reading l ≡ true → Shape all r.spoken h l r.agreed r.version r.table wanted rest → P l (SerialNotify one serial) r
     pub replies : wanted ≡ [] → ReplyDoes (λ q u k. QuestionFits h.session q (of_version r.spoken r.version) → OneReply all r.spoken h q (u ∷ rest) → P (Asked q) u k) rest
     pub stages : (a : Begun) (announce : Bool) (v : Payload) (b : Begun) → wanted ≡ [] → r.agreed ≡ true → a.session ≡ h.session → QuestionFits h.session a.question (of_version r.spoken r.version) → OfAnswer all r.spoken h (base_of a.question r.table) a (Prefix announce v ∷ rest)
-        → stage (base_of a.question r.table) a announce v ≡ Stays b → P (Answering a) (Prefix announce v) (record r { link = Answering b })
+        → stage 16777215 (base_of a.question r.table) a announce v ≡ Stays b → P (Answering a) (Prefix announce v) (record r { link = Answering b })
     pub commits : (a : Begun) (u : Unit) (one number : ℕ) (intervals : Intervals) → wanted ≡ [] → rest ≡ [] → r.agreed ≡ true → one ≡ h.session → (stands : Stands all r.spoken one number (led_to (base_of a.question r.table) a.withdrawn a.announced))
         → length h.sets ≤ length stands.older + 1 → P (Answering a) u (commit a (record { version = r.spoken; session = one; serial = number; moment = r.now; intervals = intervals }) r)
 
@@ -119,6 +120,7 @@ module _ (all : List Instance) (h : Seen) (r : Router) where
   -- A PDU may come to a link that reads.
   pub record Belongs (u : Unit) (more wanted : List Unit) : Type 0 where
     pub live : is_reading r.link ≡ true
+    pub config : r.config ≡ default_config
     pub quiet : (one serial : ℕ) → u ≡ SerialNotify one serial → is_strange r one ≡ false
     pub shape : Shape all r.spoken h r.link r.agreed r.version r.table wanted (without_notifies (u ∷ more))
 
@@ -134,7 +136,7 @@ module _ (all : List Instance) (h : Seen) (r : Router) where
           ]
       others (Answering a) live s =
           let o : OfAnswer all r.spoken h (base_of a.question r.table) a (u ∷ without_notifies more) = s.4 in
-          by_answer (λ v k. OfAnswer all r.spoken h (base_of a.question r.table) a (v ∷ without_notifies more) → P (Answering a) v k) a u (without_notifies more) o.serial o.set s.2 o.leads (record {
+          by_answer (λ v k. OfAnswer all r.spoken h (base_of a.question r.table) a (v ∷ without_notifies more) → P (Answering a) v k) a u (without_notifies more) o.serial o.set c.config s.2 o.leads (record {
             stages = λ announce v b e o. d.stages a announce v b s.0 s.1 s.2 s.3 o e;
             commits = λ v one number intervals ends o.
                 let l = ends o.serial o.set o.leads in

@@ -1,5 +1,5 @@
 -- A PDU that comes to the router keeps the invariant.
-use Rattle.rtr_world.proofs.Words.{◌≡◌, ℕ, ◌<◌, Bool, true, false, not, ◌&&◌, ◌||◌, nat_lt, List, [], ◌∷◌, ◌++◌, Option, Some, None, if◌then◌else◌, refl, sym, ap, ◌∙◌, append_assoc, subst, subst₂, arith, inl, inr, append-nil, Payload, Instance, VrpSet, has, size, IsUnitOf, Unit, CacheResponse, Prefix, Version, Sent, bytes_sent, in_version, sent, sent_all, session_in, Conn, Commits, Router, Stays, Wrong, Over, asking, stage, commit, on_unit, either, is_notify, Link, Closed, Idle, Answering, Ended, is_reading, choose, Begun, Committed, Question, AskReset, AskSerial, query, is_among, led_to, base_of, is_same, of_version, sum_of, retry_of, false_true}
+use Rattle.rtr_world.proofs.Words.{◌≡◌, ℕ, ◌<◌, Bool, true, false, not, ◌&&◌, ◌||◌, nat_lt, List, [], ◌∷◌, ◌++◌, Option, Some, None, if◌then◌else◌, refl, sym, ap, ◌∙◌, append_assoc, subst, subst₂, arith, inl, inr, append-nil, Payload, Instance, VrpSet, has, size, IsUnitOf, Unit, CacheResponse, Prefix, Version, Sent, bytes_sent, in_version, sent, sent_all, session_in, Conn, Commits, Router, Stays, Wrong, Over, asking, stage, commit, on_unit, either, is_notify, Link, Closed, Idle, Answering, Ended, is_reading, choose, Begun, Committed, Question, AskReset, AskSerial, query, is_among, led_to, base_of, is_same, of_version, sum_of, retry_of, false_true, default_config, RouterConfig}
 use Rattle.rtr_world.proofs.UnitEffects.{Belongs, by_shape, fits_mine}
 use Rattle.rtr_world.specs.History.{conn_due}
 use Rattle.rtr_world.specs.OneAnswer.{EndsWith, OwnNotifies, announced_in, units_in, withdrawn_in, without_notifies}
@@ -31,7 +31,7 @@ nothing_right [] ys e = e
 nothing_right (x ∷ xs) ys e = cc
 
 -- A record is staged before the others.
-staged_is : (base : VrpSet) (a : Begun) (announce : Bool) (v : Payload) (b : Begun) → stage base a announce v ≡ Stays b → (if announce then record a { announced = v ∷ a.announced } else record a { withdrawn = v ∷ a.withdrawn }) ≡ b
+staged_is : (base : VrpSet) (a : Begun) (announce : Bool) (v : Payload) (b : Begun) → stage 16777215 base a announce v ≡ Stays b → (if announce then record a { announced = v ∷ a.announced } else record a { withdrawn = v ∷ a.withdrawn }) ≡ b
 staged_is base a false v b e = by_test (has base v && not (is_among v a.withdrawn)) e
   where
     by_test : (t : Bool) → (if t then Stays (record a { withdrawn = v ∷ a.withdrawn }) else Wrong 6) ≡ Stays b → record a { withdrawn = v ∷ a.withdrawn } ≡ b
@@ -45,7 +45,7 @@ staged_is base a true v b e = by_test (has base v || is_among v a.announced) (na
     by_test false false e = cc
 
 -- what is staged belongs to the same question and session
-pub stage_keeps : (base : VrpSet) (a : Begun) (announce : Bool) (v : Payload) (b : Begun) → stage base a announce v ≡ Stays b → (b.question ≡ a.question) × (b.session ≡ a.session)
+pub stage_keeps : (base : VrpSet) (a : Begun) (announce : Bool) (v : Payload) (b : Begun) → stage 16777215 base a announce v ≡ Stays b → (b.question ≡ a.question) × (b.session ≡ a.session)
 stage_keeps base a false v b e = subst (λ x. (x.question ≡ a.question) × (x.session ≡ a.session)) (staged_is base a false v b e) (refl, refl)
 stage_keeps base a true v b e = subst (λ x. (x.question ≡ a.question) × (x.session ≡ a.session)) (staged_is base a true v b e) (refl, refl)
 
@@ -65,14 +65,14 @@ read_withdrawn a v none =
 read_announced : (a : Begun) (v : Payload) → read_of (record a { announced = v ∷ a.announced }) ≡ read_of a ++ Prefix true v ∷ []
 read_announced a v = ap (λ x. CacheResponse a.session ∷ x) (sym (append_assoc (records_of false a.withdrawn) (records_of true a.announced) (Prefix true v ∷ [])))
 
-pub stage_reads : (base : VrpSet) (a : Begun) (announce : Bool) (v : Payload) (b : Begun) (rest : List Unit) → stage base a announce v ≡ Stays b → InOrder a (Prefix announce v ∷ rest) → (read_of b ≡ read_of a ++ Prefix announce v ∷ []) × InOrder b rest
+pub stage_reads : (base : VrpSet) (a : Begun) (announce : Bool) (v : Payload) (b : Begun) (rest : List Unit) → stage 16777215 base a announce v ≡ Stays b → InOrder a (Prefix announce v ∷ rest) → (read_of b ≡ read_of a ++ Prefix announce v ∷ []) × InOrder b rest
 stage_reads base a false v b rest e h =
     let none : a.announced ≡ [] = elim (h.1) [ inl none ↦ none | inr k ↦ absurd k ] in
     subst (λ x. (read_of x ≡ read_of a ++ Prefix false v ∷ []) × InOrder x rest) (staged_is base a false v b e) (read_withdrawn a v none, (h.0, inl none))
 stage_reads base a true v b rest e h = subst (λ x. (read_of x ≡ read_of a ++ Prefix true v ∷ []) × InOrder x rest) (staged_is base a true v b e) (read_announced a v, (none_first rest h.0, inr h.0))
 
 -- the rest of an answer once a record is staged
-staged_answer : (all : List Instance) (pv : Version) (home : Seen) (base : VrpSet) (a : Begun) (announce : Bool) (v : Payload) (b : Begun) (rest : List Unit) → stage base a announce v ≡ Stays b → OfAnswer all pv home base a (Prefix announce v ∷ rest) → OfAnswer all pv home base b rest
+staged_answer : (all : List Instance) (pv : Version) (home : Seen) (base : VrpSet) (a : Begun) (announce : Bool) (v : Payload) (b : Begun) (rest : List Unit) → stage 16777215 base a announce v ≡ Stays b → OfAnswer all pv home base a (Prefix announce v ∷ rest) → OfAnswer all pv home base b rest
 staged_answer all pv home base a announce v b rest e o =
     let same = stage_keeps base a announce v b e in
     let read = stage_reads base a announce v b rest e o.order in
@@ -116,17 +116,18 @@ module _ (all : List Instance) (i : Instance) (home : Option Seen) (conn : Optio
     pub notifies : (agreed : Bool) → May agreed → OwnNotifies agreed pv h.made more
 
   -- what a PDU leaves, save the End of Data of an answer
-  pub record Kept (bytes out : List ℕ) (version : Option Committed) (set : VrpSet) (mark : Bool) : Type 0 where
+  pub record Kept (bytes out : List ℕ) (version : Option Committed) (set : VrpSet) (mark : Bool) (own : RouterConfig) : Type 0 where
     pub held : bytes ≡ []
     pub none : out ≡ []
     pub table : TableAt all version set
     pub unmarked : mark ≡ false
+    pub config : own ≡ default_config
 
   -- and of the router
   pub record Reads (May : Bool → Type 0) (r : Router) (more : List Sent) : Type 0 where
     pub comes : Comes r.spoken May more
     pub open comes use *
-    pub kept : Kept r.held r.out r.version r.table r.mark
+    pub kept : Kept r.held r.out r.version r.table r.mark r.config
     pub open kept use *
     pub may : May r.agreed
     pub own : OwnSession h.session r.session
@@ -137,6 +138,7 @@ module _ (all : List Instance) (i : Instance) (home : Option Seen) (conn : Optio
   same_good May r more l d is live shape = record {
     table = d.table;
     unmarked = d.unmarked;
+    config = d.config;
     link = live_link r l is live (
       d.h,
       d.is_home,
@@ -163,6 +165,7 @@ module _ (all : List Instance) (i : Instance) (home : Option Seen) (conn : Optio
       record {
         table = g.table;
         unmarked = g.unmarked;
+        config = g.config;
         link = (
           l.0,
           l.1,
@@ -182,11 +185,11 @@ module _ (all : List Instance) (i : Instance) (home : Option Seen) (conn : Optio
     asks = λ one serial is s may. asking_good r (choose v r.mark) is (λ session mine. first_fits session v r.mark d.unmarked) (same_good May r more Idle d is refl s);
     stays = λ l one serial is live s may. same_good May r more l d is live s;
     replies = λ w. record {
-      idles = λ copy e f one may. same_good May (record r { agreed = true; link = Idle; due = Some (sum_of r.now (retry_of r.version)); no_data = true }) more Idle (record { comes = d.comes; kept = d.kept; may = may refl; own = d.own; mine = λ a. f }) refl refl (w, e, refl);
+      idles = λ copy e f one may. same_good May (record r { agreed = true; link = Idle; due = Some (sum_of r.now (retry_of r.config r.version)); no_data = true }) more Idle (record { comes = d.comes; kept = d.kept; may = may refl; own = d.own; mine = λ a. f }) refl refl (w, e, refl);
       again = λ serial e f one may. asking_good (record r { agreed = true; link = Idle }) AskReset refl (λ session mine. mine)
           (same_good May (record r { agreed = true; link = Idle }) more Idle (record { comes = d.comes; kept = d.kept; may = may refl; own = d.own; mine = λ a. fits_mine d.h.session (AskSerial d.h.session serial) v f refl }) refl refl (w, e, refl));
-      other = λ session serial copy differs f one may. record { table = refl; unmarked = refl; link = d.none };
-      lacks = λ q e f one may. record { table = d.table; unmarked = d.unmarked; link = d.none };
+      other = λ session serial copy differs f one may. record { table = refl; unmarked = refl; config = d.config; link = d.none };
+      lacks = λ q e f one may. record { table = d.table; unmarked = d.unmarked; config = d.config; link = d.none };
       begins = λ q own a f one may. same_good May (record r { agreed = true; session = Some d.h.session; link = Answering (nothing_yet q d.h.session) }) more (Answering (nothing_yet q d.h.session))
           (record { comes = d.comes; kept = d.kept; may = may refl; own = refl; mine = λ b. fits_mine d.h.session q v f own }) refl refl (w, refl, refl, f, a);
     };
@@ -201,7 +204,7 @@ module _ (all : List Instance) (i : Instance) (home : Option Seen) (conn : Optio
         );
     commits = λ a x one number intervals w e ag own stands since may.
         same_good May (commit a (record { version = r.spoken; session = one; serial = number; moment = r.now; intervals = intervals }) r) more Idle
-        (record { comes = d.comes; kept = record { none = d.none; held = d.held; table = stands; unmarked = refl }; may = d.may; own = d.own; mine = λ b. committed_mine r.spoken (record { version = r.spoken; session = one; serial = number; moment = r.now; intervals = intervals }) d.h.session own })
+        (record { comes = d.comes; kept = record { none = d.none; held = d.held; table = stands; unmarked = refl; config = d.config }; may = d.may; own = d.own; mine = λ b. committed_mine r.spoken (record { version = r.spoken; session = one; serial = number; moment = r.now; intervals = intervals }) d.h.session own })
         refl refl (w, e, ag);
   }) agrees
     where

@@ -22,22 +22,24 @@ pub use Rattle.rtr_ends.specs.Cache.{Conn, ConnCall, Gives, IsConnCall, Notifies
 unfoldable pub use Rattle.rtr_ends.specs.Cache.{conn_byte, conn_notified, conn_pulled, conn_takes}
 pub use Rattle.rtr_ends.specs.CacheState.{GivesBytes, Opens, ShowsCache, TakesPiece, conn_consumed, due_at, has_bytes_at, is_open_at, is_wanted_at, notified, without_conns}
 pub use Rattle.rtr_ends.specs.Commit.{Commits}
+pub use Rattle.rtr_ends.specs.Configuration.{chosen, default_config, limit_of}
 pub use Rattle.rtr_ends.specs.Connection.{ConnMoment, Connection, Fault, IsLater, Notify, Pull, Read, Sent, Wanting, bytes_sent, conn_after, in_version, is_published, is_wanting, notice, spoken_in, takes_memory}
 pub use Rattle.rtr_ends.specs.Consumed.{IsRouterCall}
 pub use Rattle.rtr_ends.specs.Feeding.{FedPiece, feed}
 pub use Rattle.rtr_ends.specs.LinkRules.{Over, Router, Staged, Stays, Wrong, ask, asking, commit, emptied, ended_by, fails, is_news, is_strange, may_lack, new_router, stage, staged, told_off}
 unfoldable pub use Rattle.rtr_ends.specs.LinkRules.{on_unit}
 pub use Rattle.rtr_ends.specs.Peer.{is_wanted_by_peer}
-pub use Rattle.rtr_ends.specs.Router.{AsksNow, Closes, Connects, Noted, Pulls, Receives, Receiving, RouterCall, Speaks, Ticks, asked_by, asks_if, breaks, called, close, expired, judged_by_clock, lacks, of_received, reads, router_judged, router_stops, silent, with_bytes, with_read}
+pub use Rattle.rtr_ends.specs.Router.{AsksNow, Closes, Configures, Connects, Noted, Pulls, Receives, Receiving, RouterCall, Speaks, Ticks, asked_by, asks_if, breaks, called, close, expired, judged_by_clock, lacks, of_received, reads, router_judged, router_stops, silent, with_bytes, with_read}
 unfoldable pub use Rattle.rtr_ends.specs.Router.{asks, clocked, closed_at, connects_at, receives, router_byte, router_pulled, ticks_at}
 pub use Rattle.rtr_ends.specs.RouterLaws.{IsKept, LinkTells}
 pub use Rattle.rtr_ends.specs.RouterLink.{Answering, Asked, Closed, Ended, Idle, Link, is_closed, is_due, is_idle, is_reading, name_of, told_link}
 pub use Rattle.rtr_ends.specs.RouterShown.{IsShown, Received, ReceivesSo, fed, is_lacking, taking}
 pub use Rattle.rtr_ends.specs.Sender.{PullsBytes}
 pub use Rattle.rtr_ends.specs.Timing.{Intervals, default_intervals}
-pub use Rattle.rtr_ends.specs.Transcript.{AskReset, AskSerial, Asks, At, Begun, Committed, Item, Kept, Lacks, Opened, Question, Reads, Refused, Restarts, Shut, acts_once, at_end_of_data, base_of, bounded, choose, differs, does_commit, emptied_if, has_agreed, is_among, is_commit, is_over, is_same, is_serial, is_wrong, kept, later, moment, nothing, of_version, outstanding, query, question_of, responded, retry_of, session_of, spoken, sum_of, under_way, waiting}
+pub use Rattle.rtr_ends.specs.Transcript.{AskReset, AskSerial, Asks, At, Begun, Committed, Item, Kept, Lacks, Opened, Question, Reads, Refused, Restarts, Shut, acts_once, at_end_of_data, base_of, bounded, choose, configured, differs, does_commit, emptied_if, has_agreed, is_among, is_commit, is_over, is_same, is_serial, is_wrong, kept, later, moment, nothing, of_version, outstanding, query, question_of, responded, retry_of, session_of, spoken, sum_of, under_way, waiting}
 unfoldable pub use Rattle.rtr_ends.specs.Transcript.{led_to}
 pub use Rattle.rtr_ends.specs.declared.cache.Cache.{Cache}
+pub use Rattle.rtr_ends.specs.declared.configuration.RouterConfig.{RouterConfig}
 pub use Rattle.rtr_ends.specs.declared.link.End.{End}
 pub use Rattle.rtr_ends.specs.declared.sessions.Sessions.{Sessions}
 pub use Rattle.rtr_pdu.proofs.DeviceLaws.{strict}

@@ -1,5 +1,5 @@
 -- Every event keeps the invariant of the world, and so the headline holds.
-use Rattle.rtr_world.proofs.Words.{◌≡◌, ℕ, suc, ◌+◌, ◌-◌, ◌<◌, ◌≤◌, ◌^◌, Bool, true, false, ◌&&◌, ◌||◌, ◌==◌, nat_lt, List, [], ◌∷◌, ◌++◌, length, Option, Some, None, is_some, if◌then◌else◌, refl, ⊤, map, take, drop, AllByRecursion, sym, ap, ◌∙◌, subst, arith, inl, inr, append_assoc, and_parts, or_parts, length-append, take-append-drop, Route, Instance, IsInstance, versions, HasState, state, is_current, published, VrpSet, state_is, published_is_instance, Unit, Version, V0, V1, EndOfData, EndOfData0, session_in, Conn, finds_memory, IsLater, Router, on_unit, IsKept, Link, Idle, Asked, Answering, Ended, Begun, Committed, Question, base_of, kept, Item, At, Reads, Lacks, Kept, acts_once, at_end_of_data, bounded, does_commit, led_to, moment, nothing, spoken, under_way, Receiving, asked_by, router_stops, router_byte, clocked, receives, default_intervals, is_kept, byte_tells, clocked_tells, feed_keeps, Tells, acts_exactly, eq_self, eq_of, eq_true, lt_true}
+use Rattle.rtr_world.proofs.Words.{◌≡◌, ℕ, suc, ◌+◌, ◌-◌, ◌<◌, ◌≤◌, ◌^◌, Bool, true, false, ◌&&◌, ◌||◌, ◌==◌, nat_lt, List, [], ◌∷◌, ◌++◌, length, Option, Some, None, is_some, if◌then◌else◌, refl, ⊤, map, take, drop, AllByRecursion, sym, ap, ◌∙◌, subst, arith, inl, inr, append_assoc, and_parts, or_parts, length-append, take-append-drop, Route, Instance, IsInstance, versions, HasState, state, is_current, published, VrpSet, state_is, published_is_instance, Unit, Version, V0, V1, EndOfData, EndOfData0, session_in, Conn, finds_memory, IsLater, Router, on_unit, IsKept, Link, Idle, Asked, Answering, Ended, Begun, Committed, Question, base_of, kept, Item, At, Reads, Lacks, Kept, acts_once, at_end_of_data, bounded, does_commit, led_to, moment, nothing, spoken, under_way, Receiving, asked_by, router_stops, router_byte, clocked, receives, is_kept, byte_tells, clocked_tells, feed_keeps, Tells, acts_exactly, eq_self, eq_of, eq_true, lt_true, chosen, configured}
 use Rattle.rtr_ends.specs.declared.link.End.TheVariants as ends
 use Rattle.rtr_world.specs.Claims.{ActExactlyOnce, Always, EachOnce, HoldsNamed, IsRouteJudged, IsNamed, Headline, NoWayBack, RouteStates, AnswersNow, Tables, ActsOnce, OneWorld, EachLeads, RefusesRightly}
 use Rattle.rtr_world.specs.History.{Outcome, Done, SessionUsed, TooManyVersions, Memory, is_near, room_for, room_since, all_have_room, is_used, refusal, MayEnd, after, IsEvent, Entry, Made, IsMade, conn_due, Leads, LeadsFrom}
@@ -31,9 +31,9 @@ at_end_once (Some a) version k = by_test (version.session == a.session) (acts_on
 pub each_once : (items : List Item) → EachOnce items
 each_once [] = tt
 each_once (Reads (EndOfData session serial refresh retry expire) ∷ items) =
-    (at_end_once (under_way items) (record { version = spoken items; session = session; serial = serial; moment = moment items; intervals = bounded refresh retry expire }) (kept items), each_once items)
+    (at_end_once (under_way items) (record { version = spoken items; session = session; serial = serial; moment = moment items; intervals = chosen (configured items) (bounded refresh retry expire) }) (kept items), each_once items)
 each_once (Reads (EndOfData0 session serial) ∷ items) =
-    (at_end_once (under_way items) (record { version = spoken items; session = session; serial = serial; moment = moment items; intervals = default_intervals }) (kept items), each_once items)
+    (at_end_once (under_way items) (record { version = spoken items; session = session; serial = serial; moment = moment items; intervals = (configured items).intervals }) (kept items), each_once items)
 each_once (_ ∷ items) = (tt, each_once items)
 
 pub record GoodWorld (w : World) : Type 0 where
@@ -161,6 +161,7 @@ module _ (keep : ℕ) (past : List Instance) (i : Instance) (y : VrpSet) (p : Pr
         router = record {
           table = table_published s.router.version s.router.table parts.0 g.router.table;
           unmarked = g.router.unmarked;
+          config = g.router.config;
           link = live_map s.router.link (i ∷ past) (next ∷ past) i next g.seen g.seen s.router s.router s.conn s.conn s.up s.up s.down s.down (λ x. x) (λ x. x) refl refl g.router.link (λ l. (
             l.0,
             l.1,
@@ -207,6 +208,7 @@ module _ (keep : ℕ) (past : List Instance) (old i : Instance) (new : (pv : Ver
     router = record {
       table = table_restarted s.router.version s.router.table g.router.table;
       unmarked = g.router.unmarked;
+      config = g.router.config;
       link = live_map s.router.link (old ∷ past) (i ∷ (old ∷ past)) old i g.seen g.seen s.router s.router s.conn None s.up [] s.down s.down (λ x. x) (λ x. x) refl refl g.router.link (λ l. (
         l.0,
         l.1,
@@ -313,7 +315,7 @@ new_good made is = record {
     found = λ pv. ap (λ b. if b then Some (begun made.session made.session0 made.start) else None) (eq_self (session_in pv (begun made.session made.session0 made.start)));
     is = record { session = is.session; session0 = is.session0; start = is.start; sets = tt; news = tt };
   };
-  sides = all_new (Good made.keep [] (begun made.session made.session0 made.start)) (record { seen = None; is_seen = tt; is_read = tt; order = record { never_back = tt; current = tt; at_seen = tt; at_home = tt }; router = record { table = refl; unmarked = refl; link = (refl, refl, refl, refl) } }) made.routers;
+  sides = all_new (Good made.keep [] (begun made.session made.session0 made.start)) (record { seen = None; is_seen = tt; is_read = tt; order = record { never_back = tt; current = tt; at_seen = tt; at_home = tt }; router = record { table = refl; unmarked = refl; config = refl; link = (refl, refl, refl, refl) } }) made.routers;
 }
 
 -- What each event keeps of good worlds holds after every list of events.
@@ -421,7 +423,7 @@ module _ (w : World) (s : Side) (known : Known w s) (Q : Router → List Item �
   unfolding router_byte
   byte_holds b down m on g =
       let k : Router = record m.router { held = [] } in
-      let told : Tells k (m.items ++ s.items) = record { kept_is = g.tells.kept_is; due_is = g.tells.due_is; now_is = g.tells.now_is; spoken_is = g.tells.spoken_is; link = g.tells.link } in
+      let told : Tells k (m.items ++ s.items) = record { kept_is = g.tells.kept_is; due_is = g.tells.due_is; now_is = g.tells.now_is; spoken_is = g.tells.spoken_is; config_is = g.tells.config_is; link = g.tells.link } in
       let asked : Unit → List Item = λ u. asked_by (on_unit k.link u k).link (on_unit k.link u k).out in
       router_by (instances w) w.present known.0.seen s.conn s.up (λ n. Q n.router ((n.items ++ m.items) ++ s.items)) down m.router b (finds_memory m.wanting) on g.good
       (λ h f e x. part m.router (m.router.held ++ b ∷ []) (m.items ++ s.items) g.holds) (λ h u e. lack k u (m.items ++ s.items))
