@@ -18,11 +18,11 @@ use Rattle.rtr_ends.specs.FetchStream.{IsFetchCall, calls_since}
 use Rattle.rtr_ends.specs.RouterLink.{name_of}
 use Rattle.rtr_ends.specs.Router as model
 use Rattle.rtr_ends.specs.LinkRules.{Router, may_lack, on_unit}
-use Rattle.rtr_ends.specs.Router.{RouterCall, Closes, Connects, AsksNow, Ticks, Pulls, Speaks, Receives, Receiving, asked_by, called, closed_at, connects_at, played, receives, router_byte, router_pulled, router_stops, with_bytes}
+use Rattle.rtr_ends.specs.Router.{RouterCall, Closes, Connects, AsksNow, Ticks, Pulls, Speaks, Configures, Receives, Receiving, asked_by, called, closed_at, connects_at, played, receives, router_byte, router_pulled, router_stops, with_bytes}
 use Rattle.rtr_ends.specs.RouterLink.{Answering, Asked, Closed, Ended, Idle, Link}
 use Rattle.rtr_ends.specs.RouterLaws.{RouterSpeaks, connected_version}
 use Rattle.rtr_ends.specs.RouterShown.{CallsLead, LeadsOn}
-use Rattle.rtr_ends.specs.Transcript.{Asks, At, Breaks, Item, Lacks, Opened, Reads, Refused, Restarts, Shut, kept, spoken}
+use Rattle.rtr_ends.specs.Transcript.{Asks, At, Breaks, Configured, Item, Lacks, Opened, Reads, Refused, Restarts, Shut, kept, spoken}
 use Rattle.rtr_ends.specs.declared.router.Router as code
 use Rattle.feed.specs.Feed.{answer_bytes}
 use Rattle.feed.specs.Loopback.{HasTable, Took}
@@ -54,6 +54,7 @@ goes_on (Breaks fault ∷ xs) items h one = goes_on xs items h.1 one
 goes_on (Refused ∷ xs) items h one = goes_on xs items h.1 one
 goes_on (Shut ∷ xs) items h one = goes_on xs items h.1 one
 goes_on (Restarts ∷ xs) items h one = absurd h.0
+goes_on (Configured config ∷ xs) items h one = goes_on xs items h.1 one
 
 plain_asked : (link : Link) (out : List ℕ) → AllByRecursion IsPlain (asked_by link out)
 plain_asked (Asked question) [] = tt
@@ -93,6 +94,7 @@ plain_call now (Closes at) r h = absurd h
 plain_call now AsksNow r h = absurd h
 plain_call now (Ticks at) r h = absurd h
 plain_call now (Speaks version) r h = absurd h
+plain_call now (Configures config) r h = absurd h
 
 connected : OneConnection (played (Connects 0 ∷ [])).items
 unfolding connects_at
@@ -114,6 +116,7 @@ is_call (Closes at) h = tt
 is_call AsksNow h = tt
 is_call (Ticks at) h = tt
 is_call (Speaks version) h = tt
+is_call (Configures config) h = tt
 
 are_calls : (turns : List RouterCall) → AllByRecursion (IsFetchCall 0) turns → AllByRecursion IsRouterCall (calls_since turns 0 [])
 are_calls [] h = (tt, tt)

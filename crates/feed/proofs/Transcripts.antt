@@ -10,7 +10,9 @@ use Rattle.rtr_pdu.specs.declared.version.Version.{Version}
 use Rattle.rtr_pdu.specs.declared.unit.Unit.TheVariants.{CacheResponse, Prefix, EndOfData}
 use Rattle.rtr_ends.specs.Consumed.{units_read_in}
 use Rattle.rtr_ends.specs.RouterLink.{name_of}
-use Rattle.rtr_ends.specs.Transcript.{AskReset, AskSerial, Asks, At, Begun, Breaks, Committed, Item, Kept, Lacks, Opened, Question, Reads, Refused, Restarts, Shut, acts_once, at_end_of_data, base_of, begun, bounded, emptied_if, is_among, is_over, is_wrong, kept, later, led_to, moment, nothing, of_version, spoken, under_way, waiting, with_record}
+use Rattle.rtr_ends.specs.Configuration.{chosen}
+use Rattle.rtr_ends.specs.declared.configuration.RouterConfig.{RouterConfig}
+use Rattle.rtr_ends.specs.Transcript.{AskReset, AskSerial, Asks, At, Begun, Breaks, Committed, Configured, Item, Kept, Lacks, Opened, Question, Reads, Refused, Restarts, Shut, acts_once, at_end_of_data, base_of, begun, bounded, configured, emptied_if, is_among, is_over, is_wrong, kept, later, led_to, moment, nothing, of_version, spoken, under_way, waiting, with_record}
 use Rattle.feed.proofs.Sets.{led_from_nothing}
 use Rattle.prefixes.proofs.Basics.{or_swap}
 
@@ -96,6 +98,12 @@ module _ (vs : List Payload) where
   ticks now items done (some front back parts is nothing_kept answer) = some front back parts is (emptied (is_over (kept items).version (later (moment items) now)) (kept items) nothing_kept) answer
   ticks now items done (all is h) = all is (ends_emptied vs (is_over (kept items).version (later (moment items) now)) (kept items) h)
 
+  -- A configuration is set.
+  configures : (config : RouterConfig) (items : List Item) (done : List Unit) → Came items done → Came (Configured config ∷ items) done
+  configures config items done (none is nothing_kept no_way) = none is nothing_kept no_way
+  configures config items done (some front back parts is nothing_kept answer) = some front back parts is nothing_kept answer
+  configures config items done (all is h) = all is h
+
   -- What a PDU does that comes next in the answer
   record Steps (items : List Item) (u : Unit) (new : List Item) : Type 0 where
     first : u ≡ CacheResponse 1 → kept items ≡ nothing → (kept new ≡ nothing) × Begins [] (under_way new)
@@ -106,7 +114,7 @@ module _ (vs : List Payload) where
   reads items u = record {
     first = λ is gone. subst (λ x. (kept (Reads x ∷ items) ≡ nothing) × Begins [] (under_way (Reads x ∷ items))) (sym is) (emptied (is_wrong (waiting items) (of_version (spoken items) (kept items).version) 1) (kept items) gone, begins_begun (waiting items));
     next = λ front v is gone h. subst (λ x. (kept (Reads x ∷ items) ≡ nothing) × Begins (front ++ v ∷ []) (under_way (Reads x ∷ items))) (sym is) (gone, begins_more front v (under_way items) h);
-    end = λ is gone h. subst (λ x. Ends vs (kept (Reads x ∷ items))) (sym is) (ends vs (under_way items) (record { version = spoken items; session = 1; serial = 0; moment = moment items; intervals = bounded 3600 600 7200 }) (kept items) gone h);
+    end = λ is gone h. subst (λ x. Ends vs (kept (Reads x ∷ items))) (sym is) (ends vs (under_way items) (record { version = spoken items; session = 1; serial = 0; moment = moment items; intervals = chosen (configured items) (bounded 3600 600 7200) }) (kept items) gone h);
   }
 
   lacks : (items : List Item) (u : Unit) → Steps items u (Lacks u ∷ items)
@@ -167,6 +175,7 @@ module _ (vs : List Payload) where
   came (Refused ∷ items) more one e = drops items (Refused ∷ items) (units_read_in items) refl refl (came items more one e)
   came (Shut ∷ items) more one e = drops items (Shut ∷ items) (units_read_in items) refl refl (came items more one e)
   came (Restarts ∷ items) more one e = absurd one
+  came (Configured config ∷ items) more one e = configures config items (units_read_in items) (came items more one e)
 
 not_nothing : {A : Type 0} (k : Kept) (name : Version × ℕ × ℕ) → name_of k.version ≡ Some name → k ≡ nothing → A
 not_nothing k name e gone = absurd (let h : None ≡ Some name = sym (ap (λ (x : Kept). name_of x.version) gone) ∙ e in cc)
