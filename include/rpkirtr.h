@@ -1,4 +1,4 @@
-/* rpkirtr.h: a client of RPKI-to-Router caches (RFC 6810, RFC 8210), origin validation (RFC 6811) and the payloads of ROAs (RFC 9582).
+/* rpkirtr.h: both ends of the RPKI-to-Router protocol (RFC 6810, RFC 8210), origin validation (RFC 6811) and the payloads of ROAs (RFC 9582).
  *
  * The library does no input or output: the caller owns sockets and clocks. It hands over the bytes that it received, and writes the bytes
  * that it pulls. Moments are seconds of one clock that the caller chooses. They never go back, and are below RPKIRTR_NEVER.
@@ -6,7 +6,7 @@
  * What the caller must keep, which no proof covers:
  * - A handle begins as RPKIRTR_EMPTY_INIT and is changed by these functions alone. It is never copied: only its address is passed.
  * - One call at a time is made on a handle. Calls on different handles may run at once. A handle may be used by one thread after
- *   another. No call is made in a signal handler.
+ *   another, except that of a cache, which stays on the thread that made it. No call is made in a signal handler.
  * - Pointers are not NULL, and point to as many valid elements as the length beside them says. They are aligned as their types want. A
  *   pointer may be NULL if its length is 0. An output overlaps neither another argument nor the records of a list.
  * - malloc, realloc and free are of one allocator, and align as C wants.
@@ -33,10 +33,14 @@ typedef int32_t rpkirtr_status;
 #define RPKIRTR_BAD_RECORD 4   /* a malformed record */
 #define RPKIRTR_BAD_ROUTE 5    /* a malformed route */
 #define RPKIRTR_BAD_VERSION 6  /* not a version of the protocol */
-#define RPKIRTR_RANGE 7        /* an index at or past the end, or more than 16777215 different records */
+#define RPKIRTR_RANGE 7        /* an index at or past the end, or more than 16777215 different records, or too many connections */
 #define RPKIRTR_NOT_LINKED 8   /* there is no connection, or it has ended */
 #define RPKIRTR_BUSY 9         /* a query is outstanding */
 #define RPKIRTR_BAD_PAYLOAD 10 /* a malformed payload: the fault says why */
+#define RPKIRTR_BAD_TIMING 11  /* intervals that are not valid: a number says why */
+#define RPKIRTR_NO_CONNECTION 12 /* no connection of the cache has this number */
+#define RPKIRTR_NO_DATA 13     /* nothing is published */
+#define RPKIRTR_BAD_KEEP 14    /* 0, or more than 65536, versions to be kept */
 
 /* A text that ends with a zero byte. The rest of its room is zero. */
 typedef struct rpkirtr_text {
@@ -136,6 +140,7 @@ typedef struct rpkirtr_fault {
 typedef struct rpkirtr_router { void *opaque_; } rpkirtr_router;
 typedef struct rpkirtr_index { void *opaque_; } rpkirtr_index;
 typedef struct rpkirtr_roa { void *opaque_; } rpkirtr_roa;
+typedef struct rpkirtr_cache { void *opaque_; } rpkirtr_cache;
 #define RPKIRTR_EMPTY_INIT {0}
 
 /* ---- texts and versions */
@@ -273,6 +278,57 @@ rpkirtr_status rpkirtr_roa_count(rpkirtr_roa *h, size_t *count);
 
 /* Copies the records that the ROA authorizes in its order, from an index on, as many as fit, and tells how many. OK, EMPTY */
 rpkirtr_status rpkirtr_roa_records(rpkirtr_roa *h, size_t first, rpkirtr_record *room, size_t room_len, size_t *copied);
+
+/* ---- a cache */
+
+/* Makes a cache in an empty handle. It has published nothing, and has no connection. It speaks both versions of the protocol: `session` is
+ * the session of version 1, and `session0` that of version 0. Its first version has the serial `start`. It keeps the changes from the
+ * `keep` versions before the current one, from 1 to 65536. A cache that starts again without its earlier versions needs another session, or
+ * later serials (RFC 8210 section 5.1). It sends these intervals, in seconds: `refresh` from 1 to 86400, `retry` from 1 to 7200, `expire`
+ * from 600 to 172800 and larger than both others (section 6). If they are not valid, `fault` is RPKIRTR_TIMING_RANGE or
+ * RPKIRTR_TIMING_EXPIRE, and 0 else. OK, LIVE, BAD_TIMING, BAD_KEEP, NO_MEMORY */
+#define RPKIRTR_TIMING_RANGE 1  /* an interval is out of its range */
+#define RPKIRTR_TIMING_EXPIRE 2 /* the expire interval is not larger than both others */
+rpkirtr_status rpkirtr_cache_new(rpkirtr_cache *h, uint16_t session, uint16_t session0, uint32_t start, uint32_t keep, uint32_t refresh,
+                                 uint32_t retry, uint32_t expire, uint32_t *fault);
+
+/* Frees the cache with its connections, and empties the handle. OK, EMPTY */
+rpkirtr_status rpkirtr_cache_free(rpkirtr_cache *h);
+
+/* Publishes the set of records; what is listed twice counts once. It is a new version under the next serial. If it is the set of the current
+ * version, `unchanged` is 1, and no version is added. An answer that is under way stays one of its own version. Call rpkirtr_cache_notify for
+ * each connection then. If a record is malformed, the index of the first such is told, and nothing is published.
+ * OK, EMPTY, BAD_RECORD, RANGE, NO_MEMORY */
+rpkirtr_status rpkirtr_cache_publish(rpkirtr_cache *h, const rpkirtr_record *records, size_t records_len, size_t *bad, uint8_t *unchanged);
+
+/* Tells the serial of the current version, and how many records it has. OK, EMPTY, NO_DATA */
+rpkirtr_status rpkirtr_cache_current(rpkirtr_cache *h, uint32_t *serial, size_t *count);
+
+/* Opens a connection to a router, and tells its number: the least that no connection has. It has it until it is closed. RANGE if each number
+ * of 32 bits has a connection. OK, EMPTY, NO_MEMORY, RANGE */
+rpkirtr_status rpkirtr_cache_open(rpkirtr_cache *h, uint32_t *conn);
+
+/* Closes a connection, and drops what was due on it. Its number is free then. OK, EMPTY, NO_CONNECTION */
+rpkirtr_status rpkirtr_cache_close(rpkirtr_cache *h, uint32_t conn);
+
+/* Hands over bytes that were received on a connection, and tells how many were taken: none while bytes are to be pulled, or if the connection
+ * has ended. Bytes are taken up to the end of the first PDU, or up to a fault. The rest is handed over again after a pull. If memory runs out
+ * for an answer, an Error Report is due, and the connection ends. OK, EMPTY, NO_CONNECTION */
+rpkirtr_status rpkirtr_cache_receive(rpkirtr_cache *h, uint32_t conn, const uint8_t *bytes, size_t bytes_len, size_t *taken);
+
+/* Moves bytes that are to be sent on a connection into the room, as many as fit, and tells how many. OK, EMPTY, NO_CONNECTION */
+rpkirtr_status rpkirtr_cache_pull(rpkirtr_cache *h, uint32_t conn, uint8_t *room, size_t room_len, size_t *pulled);
+
+/* Makes a Serial Notify ready to be pulled on a connection (RFC 8210 section 5.2), if something is published, nothing is to be pulled, and the
+ * connection has not ended. `sent` is 1 then, and 0 else. OK, EMPTY, NO_CONNECTION */
+rpkirtr_status rpkirtr_cache_notify(rpkirtr_cache *h, uint32_t conn, uint8_t *sent);
+
+/* Tells whether bytes are to be pulled on a connection: 1 or 0. OK, EMPTY, NO_CONNECTION */
+rpkirtr_status rpkirtr_cache_has_bytes(rpkirtr_cache *h, uint32_t conn, uint8_t *has);
+
+/* Tells whether a connection continues: 1 or 0. If it has ended, pull what is to be sent, close the socket, and call rpkirtr_cache_close.
+ * OK, EMPTY, NO_CONNECTION */
+rpkirtr_status rpkirtr_cache_is_open(rpkirtr_cache *h, uint32_t conn, uint8_t *continues);
 
 #ifdef __cplusplus
 }

@@ -19,7 +19,7 @@ FRONT = r""".\" Written by tools/library_page.py from include/rpkirtr.h.
 .Os
 .Sh NAME
 .Nm rpkirtr
-.Nd RPKI-to-Router client, route origin validation and payloads of ROAs
+.Nd RPKI-to-Router client and cache, route origin validation and payloads of ROAs
 .Sh LIBRARY
 librpkirtr (\-lrpkirtr)
 .Sh SYNOPSIS
@@ -81,6 +81,39 @@ RPKIRTR_END_MALFORMED, or by closing the connection.
 Then call
 .Fn rpkirtr_router_speak
 with 0, and connect again (RFC 8210 section 7).
+.Sh A SERVER
+The calls of a program that owns a listening socket:
+.Bl -enum
+.It
+Declare
+.Li rpkirtr_cache h = RPKIRTR_EMPTY_INIT;
+and make the cache by
+.Fn rpkirtr_cache_new ,
+once.
+Publish the records by
+.Fn rpkirtr_cache_publish .
+.It
+When a router has connected, call
+.Fn rpkirtr_cache_open ,
+and keep the number beside the socket.
+.It
+When bytes have come, hand them over by
+.Fn rpkirtr_cache_receive .
+Then call
+.Fn rpkirtr_cache_pull
+until no byte is left, and send what it gives.
+If fewer bytes were taken than were given, hand over the rest after that.
+.It
+When the records have changed, publish them, call
+.Fn rpkirtr_cache_notify
+for each connection, and pull.
+.It
+If
+.Fn rpkirtr_cache_is_open
+says that a connection has ended, send what is left and close the socket.
+Whoever closed the socket, call
+.Fn rpkirtr_cache_close .
+.El
 .Sh EXAMPLES
 The route of 192.0.2.0/24 with the origin AS 64496 is valid over one record:
 .Bd -literal -offset indent
@@ -200,7 +233,7 @@ def types(header):
 def page(header, date):
     front, parts = sections(header)
     head = header[:header.index("*/") + 2]
-    out = [FRONT.format(date=date), paragraphs_of(re.sub(r"^/\* rpkirtr\.h: a client", "/* A client", head)), ".Sh RETURN VALUES", RESULTS, statuses(front), types(header)]
+    out = [FRONT.format(date=date), paragraphs_of(re.sub(r"^/\* rpkirtr\.h: (\w)", lambda it: f"/* {it[1].upper()}", head)), ".Sh RETURN VALUES", RESULTS, statuses(front), types(header)]
     for name, part in parts:
         out.append(f".Sh {name.upper()}")
         for number, (comment, function) in enumerate(FUNCTION.findall(part)):

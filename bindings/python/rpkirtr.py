@@ -1,9 +1,9 @@
-"""A client of RPKI-to-Router caches and origin validation, over librpkirtr.so.0.
+"""Both ends of the RPKI-to-Router protocol, and origin validation, over librpkirtr.so.0.
 
     with rpkirtr.Index([rpkirtr.Record("192.0.2.0/24", 24, 64496)]) as index:
         index.state("192.0.2.0/24", 64496)      # State.VALID
 
-A router does no input or output: hand over what was received by `receive`, and send what `pull` gives. Moments are whole seconds of one clock.
+A router and a cache do no input or output: hand over what was received by `receive`, and send what `pull` gives. Moments are whole seconds of one clock.
 
 A text that is no prefix, and a number that does not fit, are a ValueError. What the library refuses is an `Error`.
 """
@@ -44,6 +44,10 @@ class Status(enum.IntEnum):
     NOT_LINKED = 8
     BUSY = 9
     BAD_PAYLOAD = 10
+    BAD_TIMING = 11
+    NO_CONNECTION = 12
+    NO_DATA = 13
+    BAD_KEEP = 14
 
 
 class LinkState(enum.IntEnum):
@@ -124,6 +128,15 @@ class PayloadError(Error):
         self.args = (f"{self.args[0]}: fault {number} at offset {offset}",)
         self.number = number
         self.offset = offset
+
+
+class TimingError(Error):
+    """Intervals that are not valid: one is out of its range (1), or expire is not larger than both others (2)."""
+
+    def __init__(self, number: int) -> None:
+        super().__init__(Status.BAD_TIMING)
+        self.args = (f"{self.args[0]}: fault {number}",)
+        self.number = number
 
 
 class Record(NamedTuple):
@@ -389,3 +402,90 @@ class Roa(_Handle):
     def records(self) -> List[Record]:
         """The records that the ROA authorizes, in its order."""
         return self._records(len(self))
+
+
+class Cache(_Handle):
+    """A cache, which answers the queries of its routers. A connection is a number. The thread that made a cache alone uses and frees it."""
+
+    _name = "cache"
+
+    def __init__(self, session: int, session0: int, start: int, keep: int = 16, refresh: int = 3600, retry: int = 600, expire: int = 7200) -> None:
+        """It has these sessions in versions 1 and 0 of the protocol. Its first version has the serial `start`. It keeps `keep` versions before the
+        current one, and sends these intervals, in seconds."""
+        super().__init__()
+        numbers = [ctypes.c_uint16(_within(16, it)) for it in (session, session0)]
+        numbers += [ctypes.c_uint32(_within(32, it)) for it in (start, keep, refresh, retry, expire)]
+        fault = ctypes.c_uint32()
+        status = self._call("new", *numbers, ctypes.byref(fault))
+        if status == Status.BAD_TIMING:
+            raise TimingError(fault.value)
+        _check(status)
+
+    def publish(self, records: Iterable[Record]) -> bool:
+        """Publishes the set of records: whether it is a new version. If it is the set of the current version, none is added."""
+        given = [_record(record) for record in records]
+        bad, unchanged = ctypes.c_size_t(), ctypes.c_uint8()
+        status = self._call("publish", (_Record * len(given))(*given), ctypes.c_size_t(len(given)), ctypes.byref(bad), ctypes.byref(unchanged))
+        if status == Status.BAD_RECORD:
+            raise Error(status, bad.value)
+        _check(status)
+        return unchanged.value == 0
+
+    def current(self) -> Optional[Tuple[int, int]]:
+        """The serial of the current version, and how many records it has, if something is published."""
+        serial, count = ctypes.c_uint32(), ctypes.c_size_t()
+        status = self._call("current", ctypes.byref(serial), ctypes.byref(count))
+        if status == Status.NO_DATA:
+            return None
+        _check(status)
+        return serial.value, count.value
+
+    def __len__(self) -> int:
+        current = self.current()
+        return 0 if current is None else current[1]
+
+    def __bool__(self) -> bool:
+        return True
+
+    def open(self) -> int:
+        """Opens a connection to a router. Its number is the least that no connection has."""
+        conn = ctypes.c_uint32()
+        _check(self._call("open", ctypes.byref(conn)))
+        return conn.value
+
+    def close(self, conn: int) -> None:
+        """Closes a connection, and drops what was due on it."""
+        _check(self._call("close", self._conn(conn)))
+
+    def receive(self, conn: int, received: bytes) -> int:
+        """Hands over bytes that were received; how many were taken: none while bytes are to be pulled, or if the connection has ended."""
+        piece = bytes(memoryview(received))
+        return self._size("receive", self._conn(conn), piece, ctypes.c_size_t(len(piece)))
+
+    def pull(self, conn: int, most: int = 4096) -> bytes:
+        """The bytes to be sent, at most so many."""
+        room = (ctypes.c_uint8 * most)()
+        pulled = self._size("pull", self._conn(conn), room, ctypes.c_size_t(most))
+        return bytes(room[:pulled])
+
+    def notify(self, conn: int) -> bool:
+        """Makes a Serial Notify ready to be pulled, if something is published, nothing is to be pulled, and the connection has not ended:
+        whether it did."""
+        return self._flag("notify", conn)
+
+    def has_bytes(self, conn: int) -> bool:
+        """Whether bytes are to be pulled."""
+        return self._flag("has_bytes", conn)
+
+    def is_open(self, conn: int) -> bool:
+        """Whether a connection continues. What is to be pulled can be pulled after its end too."""
+        return self._flag("is_open", conn)
+
+    @staticmethod
+    def _conn(conn: int) -> ctypes.c_uint32:
+        return ctypes.c_uint32(_within(32, conn))
+
+    def _flag(self, name: str, conn: int) -> bool:
+        flag = ctypes.c_uint8()
+        _check(self._call(name, self._conn(conn), ctypes.byref(flag)))
+        return flag.value != 0

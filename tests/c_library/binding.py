@@ -81,3 +81,41 @@ try:
     raise AssertionError("a ROA that is cut off")
 except rpkirtr.PayloadError as error:
     assert (error.status, error.number, error.offset) == (rpkirtr.Status.BAD_PAYLOAD, 1, 0)
+with rpkirtr.Cache(258, 772, 7) as cache, rpkirtr.Router() as router:
+    assert (cache.current(), len(cache), bool(cache)) == (None, 0, True)
+    assert cache.publish([DB8, TEN, TEN])
+    assert not cache.publish([TEN, DB8])
+    assert (cache.current(), len(cache)) == ((7, 2), 2)
+    try:
+        cache.publish([TEN, rpkirtr.Record("10.0.0.0/8", 33, 1)])
+        raise AssertionError("a bad record")
+    except rpkirtr.Error as error:
+        assert (error.status, error.index) == (rpkirtr.Status.BAD_RECORD, 1)
+    assert (cache.open(), cache.open()) == (0, 1)
+    cache.close(0)
+    for call in (cache.close, cache.is_open, cache.notify, cache.pull):
+        try:
+            call(0)
+            raise AssertionError("a connection that is closed")
+        except rpkirtr.Error as error:
+            assert error.status == rpkirtr.Status.NO_CONNECTION
+    router.connect(100)
+    assert cache.receive(1, router.pull()) == 8
+    assert cache.has_bytes(1) and not cache.notify(1)
+    sent = cache.pull(1)
+    assert sent == ANSWER and router.receive(sent, 101) == len(ANSWER)
+    assert router.records() == [TEN, DB8]
+    assert cache.notify(1) and cache.pull(1) == bytes.fromhex("010001020000000c00000007")
+    assert cache.is_open(1) and not cache.has_bytes(1)
+for settings, number in (((1, 2, 3, 16, 0), 1), ((1, 2, 3, 16, 3600, 600, 3600), 2)):
+    try:
+        rpkirtr.Cache(*settings)
+        raise AssertionError("bad intervals")
+    except rpkirtr.TimingError as error:
+        assert (error.status, error.number) == (rpkirtr.Status.BAD_TIMING, number)
+for settings in ((2**16, 2, 3), (1, -1, 3), (1, 2, 2**32)):
+    try:
+        rpkirtr.Cache(*settings)
+        raise AssertionError(f"a cache of {settings}")
+    except ValueError:
+        pass

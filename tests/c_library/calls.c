@@ -70,6 +70,10 @@ static void texts(void)
         {RPKIRTR_NOT_LINKED, "no connection, or one that has ended"},
         {RPKIRTR_BUSY, "a query is outstanding"},
         {RPKIRTR_BAD_PAYLOAD, "a malformed payload"},
+        {RPKIRTR_BAD_TIMING, "intervals that are not valid"},
+        {RPKIRTR_NO_CONNECTION, "no connection has this number"},
+        {RPKIRTR_NO_DATA, "nothing is published"},
+        {RPKIRTR_BAD_KEEP, "no version to be kept, or too many"},
         {-1, "no such status"},
         {INT32_MAX, "no such status"},
     };
@@ -369,6 +373,155 @@ static void a_roa(void)
     EXPECT(rpkirtr_roa_new(&h, NULL, 0, &fault) == RPKIRTR_BAD_PAYLOAD);
 }
 
+static void an_empty_cache(void)
+{
+    rpkirtr_cache h = RPKIRTR_EMPTY_INIT;
+    rpkirtr_record one = record(4, NET_10, 4, 8, 16, 64496);
+    uint8_t room[4], flag = 9;
+    uint32_t conn = 9, serial = 9;
+    size_t n = 9;
+    EXPECT(rpkirtr_cache_free(&h) == RPKIRTR_EMPTY);
+    EXPECT(rpkirtr_cache_publish(&h, &one, 1, &n, &flag) == RPKIRTR_EMPTY && n == 0 && flag == 0);
+    n = 9;
+    EXPECT(rpkirtr_cache_current(&h, &serial, &n) == RPKIRTR_EMPTY && serial == 0 && n == 0);
+    EXPECT(rpkirtr_cache_open(&h, &conn) == RPKIRTR_EMPTY && conn == 0);
+    EXPECT(rpkirtr_cache_close(&h, 0) == RPKIRTR_EMPTY);
+    n = 9;
+    EXPECT(rpkirtr_cache_receive(&h, 0, reset_query, sizeof reset_query, &n) == RPKIRTR_EMPTY && n == 0);
+    n = 9;
+    EXPECT(rpkirtr_cache_pull(&h, 0, room, sizeof room, &n) == RPKIRTR_EMPTY && n == 0);
+    flag = 9;
+    EXPECT(rpkirtr_cache_notify(&h, 0, &flag) == RPKIRTR_EMPTY && flag == 0);
+    flag = 9;
+    EXPECT(rpkirtr_cache_has_bytes(&h, 0, &flag) == RPKIRTR_EMPTY && flag == 0);
+    flag = 9;
+    EXPECT(rpkirtr_cache_is_open(&h, 0, &flag) == RPKIRTR_EMPTY && flag == 0);
+}
+
+static void the_settings_of_a_cache(void)
+{
+    rpkirtr_cache h = RPKIRTR_EMPTY_INIT;
+    uint32_t fault = 9;
+    EXPECT(rpkirtr_cache_new(&h, 1, 2, 3, 16, 0, 600, 7200, &fault) == RPKIRTR_BAD_TIMING && fault == RPKIRTR_TIMING_RANGE && h.opaque_ == NULL);
+    EXPECT(rpkirtr_cache_new(&h, 1, 2, 3, 16, 3600, 7201, 7200, &fault) == RPKIRTR_BAD_TIMING && fault == RPKIRTR_TIMING_RANGE);
+    EXPECT(rpkirtr_cache_new(&h, 1, 2, 3, 16, 3600, 600, 172801, &fault) == RPKIRTR_BAD_TIMING && fault == RPKIRTR_TIMING_RANGE);
+    EXPECT(rpkirtr_cache_new(&h, 1, 2, 3, 0, 3600, 600, 3600, &fault) == RPKIRTR_BAD_TIMING && fault == RPKIRTR_TIMING_EXPIRE);
+    EXPECT(rpkirtr_cache_new(&h, 1, 2, 3, 0, 3600, 600, 7200, &fault) == RPKIRTR_BAD_KEEP && fault == 0);
+    EXPECT(rpkirtr_cache_new(&h, 1, 2, 3, 65537, 3600, 600, 7200, &fault) == RPKIRTR_BAD_KEEP && fault == 0 && h.opaque_ == NULL);
+    EXPECT(rpkirtr_cache_new(&h, 1, 2, 3, 1, 86400, 7200, 172800, &fault) == RPKIRTR_OK && fault == 0);
+    EXPECT(rpkirtr_cache_free(&h) == RPKIRTR_OK && h.opaque_ == NULL);
+    EXPECT(rpkirtr_cache_new(&h, 1, 2, 3, 65536, 1, 1, 600, &fault) == RPKIRTR_OK && fault == 0);
+    EXPECT(rpkirtr_cache_new(&h, 1, 2, 3, 0, 0, 0, 0, &fault) == RPKIRTR_LIVE && fault == 0);
+    EXPECT(rpkirtr_cache_free(&h) == RPKIRTR_OK);
+    EXPECT(rpkirtr_cache_free(&h) == RPKIRTR_EMPTY);
+}
+
+static void the_numbers_of_connections(void)
+{
+    rpkirtr_cache h = RPKIRTR_EMPTY_INIT;
+    uint32_t fault, conn = 9;
+    uint8_t flag = 9;
+    size_t n;
+    EXPECT(rpkirtr_cache_new(&h, 1, 2, 3, 16, 3600, 600, 7200, &fault) == RPKIRTR_OK);
+    EXPECT(rpkirtr_cache_close(&h, 0) == RPKIRTR_NO_CONNECTION);
+    EXPECT(rpkirtr_cache_open(&h, &conn) == RPKIRTR_OK && conn == 0);
+    EXPECT(rpkirtr_cache_open(&h, &conn) == RPKIRTR_OK && conn == 1);
+    EXPECT(rpkirtr_cache_open(&h, &conn) == RPKIRTR_OK && conn == 2);
+    EXPECT(rpkirtr_cache_close(&h, 1) == RPKIRTR_OK);
+    EXPECT(rpkirtr_cache_close(&h, 1) == RPKIRTR_NO_CONNECTION);
+    EXPECT(rpkirtr_cache_is_open(&h, 1, &flag) == RPKIRTR_NO_CONNECTION && flag == 0);
+    EXPECT(rpkirtr_cache_is_open(&h, 2, &flag) == RPKIRTR_OK && flag == 1);
+    EXPECT(rpkirtr_cache_is_open(&h, 3, &flag) == RPKIRTR_NO_CONNECTION && flag == 0);
+    flag = 9;
+    EXPECT(rpkirtr_cache_has_bytes(&h, UINT32_MAX, &flag) == RPKIRTR_NO_CONNECTION && flag == 0);
+    flag = 9;
+    EXPECT(rpkirtr_cache_notify(&h, 1, &flag) == RPKIRTR_NO_CONNECTION && flag == 0);
+    n = 9;
+    EXPECT(rpkirtr_cache_receive(&h, 1, reset_query, sizeof reset_query, &n) == RPKIRTR_NO_CONNECTION && n == 0);
+    n = 9;
+    EXPECT(rpkirtr_cache_pull(&h, 1, NULL, 0, &n) == RPKIRTR_NO_CONNECTION && n == 0);
+    EXPECT(rpkirtr_cache_open(&h, &conn) == RPKIRTR_OK && conn == 1);
+    EXPECT(rpkirtr_cache_open(&h, &conn) == RPKIRTR_OK && conn == 3);
+    EXPECT(rpkirtr_cache_free(&h) == RPKIRTR_OK);
+}
+
+/* Its serial and how many records it has */
+static void expect_current(rpkirtr_cache *h, uint32_t serial, size_t count, int line)
+{
+    uint32_t told = 9;
+    size_t n = 9;
+    expect(rpkirtr_cache_current(h, &told, &n) == RPKIRTR_OK && told == serial && n == count, "the current version", line);
+}
+
+static void a_cache(void)
+{
+    static const uint8_t reset_query_0[] = {0, 2, 0, 0, 0, 0, 0, 8}, response_0[] = {0, 3, 3, 4, 0, 0, 0, 8};
+    static const uint8_t notify[] = {1, 0, 1, 2, 0, 0, 0, 12, 0, 0, 0, 8}, serial_query[] = {1, 1, 1, 2, 0, 0, 0, 12, 0, 0, 0, 7};
+    static const uint8_t changed[] = {
+        1, 3, 1, 2, 0, 0, 0, 8,
+        1, 6, 0, 0, 0, 0, 0, 32, 0, 32, 48, 0, 0x20, 0x01, 0x0d, 0xb8, 0, 0, 0, 0, 0, 0, 0, 0, 0, 0, 0, 0, 0, 0, 251, 241,
+        1, 7, 1, 2, 0, 0, 0, 24, 0, 0, 0, 8, 0, 0, 14, 16, 0, 0, 2, 88, 0, 0, 28, 32,
+    };
+    static const uint8_t unknown[] = {1, 99, 0, 0, 0, 0, 0, 8};
+    rpkirtr_cache h = RPKIRTR_EMPTY_INIT;
+    rpkirtr_router r = RPKIRTR_EMPTY_INIT;
+    rpkirtr_committed committed;
+    rpkirtr_record records[3];
+    uint8_t room[128], flag = 9;
+    uint32_t fault, serial = 9, first = 9, second = 9, third = 9;
+    size_t n = 9, taken = 9;
+    records[0] = record(6, DB8, 4, 32, 48, 64497);
+    records[1] = record(4, NET_10, 4, 8, 16, 64496);
+    records[2] = records[0];
+    EXPECT(rpkirtr_cache_new(&h, 258, 772, 7, 16, 3600, 600, 7200, &fault) == RPKIRTR_OK);
+    EXPECT(rpkirtr_cache_current(&h, &serial, &n) == RPKIRTR_NO_DATA && serial == 0 && n == 0);
+    EXPECT(rpkirtr_cache_open(&h, &first) == RPKIRTR_OK && rpkirtr_cache_open(&h, &second) == RPKIRTR_OK);
+    EXPECT(rpkirtr_cache_notify(&h, first, &flag) == RPKIRTR_OK && flag == 0);
+    EXPECT(rpkirtr_cache_receive(&h, second, reset_query, sizeof reset_query, &n) == RPKIRTR_OK && n == 8);
+    EXPECT(rpkirtr_cache_pull(&h, second, room, sizeof room, &n) == RPKIRTR_OK && n >= 16 && room[1] == 10 && room[3] == 2);
+    EXPECT(rpkirtr_cache_close(&h, second) == RPKIRTR_OK);
+    records[2].max_len = 31;
+    EXPECT(rpkirtr_cache_publish(&h, records, 3, &n, &flag) == RPKIRTR_BAD_RECORD && n == 2 && flag == 0);
+    EXPECT(rpkirtr_cache_current(&h, &serial, &n) == RPKIRTR_NO_DATA);
+    records[2] = records[0];
+    EXPECT(rpkirtr_cache_publish(&h, records, 3, &n, &flag) == RPKIRTR_OK && n == 0 && flag == 0);
+    expect_current(&h, 7, 2, __LINE__);
+    EXPECT(rpkirtr_cache_publish(&h, records, 2, &n, &flag) == RPKIRTR_OK && n == 0 && flag == 1);
+    expect_current(&h, 7, 2, __LINE__);
+    EXPECT(rpkirtr_cache_has_bytes(&h, first, &flag) == RPKIRTR_OK && flag == 0);
+    EXPECT(rpkirtr_cache_receive(&h, first, reset_query, 3, &n) == RPKIRTR_OK && n == 3);
+    EXPECT(rpkirtr_cache_receive(&h, first, reset_query + 3, 5, &n) == RPKIRTR_OK && n == 5);
+    EXPECT(rpkirtr_cache_has_bytes(&h, first, &flag) == RPKIRTR_OK && flag == 1);
+    EXPECT(rpkirtr_cache_receive(&h, first, reset_query, sizeof reset_query, &n) == RPKIRTR_OK && n == 0);
+    EXPECT(rpkirtr_cache_pull(&h, first, room, 5, &n) == RPKIRTR_OK && n == 5 && memcmp(room, answer, 5) == 0);
+    EXPECT(rpkirtr_cache_notify(&h, first, &flag) == RPKIRTR_OK && flag == 0);
+    EXPECT(rpkirtr_cache_pull(&h, first, room, sizeof room, &n) == RPKIRTR_OK && n == sizeof answer - 5 && memcmp(room, answer + 5, n) == 0);
+    EXPECT(rpkirtr_cache_open(&h, &third) == RPKIRTR_OK && third == second);
+    EXPECT(rpkirtr_cache_receive(&h, third, reset_query_0, sizeof reset_query_0, &n) == RPKIRTR_OK && n == 8);
+    EXPECT(rpkirtr_cache_pull(&h, third, room, sizeof room, &n) == RPKIRTR_OK && n > 8 && memcmp(room, response_0, 8) == 0);
+    EXPECT(rpkirtr_cache_publish(&h, records + 1, 1, &n, &flag) == RPKIRTR_OK && flag == 0);
+    expect_current(&h, 8, 1, __LINE__);
+    EXPECT(rpkirtr_cache_notify(&h, first, &flag) == RPKIRTR_OK && flag == 1);
+    EXPECT(rpkirtr_cache_pull(&h, first, room, sizeof room, &n) == RPKIRTR_OK && n == sizeof notify && memcmp(room, notify, n) == 0);
+    EXPECT(rpkirtr_cache_receive(&h, first, serial_query, sizeof serial_query, &n) == RPKIRTR_OK && n == 12);
+    EXPECT(rpkirtr_cache_pull(&h, first, room, sizeof room, &n) == RPKIRTR_OK && n == sizeof changed && memcmp(room, changed, n) == 0);
+    EXPECT(rpkirtr_cache_receive(&h, first, unknown, sizeof unknown, &n) == RPKIRTR_OK && n > 0);
+    EXPECT(rpkirtr_cache_is_open(&h, first, &flag) == RPKIRTR_OK && flag == 0);
+    EXPECT(rpkirtr_cache_pull(&h, first, room, sizeof room, &n) == RPKIRTR_OK && n >= 16 && room[1] == 10 && room[3] == 5);
+    EXPECT(rpkirtr_cache_receive(&h, first, reset_query, sizeof reset_query, &n) == RPKIRTR_OK && n == 0);
+    EXPECT(rpkirtr_cache_close(&h, first) == RPKIRTR_OK);
+    /* both ends of the library */
+    EXPECT(rpkirtr_cache_open(&h, &first) == RPKIRTR_OK && first == 0);
+    EXPECT(rpkirtr_router_new(&r) == RPKIRTR_OK && rpkirtr_router_connect(&r, 100) == RPKIRTR_OK);
+    EXPECT(rpkirtr_router_pull(&r, room, sizeof room, &n) == RPKIRTR_OK);
+    EXPECT(rpkirtr_cache_receive(&h, first, room, n, &taken) == RPKIRTR_OK && taken == n);
+    EXPECT(rpkirtr_cache_pull(&h, first, room, sizeof room, &n) == RPKIRTR_OK);
+    EXPECT(rpkirtr_router_receive(&r, room, n, 101, &taken) == RPKIRTR_OK && taken == n);
+    EXPECT(rpkirtr_router_committed(&r, &committed) == RPKIRTR_OK && committed.session == 258 && committed.serial == 8 && committed.version == 1);
+    EXPECT(rpkirtr_router_free(&r) == RPKIRTR_OK);
+    EXPECT(rpkirtr_cache_free(&h) == RPKIRTR_OK && h.opaque_ == NULL);
+}
+
 int main(void)
 {
     texts();
@@ -377,5 +530,9 @@ int main(void)
     an_index();
     an_index_of_lists();
     a_roa();
+    an_empty_cache();
+    the_settings_of_a_cache();
+    the_numbers_of_connections();
+    a_cache();
     return faults != 0;
 }

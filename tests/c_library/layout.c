@@ -51,6 +51,7 @@ AT(rpkirtr_fault, zero_, 12);
 IS(router_size, sizeof(rpkirtr_router) == sizeof(void *));
 IS(index_size, sizeof(rpkirtr_index) == sizeof(void *));
 IS(roa_size, sizeof(rpkirtr_roa) == sizeof(void *));
+IS(cache_size, sizeof(rpkirtr_cache) == sizeof(void *));
 IS(status_size, sizeof(rpkirtr_status) == 4);
 IS(state_size, sizeof(rpkirtr_state) == 4);
 

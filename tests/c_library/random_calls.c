@@ -184,11 +184,70 @@ static void a_roa_call(rpkirtr_roa *h)
     }
 }
 
+/* Bytes of a router: a query, or anything */
+static size_t a_query(uint8_t *bytes)
+{
+    static const uint8_t reset[] = {1, 2, 0, 0, 0, 0, 0, 8}, serial[] = {1, 1, 0, 1, 0, 0, 0, 12, 0, 0, 0, 0};
+    size_t len = below(20);
+    if (below(20) == 0) {
+        fill(bytes, len);
+        return len;
+    }
+    len = below(2) == 0 ? sizeof reset : sizeof serial;
+    memcpy(bytes, len == sizeof reset ? reset : serial, len);
+    bytes[0] = below(5) != 0;
+    bytes[len - 1] = len == sizeof reset ? 8 : (uint8_t)below(20);
+    return below(10) == 0 ? below((uint32_t)len) : len;
+}
+
+static void a_cache_call(rpkirtr_cache *h)
+{
+    rpkirtr_record records[6];
+    uint8_t bytes[200], flag;
+    uint32_t conn = below(5), serial, fault;
+    size_t n = 99, k, len, count = below(7);
+    switch (below(13)) {
+    case 0:
+        if (below(20) == 0)
+            judge(rpkirtr_cache_free(h), RPKIRTR_EMPTY);
+        break;
+    case 1: judge(rpkirtr_cache_new(h, 1, 2, below(9), below(4), below(4), below(4), 598 + below(9), &fault), RPKIRTR_BAD_KEEP); break;
+    case 2:
+        for (k = 0; k < count; k++)
+            records[k] = a_record();
+        judge(rpkirtr_cache_publish(h, records, count, &n, &flag), RPKIRTR_RANGE);
+        break;
+    case 3: judge(rpkirtr_cache_current(h, &serial, &n), RPKIRTR_NO_DATA); break;
+    case 4: case 5:
+        if (rpkirtr_cache_open(h, &conn) == RPKIRTR_OK && conn >= 4)
+            judge(rpkirtr_cache_close(h, conn), RPKIRTR_OK);
+        break;
+    case 6: judge(rpkirtr_cache_close(h, conn), RPKIRTR_NO_CONNECTION); break;
+    case 7: case 8:
+        len = a_query(bytes);
+        judge(rpkirtr_cache_receive(h, conn, bytes, len, &n), RPKIRTR_NO_CONNECTION);
+        if (n > len)
+            abort();
+        break;
+    case 9: case 10:
+        len = below(sizeof bytes);
+        judge(rpkirtr_cache_pull(h, conn, bytes, len, &n), RPKIRTR_NO_CONNECTION);
+        if (n > len)
+            abort();
+        break;
+    case 11: judge(rpkirtr_cache_notify(h, conn, &flag), RPKIRTR_NO_CONNECTION); break;
+    default:
+        judge(rpkirtr_cache_has_bytes(h, conn, &flag), RPKIRTR_NO_CONNECTION);
+        judge(rpkirtr_cache_is_open(h, conn, &flag), RPKIRTR_NO_CONNECTION);
+    }
+}
+
 int main(int argc, char **argv)
 {
     rpkirtr_router routers[3] = {RPKIRTR_EMPTY_INIT, RPKIRTR_EMPTY_INIT, RPKIRTR_EMPTY_INIT};
     rpkirtr_index indexes[2] = {RPKIRTR_EMPTY_INIT, RPKIRTR_EMPTY_INIT};
     rpkirtr_roa roa = RPKIRTR_EMPTY_INIT;
+    rpkirtr_cache caches[2] = {RPKIRTR_EMPTY_INIT, RPKIRTR_EMPTY_INIT};
     unsigned long k, count;
     uint64_t now = 0;
     if (argc != 3)
@@ -200,6 +259,8 @@ int main(int argc, char **argv)
         if (below(10) == 0)
             a_roa_call(&roa);
         else if (below(4) == 0)
+            a_cache_call(&caches[below(2)]);
+        else if (below(4) == 0)
             an_index_call(&indexes[below(2)], &routers[below(3)]);
         else
             a_router_call(&routers[below(3)], now);
@@ -208,6 +269,8 @@ int main(int argc, char **argv)
         rpkirtr_router_free(&routers[k]);
     for (k = 0; k < 2; k++)
         rpkirtr_index_free(&indexes[k]);
+    for (k = 0; k < 2; k++)
+        rpkirtr_cache_free(&caches[k]);
     rpkirtr_roa_free(&roa);
     return 0;
 }

@@ -34,6 +34,12 @@ pub enum Error {
         /// in bytes
         offset: u64,
     },
+    /// The intervals of a cache are not valid: an interval is out of its range (1), or expire is not larger than both others (2).
+    BadTiming(u32),
+    /// A cache is to keep no version, or more than 65,536.
+    BadKeep,
+    /// No connection of the cache has this number.
+    NoConnection,
     /// A status that this version of the binding does not know.
     Other(i32),
 }
@@ -52,6 +58,10 @@ impl fmt::Display for Error {
             Error::NotLinked => f.write_str("there is no connection, or it has ended"),
             Error::Busy => f.write_str("a query is outstanding"),
             Error::BadPayload { number, offset } => write!(f, "the bytes are no payload: fault {number} at offset {offset}"),
+            Error::BadTiming(1) => f.write_str("an interval is out of its range"),
+            Error::BadTiming(_) => f.write_str("the expire interval is not larger than both others"),
+            Error::BadKeep => f.write_str("a cache keeps from 1 to 65536 versions"),
+            Error::NoConnection => f.write_str("no connection has this number"),
             Error::Other(status) => f.write_str(&crate::strerror(*status)),
         }
     }
@@ -69,6 +79,8 @@ pub(crate) fn check(status: ffi::rpkirtr_status) -> Result<(), Error> {
         ffi::RANGE => Error::TooMany,
         ffi::NOT_LINKED => Error::NotLinked,
         ffi::BUSY => Error::Busy,
+        ffi::BAD_KEEP => Error::BadKeep,
+        ffi::NO_CONNECTION => Error::NoConnection,
         other => Error::Other(other),
     })
 }

@@ -15,6 +15,10 @@ pub const RANGE: rpkirtr_status = 7;
 pub const NOT_LINKED: rpkirtr_status = 8;
 pub const BUSY: rpkirtr_status = 9;
 pub const BAD_PAYLOAD: rpkirtr_status = 10;
+pub const BAD_TIMING: rpkirtr_status = 11;
+pub const NO_CONNECTION: rpkirtr_status = 12;
+pub const NO_DATA: rpkirtr_status = 13;
+pub const BAD_KEEP: rpkirtr_status = 14;
 
 /// The moment of what never happens
 pub const NEVER: u64 = u64::MAX;
@@ -84,7 +88,7 @@ pub struct rpkirtr_text {
     pub text: [u8; 64],
 }
 
-/// A handle of a router, an index or a ROA
+/// A handle of a router, an index, a ROA or a cache
 #[repr(C)]
 #[derive(Debug)]
 pub struct handle {
@@ -142,4 +146,26 @@ extern "C" {
     pub fn rpkirtr_roa_asn(h: *mut handle, asn: *mut u32) -> rpkirtr_status;
     pub fn rpkirtr_roa_count(h: *mut handle, count: *mut usize) -> rpkirtr_status;
     pub fn rpkirtr_roa_records(h: *mut handle, first: usize, room: *mut rpkirtr_record, room_len: usize, copied: *mut usize) -> rpkirtr_status;
+
+    pub fn rpkirtr_cache_new(
+        h: *mut handle,
+        session: u16,
+        session0: u16,
+        start: u32,
+        keep: u32,
+        refresh: u32,
+        retry: u32,
+        expire: u32,
+        fault: *mut u32,
+    ) -> rpkirtr_status;
+    pub fn rpkirtr_cache_free(h: *mut handle) -> rpkirtr_status;
+    pub fn rpkirtr_cache_publish(h: *mut handle, records: *const rpkirtr_record, records_len: usize, bad: *mut usize, unchanged: *mut u8) -> rpkirtr_status;
+    pub fn rpkirtr_cache_current(h: *mut handle, serial: *mut u32, count: *mut usize) -> rpkirtr_status;
+    pub fn rpkirtr_cache_open(h: *mut handle, conn: *mut u32) -> rpkirtr_status;
+    pub fn rpkirtr_cache_close(h: *mut handle, conn: u32) -> rpkirtr_status;
+    pub fn rpkirtr_cache_receive(h: *mut handle, conn: u32, bytes: *const u8, bytes_len: usize, taken: *mut usize) -> rpkirtr_status;
+    pub fn rpkirtr_cache_pull(h: *mut handle, conn: u32, room: *mut u8, room_len: usize, pulled: *mut usize) -> rpkirtr_status;
+    pub fn rpkirtr_cache_notify(h: *mut handle, conn: u32, sent: *mut u8) -> rpkirtr_status;
+    pub fn rpkirtr_cache_has_bytes(h: *mut handle, conn: u32, has: *mut u8) -> rpkirtr_status;
+    pub fn rpkirtr_cache_is_open(h: *mut handle, conn: u32, continues: *mut u8) -> rpkirtr_status;
 }

@@ -1,4 +1,4 @@
-//! A client of RPKI-to-Router caches (RFC 6810, RFC 8210) and origin validation (RFC 6811), over `librpkirtr`.
+//! Both ends of the RPKI-to-Router protocol (RFC 6810, RFC 8210) and origin validation (RFC 6811), over `librpkirtr`.
 //!
 //! The library does no input or output: the caller owns sockets and clocks. It hands over the bytes that it received, and sends the bytes that
 //! it pulls. Moments are seconds of one clock that the caller chooses.
@@ -14,6 +14,7 @@
 //! ```
 #![warn(missing_docs)]
 
+mod cache;
 mod error;
 mod ffi;
 mod index;
@@ -22,6 +23,7 @@ mod router;
 mod texts;
 mod values;
 
+pub use cache::{Cache, CacheSettings, Current};
 pub use error::Error;
 pub use index::Index;
 pub use roa::Roa;

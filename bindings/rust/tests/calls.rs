@@ -1,5 +1,5 @@
 //! A router that is told two records by a cache, and an index.
-use rpkirtr::{Error, Index, Link, OriginState, Roa, Route, Router, Version, Vrp};
+use rpkirtr::{Cache, CacheSettings, Current, Error, Index, Link, OriginState, Roa, Route, Router, Version, Vrp};
 
 const ANSWER: [u8; 84] = [
     1, 3, 1, 2, 0, 0, 0, 8, // Cache Response of session 258
@@ -99,6 +99,40 @@ fn a_roa_is_decoded() {
     assert_eq!(roa.asn(), 64496);
     assert_eq!(roa.vrps(), [vrp("10.0.0.0/8", 16, 64496), vrp("10.64.0.0/10", 11, 64496)]);
     assert_eq!(Roa::decode(&payload[..30]).unwrap_err(), Error::BadPayload { number: 1, offset: 0 });
+}
+
+const SETTINGS: CacheSettings =
+    CacheSettings { session: 258, session0: 772, start: 7, keep: 16, refresh: 3600, retry: 600, expire: 7200 };
+
+#[test]
+fn a_cache_serves_a_router() {
+    let (ten, db8) = (vrp("10.0.0.0/8", 16, 64496), vrp("2001:db8::/32", 48, 64497));
+    let mut cache = Cache::new(&SETTINGS).unwrap();
+    assert_eq!(cache.current(), None);
+    assert_eq!(cache.publish(&[ten, vrp("10.0.0.0/8", 33, 1)]), Err(Error::BadRecord(1)));
+    assert_eq!(cache.publish(&[db8, ten, ten]), Ok(true));
+    assert_eq!(cache.publish(&[ten, db8]), Ok(false));
+    assert_eq!(cache.current(), Some(Current { serial: 7, count: 2 }));
+    assert_eq!((cache.open(), cache.open()), (Ok(0), Ok(1)));
+    assert_eq!((cache.close(0), cache.close(0)), (Ok(()), Err(Error::NoConnection)));
+    let mut router = Router::new().unwrap();
+    router.connect(100);
+    let mut room = [0; 128];
+    let asked = router.pull(&mut room);
+    assert_eq!(cache.receive(1, &room[..asked]), Ok(8));
+    assert_eq!((cache.has_bytes(1), cache.notify(1)), (Ok(true), Ok(false)));
+    let sent = cache.pull(1, &mut room).unwrap();
+    assert_eq!(room[..sent], ANSWER);
+    assert_eq!(router.receive(&room[..sent], 101), sent);
+    assert_eq!(router.records().collect::<Vec<_>>(), [ten, db8]);
+    assert_eq!((cache.notify(1), cache.pull(1, &mut room), cache.is_open(1)), (Ok(true), Ok(12), Ok(true)));
+}
+
+#[test]
+fn the_settings_of_a_cache_are_judged() {
+    assert_eq!(Cache::new(&CacheSettings { refresh: 0, ..SETTINGS }).unwrap_err(), Error::BadTiming(1));
+    assert_eq!(Cache::new(&CacheSettings { expire: 3600, ..SETTINGS }).unwrap_err(), Error::BadTiming(2));
+    assert_eq!(Cache::new(&CacheSettings { keep: 0, ..SETTINGS }).unwrap_err(), Error::BadKeep);
 }
 
 #[test]

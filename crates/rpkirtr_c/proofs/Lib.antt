@@ -1,4 +1,5 @@
 pub mod Addresses
+pub mod CacheLaws
 pub mod Calls
 pub mod Copied
 pub mod Handles

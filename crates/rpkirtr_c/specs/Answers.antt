@@ -1,7 +1,7 @@
 -- The numbers of a call's answers, as the header has them.
 use Rattle.std.specs.Prelude.{ℤ, pos}
 use Rattle.rpkirtr_c.specs.declared.status.Status.{Status}
-use Rattle.rpkirtr_c.specs.declared.status.Status.TheVariants.{Done, Empty, Live, NoMemory, BadRecord, BadRoute, BadVersion, OutOfRange, NotLinked, Busy, BadPayload}
+use Rattle.rpkirtr_c.specs.declared.status.Status.TheVariants.{Done, Empty, Live, NoMemory, BadRecord, BadRoute, BadVersion, OutOfRange, NotLinked, Busy, BadPayload, BadTiming, NoConnection, NoData, BadKeep}
 
 -- the number of an answer
 abbrev pub number : Status → ℤ
@@ -16,3 +16,7 @@ number OutOfRange = pos 7
 number NotLinked = pos 8
 number Busy = pos 9
 number BadPayload = pos 10
+number BadTiming = pos 11
+number NoConnection = pos 12
+number NoData = pos 13
+number BadKeep = pos 14

@@ -1,4 +1,5 @@
 pub mod Answers
+pub mod Caches
 pub mod Changes
 pub mod Held
 pub mod Indexes

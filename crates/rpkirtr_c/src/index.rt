@@ -155,7 +155,7 @@ pub(crate) fn add_vrps(list: &mut Vec<Vrp>, records: &[CRecord]) -> Result<(), I
 }
 
 /// The payloads of records, or the first that is none.
-fn vrps_of(alloc: Global, records: &[CRecord]) -> Result<Vec<Vrp>, IndexFault>
+pub(crate) fn vrps_of(alloc: Global, records: &[CRecord]) -> Result<Vec<Vrp>, IndexFault>
     ensures ok { IfOk result (λ list. AreRecords list.items records.now) }
     ensures err { IfErr result (IsRecordFault records.now) }
 {
@@ -164,19 +164,26 @@ fn vrps_of(alloc: Global, records: &[CRecord]) -> Result<Vec<Vrp>, IndexFault>
     Ok(list)
 }
 
-/// An index over payloads, or why there is none.
-pub(crate) fn judge_over(alloc: Global, list: Vec<Vrp>) -> Result<Judge, IndexFault>
-    ensures ok { IfOk result (λ t. t.index ≡ set_of list.items) }
+/// The set of payloads, or why there is none.
+pub(crate) fn set_over(list: Vec<Vrp>) -> Result<VrpSet, IndexFault>
+    ensures ok { IfOk result (λ set. set ≡ set_of list.items) }
     ensures err { IfErr result (IsSetFault list.items) }
 {
     match VrpSet::from_list(list) {
         Err(SetFault::TooMany) => Err(IndexFault::TooMany),
         Err(SetFault::Memory) => Err(IndexFault::Memory),
-        Ok(set) => {
-            let index = OriginIndex::over(alloc, &set)?;
-            Ok(Judge::over(index, set.len()))
-        }
+        Ok(set) => Ok(set),
     }
+}
+
+/// An index over payloads, or why there is none.
+pub(crate) fn judge_over(alloc: Global, list: Vec<Vrp>) -> Result<Judge, IndexFault>
+    ensures ok { IfOk result (λ t. t.index ≡ set_of list.items) }
+    ensures err { IfErr result (IsSetFault list.items) }
+{
+    let set = set_over(list)?;
+    let index = OriginIndex::over(alloc, &set)?;
+    Ok(Judge::over(index, set.len()))
 }
 
 /// An index over records, or why there is none.

@@ -1,8 +1,10 @@
-//! A router, origin validation and payloads of signed objects for C: `include/rpkirtr.h` declares what is here. The caller owns sockets and clocks.
+//! A router, a cache, origin validation and payloads of signed objects for C: `include/rpkirtr.h` declares what is here. The caller owns sockets and clocks.
 #![tactic(auto)]
 
 mod authorization;
+mod cache;
 mod changes;
+mod conns;
 mod index;
 mod judge;
 mod links;
@@ -12,11 +14,13 @@ mod objects;
 mod records;
 mod roa;
 mod router;
+mod service;
 mod session;
 mod status;
 mod texts;
 mod values;
 
+pub use crate::cache::CacheHandle;
 pub use crate::index::IndexHandle;
 pub use crate::links::{CCommitted, CLink};
 pub use crate::lists::CList;

@@ -19,7 +19,7 @@ pub enum Status {
     BadRoute,
     /// No version of the protocol.
     BadVersion,
-    /// An index at or past the end, or more records than a set may have.
+    /// An index at or past the end, or more records than a set may have, or more connections than there are numbers.
     OutOfRange,
     /// There is no connection, or it has ended.
     NotLinked,
@@ -27,6 +27,14 @@ pub enum Status {
     Busy,
     /// A payload that is not valid: its fault says why.
     BadPayload,
+    /// Intervals that are not valid: a number says why.
+    BadTiming,
+    /// No connection of the cache has this number.
+    NoConnection,
+    /// Nothing is published.
+    NoData,
+    /// The number of versions to keep is 0, or above 65,536.
+    BadKeep,
 }
 
 impl Status {
@@ -46,6 +54,10 @@ impl Status {
             Status::NotLinked => 8,
             Status::Busy => 9,
             Status::BadPayload => 10,
+            Status::BadTiming => 11,
+            Status::NoConnection => 12,
+            Status::NoData => 13,
+            Status::BadKeep => 14,
         }
     }
 }

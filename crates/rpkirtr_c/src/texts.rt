@@ -51,6 +51,10 @@ impl Status {
             8 => Some(Status::NotLinked),
             9 => Some(Status::Busy),
             10 => Some(Status::BadPayload),
+            11 => Some(Status::BadTiming),
+            12 => Some(Status::NoConnection),
+            13 => Some(Status::NoData),
+            14 => Some(Status::BadKeep),
             _ => None,
         }
     }
@@ -72,6 +76,10 @@ impl Status {
             Status::NotLinked => b"no connection, or one that has ended",
             Status::Busy => b"a query is outstanding",
             Status::BadPayload => b"a malformed payload",
+            Status::BadTiming => b"intervals that are not valid",
+            Status::NoConnection => b"no connection has this number",
+            Status::NoData => b"nothing is published",
+            Status::BadKeep => b"no version to be kept, or too many",
         }
     }
 }

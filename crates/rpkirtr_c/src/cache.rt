@@ -1,0 +1,379 @@
+//! A cache for C.
+ghost use Rattle.std.specs.Prelude.{◌≡◌, ◌≤◌, length, Option, Some, None, is_none, option_map, false, IfOk, IfErr};
+ghost use Rattle.std.specs.Coded.{coded_option};
+ghost use Rattle.std.specs.Int.{from_bool};
+ghost use Rattle.vrps.specs.Instance.{versions};
+ghost use Rattle.vrps.specs.Stores.{newest};
+ghost use Rattle.rtr_ends.specs.CacheState.{can_notify_at, has_bytes_at, is_open_at, notified, with_conn};
+ghost use Rattle.rpkirtr_c.specs.Answers.{number};
+ghost use Rattle.rpkirtr_c.specs.Caches.{AtConn, Gives, IsCacheFault, IsCurrent, IsNew, IsServing, NewCache, Opens, Publishes, Serves, Takes};
+ghost use Rattle.rpkirtr_c.specs.Live.{Freed, On};
+ghost use Rattle.rpkirtr_c.specs.declared.service.Service.{Service};
+ghost use Rattle.rpkirtr_c.specs.contracts.service.Service as service;
+ghost use Rattle.rpkirtr_c.specs.declared.status.Status.TheVariants.{Done};
+
+use crate::loose::Loose;
+use crate::service::{CacheFault, Service, Settings};
+use crate::status::Status;
+use crate::values::CRecord;
+use std::alloc::Global;
+use std::fmt::{self, Debug};
+use std::marker::Model;
+
+/// A cache, as C holds it: all zero before `rpkirtr_cache_new` and after `rpkirtr_cache_free`. It stays on one thread.
+#[repr(C)]
+#[derive(Drop)]
+pub struct CacheHandle {
+    at: *mut (),
+    alloc: Global,
+    ghost value: { Option Service } by { coded_option service.the_row.coded },
+}
+
+impl Model for CacheHandle {
+    ghost use Rattle.rpkirtr_c.specs.Held.{held};
+    ghost use Rattle.rpkirtr_c.specs.contracts.service.Service.{the_row};
+    ghost use Rattle.std.specs.Box.Ownership.{box_owns};
+    ghost use Rattle.std.specs.contracts.impls.GlobalAllocator.TheImpl as heap_impl;
+
+    ghost also_owns = { λ h. held h.at h.value (λ s. box_owns (heap_impl.ghosts.dealloc_token h.alloc) the_row h.at s) };
+}
+
+/// It shows nothing of the handle's value.
+impl Debug for CacheHandle {
+    fn fmt<W: fmt::Write>(&self, f: &mut fmt::Formatter<W>) -> fmt::Result {
+        f.write_str("CacheHandle(..)")
+    }
+}
+
+impl CacheHandle {
+    fn of(l: Loose<Service, Global>) -> CacheHandle
+        ensures { result.value ≡ Some l.value }
+    {
+        let Loose { at, alloc } = l;
+        CacheHandle {
+            at: at as *mut (),
+            alloc,
+        }
+    }
+
+    fn into_loose(self) -> Loose<Service, Global>
+        requires { is_none self.value ≡ false }
+        ensures { Some result.value ≡ self.value }
+    {
+        let CacheHandle { at, alloc } = self;
+        Loose {
+            at: at as *mut Service,
+            alloc,
+        }
+    }
+
+    fn empty(alloc: Global) -> CacheHandle
+        ensures { result.value ≡ None }
+    {
+        CacheHandle {
+            at: std::ptr::null_mut(),
+            alloc,
+        }
+    }
+
+    fn looked(self) -> (CacheHandle, bool)
+        ensures { (result.0 ≡ self) × (result.1 ≡ is_none self.value) }
+    {
+        let CacheHandle { at, alloc } = self;
+        let is_null = at.is_null();
+        (CacheHandle { at, alloc }, is_null)
+    }
+
+    /// Moves the cache out, if there is one. The handle is empty then.
+    fn take(&mut self, alloc: Global) -> Option<Box<Service>>
+        ensures taken { option_map (λ s. s.value) result ≡ self.old.value }
+        ensures empty { self.new.value ≡ None }
+    {
+        let old = std::mem::replace(self, CacheHandle::empty(alloc));
+        let (old, is_empty) = old.looked();
+        if is_empty {
+            return None;
+        }
+        Some(old.into_loose().into_box())
+    }
+}
+
+/// The handle of a cache.
+fn shut_cache(service: Box<Service>) -> CacheHandle
+    ensures { result.value ≡ Some service.value }
+{
+    CacheHandle::of(Loose::of(service))
+}
+
+/// A block of a cache of these settings, or why there is none.
+fn boxed(alloc: Global, settings: &Settings) -> Result<Box<Service>, CacheFault>
+    ensures ok { IfOk result (λ b. IsNew settings.now b.value) }
+    ensures err { IfErr result (IsCacheFault settings.now) }
+{
+    let service = Service::new(alloc, settings)?;
+    match Box::new(alloc, service) {
+        Err(_) => Err(CacheFault::Memory),
+        Ok(service) => Ok(service),
+    }
+}
+
+/// Makes a cache of these settings in an empty handle. If there is none, what is at fault in the intervals is written.
+fn make(alloc: Global, h: &mut CacheHandle, settings: &Settings, fault: &mut u32) -> Status
+    ensures { NewCache settings.now h.old.value h.new.value (number result) fault.new }
+{
+    *fault = 0;
+    if let Some(service) = h.take(alloc) {
+        *h = shut_cache(service);
+        return Status::Live;
+    }
+    match boxed(alloc, settings) {
+        Err(found) => {
+            *fault = found.timing();
+            found.status()
+        }
+        Ok(service) => {
+            *h = shut_cache(service);
+            Status::Done
+        }
+    }
+}
+
+/// Makes a cache in an empty handle. It has the sessions of versions 1 and 0 of the protocol. Its first version has the serial `start`, and
+/// it keeps `keep` versions before the current one. It sends these intervals, in seconds; what is at fault in them is written.
+#[unsafe(no_mangle)]
+pub extern "C" fn rpkirtr_cache_new(
+    alloc: Global,
+    h: &mut CacheHandle,
+    session: u16,
+    session0: u16,
+    start: u32,
+    keep: u32,
+    refresh: u32,
+    retry: u32,
+    expire: u32,
+    fault: &mut u32,
+) -> i32
+    ensures { NewCache (record { session = session; session0 = session0; start = start; keep = keep; refresh = refresh; retry = retry; expire = expire }) h.old.value h.new.value result fault.new }
+{
+    let settings = Settings {
+        session,
+        session0,
+        start,
+        keep,
+        refresh,
+        retry,
+        expire,
+    };
+    make(alloc, h, &settings, fault).number()
+}
+
+/// Frees the cache with its connections, and empties the handle.
+#[unsafe(no_mangle)]
+pub extern "C" fn rpkirtr_cache_free(alloc: Global, h: &mut CacheHandle) -> i32
+    ensures { Freed h.old.value h.new.value result }
+{
+    match h.take(alloc) {
+        None => Status::Empty.number(),
+        Some(_service) => Status::Done.number(),
+    }
+}
+
+/// Publishes the set of records, and writes the fault if there is one, and whether the set was that of the current version.
+fn publish(
+    alloc: Global,
+    service: &mut Service,
+    records: &[CRecord],
+    bad: &mut usize,
+    unchanged: &mut u8,
+) -> Status
+    ensures { Serves service.old (λ m. Publishes m records.now (number result) bad.new unchanged.new service.new) }
+{
+    *bad = 0;
+    *unchanged = 0;
+    match service.publish(alloc, records) {
+        Err(fault) => {
+            *bad = fault.bad();
+            fault.status()
+        }
+        Ok(is_same) => {
+            *unchanged = u8::from(is_same);
+            Status::Done
+        }
+    }
+}
+
+/// Publishes the set of records: what is listed twice counts once. If a record is none, the index of the first such is written, and nothing is
+/// published. `unchanged` is 1 if the set is that of the current version, and no version is added.
+#[unsafe(no_mangle)]
+pub extern "C" fn rpkirtr_cache_publish(
+    alloc: Global,
+    h: &mut CacheHandle,
+    records: &[CRecord],
+    bad: &mut usize,
+    unchanged: &mut u8,
+) -> i32
+    ensures call { On h.old.value h.new.value result (λ s t. Serves s (λ m. Publishes m records.now result bad.new unchanged.new t)) }
+    ensures empty { h.old.value ≡ None → (bad.new ≡ 0) × (unchanged.new ≡ 0) }
+{
+    *bad = 0;
+    *unchanged = 0;
+    let Some(mut service) = h.take(alloc) else {
+        return Status::Empty.number();
+    };
+    let answer = publish(alloc, &mut service, records, bad, unchanged);
+    *h = shut_cache(service);
+    answer.number()
+}
+
+/// Opens a connection, and writes its number: the least that no connection has.
+#[unsafe(no_mangle)]
+pub extern "C" fn rpkirtr_cache_open(alloc: Global, h: &mut CacheHandle, conn: &mut u32) -> i32
+    ensures call { On h.old.value h.new.value result (λ s t. Serves s (λ m. Opens m result conn.new t)) }
+    ensures empty { h.old.value ≡ None → conn.new ≡ 0 }
+{
+    *conn = 0;
+    let Some(mut service) = h.take(alloc) else {
+        return Status::Empty.number();
+    };
+    let answer = service.open(conn);
+    *h = shut_cache(service);
+    answer.number()
+}
+
+/// Closes a connection, and drops what was due on it. Its number is free then.
+#[unsafe(no_mangle)]
+pub extern "C" fn rpkirtr_cache_close(alloc: Global, h: &mut CacheHandle, conn: u32) -> i32
+    ensures { On h.old.value h.new.value result (λ s t. Serves s (λ m. AtConn (m.at conn) result (IsServing (with_conn conn None m) t) (t ≡ s))) }
+{
+    let Some(mut service) = h.take(alloc) else {
+        return Status::Empty.number();
+    };
+    let answer = service.close(conn);
+    *h = shut_cache(service);
+    answer.number()
+}
+
+/// Hands over bytes that were received on a connection, and writes how many were consumed.
+#[unsafe(no_mangle)]
+pub extern "C" fn rpkirtr_cache_receive(
+    alloc: Global,
+    h: &mut CacheHandle,
+    conn: u32,
+    bytes: &[u8],
+    taken: &mut usize,
+) -> i32
+    ensures call { On h.old.value h.new.value result (λ s t. Serves s (λ m. AtConn (m.at conn) result (Takes m conn bytes.now taken.new t) ((t ≡ s) × (taken.new ≡ 0)))) }
+    ensures empty { h.old.value ≡ None → taken.new ≡ 0 }
+    ensures within { taken.new ≤ length bytes.now }
+{
+    *taken = 0;
+    let Some(mut service) = h.take(alloc) else {
+        return Status::Empty.number();
+    };
+    let answer = service.receive(conn, bytes, taken);
+    *h = shut_cache(service);
+    answer.number()
+}
+
+/// Moves bytes that are due on a connection into the room, as many as fit, and writes how many.
+#[unsafe(no_mangle)]
+pub extern "C" fn rpkirtr_cache_pull(
+    alloc: Global,
+    h: &mut CacheHandle,
+    conn: u32,
+    room: &mut [u8],
+    pulled: &mut usize,
+) -> i32
+    ensures call { On h.old.value h.new.value result (λ s t. Serves s (λ m. AtConn (m.at conn) result (Gives m conn room.old pulled.new room.new t) ((t ≡ s) × (room.new ≡ room.old) × (pulled.new ≡ 0)))) }
+    ensures empty { h.old.value ≡ None → (room.new ≡ room.old) × (pulled.new ≡ 0) }
+    ensures within { pulled.new ≤ length room.old }
+{
+    *pulled = 0;
+    let Some(mut service) = h.take(alloc) else {
+        return Status::Empty.number();
+    };
+    let answer = service.pull(conn, room, pulled);
+    *h = shut_cache(service);
+    answer.number()
+}
+
+/// Sends a Serial Notify on a connection that continues and on which nothing is due, if something is published. It writes whether it did.
+#[unsafe(no_mangle)]
+pub extern "C" fn rpkirtr_cache_notify(
+    alloc: Global,
+    h: &mut CacheHandle,
+    conn: u32,
+    sent: &mut u8,
+) -> i32
+    ensures call { On h.old.value h.new.value result (λ s t. Serves s (λ m. AtConn (m.at conn) result ((sent.new ≡ from_bool (can_notify_at m.cache (m.at conn))) × IsServing (notified conn m) t) ((t ≡ s) × (sent.new ≡ 0)))) }
+    ensures empty { h.old.value ≡ None → sent.new ≡ 0 }
+{
+    *sent = 0;
+    let Some(mut service) = h.take(alloc) else {
+        return Status::Empty.number();
+    };
+    let answer = service.notify(conn, sent);
+    *h = shut_cache(service);
+    answer.number()
+}
+
+/// Writes whether bytes are due on a connection.
+#[unsafe(no_mangle)]
+pub extern "C" fn rpkirtr_cache_has_bytes(
+    alloc: Global,
+    h: &mut CacheHandle,
+    conn: u32,
+    has: &mut u8,
+) -> i32
+    ensures call { On h.old.value h.new.value result (λ s t. (t ≡ s) × Serves s (λ m. AtConn (m.at conn) result (has.new ≡ from_bool (has_bytes_at (m.at conn))) (has.new ≡ 0))) }
+    ensures empty { h.old.value ≡ None → has.new ≡ 0 }
+{
+    *has = 0;
+    let Some(service) = h.take(alloc) else {
+        return Status::Empty.number();
+    };
+    let answer = service.has_bytes(conn, has);
+    *h = shut_cache(service);
+    answer.number()
+}
+
+/// Writes whether a connection continues. What is due can be pulled after its end too.
+#[unsafe(no_mangle)]
+pub extern "C" fn rpkirtr_cache_is_open(
+    alloc: Global,
+    h: &mut CacheHandle,
+    conn: u32,
+    continues: &mut u8,
+) -> i32
+    ensures call { On h.old.value h.new.value result (λ s t. (t ≡ s) × Serves s (λ m. AtConn (m.at conn) result (continues.new ≡ from_bool (is_open_at (m.at conn))) (continues.new ≡ 0))) }
+    ensures empty { h.old.value ≡ None → continues.new ≡ 0 }
+{
+    *continues = 0;
+    let Some(service) = h.take(alloc) else {
+        return Status::Empty.number();
+    };
+    let answer = service.is_open(conn, continues);
+    *h = shut_cache(service);
+    answer.number()
+}
+
+/// Writes the serial of the current version, and how many records it has.
+#[unsafe(no_mangle)]
+pub extern "C" fn rpkirtr_cache_current(
+    alloc: Global,
+    h: &mut CacheHandle,
+    serial: &mut u32,
+    count: &mut usize,
+) -> i32
+    ensures call { On h.old.value h.new.value result (λ s t. (t ≡ s) × Serves s (λ m. IsCurrent (newest (versions m.cache)) result serial.new count.new)) }
+    ensures empty { h.old.value ≡ None → (serial.new ≡ 0) × (count.new ≡ 0) }
+{
+    *serial = 0;
+    *count = 0;
+    let Some(service) = h.take(alloc) else {
+        return Status::Empty.number();
+    };
+    let answer = service.current(serial, count);
+    *h = shut_cache(service);
+    answer.number()
+}
