@@ -1,4 +1,5 @@
-/* rpkirtr.h: both ends of the RPKI-to-Router protocol (RFC 6810, RFC 8210), origin validation (RFC 6811) and the payloads of ROAs (RFC 9582).
+/* rpkirtr.h: both ends of the RPKI-to-Router protocol (RFC 6810, RFC 8210), origin validation (RFC 6811), and the payloads of ROAs (RFC 9582) and
+ * manifests (RFC 9286).
  *
  * The library does no input or output: the caller owns sockets and clocks. It hands over the bytes that it received, and writes the bytes
  * that it pulls. Moments are seconds of one clock that the caller chooses. They never go back, and are below RPKIRTR_NEVER.
@@ -116,7 +117,7 @@ typedef struct rpkirtr_list {
 } rpkirtr_list;
 
 /* What is at fault in a payload: the number of the fault, and the offset of the byte at which it shows. All is 0 if nothing is at fault. The
- * numbers of a ROA are:
+ * numbers of a ROA and of a manifest are:
  * - 1: an element is longer than what holds it.
  * - 2: another element was expected.
  * - 3: a length is indefinite, or not in its shortest form.
@@ -129,7 +130,13 @@ typedef struct rpkirtr_list {
  * - 10: the prefix is longer than an address of its family.
  * - 11: the maximum length is below the prefix length, or greater than the width of the family.
  * - 12: the entries are not in strictly ascending order.
- * - 19: more than 65536 entries.
+ * - 13: the manifest number is negative, or longer than 20 octets.
+ * - 14: nextUpdate is not later than thisUpdate.
+ * - 15: the hash algorithm is not SHA-256.
+ * - 16: a file name is not letters, digits, `-` or `_`, one dot and three small letters, in all at most 255 octets.
+ * - 17: a hash is not 256 bits long.
+ * - 18: a file name occurs twice.
+ * - 19: more than 65536 entries or files.
  * - 20: the maximum length equals the prefix length, so it has to be left out. */
 typedef struct rpkirtr_fault {
     uint64_t offset;
@@ -137,9 +144,15 @@ typedef struct rpkirtr_fault {
     uint32_t zero_;
 } rpkirtr_fault;
 
+/* A SHA-256 digest */
+typedef struct rpkirtr_digest {
+    uint8_t octets[32];
+} rpkirtr_digest;
+
 typedef struct rpkirtr_router { void *opaque_; } rpkirtr_router;
 typedef struct rpkirtr_index { void *opaque_; } rpkirtr_index;
 typedef struct rpkirtr_roa { void *opaque_; } rpkirtr_roa;
+typedef struct rpkirtr_manifest { void *opaque_; } rpkirtr_manifest;
 typedef struct rpkirtr_cache { void *opaque_; } rpkirtr_cache;
 #define RPKIRTR_EMPTY_INIT {0}
 
@@ -278,6 +291,30 @@ rpkirtr_status rpkirtr_roa_count(rpkirtr_roa *h, size_t *count);
 
 /* Copies the records that the ROA authorizes in its order, from an index on, as many as fit, and tells how many. OK, EMPTY */
 rpkirtr_status rpkirtr_roa_records(rpkirtr_roa *h, size_t first, rpkirtr_record *room, size_t room_len, size_t *copied);
+
+/* ---- payloads of manifests */
+
+/* Decodes the payload of a manifest in an empty handle (RFC 9286 section 4). Whether the object around it is valid is for the caller to judge,
+ * and so is whether it is stale, or older than another. If it is malformed, the first fault is told. Faults 13, 16 and 19 are stricter than RFC
+ * 9286. OK, LIVE, NO_MEMORY, BAD_PAYLOAD */
+rpkirtr_status rpkirtr_manifest_new(rpkirtr_manifest *h, const uint8_t *bytes, size_t bytes_len, rpkirtr_fault *fault);
+
+/* Frees the manifest, and empties the handle. OK, EMPTY */
+rpkirtr_status rpkirtr_manifest_free(rpkirtr_manifest *h);
+
+/* Copies the octets of the manifest number, the highest first, as many as fit, and tells how many there are: from 1 to 20. It may begin with a
+ * zero octet. OK, EMPTY */
+rpkirtr_status rpkirtr_manifest_number(rpkirtr_manifest *h, uint8_t *room, size_t room_len, size_t *len);
+
+/* Tells thisUpdate and nextUpdate, in seconds after the beginning of 1970 in UTC. OK, EMPTY */
+rpkirtr_status rpkirtr_manifest_times(rpkirtr_manifest *h, uint64_t *this_update, uint64_t *next_update);
+
+/* Tells how many files the manifest lists. OK, EMPTY */
+rpkirtr_status rpkirtr_manifest_count(rpkirtr_manifest *h, size_t *count);
+
+/* Copies the name of the file at an index, as much as fits, without a zero octet after it. It tells how long the name is, at most 255 octets,
+ * and the digest of the file. OK, EMPTY, RANGE */
+rpkirtr_status rpkirtr_manifest_file(rpkirtr_manifest *h, size_t index, uint8_t *room, size_t room_len, size_t *len, rpkirtr_digest *digest);
 
 /* ---- a cache */
 

@@ -9,6 +9,7 @@ import sys
 TOP = pathlib.Path(__file__).resolve().parent.parent
 C_TYPES = {
     '&mut RouterHandle': ['rpkirtr_router *'], '&mut IndexHandle': ['rpkirtr_index *'], '&mut RoaHandle': ['rpkirtr_roa *'],
+    '&mut ManifestHandle': ['rpkirtr_manifest *'], '&mut CDigest': ['rpkirtr_digest *'],
     '&mut CacheHandle': ['rpkirtr_cache *'], '&mut u8': ['uint8_t *'], 'u16': ['uint16_t'],
     '&[u8]': ['const uint8_t *', 'size_t'], '&mut [u8]': ['uint8_t *', 'size_t'],
     '&[CRecord]': ['const rpkirtr_record *', 'size_t'], '&mut [CRecord]': ['rpkirtr_record *', 'size_t'],

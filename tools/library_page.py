@@ -19,7 +19,7 @@ FRONT = r""".\" Written by tools/library_page.py from include/rpkirtr.h.
 .Os
 .Sh NAME
 .Nm rpkirtr
-.Nd RPKI-to-Router client and cache, route origin validation and payloads of ROAs
+.Nd RPKI-to-Router client and cache, route origin validation and payloads of ROAs and manifests
 .Sh LIBRARY
 librpkirtr (\-lrpkirtr)
 .Sh SYNOPSIS
@@ -150,6 +150,8 @@ the RPKI-to-Router protocol, version 0
 the state of a route
 .It RFC 8210
 the RPKI-to-Router protocol, version 1
+.It RFC 9286
+the payload of a manifest
 .It RFC 9582
 the payload of a ROA
 .El

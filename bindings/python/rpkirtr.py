@@ -175,6 +175,10 @@ class _Fault(ctypes.Structure):
     _fields_ = [("offset", ctypes.c_uint64), ("kind", ctypes.c_uint32), ("zero_", ctypes.c_uint32)]
 
 
+class _Digest(ctypes.Structure):
+    _fields_ = [("octets", ctypes.c_uint8 * 32)]
+
+
 def _within(bits: int, number: int) -> int:
     """A number of so many bits. (ctypes would cut a larger one off.)"""
     if not 0 <= number < 1 << bits:
@@ -402,6 +406,50 @@ class Roa(_Handle):
     def records(self) -> List[Record]:
         """The records that the ROA authorizes, in its order."""
         return self._records(len(self))
+
+
+class ListedFile(NamedTuple):
+    """A file that a manifest lists, and the SHA-256 digest of the published object."""
+
+    name: str
+    digest: bytes
+
+
+class Manifest(_Handle):
+    """The payload of a manifest (RFC 9286 section 4). Verify its signature first: nothing here does. Nor does it judge whether it is stale."""
+
+    _name = "manifest"
+
+    def __init__(self, payload: bytes) -> None:
+        super().__init__()
+        fault, piece = _Fault(), bytes(memoryview(payload))
+        status = self._call("new", piece, ctypes.c_size_t(len(piece)), ctypes.byref(fault))
+        if status == Status.BAD_PAYLOAD:
+            raise PayloadError(fault.kind, fault.offset)
+        _check(status)
+
+    @property
+    def number(self) -> int:
+        """The manifest number."""
+        room = (ctypes.c_uint8 * 20)()
+        size = self._size("number", room, ctypes.c_size_t(len(room)))
+        return int.from_bytes(bytes(room[:size]), "big")
+
+    @property
+    def times(self) -> Tuple[int, int]:
+        """thisUpdate and nextUpdate, in seconds after the beginning of 1970 in UTC."""
+        times = (ctypes.c_uint64 * 2)()
+        _check(self._call("times", ctypes.byref(times, 0), ctypes.byref(times, ctypes.sizeof(ctypes.c_uint64))))
+        return times[0], times[1]
+
+    def files(self) -> List[ListedFile]:
+        """The files that the manifest lists, in its order."""
+        return [self._file(index) for index in range(len(self))]
+
+    def _file(self, index: int) -> ListedFile:
+        room, size, digest = (ctypes.c_uint8 * 255)(), ctypes.c_size_t(), _Digest()
+        _check(self._call("file", ctypes.c_size_t(index), room, ctypes.c_size_t(len(room)), ctypes.byref(size), ctypes.byref(digest)))
+        return ListedFile(bytes(room[: size.value]).decode("ascii"), bytes(digest.octets))
 
 
 class Cache(_Handle):

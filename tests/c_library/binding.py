@@ -81,6 +81,16 @@ try:
     raise AssertionError("a ROA that is cut off")
 except rpkirtr.PayloadError as error:
     assert (error.status, error.number, error.offset) == (rpkirtr.Status.BAD_PAYLOAD, 1, 0)
+MANIFEST = bytes.fromhex("305e020101180f") + b"20250101000000Z" + bytes.fromhex("180f") + b"20250102000000Z" + bytes.fromhex(
+    "0609608648016503040201" "302c302a1605612e63726c032100" "ba7816bf8f01cfea414140de5dae2223b00361a396177a9cb410ff61f20015ad")
+with rpkirtr.Manifest(MANIFEST) as manifest:
+    assert (manifest.number, manifest.times, len(manifest)) == (1, (1735689600, 1735776000), 1)
+    assert manifest.files() == [rpkirtr.ListedFile("a.crl", MANIFEST[-32:])]
+try:
+    rpkirtr.Manifest(MANIFEST[:-1])
+    raise AssertionError("a manifest that is cut off")
+except rpkirtr.PayloadError as error:
+    assert (error.status, error.number, error.offset) == (rpkirtr.Status.BAD_PAYLOAD, 1, 0)
 with rpkirtr.Cache(258, 772, 7) as cache, rpkirtr.Router() as router:
     assert (cache.current(), len(cache), bool(cache)) == (None, 0, True)
     assert cache.publish([DB8, TEN, TEN])

@@ -373,6 +373,60 @@ static void a_roa(void)
     EXPECT(rpkirtr_roa_new(&h, NULL, 0, &fault) == RPKIRTR_BAD_PAYLOAD);
 }
 
+/* A manifest of number 1, from 2025-01-01 to the day after, that lists a.crl */
+static const uint8_t manifest_bytes[] = {
+    0x30, 0x5e, 0x02, 0x01, 0x01,
+    0x18, 0x0f, '2', '0', '2', '5', '0', '1', '0', '1', '0', '0', '0', '0', '0', '0', 'Z',
+    0x18, 0x0f, '2', '0', '2', '5', '0', '1', '0', '2', '0', '0', '0', '0', '0', '0', 'Z',
+    0x06, 0x09, 0x60, 0x86, 0x48, 0x01, 0x65, 0x03, 0x04, 0x02, 0x01,
+    0x30, 0x2c, 0x30, 0x2a, 0x16, 0x05, 'a', '.', 'c', 'r', 'l', 0x03, 0x21, 0x00,
+    0xba, 0x78, 0x16, 0xbf, 0x8f, 0x01, 0xcf, 0xea, 0x41, 0x41, 0x40, 0xde, 0x5d, 0xae, 0x22, 0x23,
+    0xb0, 0x03, 0x61, 0xa3, 0x96, 0x17, 0x7a, 0x9c, 0xb4, 0x10, 0xff, 0x61, 0xf2, 0x00, 0x15, 0xad,
+};
+
+static void a_manifest(void)
+{
+    rpkirtr_manifest h = RPKIRTR_EMPTY_INIT;
+    rpkirtr_fault fault;
+    rpkirtr_digest digest, zero;
+    uint8_t room[8], wrong[sizeof manifest_bytes];
+    uint64_t at = 9, next = 9;
+    size_t n = 9, k;
+    memset(&zero, 0, sizeof zero);
+    memset(&digest, 7, sizeof digest);
+    EXPECT(rpkirtr_manifest_free(&h) == RPKIRTR_EMPTY);
+    EXPECT(rpkirtr_manifest_number(&h, room, sizeof room, &n) == RPKIRTR_EMPTY && n == 0);
+    EXPECT(rpkirtr_manifest_times(&h, &at, &next) == RPKIRTR_EMPTY && at == 0 && next == 0);
+    n = 9;
+    EXPECT(rpkirtr_manifest_count(&h, &n) == RPKIRTR_EMPTY && n == 0);
+    n = 9;
+    EXPECT(rpkirtr_manifest_file(&h, 0, room, sizeof room, &n, &digest) == RPKIRTR_EMPTY && n == 0 && memcmp(&digest, &zero, 32) == 0);
+    EXPECT(rpkirtr_manifest_new(&h, manifest_bytes, sizeof manifest_bytes, &fault) == RPKIRTR_OK && fault.kind == 0 && fault.offset == 0);
+    EXPECT(rpkirtr_manifest_new(&h, manifest_bytes, sizeof manifest_bytes, &fault) == RPKIRTR_LIVE && fault.kind == 0);
+    memset(room, 7, sizeof room);
+    EXPECT(rpkirtr_manifest_number(&h, room, sizeof room, &n) == RPKIRTR_OK && n == 1 && room[0] == 1 && room[1] == 7);
+    EXPECT(rpkirtr_manifest_number(&h, NULL, 0, &n) == RPKIRTR_OK && n == 1);
+    EXPECT(rpkirtr_manifest_times(&h, &at, &next) == RPKIRTR_OK && at == 1735689600 && next == 1735776000);
+    EXPECT(rpkirtr_manifest_count(&h, &n) == RPKIRTR_OK && n == 1);
+    EXPECT(rpkirtr_manifest_file(&h, 0, room, sizeof room, &n, &digest) == RPKIRTR_OK && n == 5 && memcmp(room, "a.crl\7", 6) == 0);
+    EXPECT(memcmp(digest.octets, manifest_bytes + sizeof manifest_bytes - 32, 32) == 0);
+    memset(room, 7, sizeof room);
+    EXPECT(rpkirtr_manifest_file(&h, 0, room, 2, &n, &digest) == RPKIRTR_OK && n == 5 && memcmp(room, "a.\7", 3) == 0);
+    EXPECT(rpkirtr_manifest_file(&h, 1, room, sizeof room, &n, &digest) == RPKIRTR_RANGE && n == 0 && memcmp(&digest, &zero, 32) == 0 && room[0] == 'a');
+    EXPECT(rpkirtr_manifest_file(&h, SIZE_MAX, NULL, 0, &n, &digest) == RPKIRTR_RANGE && n == 0);
+    EXPECT(rpkirtr_manifest_free(&h) == RPKIRTR_OK && h.opaque_ == NULL);
+    EXPECT(rpkirtr_manifest_free(&h) == RPKIRTR_EMPTY);
+    for (k = 0; k < sizeof manifest_bytes; k++)
+        EXPECT(rpkirtr_manifest_new(&h, manifest_bytes, k, &fault) == RPKIRTR_BAD_PAYLOAD && fault.kind > 0 && fault.offset <= k && h.opaque_ == NULL);
+    /* nextUpdate is thisUpdate: fault 14. The name is a.Crl: fault 16. */
+    memcpy(wrong, manifest_bytes, sizeof wrong);
+    wrong[31] = '1';
+    EXPECT(rpkirtr_manifest_new(&h, wrong, sizeof wrong, &fault) == RPKIRTR_BAD_PAYLOAD && fault.kind == 14 && fault.offset == 22 && fault.zero_ == 0);
+    wrong[31] = '2';
+    wrong[58] = 'C';
+    EXPECT(rpkirtr_manifest_new(&h, wrong, sizeof wrong, &fault) == RPKIRTR_BAD_PAYLOAD && fault.kind == 16 && fault.offset == 54);
+}
+
 static void an_empty_cache(void)
 {
     rpkirtr_cache h = RPKIRTR_EMPTY_INIT;
@@ -530,6 +584,7 @@ int main(void)
     an_index();
     an_index_of_lists();
     a_roa();
+    a_manifest();
     an_empty_cache();
     the_settings_of_a_cache();
     the_numbers_of_connections();

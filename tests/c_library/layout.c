@@ -48,9 +48,13 @@ AT(rpkirtr_fault, offset, 0);
 AT(rpkirtr_fault, kind, 8);
 AT(rpkirtr_fault, zero_, 12);
 
+IS(digest_size, sizeof(rpkirtr_digest) == 32);
+AT(rpkirtr_digest, octets, 0);
+
 IS(router_size, sizeof(rpkirtr_router) == sizeof(void *));
 IS(index_size, sizeof(rpkirtr_index) == sizeof(void *));
 IS(roa_size, sizeof(rpkirtr_roa) == sizeof(void *));
+IS(manifest_size, sizeof(rpkirtr_manifest) == sizeof(void *));
 IS(cache_size, sizeof(rpkirtr_cache) == sizeof(void *));
 IS(status_size, sizeof(rpkirtr_status) == 4);
 IS(state_size, sizeof(rpkirtr_state) == 4);

@@ -184,6 +184,33 @@ static void a_roa_call(rpkirtr_roa *h)
     }
 }
 
+static void a_manifest_call(rpkirtr_manifest *h)
+{
+    static const uint8_t begin[] = {0x30, 0x5e, 0x02, 0x01, 0x01}, end[] = {
+        0x06, 0x09, 0x60, 0x86, 0x48, 0x01, 0x65, 0x03, 0x04, 0x02, 0x01, 0x30, 0x2c, 0x30, 0x2a, 0x16, 0x05, 'a', '.', 'c', 'r', 'l', 0x03, 0x21, 0x00,
+    };
+    uint8_t bytes[96], room[8];
+    rpkirtr_fault fault;
+    rpkirtr_digest digest;
+    uint64_t at, next;
+    size_t n = 99;
+    switch (below(6)) {
+    case 0: judge(rpkirtr_manifest_free(h), RPKIRTR_EMPTY); break;
+    case 1: judge(rpkirtr_manifest_number(h, room, below(9), &n), RPKIRTR_EMPTY); judge(rpkirtr_manifest_times(h, &at, &next), RPKIRTR_EMPTY); break;
+    case 2: judge(rpkirtr_manifest_count(h, &n), RPKIRTR_EMPTY); break;
+    case 3: judge(rpkirtr_manifest_file(h, below(3), room, below(9), &n, &digest), RPKIRTR_RANGE); break;
+    default:
+        fill(bytes, sizeof bytes);
+        memcpy(bytes, begin, sizeof begin);
+        memcpy(bytes + 5, "\x18\x0f" "20250101000000Z", 17);
+        memcpy(bytes + 22, "\x18\x0f" "20250102000000Z", 17);
+        memcpy(bytes + 39, end, sizeof end);
+        if (below(2) == 0)
+            bytes[below(sizeof bytes)] = (uint8_t)below(256);
+        judge(rpkirtr_manifest_new(h, bytes, below(8) == 0 ? below(sizeof bytes) : sizeof bytes, &fault), RPKIRTR_BAD_PAYLOAD);
+    }
+}
+
 /* Bytes of a router: a query, or anything */
 static size_t a_query(uint8_t *bytes)
 {
@@ -247,6 +274,7 @@ int main(int argc, char **argv)
     rpkirtr_router routers[3] = {RPKIRTR_EMPTY_INIT, RPKIRTR_EMPTY_INIT, RPKIRTR_EMPTY_INIT};
     rpkirtr_index indexes[2] = {RPKIRTR_EMPTY_INIT, RPKIRTR_EMPTY_INIT};
     rpkirtr_roa roa = RPKIRTR_EMPTY_INIT;
+    rpkirtr_manifest manifest = RPKIRTR_EMPTY_INIT;
     rpkirtr_cache caches[2] = {RPKIRTR_EMPTY_INIT, RPKIRTR_EMPTY_INIT};
     unsigned long k, count;
     uint64_t now = 0;
@@ -258,6 +286,8 @@ int main(int argc, char **argv)
         now += below(100) == 0 ? below(700) : 0;
         if (below(10) == 0)
             a_roa_call(&roa);
+        else if (below(10) == 0)
+            a_manifest_call(&manifest);
         else if (below(4) == 0)
             a_cache_call(&caches[below(2)]);
         else if (below(4) == 0)
@@ -272,5 +302,6 @@ int main(int argc, char **argv)
     for (k = 0; k < 2; k++)
         rpkirtr_cache_free(&caches[k]);
     rpkirtr_roa_free(&roa);
+    rpkirtr_manifest_free(&manifest);
     return 0;
 }

@@ -88,7 +88,13 @@ pub struct rpkirtr_text {
     pub text: [u8; 64],
 }
 
-/// A handle of a router, an index, a ROA or a cache
+#[repr(C)]
+#[derive(Clone, Copy, Debug, Default)]
+pub struct rpkirtr_digest {
+    pub octets: [u8; 32],
+}
+
+/// A handle of a router, an index, a ROA, a manifest or a cache
 #[repr(C)]
 #[derive(Debug)]
 pub struct handle {
@@ -146,6 +152,20 @@ extern "C" {
     pub fn rpkirtr_roa_asn(h: *mut handle, asn: *mut u32) -> rpkirtr_status;
     pub fn rpkirtr_roa_count(h: *mut handle, count: *mut usize) -> rpkirtr_status;
     pub fn rpkirtr_roa_records(h: *mut handle, first: usize, room: *mut rpkirtr_record, room_len: usize, copied: *mut usize) -> rpkirtr_status;
+
+    pub fn rpkirtr_manifest_new(h: *mut handle, bytes: *const u8, bytes_len: usize, fault: *mut rpkirtr_fault) -> rpkirtr_status;
+    pub fn rpkirtr_manifest_free(h: *mut handle) -> rpkirtr_status;
+    pub fn rpkirtr_manifest_number(h: *mut handle, room: *mut u8, room_len: usize, len: *mut usize) -> rpkirtr_status;
+    pub fn rpkirtr_manifest_times(h: *mut handle, this_update: *mut u64, next_update: *mut u64) -> rpkirtr_status;
+    pub fn rpkirtr_manifest_count(h: *mut handle, count: *mut usize) -> rpkirtr_status;
+    pub fn rpkirtr_manifest_file(
+        h: *mut handle,
+        index: usize,
+        room: *mut u8,
+        room_len: usize,
+        len: *mut usize,
+        digest: *mut rpkirtr_digest,
+    ) -> rpkirtr_status;
 
     pub fn rpkirtr_cache_new(
         h: *mut handle,

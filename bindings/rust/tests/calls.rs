@@ -1,5 +1,5 @@
 //! A router that is told two records by a cache, and an index.
-use rpkirtr::{Cache, CacheSettings, Current, Error, Index, Link, OriginState, Roa, Route, Router, Version, Vrp};
+use rpkirtr::{Cache, CacheSettings, Current, Error, Index, Link, Manifest, OriginState, Roa, Route, Router, Version, Vrp};
 
 const ANSWER: [u8; 84] = [
     1, 3, 1, 2, 0, 0, 0, 8, // Cache Response of session 258
@@ -99,6 +99,20 @@ fn a_roa_is_decoded() {
     assert_eq!(roa.asn(), 64496);
     assert_eq!(roa.vrps(), [vrp("10.0.0.0/8", 16, 64496), vrp("10.64.0.0/10", 11, 64496)]);
     assert_eq!(Roa::decode(&payload[..30]).unwrap_err(), Error::BadPayload { number: 1, offset: 0 });
+}
+
+#[test]
+fn a_manifest_is_decoded() {
+    let mut payload = vec![0x30, 0x5e, 0x02, 0x01, 0x01];
+    payload.extend(b"\x18\x0f20250101000000Z\x18\x0f20250102000000Z");
+    payload.extend(b"\x06\x09\x60\x86\x48\x01\x65\x03\x04\x02\x01\x30\x2c\x30\x2a\x16\x05a.crl\x03\x21\x00");
+    payload.extend(0..32);
+    let manifest = Manifest::decode(&payload).unwrap();
+    assert_eq!((manifest.number(), manifest.times(), manifest.len()), (vec![1], (1_735_689_600, 1_735_776_000), 1));
+    let files = manifest.files();
+    assert_eq!((files[0].name.as_str(), files[0].digest.to_vec()), ("a.crl", (0..32).collect::<Vec<u8>>()));
+    payload[31] = b'1';
+    assert_eq!(Manifest::decode(&payload).unwrap_err(), Error::BadPayload { number: 14, offset: 22 });
 }
 
 const SETTINGS: CacheSettings =

@@ -1,6 +1,5 @@
 -- The table of a cache's connections.
-use Rattle.std.proofs.Common.{◌≡◌, ℕ, ◌<◌, ◌≤◌, ◌==◌, ◌^◌, false, true, List, [], length, Option, Some, None, IsSome, is_some, option_map, if◌then◌else◌, refl, sym, ap, subst, ◌∙◌, arith, inl, inr, rules}
-use Rattle.std.specs.Prelude.{◌⊎◌}
+use Rattle.std.proofs.Common.{◌≡◌, ℕ, ◌≤◌, ◌==◌, ◌^◌, false, true, List, length, Option, Some, None, IsSome, option_map, if◌then◌else◌, refl, sym, ap, subst, ◌∙◌, arith, inl, inr, rules}
 use Rattle.std.proofs.lemmas.Bool.{cases_lt}
 use Rattle.std.proofs.lemmas.Option.{slice_get_past}
 use Rattle.rtr_ends.specs.Cache.{Conn, new_conn}
@@ -10,7 +9,7 @@ use Rattle.rtr_ends.specs.declared.cache.Conn.{Conn as Number}
 use Rattle.rtr_ends.proofs.CacheStateLaws.{conn_twice, same_conn}
 use Rattle.vrps.specs.Steps.{HoldsSteps, Steps}
 use Rattle.rpkirtr_c.specs.Answers.{number}
-use Rattle.rpkirtr_c.specs.Caches.{IsOpening, IsServing, Opens, number_at}
+use Rattle.rpkirtr_c.specs.Caches.{IsOpening, Opens, number_at}
 use Rattle.rpkirtr_c.specs.declared.conns.Conns.{Conns}
 use Rattle.rpkirtr_c.specs.declared.service.Service.{Service}
 use Rattle.rpkirtr_c.specs.declared.status.Status.TheVariants.{Done, OutOfRange}

@@ -1,7 +1,7 @@
 -- The calls of a cache's handle.
 use Rattle.std.specs.Prelude.{◌≡◌, ◌⊎◌, ℕ, ◌≤◌, ◌^◌, ℤ, true, List, [], length, Option, Some, None, IfSome, option_map, slice_get}
 use Rattle.std.specs.Int.{from_bool}
-use Rattle.vrps.specs.Instance.{Instance, NumberedSet}
+use Rattle.vrps.specs.Instance.{NumberedSet}
 use Rattle.vrps.specs.Steps.{HoldsSteps}
 use Rattle.vrps.specs.Store.{is_current, published}
 use Rattle.vrps.specs.VrpSet.{set_of, size}

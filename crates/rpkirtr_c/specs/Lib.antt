@@ -5,7 +5,9 @@ pub mod Held
 pub mod Indexes
 pub mod Links
 pub mod Live
+pub mod Manifests
 pub mod Objects
+pub mod Octets
 pub mod Sessions
 pub mod Spelled
 pub mod Texts

@@ -35,9 +35,13 @@ abbrev pub IsRoaFault : List ℕ → PayloadFault → Type 0
 IsRoaFault bytes (At fault) = RoaFaultAt bytes fault.offset (kind_number fault.kind)
 IsRoaFault bytes Memory = (roa : RoaValue) × RoaSpells roa bytes
 
--- A ROA is decoded in an empty handle, or it stays empty for a fault, which is written. A live handle stays as it is.
+-- A payload is decoded in an empty handle, or it stays empty for a fault, which is written. A live handle stays as it is.
+abbrev pub NewDecoded : {X : Type 0} → (X → Type 0) → (PayloadFault → Type 0) → Option X → Option X → ℤ → CFault → Type 0
+NewDecoded Is IsFault None (Some x) answer told = (answer ≡ number Done) × Is x × (told ≡ no_fault)
+NewDecoded Is IsFault None None answer told = (fault : PayloadFault) × IsFault fault × (answer ≡ number (payload_status fault)) × (told ≡ told_fault fault)
+NewDecoded Is IsFault (Some x) (Some y) answer told = (answer ≡ number Live) × (y ≡ x) × (told ≡ no_fault)
+NewDecoded Is IsFault (Some x) None answer told = ⊥
+
+-- A ROA is decoded so.
 abbrev pub NewRoa : List ℕ → Option Authorization → Option Authorization → ℤ → CFault → Type 0
-NewRoa bytes None (Some a) answer told = (answer ≡ number Done) × IsAuthorization bytes a × (told ≡ no_fault)
-NewRoa bytes None None answer told = (fault : PayloadFault) × IsRoaFault bytes fault × (answer ≡ number (payload_status fault)) × (told ≡ told_fault fault)
-NewRoa bytes (Some a) (Some b) answer told = (answer ≡ number Live) × (b ≡ a) × (told ≡ no_fault)
-NewRoa bytes (Some a) None answer told = ⊥
+NewRoa bytes old new answer told = NewDecoded (IsAuthorization bytes) (IsRoaFault bytes) old new answer told

@@ -1,32 +1,28 @@
 -- `empty` makes the null address, at which nothing is owned.
-use Rattle.std.proofs.Common.{◌≡◌, List, [], ◌∷◌, ◌++◌, refl, sym, ap, ◌∙◌, subst, Bool, true, false, not, ◌&&◌}
-use Rattle.std.specs.Prelude.{Some, None, is_none}
-use mir.Syntax.{Fn, ty_ptr}
-use mir.Val.{Val, vnull, vbool, vstruct, vnil, vcons, of_list, has_ty, WT}
-use lib.Dec.{T, lit<}
-use base.Logic.{SProp, emp, id⊢, via, snd∗, guard_i}
-use base.Fml.{Fml, ftrue, feq, fsep}
+use Rattle.std.proofs.Common.{◌≡◌, List, [], ◌∷◌, ◌++◌, refl}
+use Rattle.std.specs.Prelude.{None}
+use mir.Syntax.{Fn}
+use mir.Val.{Val, vnull, vstruct, vnil, vcons, has_ty}
+use lib.Dec.{lit<}
+use base.Logic.{SProp, emp, id⊢}
+use base.Fml.{ftrue}
 use prog.Wp.{WpFn}
-use contract.Monad.{fact, fact_i, fact_use}
+use contract.Monad.{fact, fact_i}
 use contract.Running.{tables}
-use types.Logic.{sem}
-use types.Kit.{‵, raw, ◌⊛◌, given, prop, ◌$◌, ◌∵◌, !, qed, by, move, drop, use0, use1, split, learn, regoal, fsplit, fjoin, fpick, fpack, feq_l, feq_i}
-use types.Part.{agg, sub, whole}
-use types.Run.{stop, fld, bin, lit, of_opd, no_more, and_then, returns, enter}
-use types.ByLocal.{alloc_all, pass_all, free_all, look_at, get, get_in, is, sets}
+use types.Kit.{‵, raw, ◌⊛◌, prop, ◌$◌, ◌∵◌, !, qed, by, move, drop, use0, use1, split, regoal, fsplit, fjoin, fpack, feq_i}
+use types.Part.{agg}
+use types.Run.{lit, no_more, and_then, returns, enter}
+use types.ByLocal.{alloc_all, pass_all, free_all, look_at, get, sets}
 use denote.RattleType.{owns, Valss}
-use denote.Builtin.{bool}
-use denote.RawPtr.{Ptr, RawPtr, null_ptr, ptr_val, Testable, tests_null}
+use denote.RawPtr.{RawPtr, null_ptr, ptr_val}
 use denote.Signature.{types_at, plain}
 use denote.Steps.{nothing}
 use denote.Struct.Struct.{within}
 use denote.Struct.Owning.{shape, to}
 use denote.Triple.Entry.{alive}
 use denote.Triple.Walked.{Stays, stay_dropped, walk_of}
-use Rattle.core.proofs.alloc.Calls.{Goes-blank, handle_tells, token, α}
-use denote.Memory.{lone}
-use Rattle.std_alloc.proofs.BoxSteps.Form.{Bx, X, R, τ}
-use Rattle.std_alloc.specs.Box.Ownership.{box_owns}
+use Rattle.core.proofs.alloc.Calls.{Goes-blank, handle_tells, α}
+use Rattle.std_alloc.proofs.BoxSteps.Form.{Bx}
 use Rattle.std_alloc.proofs.ResultValues.{and_tt}
 use Rattle.std.proofs.raw_atomic.Walks.{proved_at, leaves}
 use Rattle.std.specs.contracts.alloc.Global as heap
@@ -34,7 +30,6 @@ use Rattle.std.proofs.alloc.Global.TheLaws as heap_laws
 use Rattle.std.specs.contracts.impls.GlobalAllocator.TheImpl as heap_impl
 use Rattle.rpkirtr_c.specs.contracts.service.Service as held
 use Rattle.rpkirtr_c.proofs.service.Service.TheLaws as held_laws
-use Rattle.rpkirtr_c.specs.Held.{held as held_at, is_live}
 use Rattle.rpkirtr_c.specs.contracts.cache.CacheHandle as handle
 use Rattle.rpkirtr_c.specs.contracts.cache.CacheHandle.empty.{ended, clauses}
 use Rattle.rpkirtr_c.specs.contracts.cache.CacheHandle.empty.Key.{name as #self}

@@ -1,10 +1,10 @@
 -- `into_loose` hands on what the struct owns: both own the same, at one layout.
-use Rattle.std.proofs.Common.{◌≡◌, List, [], ◌∷◌, ◌++◌, refl, ap, true, false}
+use Rattle.std.proofs.Common.{◌≡◌, List, [], ◌∷◌, ◌++◌, refl, false}
 use Rattle.std.specs.Prelude.{Some, is_none}
 use mir.Syntax.{Fn}
 use mir.Val.{Val}
 use base.Logic.{SProp, emp, id⊢}
-use base.Fml.{Fml, ftrue}
+use base.Fml.{Fml}
 use prog.Wp.{WpFn}
 use contract.Monad.{fact, fact_i}
 use contract.Running.{tables}
@@ -27,8 +27,7 @@ use Rattle.std.proofs.alloc.Global.TheLaws as heap_laws
 use Rattle.std.specs.contracts.impls.GlobalAllocator.TheImpl as heap_impl
 use Rattle.rpkirtr_c.specs.contracts.service.Service as held
 use Rattle.rpkirtr_c.proofs.service.Service.TheLaws as held_laws
-use Rattle.rpkirtr_c.specs.Held.{held as held_at, is_live}
-use Rattle.rpkirtr_c.proofs.Handles.{live_owns, owns_live, the, the_is}
+use Rattle.rpkirtr_c.proofs.Handles.{live_owns, the, the_is}
 use Rattle.rpkirtr_c.specs.contracts.loose.Loose as loose
 use Rattle.rpkirtr_c.specs.contracts.cache.CacheHandle as handle
 use Rattle.rpkirtr_c.specs.contracts.cache.CacheHandle.into_loose.{ended, clauses}

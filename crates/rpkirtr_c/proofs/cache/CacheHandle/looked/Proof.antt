@@ -1,9 +1,9 @@
 -- `looked` tests the address, and hands on what the struct owns.
-use Rattle.std.proofs.Common.{◌≡◌, List, [], ◌∷◌, ◌++◌, refl, sym, ap, ◌∙◌, subst, Bool, true, false, not, ◌&&◌}
-use Rattle.std.specs.Prelude.{Some, None, is_none}
+use Rattle.std.proofs.Common.{◌≡◌, List, [], ◌∷◌, ◌++◌, refl, ap, ◌∙◌, subst, Bool, true, not, ◌&&◌}
+use Rattle.std.specs.Prelude.{is_none}
 use mir.Syntax.{Fn, ty_ptr}
-use mir.Val.{Val, vnull, vbool, vstruct, vnil, vcons, of_list, has_ty, WT}
-use lib.Dec.{T, lit<}
+use mir.Val.{Val, vbool, vstruct, vnil, vcons, of_list, has_ty, WT}
+use lib.Dec.{T}
 use base.Logic.{SProp, emp, id⊢, via, snd∗, guard_i}
 use base.Fml.{Fml, ftrue, feq, fsep}
 use prog.Wp.{WpFn}
@@ -16,7 +16,7 @@ use types.Run.{stop, fld, bin, lit, of_opd, no_more, and_then, returns, enter}
 use types.ByLocal.{alloc_all, pass_all, free_all, look_at, get, get_in, is, sets}
 use denote.RattleType.{owns, Valss}
 use denote.Builtin.{bool}
-use denote.RawPtr.{Ptr, RawPtr, null_ptr, ptr_val, Testable, tests_null}
+use denote.RawPtr.{RawPtr, ptr_val, Testable, tests_null}
 use denote.Signature.{types_at, plain}
 use denote.Steps.{nothing}
 use denote.Struct.Struct.{within}
@@ -37,9 +37,8 @@ use Rattle.rpkirtr_c.proofs.service.Service.TheLaws as held_laws
 use Rattle.rpkirtr_c.specs.Held.{held as held_at, is_live}
 use Rattle.rpkirtr_c.specs.contracts.cache.CacheHandle as handle
 use denote.Struct.Tuple.{Tuple}
-use denote.Plain.{bool_Makes, bool_vals}
+use denote.Plain.{bool_Makes}
 use denote.Steps.{owned}
-use denote.Struct.Declared as declared
 use Rattle.std.proofs.GlobalToken.{dealloc_token-Testable}
 use mir.Raw.{raw as bare}
 use Rattle.core.specs.Ptr.{points_to}

@@ -1,6 +1,6 @@
 -- `of` hands on what the struct owns: both own the same, at one layout.
-use Rattle.std.proofs.Common.{◌≡◌, List, [], ◌∷◌, ◌++◌, refl, ap, true, false}
-use Rattle.std.specs.Prelude.{Some, is_none}
+use Rattle.std.proofs.Common.{◌≡◌, List, [], ◌∷◌, ◌++◌, refl, ap}
+use Rattle.std.specs.Prelude.{Some}
 use mir.Syntax.{Fn}
 use mir.Val.{Val}
 use base.Logic.{SProp, emp, id⊢}
@@ -14,7 +14,7 @@ use types.Run.{stop, fld, of_opd, no_more, and_then, returns, enter}
 use types.ByLocal.{alloc_all, pass_all, free_all, look_at, get, get_in, sets}
 use denote.RattleType.{owns}
 use denote.Signature.{types_at, plain}
-use denote.Steps.{nothing, heard}
+use denote.Steps.{nothing}
 use denote.Triple.Entry.{alive}
 use denote.Triple.Walked.{Stays, stay_dropped, walk_of}
 use Rattle.core.proofs.alloc.Calls.{Goes-blank, token}
@@ -28,7 +28,7 @@ use Rattle.std.specs.contracts.impls.GlobalAllocator.TheImpl as heap_impl
 use Rattle.rpkirtr_c.specs.contracts.service.Service as held
 use Rattle.rpkirtr_c.proofs.service.Service.TheLaws as held_laws
 use Rattle.rpkirtr_c.specs.Held.{held as held_at, is_live}
-use Rattle.rpkirtr_c.proofs.Handles.{live_owns, owns_live, the, the_is}
+use Rattle.rpkirtr_c.proofs.Handles.{owns_live}
 use Rattle.rpkirtr_c.specs.contracts.loose.Loose as loose
 use Rattle.rpkirtr_c.specs.contracts.cache.CacheHandle as handle
 use Rattle.rpkirtr_c.specs.contracts.cache.CacheHandle.of.{ended, clauses}

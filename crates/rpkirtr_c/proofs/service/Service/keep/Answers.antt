@@ -1,5 +1,4 @@
-use Rattle.std.proofs.Common.{◌≡◌, ℕ, ◌≤◌, ◌^◌, sym, subst, arith}
-use Rattle.rtr_ends.specs.CacheState.{CacheState}
+use Rattle.std.proofs.Common.{sym, subst, arith}
 use Rattle.rpkirtr_c.specs.Answers.{number}
 use Rattle.rpkirtr_c.specs.Caches.{Opens}
 use Rattle.rpkirtr_c.specs.declared.status.Status.TheVariants.{Done, OutOfRange}

@@ -1,9 +1,8 @@
-use Rattle.std.proofs.Common.{◌≡◌, sym, subst, refl, [], arith}
+use Rattle.std.proofs.Common.{subst, refl, [], arith}
 use Rattle.rtr_ends.specs.CacheState.{ShowsCache, without_conns}
 use Rattle.rtr_ends.specs.Timing.{Intervals, IsTiming}
 use Rattle.vrps.specs.Instance.{Instance}
 use Rattle.vrps.specs.Steps.{HoldsSteps}
-use Rattle.rpkirtr_c.specs.Caches.{intervals_in, number_at}
 use Rattle.rpkirtr_c.proofs.service.Service.new.Goals as goal
 
 pub returns-clause-ok : goal.returns-clause-ok
