@@ -161,6 +161,18 @@ typedef struct rpkirtr_cache { void *opaque_; } rpkirtr_cache;
 /* Tells what a status means in English. Any number may be asked for. OK */
 rpkirtr_status rpkirtr_strerror(rpkirtr_status status, rpkirtr_text *text);
 
+/* Tells the name of the state of a route: "not-found", "valid" or "invalid". Any number may be asked for. OK */
+rpkirtr_status rpkirtr_state_name(rpkirtr_state state, rpkirtr_text *text);
+
+/* Tells the name of the state of a link: "closed", "idle", "asked", "answering" or "ended". Any number may be asked for. OK */
+rpkirtr_status rpkirtr_link_name(uint8_t link, rpkirtr_text *text);
+
+/* Tells in English how a link ended, without the code of the Error Report. Any number may be asked for. OK */
+rpkirtr_status rpkirtr_end_name(uint8_t end, rpkirtr_text *text);
+
+/* Tells in English what is at fault in a payload, by the number of the fault. Any number may be asked for. OK */
+rpkirtr_status rpkirtr_fault_name(uint32_t fault, rpkirtr_text *text);
+
 /* Tells the version of the release: "1.0.0". OK */
 rpkirtr_status rpkirtr_version(rpkirtr_text *text);
 

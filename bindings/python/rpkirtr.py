@@ -108,6 +108,26 @@ def strerror(status: int) -> str:
     return _text("strerror", ctypes.c_int32(status))
 
 
+def state_name(state: int) -> str:
+    """The name of the state of a route."""
+    return _text("state_name", ctypes.c_int32(state))
+
+
+def link_name(state: int) -> str:
+    """The name of the state of a link."""
+    return _text("link_name", ctypes.c_uint8(state))
+
+
+def end_name(end: int) -> str:
+    """How a link ended, without the code of the Error Report."""
+    return _text("end_name", ctypes.c_uint8(end))
+
+
+def fault_name(number: int) -> str:
+    """What is at fault in a payload, by the number of the fault."""
+    return _text("fault_name", ctypes.c_uint32(number))
+
+
 class Error(Exception):
     """A status other than OK. `index` is that of the record that is none, if there is one, and `list_index` that of its list."""
 

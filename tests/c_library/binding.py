@@ -56,6 +56,10 @@ with rpkirtr.Router() as router:
     assert router.changes() == ([TEN, DB8], [])
 
 assert rpkirtr.version() == "1.0.0"
+assert [rpkirtr.state_name(it) for it in rpkirtr.State] == ["not-found", "valid", "invalid"]
+assert [rpkirtr.link_name(it) for it in rpkirtr.LinkState] == ["closed", "idle", "asked", "answering", "ended"]
+assert (rpkirtr.end_name(rpkirtr.End.EXPIRED), rpkirtr.end_name(9)) == ("the committed version expired", "no such end")
+assert (rpkirtr.fault_name(14), rpkirtr.fault_name(0)) == ("nextUpdate is not later than thisUpdate", "no such fault")
 with rpkirtr.Index([TEN], [], [DB8, TEN]) as index:
     assert len(index) == 2
 with rpkirtr.Index() as index:

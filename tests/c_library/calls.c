@@ -89,6 +89,66 @@ static void texts(void)
     EXPECT(rpkirtr_abi_version() == RPKIRTR_ABI_VERSION);
 }
 
+static void expect_text(rpkirtr_status status, const rpkirtr_text *text, const char *wanted, int line)
+{
+    size_t k;
+    expect(status == RPKIRTR_OK && strcmp(text->text, wanted) == 0, wanted, line);
+    for (k = strlen(wanted); k < sizeof text->text; k++)
+        expect(text->text[k] == 0, wanted, line);
+}
+#define NAMES(call, number, wanted) (memset(&text, 7, sizeof text), status = call(number, &text), expect_text(status, &text, wanted, __LINE__))
+
+static void names(void)
+{
+    static const char *const faults_of[] = {
+        "no such fault",
+        "an element is longer than what holds it",
+        "another element was expected",
+        "a length is indefinite, or not in its shortest form",
+        "the content of an element is not valid",
+        "bytes remain",
+        "a version is encoded, which may only be left out",
+        "the AS number is negative or greater than 4294967295",
+        "the address family is neither IPv4 nor IPv6, or it occurs twice",
+        "no address family, or a family without addresses",
+        "the prefix is longer than an address of its family",
+        "the maximum length is out of its range",
+        "the entries are not in strictly ascending order",
+        "the manifest number is negative, or longer than 20 octets",
+        "nextUpdate is not later than thisUpdate",
+        "the hash algorithm is not SHA-256",
+        "not a file name of a manifest",
+        "a hash is not 256 bits long",
+        "a file name occurs twice",
+        "more than 65536 entries or files",
+        "the maximum length equals the prefix length",
+        "no such fault",
+    };
+    rpkirtr_status status;
+    rpkirtr_text text;
+    uint32_t k;
+    NAMES(rpkirtr_state_name, RPKIRTR_NOT_FOUND, "not-found");
+    NAMES(rpkirtr_state_name, RPKIRTR_VALID, "valid");
+    NAMES(rpkirtr_state_name, RPKIRTR_INVALID, "invalid");
+    NAMES(rpkirtr_state_name, -1, "no such state");
+    NAMES(rpkirtr_link_name, RPKIRTR_CLOSED, "closed");
+    NAMES(rpkirtr_link_name, RPKIRTR_IDLE, "idle");
+    NAMES(rpkirtr_link_name, RPKIRTR_ASKED, "asked");
+    NAMES(rpkirtr_link_name, RPKIRTR_ANSWERING, "answering");
+    NAMES(rpkirtr_link_name, RPKIRTR_ENDED, "ended");
+    NAMES(rpkirtr_link_name, 5, "no such link");
+    NAMES(rpkirtr_end_name, 0, "no such end");
+    NAMES(rpkirtr_end_name, RPKIRTR_END_REPORTED, "the cache was sent an Error Report");
+    NAMES(rpkirtr_end_name, RPKIRTR_END_TOLD, "the cache sent an Error Report");
+    NAMES(rpkirtr_end_name, RPKIRTR_END_MALFORMED, "the cache sent a malformed Error Report");
+    NAMES(rpkirtr_end_name, RPKIRTR_END_MEMORY, "out of memory");
+    NAMES(rpkirtr_end_name, RPKIRTR_END_EXPIRED, "the committed version expired");
+    NAMES(rpkirtr_end_name, RPKIRTR_END_TOO_MANY, "the answer has more than 16777215 records");
+    NAMES(rpkirtr_end_name, 7, "no such end");
+    for (k = 0; k < sizeof faults_of / sizeof faults_of[0]; k++)
+        NAMES(rpkirtr_fault_name, k, faults_of[k]);
+}
+
 static void empty_handles(void)
 {
     rpkirtr_router h = RPKIRTR_EMPTY_INIT;
@@ -579,6 +639,7 @@ static void a_cache(void)
 int main(void)
 {
     texts();
+    names();
     empty_handles();
     a_router();
     an_index();

@@ -149,7 +149,13 @@ static void an_index_call(rpkirtr_index *h, rpkirtr_router *from)
     switch (below(8)) {
     case 5: judge(rpkirtr_index_new_of(h, lists, below(4), &m, &n), RPKIRTR_RANGE); break;
     case 6: judge(rpkirtr_router_index(from, h), RPKIRTR_NO_MEMORY); break;
-    case 7: judge(rpkirtr_strerror((rpkirtr_status)below(20) - 5, &text), RPKIRTR_OK); break;
+    case 7:
+        judge(rpkirtr_strerror((rpkirtr_status)below(20) - 5, &text), RPKIRTR_OK);
+        judge(rpkirtr_state_name((rpkirtr_state)below(9) - 3, &text), RPKIRTR_OK);
+        judge(rpkirtr_link_name((uint8_t)below(9), &text), RPKIRTR_OK);
+        judge(rpkirtr_end_name((uint8_t)below(9), &text), RPKIRTR_OK);
+        judge(rpkirtr_fault_name(below(25), &text), RPKIRTR_OK);
+        break;
     case 0: judge(rpkirtr_index_free(h), RPKIRTR_EMPTY); break;
     case 1: judge(rpkirtr_index_new(h, records, count, &n), RPKIRTR_RANGE); break;
     case 2: judge(rpkirtr_index_count(h, &n), RPKIRTR_EMPTY); break;

@@ -57,7 +57,9 @@ impl fmt::Display for Error {
             Error::TooMany => f.write_str("more than 16777215 different records"),
             Error::NotLinked => f.write_str("there is no connection, or it has ended"),
             Error::Busy => f.write_str("a query is outstanding"),
-            Error::BadPayload { number, offset } => write!(f, "the bytes are no payload: fault {number} at offset {offset}"),
+            Error::BadPayload { number, offset } => {
+                write!(f, "the bytes are no payload: {} (fault {number}) at offset {offset}", crate::fault_name(*number))
+            }
             Error::BadTiming(1) => f.write_str("an interval is out of its range"),
             Error::BadTiming(_) => f.write_str("the expire interval is not larger than both others"),
             Error::BadKeep => f.write_str("a cache keeps from 1 to 65536 versions"),

@@ -103,6 +103,10 @@ pub struct handle {
 
 extern "C" {
     pub fn rpkirtr_strerror(status: rpkirtr_status, text: *mut rpkirtr_text) -> rpkirtr_status;
+    pub fn rpkirtr_end_name(end: u8, text: *mut rpkirtr_text) -> rpkirtr_status;
+    pub fn rpkirtr_fault_name(fault: u32, text: *mut rpkirtr_text) -> rpkirtr_status;
+    pub fn rpkirtr_link_name(link: u8, text: *mut rpkirtr_text) -> rpkirtr_status;
+    pub fn rpkirtr_state_name(state: rpkirtr_state, text: *mut rpkirtr_text) -> rpkirtr_status;
     pub fn rpkirtr_version(text: *mut rpkirtr_text) -> rpkirtr_status;
 
     pub fn rpkirtr_router_new(h: *mut handle) -> rpkirtr_status;

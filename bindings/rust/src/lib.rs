@@ -31,5 +31,5 @@ pub use manifest::{ListedFile, Manifest};
 pub use roa::Roa;
 pub use router::{Changes, Committed, End, Link, Records, Router, Version};
 pub(crate) use texts::strerror;
-pub use texts::version;
+pub use texts::{fault_name, version};
 pub use values::{OriginState, Prefix, PrefixError, Route, Vrp};

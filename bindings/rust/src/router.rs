@@ -49,15 +49,42 @@ pub enum End {
     TooMany,
 }
 
+impl End {
+    fn number(&self) -> u8 {
+        match self {
+            End::Reported(_) => 1,
+            End::Told(_) => 2,
+            End::Malformed => 3,
+            End::OutOfMemory => 4,
+            End::Expired => 5,
+            End::TooMany => 6,
+        }
+    }
+}
+
 impl fmt::Display for End {
     fn fmt(&self, f: &mut fmt::Formatter<'_>) -> fmt::Result {
+        f.write_str(&crate::texts::end_name(self.number()))?;
         match self {
-            End::Reported(code) => write!(f, "an Error Report of code {code} was sent"),
-            End::Told(code) => write!(f, "an Error Report of code {code} was received"),
-            End::Malformed => f.write_str("a malformed Error Report was received"),
-            End::OutOfMemory => f.write_str("out of memory"),
-            End::Expired => f.write_str("the committed version expired"),
-            End::TooMany => f.write_str("an answer has more than 16777215 records"),
+            End::Reported(code) | End::Told(code) => write!(f, " of code {code}"),
+            _ => Ok(()),
+        }
+    }
+}
+
+impl fmt::Display for Link {
+    fn fmt(&self, f: &mut fmt::Formatter<'_>) -> fmt::Result {
+        let (number, end) = match self {
+            Link::Closed => (0, None),
+            Link::Idle => (1, None),
+            Link::Asked => (2, None),
+            Link::Answering => (3, None),
+            Link::Ended(end) => (4, Some(end)),
+        };
+        f.write_str(&crate::texts::link_name(number))?;
+        match end {
+            Some(end) => write!(f, ": {end}"),
+            None => Ok(()),
         }
     }
 }

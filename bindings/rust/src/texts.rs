@@ -19,3 +19,27 @@ pub(crate) fn strerror(status: ffi::rpkirtr_status) -> String {
     // SAFETY: as above.
     text_of(|text| unsafe { ffi::rpkirtr_strerror(status, text) })
 }
+
+/// The name of a state of a route, by its number.
+pub(crate) fn state_name(state: ffi::rpkirtr_state) -> String {
+    // SAFETY: as above.
+    text_of(|text| unsafe { ffi::rpkirtr_state_name(state, text) })
+}
+
+/// The name of the state of a link, by its number.
+pub(crate) fn link_name(link: u8) -> String {
+    // SAFETY: as above.
+    text_of(|text| unsafe { ffi::rpkirtr_link_name(link, text) })
+}
+
+/// How a link ended, by the number of the end.
+pub(crate) fn end_name(end: u8) -> String {
+    // SAFETY: as above.
+    text_of(|text| unsafe { ffi::rpkirtr_end_name(end, text) })
+}
+
+/// What is at fault in a payload, by the number of the fault: that of [`Error::BadPayload`](crate::Error::BadPayload).
+pub fn fault_name(fault: u32) -> String {
+    // SAFETY: as above.
+    text_of(|text| unsafe { ffi::rpkirtr_fault_name(fault, text) })
+}

@@ -127,11 +127,7 @@ pub enum OriginState {
 
 impl fmt::Display for OriginState {
     fn fmt(&self, f: &mut fmt::Formatter<'_>) -> fmt::Result {
-        f.write_str(match self {
-            OriginState::NotFound => "not-found",
-            OriginState::Valid => "valid",
-            OriginState::Invalid => "invalid",
-        })
+        f.write_str(&crate::texts::state_name(*self as i32))
     }
 }
 

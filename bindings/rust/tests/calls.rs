@@ -1,5 +1,5 @@
 //! A router that is told two records by a cache, and an index.
-use rpkirtr::{Cache, CacheSettings, Current, Error, Index, Link, Manifest, OriginState, Roa, Route, Router, Version, Vrp};
+use rpkirtr::{Cache, CacheSettings, Current, End, Error, Index, Link, Manifest, OriginState, Roa, Route, Router, Version, Vrp};
 
 const ANSWER: [u8; 84] = [
     1, 3, 1, 2, 0, 0, 0, 8, // Cache Response of session 258
@@ -147,6 +147,17 @@ fn the_settings_of_a_cache_are_judged() {
     assert_eq!(Cache::new(&CacheSettings { refresh: 0, ..SETTINGS }).unwrap_err(), Error::BadTiming(1));
     assert_eq!(Cache::new(&CacheSettings { expire: 3600, ..SETTINGS }).unwrap_err(), Error::BadTiming(2));
     assert_eq!(Cache::new(&CacheSettings { keep: 0, ..SETTINGS }).unwrap_err(), Error::BadKeep);
+}
+
+#[test]
+fn states_links_ends_and_faults_have_names() {
+    let states = [OriginState::NotFound, OriginState::Valid, OriginState::Invalid];
+    assert_eq!(states.map(|state| state.to_string()), ["not-found", "valid", "invalid"]);
+    assert_eq!(Link::Answering.to_string(), "answering");
+    assert_eq!(Link::Ended(End::Told(2)).to_string(), "ended: the cache sent an Error Report of code 2");
+    assert_eq!(End::Expired.to_string(), "the committed version expired");
+    assert_eq!(rpkirtr::fault_name(14), "nextUpdate is not later than thisUpdate");
+    assert_eq!(rpkirtr::fault_name(21), "no such fault");
 }
 
 #[test]

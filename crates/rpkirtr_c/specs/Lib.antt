@@ -6,6 +6,7 @@ pub mod Indexes
 pub mod Links
 pub mod Live
 pub mod Manifests
+pub mod Names
 pub mod Objects
 pub mod Octets
 pub mod Sessions

@@ -12,6 +12,7 @@ mod links;
 mod lists;
 mod loose;
 mod manifest;
+mod names;
 mod objects;
 mod octets;
 mod records;

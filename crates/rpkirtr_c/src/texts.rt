@@ -24,7 +24,7 @@ pub struct CText {
 }
 
 /// The text in its room.
-fn in_room(text: &[u8]) -> CText
+pub(crate) fn in_room(text: &[u8]) -> CText
     requires { length text.now < 64 }
     ensures { result ≡ in_room text.now }
 {
