@@ -60,6 +60,9 @@ try "calls.c under AddressSanitizer" "$out/calls_asan"
 try "random_calls.c" gcc "${strict[@]}" -std=c99 -g -O1 -fsanitize=address,undefined -o "$out/random_calls" "$top/tests/c_library/random_calls.c" "$out/lib/librpkirtr.a"
 try "1000000 random calls" "$out/random_calls" "${SEED:-1}" 1000000
 
+try "memory.c" gcc "${strict[@]}" -std=c99 -g -Wl,--wrap=malloc,--wrap=realloc -o "$out/memory" "$top/tests/c_library/memory.c" "$out/lib/librpkirtr.a"
+try "memory.c, with each request for memory refused in turn" "$out/memory"
+
 # The example fetches from a cache: the delivered one, if it is here.
 served=$top/dist/x86_64-linux/rpkirtr.gz
 if [ -f "$served" ]; then
@@ -86,6 +89,7 @@ else
 fi
 if command -v valgrind >/dev/null 2>&1; then
     try "calls.c under valgrind" valgrind -q --error-exitcode=9 --leak-check=full "$out/calls_gcc"
+    try "memory.c under valgrind" valgrind -q --error-exitcode=9 --leak-check=full "$out/memory"
 else
     echo "valgrind is not installed: it is left out"
 fi
