@@ -36,7 +36,12 @@ pub struct Current {
 }
 
 /// A cache: it answers the queries of its routers. The caller owns the sockets. A connection is a number, which it has until it is closed.
-/// A cache stays on the thread that made it.
+/// A cache stays on the thread that made it:
+///
+/// ```compile_fail
+/// fn send<T: Send>() {}
+/// send::<rpkirtr::Cache>();
+/// ```
 #[derive(Debug)]
 pub struct Cache {
     // (the pointer in it makes the type neither `Send` nor `Sync`, as a cache must be)
