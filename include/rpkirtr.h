@@ -42,6 +42,11 @@ typedef int32_t rpkirtr_status;
 #define RPKIRTR_NO_CONNECTION 12 /* no connection of the cache has this number */
 #define RPKIRTR_NO_DATA 13     /* nothing is published */
 #define RPKIRTR_BAD_KEEP 14    /* 0, or more than 65536, versions to be kept */
+#define RPKIRTR_BAD_STRUCTURE 15 /* a structure of another size, or with padding that is not zero */
+
+/* What is at fault in intervals (RFC 8210 section 6) */
+#define RPKIRTR_TIMING_RANGE 1  /* an interval is out of its range */
+#define RPKIRTR_TIMING_EXPIRE 2 /* the expire interval is not larger than both others */
 
 /* A text that ends with a zero byte. The rest of its room is zero. */
 typedef struct rpkirtr_text {
@@ -92,7 +97,24 @@ typedef struct rpkirtr_link {
 #define RPKIRTR_END_MALFORMED 3  /* a malformed Error Report was received */
 #define RPKIRTR_END_MEMORY 4     /* out of memory */
 #define RPKIRTR_END_EXPIRED 5    /* the committed version expired */
-#define RPKIRTR_END_TOO_MANY 6   /* an answer with more than 16777215 records */
+#define RPKIRTR_END_TOO_MANY 6   /* an answer with more records than the router may hold */
+
+/* What a caller configures of a router: intervals of its own, in seconds, whether it keeps each of them, and the most records that it may
+ * hold. An interval that is kept holds whatever the cache says. Any other holds if the cache says none: in version 0 of the protocol, and
+ * for retry before the first commit. `refresh` is from 1 to 86400, `retry` from 1 to 7200, `expire` from 600 to 172800 and larger than both
+ * others. A `most` above 16777215 counts as that. `size_` is the size of the structure, `zero_` is 0, and `keeps_` is 0 for no. */
+typedef struct rpkirtr_config {
+    uint32_t size_;
+    uint32_t refresh;
+    uint32_t retry;
+    uint32_t expire;
+    uint32_t most;
+    uint8_t keeps_refresh;
+    uint8_t keeps_retry;
+    uint8_t keeps_expire;
+    uint8_t zero_;
+} rpkirtr_config;
+#define RPKIRTR_CONFIG_INIT {24, 3600, 600, 7200, 16777215, 0, 0, 0, 0}
 
 /* The committed version, if `is_committed` is 1; all 0 if nothing is committed. */
 typedef struct rpkirtr_committed {
@@ -192,6 +214,13 @@ rpkirtr_status rpkirtr_router_free(rpkirtr_router *h);
 
 /* Sets the version of the protocol, 0 or 1, for the next connection and those after it. It is 1 at first. OK, EMPTY, BAD_VERSION */
 rpkirtr_status rpkirtr_router_speak(rpkirtr_router *h, uint8_t version);
+
+/* Configures the router, from now on: what is committed keeps its intervals. If the intervals are not valid, `fault` is RPKIRTR_TIMING_RANGE or
+ * RPKIRTR_TIMING_EXPIRE, and 0 else. OK, EMPTY, BAD_STRUCTURE, BAD_TIMING */
+rpkirtr_status rpkirtr_router_configure(rpkirtr_router *h, const rpkirtr_config *config, uint32_t *fault);
+
+/* Tells the configuration that was set last: that of RPKIRTR_CONFIG_INIT if none was set. OK, EMPTY */
+rpkirtr_status rpkirtr_router_config(rpkirtr_router *h, rpkirtr_config *config);
 
 /* A connection is made, and a query is ready to be pulled. An older connection is closed. OK, EMPTY */
 rpkirtr_status rpkirtr_router_connect(rpkirtr_router *h, uint64_t now);
@@ -336,8 +365,6 @@ rpkirtr_status rpkirtr_manifest_file(rpkirtr_manifest *h, size_t index, uint8_t 
  * later serials (RFC 8210 section 5.1). It sends these intervals, in seconds: `refresh` from 1 to 86400, `retry` from 1 to 7200, `expire`
  * from 600 to 172800 and larger than both others (section 6). If they are not valid, `fault` is RPKIRTR_TIMING_RANGE or
  * RPKIRTR_TIMING_EXPIRE, and 0 else. OK, LIVE, BAD_TIMING, BAD_KEEP, NO_MEMORY */
-#define RPKIRTR_TIMING_RANGE 1  /* an interval is out of its range */
-#define RPKIRTR_TIMING_EXPIRE 2 /* the expire interval is not larger than both others */
 rpkirtr_status rpkirtr_cache_new(rpkirtr_cache *h, uint16_t session, uint16_t session0, uint32_t start, uint32_t keep, uint32_t refresh,
                                  uint32_t retry, uint32_t expire, uint32_t *fault);
 

@@ -48,6 +48,7 @@ class Status(enum.IntEnum):
     NO_CONNECTION = 12
     NO_DATA = 13
     BAD_KEEP = 14
+    BAD_STRUCTURE = 15
 
 
 class LinkState(enum.IntEnum):
@@ -90,6 +91,20 @@ class Committed(NamedTuple):
     refresh: int
     retry: int
     expire: int
+
+
+class Config(NamedTuple):
+    """The configuration of a router: intervals of its own, in seconds, which of them it keeps, and the most records that it may hold. An interval
+    that is kept holds whatever the cache says. Any other holds if the cache says none: in version 0 of the protocol, and for retry before the
+    first commit."""
+
+    refresh: int = 3600
+    retry: int = 600
+    expire: int = 7200
+    keeps_refresh: bool = False
+    keeps_retry: bool = False
+    keeps_expire: bool = False
+    most: int = 16777215
 
 
 def _text(name: str, *arguments: object) -> str:
@@ -185,6 +200,12 @@ class _Committed(ctypes.Structure):
     _fields_ = [("moment", ctypes.c_uint64), ("serial", ctypes.c_uint32), ("refresh", ctypes.c_uint32), ("retry", ctypes.c_uint32),
                 ("expire", ctypes.c_uint32), ("zero_", ctypes.c_uint32), ("session", ctypes.c_uint16), ("version", ctypes.c_uint8),
                 ("is_committed", ctypes.c_uint8)]
+
+
+class _Config(ctypes.Structure):
+    _fields_ = [("size_", ctypes.c_uint32), ("refresh", ctypes.c_uint32), ("retry", ctypes.c_uint32), ("expire", ctypes.c_uint32),
+                ("most", ctypes.c_uint32), ("keeps_refresh", ctypes.c_uint8), ("keeps_retry", ctypes.c_uint8),
+                ("keeps_expire", ctypes.c_uint8), ("zero_", ctypes.c_uint8)]
 
 
 class _List(ctypes.Structure):
@@ -328,6 +349,22 @@ class Router(_Judge):
     def speak(self, version: int) -> None:
         """Sets the version of the protocol, 0 or 1, for the next connection and those after it."""
         _check(self._call("speak", ctypes.c_uint8(_within(8, version))))
+
+    def configure(self, config: Config) -> None:
+        """Configures the router, from now on: what is committed keeps its intervals."""
+        numbers = [_within(32, it) for it in (config.refresh, config.retry, config.expire, config.most)]
+        keeps = [int(bool(it)) for it in (config.keeps_refresh, config.keeps_retry, config.keeps_expire)]
+        told, fault = _Config(ctypes.sizeof(_Config), *numbers, *keeps, 0), ctypes.c_uint32()
+        status = self._call("configure", ctypes.byref(told), ctypes.byref(fault))
+        if status == Status.BAD_TIMING:
+            raise TimingError(fault.value)
+        _check(status)
+
+    def config(self) -> Config:
+        """The configuration that was set last, the default one if none was set."""
+        told = _Config()
+        _check(self._call("config", ctypes.byref(told)))
+        return Config(told.refresh, told.retry, told.expire, bool(told.keeps_refresh), bool(told.keeps_retry), bool(told.keeps_expire), told.most)
 
     def connect(self, now: int) -> None:
         """A connection is made, and a query is ready to be pulled."""

@@ -54,6 +54,21 @@ with rpkirtr.Router() as router:
     assert (router.link().state, router.wake_at()) == (rpkirtr.LinkState.CLOSED, 101 + 7200 + 1)
     router.tick(101 + 7201)
     assert router.changes() == ([TEN, DB8], [])
+with rpkirtr.Router() as router:
+    assert router.config() == rpkirtr.Config()
+    own = rpkirtr.Config(refresh=60, keeps_refresh=True, expire=601)
+    router.configure(own)
+    for wrong, number in (own._replace(refresh=0), 1), (own._replace(expire=600), 2):
+        try:
+            router.configure(wrong)
+            raise AssertionError(f"a router of {wrong}")
+        except rpkirtr.TimingError as error:
+            assert error.number == number
+    assert router.config() == own
+    router.connect(100)
+    router.pull()
+    router.receive(ANSWER, 101)
+    assert router.committed() == (1, 258, 7, 101, 60, 600, 7200)
 
 assert rpkirtr.version() == "1.0.0"
 assert [rpkirtr.state_name(it) for it in rpkirtr.State] == ["not-found", "valid", "invalid"]

@@ -74,6 +74,7 @@ static void texts(void)
         {RPKIRTR_NO_CONNECTION, "no connection has this number"},
         {RPKIRTR_NO_DATA, "nothing is published"},
         {RPKIRTR_BAD_KEEP, "no version to be kept, or too many"},
+        {RPKIRTR_BAD_STRUCTURE, "a structure of another size, or a malformed one"},
         {-1, "no such status"},
         {INT32_MAX, "no such status"},
     };
@@ -636,12 +637,82 @@ static void a_cache(void)
     EXPECT(rpkirtr_cache_free(&h) == RPKIRTR_OK && h.opaque_ == NULL);
 }
 
+/* Hands the whole answer to a router that has connected at 100. */
+static void answered(rpkirtr_router *h)
+{
+    uint8_t room[64];
+    size_t n;
+    EXPECT(rpkirtr_router_connect(h, 100) == RPKIRTR_OK);
+    EXPECT(rpkirtr_router_pull(h, room, sizeof room, &n) == RPKIRTR_OK && n == 8);
+    EXPECT(rpkirtr_router_receive(h, answer, sizeof answer, 101, &n) == RPKIRTR_OK);
+}
+
+/* A router with intervals of its own, which keeps refresh and expire. What is refused changes nothing. */
+static void a_configured_router(void)
+{
+    rpkirtr_router h = RPKIRTR_EMPTY_INIT;
+    rpkirtr_config config = RPKIRTR_CONFIG_INIT, told;
+    rpkirtr_committed committed;
+    uint64_t at;
+    uint32_t fault = 9;
+    EXPECT(rpkirtr_router_configure(&h, &config, &fault) == RPKIRTR_EMPTY && fault == 0);
+    EXPECT(rpkirtr_router_config(&h, &told) == RPKIRTR_EMPTY && memcmp(&told, &config, sizeof told) == 0);
+    EXPECT(rpkirtr_router_new(&h) == RPKIRTR_OK);
+    EXPECT(rpkirtr_router_config(&h, &told) == RPKIRTR_OK && memcmp(&told, &config, sizeof told) == 0);
+    config.keeps_refresh = config.keeps_expire = 1;
+    config.refresh = 60;
+    config.size_ = 20;
+    fault = 9;
+    EXPECT(rpkirtr_router_configure(&h, &config, &fault) == RPKIRTR_BAD_STRUCTURE && fault == 0);
+    config.size_ = sizeof config;
+    config.zero_ = 1;
+    EXPECT(rpkirtr_router_configure(&h, &config, &fault) == RPKIRTR_BAD_STRUCTURE && fault == 0);
+    config.zero_ = 0;
+    config.retry = 7201;
+    EXPECT(rpkirtr_router_configure(&h, &config, &fault) == RPKIRTR_BAD_TIMING && fault == RPKIRTR_TIMING_RANGE);
+    config.retry = 7200;
+    EXPECT(rpkirtr_router_configure(&h, &config, &fault) == RPKIRTR_BAD_TIMING && fault == RPKIRTR_TIMING_EXPIRE);
+    EXPECT(rpkirtr_router_config(&h, &told) == RPKIRTR_OK && told.refresh == 3600 && told.keeps_refresh == 0);
+    config.expire = 7201;
+    EXPECT(rpkirtr_router_configure(&h, &config, &fault) == RPKIRTR_OK && fault == 0);
+    EXPECT(rpkirtr_router_config(&h, &told) == RPKIRTR_OK && memcmp(&told, &config, sizeof told) == 0);
+    EXPECT(rpkirtr_router_connect(&h, 10) == RPKIRTR_OK && rpkirtr_router_connection_closed(&h, 20) == RPKIRTR_OK);
+    EXPECT(rpkirtr_router_next_query_at(&h, &at) == RPKIRTR_OK && at == 20 + 7200);
+    answered(&h);
+    EXPECT(rpkirtr_router_committed(&h, &committed) == RPKIRTR_OK && committed.is_committed == 1);
+    EXPECT(committed.refresh == 60 && committed.retry == 600 && committed.expire == 7201);
+    EXPECT(rpkirtr_router_wake_at(&h, &at) == RPKIRTR_OK && at == 101 + 60);
+    EXPECT(rpkirtr_router_free(&h) == RPKIRTR_OK);
+}
+
+/* An answer of two records ends the link of a router that may hold one. One that may hold two commits it. */
+static void a_router_of_one_record(void)
+{
+    uint32_t most;
+    for (most = 1; most <= 2; most++) {
+        rpkirtr_router h = RPKIRTR_EMPTY_INIT;
+        rpkirtr_config config = RPKIRTR_CONFIG_INIT;
+        rpkirtr_link link;
+        uint32_t fault;
+        size_t n = 9;
+        config.most = most;
+        EXPECT(rpkirtr_router_new(&h) == RPKIRTR_OK && rpkirtr_router_configure(&h, &config, &fault) == RPKIRTR_OK);
+        answered(&h);
+        EXPECT(rpkirtr_router_link(&h, &link) == RPKIRTR_OK);
+        EXPECT(most == 1 ? link.state == RPKIRTR_ENDED && link.end == RPKIRTR_END_TOO_MANY : link.state == RPKIRTR_IDLE);
+        EXPECT(rpkirtr_router_count(&h, &n) == RPKIRTR_OK && n == (most == 1 ? 0 : 2));
+        EXPECT(rpkirtr_router_free(&h) == RPKIRTR_OK);
+    }
+}
+
 int main(void)
 {
     texts();
     names();
     empty_handles();
     a_router();
+    a_configured_router();
+    a_router_of_one_record();
     an_index();
     an_index_of_lists();
     a_roa();

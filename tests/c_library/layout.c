@@ -36,6 +36,17 @@ AT(rpkirtr_committed, session, 28);
 AT(rpkirtr_committed, version, 30);
 AT(rpkirtr_committed, is_committed, 31);
 
+IS(config_size, sizeof(rpkirtr_config) == 24);
+AT(rpkirtr_config, size_, 0);
+AT(rpkirtr_config, refresh, 4);
+AT(rpkirtr_config, retry, 8);
+AT(rpkirtr_config, expire, 12);
+AT(rpkirtr_config, most, 16);
+AT(rpkirtr_config, keeps_refresh, 20);
+AT(rpkirtr_config, keeps_retry, 21);
+AT(rpkirtr_config, keeps_expire, 22);
+AT(rpkirtr_config, zero_, 23);
+
 IS(text_size, sizeof(rpkirtr_text) == 64);
 AT(rpkirtr_text, text, 0);
 

@@ -90,9 +90,11 @@ static void a_router_call(rpkirtr_router *h, uint64_t now)
     rpkirtr_state state;
     rpkirtr_link link;
     rpkirtr_committed committed;
+    rpkirtr_config config = RPKIRTR_CONFIG_INIT;
+    uint32_t fault;
     uint64_t at;
     size_t n = 99, m = 99, len;
-    switch (below(20)) {
+    switch (below(21)) {
     case 0:
         if (below(10) == 0)
             judge(rpkirtr_router_free(h), RPKIRTR_EMPTY);
@@ -123,6 +125,14 @@ static void a_router_call(rpkirtr_router *h, uint64_t now)
         break;
     case 17: judge(rpkirtr_router_record(h, below(6), room), RPKIRTR_RANGE); judge(rpkirtr_router_records(h, below(6), room, below(5), &n), RPKIRTR_EMPTY); break;
     case 18: judge(rpkirtr_router_covering(h, &route, room, below(5), &n), RPKIRTR_BAD_ROUTE); break;
+    case 19:
+        config.most = (uint32_t)below(4) + 1;
+        config.keeps_expire = (uint8_t)below(2);
+        config.expire = (uint32_t)below(8000);
+        config.zero_ = below(10) == 0;
+        judge(rpkirtr_router_configure(h, &config, &fault), RPKIRTR_BAD_STRUCTURE);
+        judge(rpkirtr_router_config(h, &config), RPKIRTR_EMPTY);
+        break;
     default:
         judge(rpkirtr_router_changes_begin(h, &n, &m), RPKIRTR_NO_MEMORY);
         judge(rpkirtr_router_withdrawn(h, below(3), room, below(5), &n), RPKIRTR_EMPTY);

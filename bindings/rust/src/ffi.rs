@@ -68,6 +68,20 @@ pub struct rpkirtr_committed {
 }
 
 #[repr(C)]
+#[derive(Clone, Copy, Debug, Default)]
+pub struct rpkirtr_config {
+    pub size_: u32,
+    pub refresh: u32,
+    pub retry: u32,
+    pub expire: u32,
+    pub most: u32,
+    pub keeps_refresh: u8,
+    pub keeps_retry: u8,
+    pub keeps_expire: u8,
+    pub zero_: u8,
+}
+
+#[repr(C)]
 #[derive(Clone, Copy, Debug)]
 pub struct rpkirtr_list {
     pub records: *const rpkirtr_record,
@@ -112,6 +126,8 @@ extern "C" {
     pub fn rpkirtr_router_new(h: *mut handle) -> rpkirtr_status;
     pub fn rpkirtr_router_free(h: *mut handle) -> rpkirtr_status;
     pub fn rpkirtr_router_speak(h: *mut handle, version: u8) -> rpkirtr_status;
+    pub fn rpkirtr_router_configure(h: *mut handle, config: *const rpkirtr_config, fault: *mut u32) -> rpkirtr_status;
+    pub fn rpkirtr_router_config(h: *mut handle, config: *mut rpkirtr_config) -> rpkirtr_status;
     pub fn rpkirtr_router_connect(h: *mut handle, now: u64) -> rpkirtr_status;
     pub fn rpkirtr_router_receive(h: *mut handle, bytes: *const u8, bytes_len: usize, now: u64, taken: *mut usize) -> rpkirtr_status;
     pub fn rpkirtr_router_pull(h: *mut handle, room: *mut u8, room_len: usize, pulled: *mut usize) -> rpkirtr_status;

@@ -29,7 +29,7 @@ pub use error::Error;
 pub use index::Index;
 pub use manifest::{ListedFile, Manifest};
 pub use roa::Roa;
-pub use router::{Changes, Committed, End, Link, Records, Router, Version};
+pub use router::{Changes, Committed, Config, End, Link, Records, Router, Version};
 pub(crate) use texts::strerror;
 pub use texts::{fault_name, version};
 pub use values::{OriginState, Prefix, PrefixError, Route, Vrp};

@@ -1,6 +1,6 @@
 //! A router: what it has committed, and at most one connection to a cache.
 use crate::error::{check, done};
-use crate::ffi::{self, handle};
+use crate::ffi::{self, handle, rpkirtr_config};
 use crate::index::{covering, Index};
 use crate::values::{OriginState, Route, Vrp};
 use crate::Error;
@@ -117,6 +117,61 @@ pub struct Router {
 // SAFETY: a router may be used by one thread after another. It is not `Sync`, as each call takes the handle for itself.
 unsafe impl Send for Router {}
 
+/// The configuration of a router: intervals of its own, in seconds, which of them it keeps, and the most records that it may hold. An interval
+/// that is kept holds whatever the cache says. Any other holds if the cache says none: in version 0 of the protocol, and for retry before the
+/// first commit.
+#[derive(Clone, Copy, Debug, PartialEq, Eq)]
+pub struct Config {
+    /// From 1 to 86,400.
+    pub refresh: u32,
+    /// From 1 to 7,200.
+    pub retry: u32,
+    /// From 600 to 172,800, and larger than both others.
+    pub expire: u32,
+    /// Whether refresh is kept.
+    pub keeps_refresh: bool,
+    /// Whether retry is kept.
+    pub keeps_retry: bool,
+    /// Whether expire is kept.
+    pub keeps_expire: bool,
+    /// The most records. More than 16,777,215 counts as that.
+    pub most: u32,
+}
+
+impl Default for Config {
+    fn default() -> Config {
+        Config { refresh: 3600, retry: 600, expire: 7200, keeps_refresh: false, keeps_retry: false, keeps_expire: false, most: 16_777_215 }
+    }
+}
+
+impl Config {
+    fn to_c(self) -> rpkirtr_config {
+        rpkirtr_config {
+            size_: std::mem::size_of::<rpkirtr_config>() as u32,
+            refresh: self.refresh,
+            retry: self.retry,
+            expire: self.expire,
+            most: self.most,
+            keeps_refresh: u8::from(self.keeps_refresh),
+            keeps_retry: u8::from(self.keeps_retry),
+            keeps_expire: u8::from(self.keeps_expire),
+            zero_: 0,
+        }
+    }
+
+    fn of_c(config: &rpkirtr_config) -> Config {
+        Config {
+            refresh: config.refresh,
+            retry: config.retry,
+            expire: config.expire,
+            keeps_refresh: config.keeps_refresh != 0,
+            keeps_retry: config.keeps_retry != 0,
+            keeps_expire: config.keeps_expire != 0,
+            most: config.most,
+        }
+    }
+}
+
 impl Router {
     /// Nothing is committed, and there is no connection.
     pub fn new() -> Result<Router, Error> {
@@ -134,6 +189,22 @@ impl Router {
     /// Sets the version of the protocol for the next connection and those after it. It is version 1 at first.
     pub fn speak(&mut self, version: Version) {
         done(unsafe { ffi::rpkirtr_router_speak(self.at(), version as u8) });
+    }
+
+    /// Configures the router, from now on: what is committed keeps its intervals.
+    pub fn configure(&mut self, config: &Config) -> Result<(), Error> {
+        let mut fault = 0;
+        match unsafe { ffi::rpkirtr_router_configure(self.at(), &config.to_c(), &mut fault) } {
+            ffi::BAD_TIMING => Err(Error::BadTiming(fault)),
+            status => check(status),
+        }
+    }
+
+    /// The configuration that was set last, the default one if none was set.
+    pub fn config(&self) -> Config {
+        let mut config = rpkirtr_config::default();
+        done(unsafe { ffi::rpkirtr_router_config(self.at(), &mut config) });
+        Config::of_c(&config)
     }
 
     /// A connection is made, and a query is ready to be pulled. An older connection is closed.

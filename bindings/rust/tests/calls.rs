@@ -1,5 +1,5 @@
 //! A router that is told two records by a cache, and an index.
-use rpkirtr::{Cache, CacheSettings, Current, End, Error, Index, Link, Manifest, OriginState, Roa, Route, Router, Version, Vrp};
+use rpkirtr::{Cache, CacheSettings, Config, Current, End, Error, Index, Link, Manifest, OriginState, Roa, Route, Router, Version, Vrp};
 
 const ANSWER: [u8; 84] = [
     1, 3, 1, 2, 0, 0, 0, 8, // Cache Response of session 258
@@ -50,6 +50,35 @@ fn a_router_commits_an_answer() {
     assert_eq!(router.state(&route("192.0.2.0/24", None)), Ok(OriginState::NotFound));
     assert_eq!(router.state(&route("10.0.0.1/8", None)), Err(Error::BadRoute));
     assert_eq!(router.covering(&route("2001:db8:1::/48", None)).unwrap(), [db8]);
+}
+
+#[test]
+fn a_router_keeps_its_own_intervals() {
+    let mut router = Router::new().unwrap();
+    assert_eq!(router.config(), Config::default());
+    let own = Config { refresh: 60, keeps_refresh: true, expire: 601, ..Config::default() };
+    router.configure(&own).unwrap();
+    assert_eq!(router.configure(&Config { refresh: 0, ..own }), Err(Error::BadTiming(1)));
+    assert_eq!(router.configure(&Config { expire: 600, ..own }), Err(Error::BadTiming(2)));
+    assert_eq!(router.config(), own);
+    router.connect(100);
+    router.pull(&mut [0; 16]);
+    router.receive(&ANSWER, 101);
+    let committed = router.committed().unwrap();
+    assert_eq!((committed.refresh, committed.retry, committed.expire), (60, 600, 7200));
+}
+
+#[test]
+fn a_router_holds_the_most_records_of_its_configuration() {
+    for (most, count) in [(1, 0), (2, 2)] {
+        let mut router = Router::new().unwrap();
+        router.configure(&Config { most, ..Config::default() }).unwrap();
+        router.connect(100);
+        router.pull(&mut [0; 16]);
+        router.receive(&ANSWER, 101);
+        assert_eq!(router.len(), count);
+        assert_eq!(router.link(), if most == 1 { Link::Ended(End::TooMany) } else { Link::Idle });
+    }
 }
 
 #[test]

@@ -1,7 +1,7 @@
 -- The numbers of a call's answers, as the header has them.
 use Rattle.std.specs.Prelude.{ℤ, pos}
 use Rattle.rpkirtr_c.specs.declared.status.Status.{Status}
-use Rattle.rpkirtr_c.specs.declared.status.Status.TheVariants.{Done, Empty, Live, NoMemory, BadRecord, BadRoute, BadVersion, OutOfRange, NotLinked, Busy, BadPayload, BadTiming, NoConnection, NoData, BadKeep}
+use Rattle.rpkirtr_c.specs.declared.status.Status.TheVariants.{Done, Empty, Live, NoMemory, BadRecord, BadRoute, BadVersion, OutOfRange, NotLinked, Busy, BadPayload, BadTiming, NoConnection, NoData, BadKeep, BadStructure}
 
 -- the number of an answer
 abbrev pub number : Status → ℤ
@@ -20,3 +20,4 @@ number BadTiming = pos 11
 number NoConnection = pos 12
 number NoData = pos 13
 number BadKeep = pos 14
+number BadStructure = pos 15

@@ -1,6 +1,7 @@
 pub mod Answers
 pub mod Caches
 pub mod Changes
+pub mod Configurations
 pub mod Held
 pub mod Indexes
 pub mod Links

@@ -2,7 +2,7 @@
 use Rattle.std.specs.Prelude.{◌≡◌, ◌⊎◌, ℕ, ◌-◌, ℤ, List, ◌++◌, length, replicate, codes}
 use Rattle.rpkirtr_c.specs.Answers.{number}
 use Rattle.rpkirtr_c.specs.declared.status.Status.{Status}
-use Rattle.rpkirtr_c.specs.declared.status.Status.TheVariants.{Done, Empty, Live, NoMemory, BadRecord, BadRoute, BadVersion, OutOfRange, NotLinked, Busy, BadPayload, BadTiming, NoConnection, NoData, BadKeep}
+use Rattle.rpkirtr_c.specs.declared.status.Status.TheVariants.{Done, Empty, Live, NoMemory, BadRecord, BadRoute, BadVersion, OutOfRange, NotLinked, Busy, BadPayload, BadTiming, NoConnection, NoData, BadKeep, BadStructure}
 use Rattle.rpkirtr_c.specs.declared.texts.CText.{CText}
 
 -- A text in its room, which ends in zeros
@@ -25,6 +25,7 @@ meaning BadTiming = codes "intervals that are not valid"
 meaning NoConnection = codes "no connection has this number"
 meaning NoData = codes "nothing is published"
 meaning BadKeep = codes "no version to be kept, or too many"
+meaning BadStructure = codes "a structure of another size, or a malformed one"
 
 -- The text is the meaning of the status of this number, if there is one.
 abbrev pub Means : ℤ → CText → Type 0

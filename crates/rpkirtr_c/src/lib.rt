@@ -4,6 +4,7 @@
 mod authorization;
 mod cache;
 mod changes;
+mod configuration;
 mod conns;
 mod contents;
 mod index;
@@ -25,6 +26,7 @@ mod texts;
 mod values;
 
 pub use crate::cache::CacheHandle;
+pub use crate::configuration::CConfig;
 pub use crate::index::IndexHandle;
 pub use crate::links::{CCommitted, CLink};
 pub use crate::lists::CList;

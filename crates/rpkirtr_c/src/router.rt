@@ -6,6 +6,8 @@ ghost use Rattle.rpkirtr_c.specs.contracts.session.Session as session;
 ghost use Rattle.rpkirtr_c.specs.Answers.{number};
 ghost use Rattle.rpkirtr_c.specs.Live.{Freed, New, On};
 ghost use Rattle.rpkirtr_c.specs.Sessions.{IsPulled, IsSpoken, Makes, Receives, Shows, Wakes, ask_answer};
+ghost use Rattle.rpkirtr_c.specs.Configurations.{IsConfigured, told_config};
+ghost use Rattle.rtr_ends.specs.Configuration.{default_config};
 ghost use Rattle.rpkirtr_c.specs.Links.{committed_of, link_of, moment_of, never};
 ghost use Rattle.rtr_ends.specs.RouterLink.{asked_on, told_link};
 ghost use Rattle.rtr_ends.specs.declared.link.Link.TheVariants as links;
@@ -15,11 +17,12 @@ ghost use Rattle.rtr_ends.specs.Router as model;
 ghost use Rattle.rtr_ends.specs.RouterShown.{IsShown};
 ghost use Rattle.vrps.specs.VrpSet.{empty};
 
+use crate::configuration::{CConfig, config_of, told_config};
 use crate::links::{CCommitted, CLink, NEVER, committed_of, link_of, version_of};
 use crate::loose::Loose;
 use crate::session::Session;
 use crate::status::Status;
-use rtr_ends::{AskFault, Link, Router};
+use rtr_ends::{AskFault, Link, Router, RouterConfig};
 use std::alloc::Global;
 use std::fmt::{self, Debug};
 use std::marker::Model;
@@ -165,6 +168,55 @@ pub extern "C" fn rpkirtr_router_speak(alloc: Global, h: &mut RouterHandle, vers
     };
     *h = shut(session);
     answer.number()
+}
+
+/// Configures the router, from now on: what is committed stays. If the structure or the intervals are not valid, nothing changes, and what is
+/// at fault in the intervals is written.
+#[unsafe(no_mangle)]
+pub extern "C" fn rpkirtr_router_configure(
+    alloc: Global,
+    h: &mut RouterHandle,
+    config: &CConfig,
+    fault: &mut u32,
+) -> i32
+    ensures call { On h.old.value h.new.value result (λ s t. IsConfigured config.now result fault.new s t) }
+    ensures empty { h.old.value ≡ None → fault.new ≡ 0 }
+{
+    *fault = 0;
+    let Some(mut session) = h.take(alloc) else {
+        return Status::Empty.number();
+    };
+    let answer = match config_of(config) {
+        Err(found) => {
+            *fault = found.number();
+            found.status()
+        }
+        Ok(config) => {
+            session.router.configure(config);
+            Status::Done
+        }
+    };
+    *h = shut(session);
+    answer.number()
+}
+
+/// Writes the configuration that was set last, or the default one.
+#[unsafe(no_mangle)]
+pub extern "C" fn rpkirtr_router_config(
+    alloc: Global,
+    h: &mut RouterHandle,
+    config: &mut CConfig,
+) -> i32
+    ensures call { On h.old.value h.new.value result (λ s t. (result ≡ number Done) × (t ≡ s) × Shows s (λ r. config.new ≡ told_config r.config)) }
+    ensures empty { h.old.value ≡ None → config.new ≡ told_config default_config }
+{
+    *config = told_config(&RouterConfig::default());
+    let Some(session) = h.take(alloc) else {
+        return Status::Empty.number();
+    };
+    *config = told_config(session.router.config());
+    *h = shut(session);
+    Status::Done.number()
 }
 
 /// A connection is made at the moment `now`, and a query is ready to be pulled.

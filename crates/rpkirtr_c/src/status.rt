@@ -35,6 +35,8 @@ pub enum Status {
     NoData,
     /// The number of versions to keep is 0, or above 65,536.
     BadKeep,
+    /// A structure of another size than this header has it, or with padding that is not zero.
+    BadStructure,
 }
 
 impl Status {
@@ -58,6 +60,7 @@ impl Status {
             Status::NoConnection => 12,
             Status::NoData => 13,
             Status::BadKeep => 14,
+            Status::BadStructure => 15,
         }
     }
 }

@@ -55,6 +55,7 @@ impl Status {
             12 => Some(Status::NoConnection),
             13 => Some(Status::NoData),
             14 => Some(Status::BadKeep),
+            15 => Some(Status::BadStructure),
             _ => None,
         }
     }
@@ -80,6 +81,7 @@ impl Status {
             Status::NoConnection => b"no connection has this number",
             Status::NoData => b"nothing is published",
             Status::BadKeep => b"no version to be kept, or too many",
+            Status::BadStructure => b"a structure of another size, or a malformed one",
         }
     }
 }
