@@ -15,11 +15,11 @@ use Rattle.rtr_ends.specs.Configuration.{chosen, default_config, limit_of}
 use Rattle.rtr_ends.specs.declared.configuration.RouterConfig.{RouterConfig}
 use Rattle.rtr_ends.specs.RouterLink.{Link, Closed, Idle, Asked, Answering, Ended}
 
--- What a router holds. The configuration in force. Of what it committed: the table and the version, the table before the latest commit, and the mark that the next
--- query must be a Reset Query. Of time: when an idle link asks, and the greatest moment so far. `no_data`: whether code 2, No Data
--- Available, and no commit brought a link to idle last. The version of its next connection, and that of its connection, or of the latest
--- one. Of its connection: the link, whether a version is agreed on, and the session of the latest Cache Response. And what has arrived of a
--- PDU, and the pending bytes.
+-- What a router holds. The configuration in force. Of what it committed: the table and the version, the table before the latest commit, and
+-- the mark that the next query must be a Reset Query. Of time: when an idle link asks, and the greatest moment so far. `no_data`: whether
+-- code 2, No Data Available, and no commit brought a link to idle last. The version of its next connection, and that of its connection, or of
+-- the latest one. Of its connection: the link, whether a version is agreed on, and the session of the latest Cache Response. And what has
+-- arrived of a PDU, and the pending bytes.
 pub record Router : Type 0 where
   pub config : RouterConfig
   pub table : VrpSet
