@@ -64,9 +64,9 @@ pub fn router_splits()
     ensures { RouterSplits }
 {}
 
-/// After any calls a router holds what its transcript keeps, asks again when the transcript says, and knows the greatest moment that it was
-/// given and the configuration that was set last. Its link is as the transcript says; of a link that has ended it says only that there is a
-/// connection.
+/// After any calls a router holds what its transcript keeps, and asks again when the transcript says. It knows the greatest moment that it
+/// was given and the configuration that was set last. Its link is as the transcript says; of a link that has ended it says only that there
+/// is a connection.
 pub fn router_keeps()
     ensures { RouterKeeps }
 {}
