@@ -231,6 +231,27 @@ def exceptions_put_back(given):
 
 
 @part
+def exceptions_back_beside_refused_ones(given):
+    """A SLURM file that was missing is no longer shown as refused once it is back, though another one stays refused."""
+    os.mkdir("m")
+    put("list.json", text_of(FIRST))
+    put("m/one.json", exceptions())
+    put("two.json", exceptions())
+    refused = 'rpkirtrd_file_refused{file="m/one.json"}'
+    with running(given.program, "--vrps", "list.json", "--slurm", "m/one.json", "--slurm", "two.json", "--listen", "127.0.0.1:0", "--check", "1", "--status", "127.0.0.1:0") as daemon:
+        _port, status = daemon.serves()
+        put("two.json", "[")
+        daemon.wait("refused", file="two.json")
+        os.rename("m", "away")
+        daemon.wait("refused", file="m/one.json")
+        expect("the metric while it is missing", metrics_of(status).get(refused), 1)
+        os.rename("away", "m")
+        daemon.wait("taken", file="m/one.json")
+        expect("the metric once it is back", metrics_of(status).get(refused), 0)
+        expect("the metric of the other", metrics_of(status).get('rpkirtrd_file_refused{file="two.json"}'), 1)
+
+
+@part
 def pipe_for_a_file(given):
     """A pipe in the place of a file is refused. The daemon does not block on it."""
     put("list.json", text_of(FIRST))

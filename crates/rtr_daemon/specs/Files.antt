@@ -24,12 +24,12 @@ use Rattle.rtr_daemon.specs.declared.watched_file.WatchedFile.{WatchedFile}
 abbrev pub path_of : WatchedFile → List ℕ
 path_of file = string_bytes file.path
 
--- An export is refused for its own bytes: they give none, and memory did not run out.
+-- An export is refused for its own bytes, at each second: memory did not run out, and the records that count now are not too many.
 abbrev pub IsOfExport : TakeFault → Type 0
-IsOfExport (untaken.Export fault) = ¬ (fault ≡ unread.Memory)
+IsOfExport (untaken.Export fault) = (¬ (fault ≡ unread.Memory)) × (¬ (fault ≡ unread.TooMany))
 IsOfExport untaken.NoSuchFile = ⊥
 
--- A refusal of the file's own bytes: it depends neither on other files nor on memory, so the same bytes are refused again.
+-- A refusal of the file's own bytes: it depends neither on other files nor on memory, nor on expiry, so the same bytes are refused again.
 abbrev pub IsOfBytes : Refusal → Type 0
 IsOfBytes (reason.Export file) = IsOfExport file.fault
 IsOfBytes (reason.Slurm file) = ¬ (file.fault ≡ unapplied.Memory)

@@ -125,7 +125,7 @@ impl Refusal {
         Refusal::Set(SetFault::Memory)
     }
 
-    /// Whether it is of the file's own bytes: it depends neither on other files nor on memory.
+    /// Whether it is of the file's own bytes: it depends neither on other files nor on memory, nor on how many records have expired.
     pub(crate) fn is_of_bytes(&self) -> bool
         ensures { result ≡ true ↔ IsOfBytes self.now }
     {
@@ -171,7 +171,7 @@ fn is_of_export(fault: &TakeFault) -> bool
     ensures { result ≡ true ↔ IsOfExport fault.now }
 {
     match fault {
-        TakeFault::Export(fault) => !matches!(fault, ExportFault::Memory),
+        TakeFault::Export(fault) => { !matches!(fault, ExportFault::Memory | ExportFault::TooMany) }
         TakeFault::NoSuchFile => false,
     }
 }

@@ -339,11 +339,7 @@ fn report_if_known<W: Disk + EventLog>(
                 log_refused_file(alloc, file, now, env);
             }
         }
-        FileState::Unchanged => {
-            if file.refusals.clear() {
-                log_taken(file, now, env);
-            }
-        }
+        FileState::Unchanged => end_refusal(file, now, env),
         FileState::New => {}
     }
 }
@@ -424,14 +420,28 @@ fn report_one_refused<W: Disk + EventLog>(
     }
 }
 
-/// Notes that a file is not loaded because of another one, if it has changed. It answers whether that is reported now.
-fn is_due_for_other<W: Disk>(file: &mut WatchedFile, now: u64, env: &mut W) -> bool
+/// Notes that a file is not loaded because of another one, if it has changed. If it is again as it was loaded, its refusal ends. It answers
+/// whether a refusal is reported now.
+fn is_due_for_other<W: Disk + EventLog>(file: &mut WatchedFile, now: u64, env: &mut W) -> bool
     ensures { file.new.path ≡ file.old.path }
 {
     match env.stamp(file.path.as_str()) {
+        Err(_) => false,
         Ok(stamp) if !file.was_loaded(stamp) => {
             file.refusals.add(Some(stamp), Refusal::OtherSlurm, now)
         }
-        _ => false,
+        Ok(_) => {
+            end_refusal(file, now, env);
+            false
+        }
+    }
+}
+
+/// A file is again as it was loaded: its refusal ends, and that is reported if the refusal was.
+fn end_refusal<W: EventLog>(file: &mut WatchedFile, now: u64, env: &mut W)
+    ensures { file.new.path ≡ file.old.path }
+{
+    if file.refusals.clear() {
+        log_taken(file, now, env);
     }
 }
