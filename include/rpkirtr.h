@@ -13,7 +13,7 @@
  * - malloc, realloc and free are of one allocator, and align as C wants.
  *
  * Each call but rpkirtr_abi_version answers a status, and writes each number or structure that it tells, whatever it answers. A room keeps
- * what is not copied into it.
+ * what is not copied into it. A structure with a wrong `size_` is not written.
  */
 #ifndef RPKIRTR_H
 #define RPKIRTR_H
@@ -115,6 +115,29 @@ typedef struct rpkirtr_config {
     uint8_t zero_;
 } rpkirtr_config;
 #define RPKIRTR_CONFIG_INIT {24, 3600, 600, 7200, 16777215, 0, 0, 0, 0}
+
+/* What one direction of a connection carried: its bytes, and its whole PDUs by the number of their type (RFC 8210 section 5). Five is no
+ * type, and its count is 0. `has_report` is 1 if an Error Report was among them. The last one has this code (section 12) and this text. The
+ * text ends before its first octet below 32, and after 63 octets at the latest: its last character may be cut off. Without a report the code
+ * is 0 and the text is empty. A count stops at UINT64_MAX. */
+typedef struct rpkirtr_carried {
+    uint64_t bytes;
+    uint64_t pdus[11];
+    rpkirtr_text text;
+    uint16_t code;
+    uint8_t has_report;
+    uint8_t zero_[5];
+} rpkirtr_carried;
+
+/* What the latest connection of a router carried: the bytes that were received and taken, and those that were pulled. `size_` is the size of
+ * the structure: the caller sets it before the call. */
+typedef struct rpkirtr_traffic {
+    uint32_t size_;
+    uint32_t zero_;
+    rpkirtr_carried received;
+    rpkirtr_carried sent;
+} rpkirtr_traffic;
+#define RPKIRTR_TRAFFIC_INIT {344, 0, {0, {0}, {{0}}, 0, 0, {0}}, {0, {0}, {{0}}, 0, 0, {0}}}
 
 /* The committed version, if `is_committed` is 1; all 0 if nothing is committed. */
 typedef struct rpkirtr_committed {
@@ -257,6 +280,10 @@ rpkirtr_status rpkirtr_router_link(rpkirtr_router *h, rpkirtr_link *link);
 
 /* Tells the committed version. OK, EMPTY */
 rpkirtr_status rpkirtr_router_committed(rpkirtr_router *h, rpkirtr_committed *committed);
+
+/* Tells what the latest connection carried: all is 0 before the first one. A new connection begins at 0, and nothing changes when it is closed.
+ * If `size_` is not the size of the structure, nothing is written. OK, EMPTY, BAD_STRUCTURE */
+rpkirtr_status rpkirtr_router_traffic(rpkirtr_router *h, rpkirtr_traffic *traffic);
 
 /* Tells how many records are committed. OK, EMPTY */
 rpkirtr_status rpkirtr_router_count(rpkirtr_router *h, size_t *count);

@@ -15,7 +15,8 @@ C_TYPES = {
     '&[CRecord]': ['const rpkirtr_record *', 'size_t'], '&mut [CRecord]': ['rpkirtr_record *', 'size_t'],
     '&mut CRecord': ['rpkirtr_record *'], '&CRoute': ['const rpkirtr_route *'],
     '&[CList]': ['const rpkirtr_list *', 'size_t'], '&mut CText': ['rpkirtr_text *'],
-    '&mut CLink': ['rpkirtr_link *'], '&mut CCommitted': ['rpkirtr_committed *'],
+    '&mut CLink': ['rpkirtr_link *'], '&mut CTraffic': ['rpkirtr_traffic *'],
+    '&CConfig': ['const rpkirtr_config *'], '&mut CConfig': ['rpkirtr_config *'], '&mut CCommitted': ['rpkirtr_committed *'],
     '&mut CFault': ['rpkirtr_fault *'], '&mut usize': ['size_t *'], '&mut u32': ['uint32_t *'], '&mut u64': ['uint64_t *'], '&mut i32': ['int32_t *'],
     'u8': ['uint8_t'], 'u32': ['uint32_t'], 'u64': ['uint64_t'], 'usize': ['size_t'], 'i32': ['int32_t'], 'Global': [],
 }

@@ -107,6 +107,29 @@ class Config(NamedTuple):
     most: int = 16777215
 
 
+class Report(NamedTuple):
+    """What an Error Report says (RFC 8210 section 5.11): its code, and its text up to the first control character, at most 63 octets."""
+
+    code: int
+    text: str
+
+
+class Carried(NamedTuple):
+    """What one direction of a connection carried: how many bytes, how many whole PDUs by the number of their type (RFC 8210 section 5; five is
+    none), and the last Error Report, if there was one."""
+
+    bytes: int
+    pdus: Tuple[int, ...]
+    report: Optional[Report]
+
+
+class Traffic(NamedTuple):
+    """What a connection of a router carried: what was received and taken, and what was pulled."""
+
+    received: Carried
+    sent: Carried
+
+
 def _text(name: str, *arguments: object) -> str:
     text = ctypes.create_string_buffer(64)
     getattr(_library, f"rpkirtr_{name}")(*arguments, text)
@@ -208,6 +231,15 @@ class _Config(ctypes.Structure):
                 ("keeps_expire", ctypes.c_uint8), ("zero_", ctypes.c_uint8)]
 
 
+class _Carried(ctypes.Structure):
+    _fields_ = [("bytes", ctypes.c_uint64), ("pdus", ctypes.c_uint64 * 11), ("text", ctypes.c_char * 64), ("code", ctypes.c_uint16),
+                ("has_report", ctypes.c_uint8), ("zero_", ctypes.c_uint8 * 5)]
+
+
+class _Traffic(ctypes.Structure):
+    _fields_ = [("size_", ctypes.c_uint32), ("zero_", ctypes.c_uint32), ("received", _Carried), ("sent", _Carried)]
+
+
 class _List(ctypes.Structure):
     _fields_ = [("records", ctypes.POINTER(_Record)), ("records_len", ctypes.c_size_t)]
 
@@ -249,6 +281,10 @@ def _route(prefix: Union[str, Network], origin: Optional[int]) -> _Route:
 def _told(record: _Record) -> Record:
     addr = bytes(record.addr)[: 4 if record.family == 4 else 16]
     return Record(ipaddress.ip_network((addr, record.len)), record.max_len, record.asn)
+
+
+def _carried(it: _Carried) -> Carried:
+    return Carried(it.bytes, tuple(it.pdus), Report(it.code, it.text.decode(errors="replace")) if it.has_report else None)
 
 
 def _check(status: int) -> None:
@@ -416,6 +452,12 @@ class Router(_Judge):
         at = ctypes.c_uint64()
         _check(self._call("wake_at", ctypes.byref(at)))
         return at.value
+
+    def traffic(self) -> Traffic:
+        """What the latest connection carried. What is told stays once it is closed."""
+        it = _Traffic(ctypes.sizeof(_Traffic))
+        _check(self._call("traffic", ctypes.byref(it)))
+        return Traffic(_carried(it.received), _carried(it.sent))
 
     def index(self) -> Index:
         """An index over the committed records. It stays as it is if the router changes."""

@@ -50,10 +50,19 @@ with rpkirtr.Router() as router:
     assert router.link() == (rpkirtr.LinkState.IDLE, rpkirtr.End.NONE, 0)
     assert router.committed() == (1, 258, 7, 101, 3600, 600, 7200)
     assert router.next_query_at() == router.wake_at() == 101 + 3600
+    told = router.traffic()
+    assert told.received == rpkirtr.Carried(len(ANSWER), (0, 0, 0, 1, 1, 0, 1, 1, 0, 0, 0), None)
+    assert told.sent == rpkirtr.Carried(8, (0, 0, 1, 0, 0, 0, 0, 0, 0, 0, 0), None)
     router.connection_closed(102)
+    assert router.traffic() == told
     assert (router.link().state, router.wake_at()) == (rpkirtr.LinkState.CLOSED, 101 + 7200 + 1)
     router.tick(101 + 7201)
     assert router.changes() == ([TEN, DB8], [])
+with rpkirtr.Router() as router:
+    router.connect(100)
+    router.pull()
+    router.receive(bytes.fromhex("010a000100000014" "00000000" "00000004") + b"busy", 101)
+    assert router.traffic().received == rpkirtr.Carried(20, (0,) * 10 + (1,), rpkirtr.Report(1, "busy"))
 with rpkirtr.Router() as router:
     assert router.config() == rpkirtr.Config()
     own = rpkirtr.Config(refresh=60, keeps_refresh=True, expire=601)

@@ -705,6 +705,130 @@ static void a_router_of_one_record(void)
     }
 }
 
+static void expect_carried(const rpkirtr_carried *carried, uint64_t bytes, const uint64_t *pdus, int line)
+{
+    static const uint8_t zero[5] = {0};
+    expect(carried->bytes == bytes, "bytes", line);
+    expect(memcmp(carried->pdus, pdus, sizeof carried->pdus) == 0, "PDUs", line);
+    expect(memcmp(carried->zero_, zero, sizeof zero) == 0, "padding", line);
+}
+#define CARRIED(carried, bytes, pdus) expect_carried(&(carried), bytes, pdus, __LINE__)
+
+static void expect_report(const rpkirtr_carried *carried, uint8_t has, uint16_t code, const char *text, int line)
+{
+    size_t k;
+    expect(carried->has_report == has && carried->code == code, "report", line);
+    expect(strcmp(carried->text.text, text) == 0, "text", line);
+    for (k = strlen(text); k < sizeof carried->text.text; k++)
+        expect(carried->text.text[k] == 0, "text", line);
+}
+#define REPORT(carried, has, code, text) expect_report(&(carried), has, code, text, __LINE__)
+
+static const uint64_t no_pdus[11] = {0};
+
+/* What a router's latest connection carried: what was taken, not what was handed over, and what was pulled, not what there was room for. */
+static void a_router_tells_its_traffic(void)
+{
+    static const uint64_t answered_pdus[11] = {0, 0, 0, 1, 1, 0, 1, 1, 0, 0, 0}, queried[11] = {0, 0, 1}, told[11] = {1, 0, 0, 1, 1, 0, 1, 1, 0, 0, 0};
+    static const uint64_t asked_twice[11] = {0, 1, 1};
+    uint8_t notified[12 + 8] = {1, 0, 1, 2, 0, 0, 0, 12, 0, 0, 0, 8, 1, 8, 0, 0, 0, 0, 0, 8}, room[64];
+    rpkirtr_router h = RPKIRTR_EMPTY_INIT;
+    rpkirtr_traffic traffic, zero = RPKIRTR_TRAFFIC_INIT, other;
+    size_t n;
+    memset(&traffic, 7, sizeof traffic);
+    other = traffic;
+    EXPECT(rpkirtr_router_traffic(&h, &traffic) == RPKIRTR_EMPTY && memcmp(&traffic, &other, sizeof traffic) == 0);
+    traffic.size_ = sizeof traffic;
+    EXPECT(rpkirtr_router_traffic(&h, &traffic) == RPKIRTR_EMPTY && memcmp(&traffic, &zero, sizeof traffic) == 0);
+    EXPECT(rpkirtr_router_new(&h) == RPKIRTR_OK);
+    for (other.size_ = 340; other.size_ <= 348; other.size_ += 8) {
+        traffic = other;
+        EXPECT(rpkirtr_router_traffic(&h, &traffic) == RPKIRTR_BAD_STRUCTURE && memcmp(&traffic, &other, sizeof traffic) == 0);
+    }
+    memset(&traffic, 7, sizeof traffic);
+    traffic.size_ = sizeof traffic;
+    EXPECT(rpkirtr_router_traffic(&h, &traffic) == RPKIRTR_OK && memcmp(&traffic, &zero, sizeof traffic) == 0);
+    EXPECT(rpkirtr_router_receive(&h, answer, sizeof answer, 1, &n) == RPKIRTR_OK && n == 0);
+    EXPECT(rpkirtr_router_traffic(&h, &traffic) == RPKIRTR_OK && memcmp(&traffic, &zero, sizeof traffic) == 0);
+    EXPECT(rpkirtr_router_connect(&h, 100) == RPKIRTR_OK);
+    EXPECT(rpkirtr_router_receive(&h, answer, sizeof answer, 100, &n) == RPKIRTR_OK && n == 0);
+    EXPECT(rpkirtr_router_pull(&h, room, 3, &n) == RPKIRTR_OK && n == 3);
+    EXPECT(rpkirtr_router_traffic(&h, &traffic) == RPKIRTR_OK);
+    CARRIED(traffic.received, 0, no_pdus);
+    CARRIED(traffic.sent, 3, no_pdus);
+    EXPECT(rpkirtr_router_pull(&h, room, sizeof room, &n) == RPKIRTR_OK && n == 5);
+    EXPECT(rpkirtr_router_receive(&h, answer, sizeof answer - 1, 101, &n) == RPKIRTR_OK && n == sizeof answer - 1);
+    EXPECT(rpkirtr_router_receive(&h, answer + n, 1, 101, &n) == RPKIRTR_OK && n == 1);
+    EXPECT(rpkirtr_router_traffic(&h, &traffic) == RPKIRTR_OK && traffic.size_ == sizeof traffic && traffic.zero_ == 0);
+    CARRIED(traffic.received, sizeof answer, answered_pdus);
+    REPORT(traffic.received, 0, 0, "");
+    CARRIED(traffic.sent, 8, queried);
+    EXPECT(rpkirtr_router_receive(&h, notified, sizeof notified, 102, &n) == RPKIRTR_OK && n == 12);
+    EXPECT(rpkirtr_router_pull(&h, room, sizeof room, &n) == RPKIRTR_OK && n == 12);
+    EXPECT(rpkirtr_router_connection_closed(&h, 103) == RPKIRTR_OK && rpkirtr_router_tick(&h, 104) == RPKIRTR_OK);
+    EXPECT(rpkirtr_router_traffic(&h, &traffic) == RPKIRTR_OK);
+    CARRIED(traffic.received, sizeof answer + 12, told);
+    CARRIED(traffic.sent, 20, asked_twice);
+    EXPECT(rpkirtr_router_connect(&h, 105) == RPKIRTR_OK);
+    EXPECT(rpkirtr_router_traffic(&h, &traffic) == RPKIRTR_OK && memcmp(&traffic, &zero, sizeof traffic) == 0);
+    EXPECT(rpkirtr_router_free(&h) == RPKIRTR_OK);
+}
+
+/* An Error Report of code 1, with this text, is handed to a router that has sent its query. */
+static void reported(rpkirtr_router *h, const char *text, size_t len)
+{
+    uint8_t pdu[16 + 255] = {1, 10, 0, 1, 0, 0, 0, 0, 0, 0, 0, 0, 0, 0, 0, 0}, room[64];
+    size_t n;
+    pdu[6] = (uint8_t)((16 + len) >> 8);
+    pdu[7] = (uint8_t)(16 + len);
+    pdu[15] = (uint8_t)len;
+    memcpy(pdu + 16, text, len);
+    EXPECT(rpkirtr_router_connect(h, 100) == RPKIRTR_OK);
+    EXPECT(rpkirtr_router_pull(h, room, sizeof room, &n) == RPKIRTR_OK);
+    EXPECT(rpkirtr_router_receive(h, pdu, 16 + len, 101, &n) == RPKIRTR_OK && n == 16 + len);
+}
+
+/* The texts of the Error Reports that came, and the code of one that was sent */
+static void a_router_tells_reports(void)
+{
+    static const uint64_t one_report[11] = {0, 0, 0, 0, 0, 0, 0, 0, 0, 0, 1};
+    static const uint8_t second[8] = {1, 3, 1, 2, 0, 0, 0, 9};
+    rpkirtr_router h = RPKIRTR_EMPTY_INIT;
+    rpkirtr_traffic traffic = RPKIRTR_TRAFFIC_INIT;
+    rpkirtr_link link;
+    uint8_t room[256];
+    char text[255], wanted[64] = {0};
+    size_t n;
+    memset(text, 'x', sizeof text);
+    EXPECT(rpkirtr_router_new(&h) == RPKIRTR_OK);
+    reported(&h, "no such session", 15);
+    EXPECT(rpkirtr_router_traffic(&h, &traffic) == RPKIRTR_OK);
+    CARRIED(traffic.received, 16 + 15, one_report);
+    REPORT(traffic.received, 1, 1, "no such session");
+    REPORT(traffic.sent, 0, 0, "");
+    reported(&h, "a\ttab and a line\nanother", 24);
+    EXPECT(rpkirtr_router_traffic(&h, &traffic) == RPKIRTR_OK);
+    REPORT(traffic.received, 1, 1, "a");
+    for (n = 62; n <= 64; n++) {
+        reported(&h, text, n);
+        memset(wanted, 'x', n < 63 ? n : 63);
+        EXPECT(rpkirtr_router_traffic(&h, &traffic) == RPKIRTR_OK);
+        REPORT(traffic.received, 1, 1, wanted);
+    }
+    reported(&h, text, sizeof text);
+    EXPECT(rpkirtr_router_traffic(&h, &traffic) == RPKIRTR_OK);
+    REPORT(traffic.received, 1, 1, wanted);
+    EXPECT(rpkirtr_router_connect(&h, 200) == RPKIRTR_OK);
+    EXPECT(rpkirtr_router_pull(&h, room, sizeof room, &n) == RPKIRTR_OK && n == 8);
+    EXPECT(rpkirtr_router_receive(&h, second, sizeof second, 201, &n) == RPKIRTR_OK && n == sizeof second);
+    EXPECT(rpkirtr_router_pull(&h, room, sizeof room, &n) == RPKIRTR_OK && n > 16 && room[1] == 10);
+    EXPECT(rpkirtr_router_link(&h, &link) == RPKIRTR_OK && link.end == RPKIRTR_END_REPORTED);
+    EXPECT(rpkirtr_router_traffic(&h, &traffic) == RPKIRTR_OK && traffic.sent.bytes == 8 + n);
+    EXPECT(traffic.sent.has_report == 1 && traffic.sent.code == link.code && link.code == room[3] && traffic.sent.pdus[10] == 1);
+    EXPECT(traffic.received.has_report == 0 && traffic.received.bytes == sizeof second);
+    EXPECT(rpkirtr_router_free(&h) == RPKIRTR_OK);
+}
+
 int main(void)
 {
     texts();
@@ -713,6 +837,8 @@ int main(void)
     a_router();
     a_configured_router();
     a_router_of_one_record();
+    a_router_tells_its_traffic();
+    a_router_tells_reports();
     an_index();
     an_index_of_lists();
     a_roa();

@@ -47,6 +47,20 @@ AT(rpkirtr_config, keeps_retry, 21);
 AT(rpkirtr_config, keeps_expire, 22);
 AT(rpkirtr_config, zero_, 23);
 
+IS(carried_size, sizeof(rpkirtr_carried) == 168);
+AT(rpkirtr_carried, bytes, 0);
+AT(rpkirtr_carried, pdus, 8);
+AT(rpkirtr_carried, text, 96);
+AT(rpkirtr_carried, code, 160);
+AT(rpkirtr_carried, has_report, 162);
+AT(rpkirtr_carried, zero_, 163);
+
+IS(traffic_size, sizeof(rpkirtr_traffic) == 344);
+AT(rpkirtr_traffic, size_, 0);
+AT(rpkirtr_traffic, zero_, 4);
+AT(rpkirtr_traffic, received, 8);
+AT(rpkirtr_traffic, sent, 176);
+
 IS(text_size, sizeof(rpkirtr_text) == 64);
 AT(rpkirtr_text, text, 0);
 

@@ -91,10 +91,11 @@ static void a_router_call(rpkirtr_router *h, uint64_t now)
     rpkirtr_link link;
     rpkirtr_committed committed;
     rpkirtr_config config = RPKIRTR_CONFIG_INIT;
+    rpkirtr_traffic traffic = RPKIRTR_TRAFFIC_INIT;
     uint32_t fault;
     uint64_t at;
     size_t n = 99, m = 99, len;
-    switch (below(21)) {
+    switch (below(22)) {
     case 0:
         if (below(10) == 0)
             judge(rpkirtr_router_free(h), RPKIRTR_EMPTY);
@@ -132,6 +133,13 @@ static void a_router_call(rpkirtr_router *h, uint64_t now)
         config.zero_ = below(10) == 0;
         judge(rpkirtr_router_configure(h, &config, &fault), RPKIRTR_BAD_STRUCTURE);
         judge(rpkirtr_router_config(h, &config), RPKIRTR_EMPTY);
+        break;
+    case 20:
+        if (below(10) == 0)
+            traffic.size_ = (uint32_t)below(400);
+        judge(rpkirtr_router_traffic(h, &traffic), RPKIRTR_BAD_STRUCTURE);
+        if (traffic.received.text.text[63] != 0 || traffic.sent.text.text[63] != 0)
+            abort();
         break;
     default:
         judge(rpkirtr_router_changes_begin(h, &n, &m), RPKIRTR_NO_MEMORY);

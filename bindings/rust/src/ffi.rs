@@ -83,6 +83,26 @@ pub struct rpkirtr_config {
 
 #[repr(C)]
 #[derive(Clone, Copy, Debug)]
+pub struct rpkirtr_carried {
+    pub bytes: u64,
+    pub pdus: [u64; 11],
+    pub text: rpkirtr_text,
+    pub code: u16,
+    pub has_report: u8,
+    pub zero_: [u8; 5],
+}
+
+#[repr(C)]
+#[derive(Clone, Copy, Debug)]
+pub struct rpkirtr_traffic {
+    pub size_: u32,
+    pub zero_: u32,
+    pub received: rpkirtr_carried,
+    pub sent: rpkirtr_carried,
+}
+
+#[repr(C)]
+#[derive(Clone, Copy, Debug)]
 pub struct rpkirtr_list {
     pub records: *const rpkirtr_record,
     pub records_len: usize,
@@ -138,6 +158,7 @@ extern "C" {
     pub fn rpkirtr_router_wake_at(h: *mut handle, at: *mut u64) -> rpkirtr_status;
     pub fn rpkirtr_router_link(h: *mut handle, link: *mut rpkirtr_link) -> rpkirtr_status;
     pub fn rpkirtr_router_committed(h: *mut handle, committed: *mut rpkirtr_committed) -> rpkirtr_status;
+    pub fn rpkirtr_router_traffic(h: *mut handle, traffic: *mut rpkirtr_traffic) -> rpkirtr_status;
     pub fn rpkirtr_router_count(h: *mut handle, count: *mut usize) -> rpkirtr_status;
     pub fn rpkirtr_router_state(h: *mut handle, route: *const rpkirtr_route, state: *mut rpkirtr_state) -> rpkirtr_status;
     pub fn rpkirtr_router_records(h: *mut handle, first: usize, room: *mut rpkirtr_record, room_len: usize, copied: *mut usize) -> rpkirtr_status;

@@ -22,6 +22,7 @@ mod manifest;
 mod roa;
 mod router;
 mod texts;
+mod traffic;
 mod values;
 
 pub use cache::{Cache, CacheSettings, Current};
@@ -32,4 +33,5 @@ pub use roa::Roa;
 pub use router::{Changes, Committed, Config, End, Link, Records, Router, Version};
 pub(crate) use texts::strerror;
 pub use texts::{fault_name, version};
+pub use traffic::{Carried, Report, Traffic};
 pub use values::{OriginState, Prefix, PrefixError, Route, Vrp};

@@ -2,6 +2,7 @@
 use crate::error::{check, done};
 use crate::ffi::{self, handle, rpkirtr_config};
 use crate::index::{covering, Index};
+use crate::traffic::{no_traffic, Traffic};
 use crate::values::{OriginState, Route, Vrp};
 use crate::Error;
 use std::cell::UnsafeCell;
@@ -288,6 +289,13 @@ impl Router {
             retry: it.retry,
             expire: it.expire,
         })
+    }
+
+    /// What the latest connection carried. What is told stays once it is closed.
+    pub fn traffic(&self) -> Traffic {
+        let mut traffic = no_traffic();
+        done(unsafe { ffi::rpkirtr_router_traffic(self.at(), &mut traffic) });
+        Traffic::of_c(&traffic)
     }
 
     /// How many records are committed.

@@ -4,6 +4,11 @@ use crate::ffi;
 fn text_of(write: impl Fn(*mut ffi::rpkirtr_text) -> ffi::rpkirtr_status) -> String {
     let mut text = ffi::rpkirtr_text { text: [0; 64] };
     write(&mut text);
+    string_of(&text)
+}
+
+/// What is before the zeros of a text.
+pub(crate) fn string_of(text: &ffi::rpkirtr_text) -> String {
     let end = text.text.iter().position(|byte| *byte == 0).unwrap_or(text.text.len());
     String::from_utf8_lossy(&text.text[..end]).into_owned()
 }

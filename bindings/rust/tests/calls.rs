@@ -1,5 +1,5 @@
 //! A router that is told two records by a cache, and an index.
-use rpkirtr::{Cache, CacheSettings, Config, Current, End, Error, Index, Link, Manifest, OriginState, Roa, Route, Router, Version, Vrp};
+use rpkirtr::{Cache, CacheSettings, Config, Current, End, Error, Index, Link, Manifest, OriginState, Report, Roa, Route, Router, Version, Vrp};
 
 const ANSWER: [u8; 84] = [
     1, 3, 1, 2, 0, 0, 0, 8, // Cache Response of session 258
@@ -79,6 +79,21 @@ fn a_router_holds_the_most_records_of_its_configuration() {
         assert_eq!(router.len(), count);
         assert_eq!(router.link(), if most == 1 { Link::Ended(End::TooMany) } else { Link::Idle });
     }
+}
+
+#[test]
+fn a_router_tells_what_its_connection_carried() {
+    let mut router = committed_router();
+    let told = router.traffic();
+    assert_eq!((told.received.bytes, told.sent.bytes), (84, 8));
+    assert_eq!(told.received.pdus, [0, 0, 0, 1, 1, 0, 1, 1, 0, 0, 0]);
+    assert_eq!(told.sent.pdus, [0, 0, 1, 0, 0, 0, 0, 0, 0, 0, 0]);
+    assert_eq!((told.received.report, told.sent.report), (None, None));
+    router.connect(102);
+    assert_eq!((router.traffic().received.bytes, router.traffic().sent.bytes), (0, 0));
+    router.pull(&mut [0; 16]);
+    router.receive(&[1, 10, 0, 1, 0, 0, 0, 20, 0, 0, 0, 0, 0, 0, 0, 4, b'b', b'u', b's', b'y'], 103);
+    assert_eq!(router.traffic().received.report, Some(Report { code: 1, text: "busy".to_string() }));
 }
 
 #[test]

@@ -1,5 +1,5 @@
 -- What a router's call shows of the session that it is in.
-use Rattle.std.proofs.Common.{◌≡◌, ℕ, ℤ, List, Option, refl, ap, subst, ◌∙◌}
+use Rattle.std.proofs.Common.{◌≡◌, ℤ, Option, ap, subst, ◌∙◌}
 use Rattle.rtr_ends.specs.LinkRules as rules
 use Rattle.vrps.specs.Change.{between}
 use Rattle.vrps.specs.VrpSet.{VrpSet}
@@ -7,15 +7,9 @@ use Rattle.rpkirtr_c.specs.Changes.{IsBegun}
 use Rattle.rpkirtr_c.specs.Live.{New}
 use Rattle.rpkirtr_c.specs.declared.judge.Judge.{Judge}
 use Rattle.rpkirtr_c.specs.declared.session.Pending.{Pending}
-use Rattle.rtr_ends.specs.Router as model
-use Rattle.rtr_ends.specs.RouterShown.{IsShown, LeadsOn, ReceivesSo}
-use Rattle.rtr_ends.specs.declared.router.Router.{Router}
-use Rattle.rpkirtr_c.specs.Sessions.{Receives, Shows}
+use Rattle.rtr_ends.specs.RouterShown.{IsShown}
+use Rattle.rpkirtr_c.specs.Sessions.{Shows}
 use Rattle.rpkirtr_c.specs.declared.session.Session.{Session}
-
-pub receives : (now : ℕ) (bytes : List ℕ) (count : ℕ) (s : Session) (r : Router)
-    → ReceivesSo now bytes count s.router r → ((wanting : Option ℕ) × LeadsOn (model.Receives now wanting bytes) s.router r) → Receives now bytes count s (record s { router = r })
-receives now bytes count s r shown leads = record { rest = refl; shown = shown; leads = leads }
 
 -- The change to the table of a router is one to that of whatever router the value is.
 pub begins : (s : Session) (p : Pending) (table : VrpSet) → IsBegun s.taken table p → ((r : rules.Router) → IsShown r s.router → table ≡ r.table) → Shows s (λ r. IsBegun s.taken r.table p)

@@ -1,5 +1,6 @@
 pub mod Answers
 pub mod Caches
+pub mod Carried
 pub mod Changes
 pub mod Configurations
 pub mod Held

@@ -9,7 +9,9 @@ use Rattle.rtr_ends.specs.Wake.{WakesAt}
 use Rattle.vrps.specs.Origin.{covering, state}
 use Rattle.vrps.specs.VrpSet.{VrpSet}
 use Rattle.vrps.specs.declared.origin.OriginState.TheVariants.{NotFound}
+use Rattle.rtr_server.specs.declared.turn.Traffic.{Traffic}
 use Rattle.rpkirtr_c.specs.Answers.{number}
+use Rattle.rpkirtr_c.specs.Carried.{and_came}
 use Rattle.rpkirtr_c.specs.Links.{moment_of, version_of}
 use Rattle.rpkirtr_c.specs.Spelled.{IsCopied, SpellsRoute, state_number}
 use Rattle.rpkirtr_c.specs.declared.status.Status.{Status}
@@ -22,11 +24,15 @@ use Rattle.rpkirtr_c.specs.declared.session.Session.{Session}
 use Rattle.rpkirtr_c.specs.declared.status.Status.TheVariants.{Done, BadRoute, BadVersion, Busy, NoMemory, NotLinked}
 use Rattle.rpkirtr_c.specs.declared.values.CRoute.{CRoute}
 
--- The router makes this call. The accepted records stay.
-pub record Makes (call : RouterCall) (s t : Session) : Type 0 where
-  pub rest : t ≡ record s { router = t.router }
+-- The router makes this call, and its latest connection has carried this then. The accepted records stay.
+pub record Carries (call : RouterCall) (traffic : Traffic) (s t : Session) : Type 0 where
+  pub rest : t ≡ record s { router = t.router; traffic = traffic }
   pub calls : Calls (λ r. (called call r).router) s.router t.router
   pub leads : LeadsOn call s.router t.router
+
+-- The router makes this call, which carries nothing.
+abbrev pub Makes : RouterCall → Session → Session → Type 0
+Makes call s t = Carries call s.traffic s t
 
 -- This is so of whatever router the value is.
 abbrev pub Shows : Session → (rules.Router → Type 0) → Type 0
@@ -42,9 +48,9 @@ IsJudged q set answer told =
     ((r : Route) × SpellsRoute q r × (answer ≡ number Done) × (told ≡ state_number (state set r)))
     ⊎ (((r : Route) → ¬ (SpellsRoute q r)) × (answer ≡ number BadRoute) × (told ≡ state_number NotFound))
 
--- The router receives these bytes, and consumes this many of them. The accepted records stay.
+-- The router receives these bytes, and consumes this many of them: its connection has carried these too. The accepted records stay.
 pub record Receives (now : ℕ) (bytes : List ℕ) (count : ℕ) (s t : Session) : Type 0 where
-  pub rest : t ≡ record s { router = t.router }
+  pub rest : t ≡ record s { router = t.router; traffic = and_came (take count bytes) s.traffic }
   pub shown : ReceivesSo now bytes count s.router t.router
   pub leads : (wanting : Option ℕ) × LeadsOn (model.Receives now wanting bytes) s.router t.router
 

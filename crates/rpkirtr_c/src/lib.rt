@@ -23,6 +23,7 @@ mod service;
 mod session;
 mod status;
 mod texts;
+mod traffic;
 mod values;
 
 pub use crate::cache::CacheHandle;
@@ -36,4 +37,5 @@ pub use crate::octets::CDigest;
 pub use crate::roa::RoaHandle;
 pub use crate::router::RouterHandle;
 pub use crate::texts::CText;
+pub use crate::traffic::{CCarried, CTraffic};
 pub use crate::values::{CRecord, CRoute};

@@ -1,11 +1,12 @@
 //! A router for C.
-ghost use Rattle.std.specs.Prelude.{◌≡◌, ◌≤◌, length, Option, Some, None, is_none, option_map, false};
+ghost use Rattle.std.specs.Prelude.{◌≡◌, ℤ, ◌≤◌, length, take, Option, Some, None, is_none, option_map, false};
 ghost use Rattle.std.specs.Coded.{coded_option};
 ghost use Rattle.rpkirtr_c.specs.declared.session.Session.{Session};
 ghost use Rattle.rpkirtr_c.specs.contracts.session.Session as session;
 ghost use Rattle.rpkirtr_c.specs.Answers.{number};
 ghost use Rattle.rpkirtr_c.specs.Live.{Freed, New, On};
-ghost use Rattle.rpkirtr_c.specs.Sessions.{IsPulled, IsSpoken, Makes, Receives, Shows, Wakes, ask_answer};
+ghost use Rattle.rpkirtr_c.specs.Sessions.{Carries, IsPulled, IsSpoken, Makes, Receives, Shows, Wakes, ask_answer};
+ghost use Rattle.rpkirtr_c.specs.Carried.{IsTold, and_sent};
 ghost use Rattle.rpkirtr_c.specs.Configurations.{IsConfigured, told_config};
 ghost use Rattle.rtr_ends.specs.Configuration.{default_config};
 ghost use Rattle.rpkirtr_c.specs.Links.{committed_of, link_of, moment_of, never};
@@ -15,6 +16,7 @@ ghost use Rattle.rpkirtr_c.specs.declared.status.Status.TheVariants.{Done};
 ghost use Rattle.rtr_ends.specs.LinkRules as rules;
 ghost use Rattle.rtr_ends.specs.Router as model;
 ghost use Rattle.rtr_ends.specs.RouterShown.{IsShown};
+ghost use Rattle.rtr_server.specs.Turns.{no_traffic};
 ghost use Rattle.vrps.specs.VrpSet.{empty};
 
 use crate::configuration::{CConfig, config_of, told_config};
@@ -22,7 +24,9 @@ use crate::links::{CCommitted, CLink, NEVER, committed_of, link_of, version_of};
 use crate::loose::Loose;
 use crate::session::Session;
 use crate::status::Status;
+use crate::traffic::{CTraffic, tell};
 use rtr_ends::{AskFault, Link, Router, RouterConfig};
+use rtr_server::Traffic;
 use std::alloc::Global;
 use std::fmt::{self, Debug};
 use std::marker::Model;
@@ -120,7 +124,7 @@ impl RouterHandle {
 /// Makes a router in an empty handle. Nothing is committed, and there is no connection.
 #[unsafe(no_mangle)]
 pub extern "C" fn rpkirtr_router_new(alloc: Global, h: &mut RouterHandle) -> i32
-    ensures { New h.old.value h.new.value result (λ s. IsShown rules.new_router s.router × (s.taken ≡ empty) × (s.pending ≡ None)) }
+    ensures { New h.old.value h.new.value result (λ s. IsShown rules.new_router s.router × (s.taken ≡ empty) × (s.pending ≡ None) × (s.traffic ≡ no_traffic)) }
 {
     if let Some(session) = h.take(alloc) {
         *h = shut(session);
@@ -130,6 +134,7 @@ pub extern "C" fn rpkirtr_router_new(alloc: Global, h: &mut RouterHandle) -> i32
         router: Router::new(alloc),
         taken: VrpSet::empty(alloc),
         pending: None,
+        traffic: Traffic::new(),
     };
     match Box::new(alloc, session) {
         Err(_) => Status::NoMemory.number(),
@@ -222,12 +227,12 @@ pub extern "C" fn rpkirtr_router_config(
 /// A connection is made at the moment `now`, and a query is ready to be pulled.
 #[unsafe(no_mangle)]
 pub extern "C" fn rpkirtr_router_connect(alloc: Global, h: &mut RouterHandle, now: u64) -> i32
-    ensures call { On h.old.value h.new.value result (λ s t. (result ≡ number Done) × Makes (model.Connects now) s t) }
+    ensures call { On h.old.value h.new.value result (λ s t. (result ≡ number Done) × Carries (model.Connects now) no_traffic s t) }
 {
     let Some(mut session) = h.take(alloc) else {
         return Status::Empty.number();
     };
-    session.router.connect(now);
+    session.connect(now);
     *h = shut(session);
     Status::Done.number()
 }
@@ -266,7 +271,7 @@ pub extern "C" fn rpkirtr_router_receive(
     let Some(mut session) = h.take(alloc) else {
         return Status::Empty.number();
     };
-    *taken = session.router.receive(bytes, now);
+    *taken = session.receive(bytes, now);
     *h = shut(session);
     Status::Done.number()
 }
@@ -279,7 +284,7 @@ pub extern "C" fn rpkirtr_router_pull(
     room: &mut [u8],
     pulled: &mut usize,
 ) -> i32
-    ensures call { On h.old.value h.new.value result (λ s t. (result ≡ number Done) × Makes (model.Pulls (length room.old)) s t × Shows s (λ r. IsPulled r.out room.old room.new pulled.new)) }
+    ensures call { On h.old.value h.new.value result (λ s t. (result ≡ number Done) × Carries (model.Pulls (length room.old)) (and_sent (take pulled.new room.new) s.traffic) s t × Shows s (λ r. IsPulled r.out room.old room.new pulled.new)) }
     ensures empty { h.old.value ≡ None → (room.new ≡ room.old) × (pulled.new ≡ 0) }
     ensures within { pulled.new ≤ length room.old }
 {
@@ -287,7 +292,7 @@ pub extern "C" fn rpkirtr_router_pull(
     let Some(mut session) = h.take(alloc) else {
         return Status::Empty.number();
     };
-    *pulled = session.router.pull(room);
+    *pulled = session.pull(room);
     *h = shut(session);
     Status::Done.number()
 }
@@ -389,4 +394,23 @@ pub extern "C" fn rpkirtr_router_committed(
     *committed = committed_of(session.router.committed_version());
     *h = shut(session);
     Status::Done.number()
+}
+
+/// Writes what the latest connection carried, in each direction. If the structure has another size than this header says, nothing is written.
+#[unsafe(no_mangle)]
+pub extern "C" fn rpkirtr_router_traffic(
+    alloc: Global,
+    h: &mut RouterHandle,
+    traffic: &mut CTraffic,
+) -> i32
+    ensures call { On h.old.value h.new.value result (λ s t. (t ≡ s) × IsTold s.traffic result traffic.old traffic.new) }
+    ensures empty { h.old.value ≡ None → (answer : ℤ) × IsTold no_traffic answer traffic.old traffic.new }
+{
+    let Some(session) = h.take(alloc) else {
+        tell(&Traffic::new(), traffic);
+        return Status::Empty.number();
+    };
+    let answer = tell(&session.traffic, traffic);
+    *h = shut(session);
+    answer.number()
 }
