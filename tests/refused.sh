@@ -60,7 +60,7 @@ changed crates/rtr_ends/src/router.rt 's|ensures within { result ≤ |ensures wi
 changed crates/rtr_pdu/specs/Version.antt '$s|$|\nmore : ℕ\nmore = 1|' 'feed rpkirtr rpkirtr_c rpkirtrd_cli rtr_commands rtr_daemon rtr_ends rtr_pdu rtr_server rtr_world upstreams world_scripts '
 changed crates/rpkirtr_cli/src/lib.rt '$s|$|\npub struct More;|' 'rpkirtr '
 # a lemma that is named from above, and one that is not
-changed crates/rtr_ends/proofs/TableLaws.antt '$s|$| |' 'rtr_commands rtr_ends rtr_server rtr_world upstreams '
+changed crates/rtr_ends/proofs/TableLaws.antt '$s|$| |' 'rpkirtr_c rtr_commands rtr_ends rtr_server rtr_world upstreams '
 changed crates/rtr_ends/proofs/LinkCells.antt '$s|$| |' 'rtr_ends '
 # the libraries of a crate
 changed crates.txt 's|^vrps: .*|& arrayvec|' 'command_parts event_log exports feed log_output payload_commands payload_lists rpkiobject rpkirtr rpkirtr_c rpkirtrd_cli rtr_commands rtr_daemon rtr_ends rtr_server rtr_world session_names slurm sources status_pages status_server upstreams vrps world_scripts '
