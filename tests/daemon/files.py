@@ -232,15 +232,15 @@ def exceptions_put_back(given):
 
 @part
 def exceptions_back_beside_refused_ones(given):
-    """A SLURM file that was missing is no longer shown as refused once it is back, though another one stays refused."""
+    """A SLURM file that was missing is no longer shown as refused once it is back, though another one that overlaps it stays refused."""
     os.mkdir("m")
     put("list.json", text_of(FIRST))
-    put("m/one.json", exceptions())
+    put("m/one.json", exceptions(asserted=[("10.0.0.0/8", 1)]))
     put("two.json", exceptions())
     refused = 'rpkirtrd_file_refused{file="m/one.json"}'
     with running(given.program, "--vrps", "list.json", "--slurm", "m/one.json", "--slurm", "two.json", "--listen", "127.0.0.1:0", "--check", "1", "--status", "127.0.0.1:0") as daemon:
         _port, status = daemon.serves()
-        put("two.json", "[")
+        put("two.json", exceptions(asserted=[("10.0.0.0/9", 2)]))
         daemon.wait("refused", file="two.json")
         os.rename("m", "away")
         daemon.wait("refused", file="m/one.json")
