@@ -482,10 +482,8 @@ class Router(_Judge):
         return told[0], told[1]
 
 
-class Roa(_Handle):
-    """The payload of a ROA (RFC 9582 section 4). Verify its signature first: nothing here does."""
-
-    _name = "roa"
+class _Payload(_Handle):
+    """The payload of a signed object. Verify its signature first: nothing here does."""
 
     def __init__(self, payload: bytes) -> None:
         super().__init__()
@@ -494,6 +492,12 @@ class Roa(_Handle):
         if status == Status.BAD_PAYLOAD:
             raise PayloadError(fault.kind, fault.offset)
         _check(status)
+
+
+class Roa(_Payload):
+    """The payload of a ROA (RFC 9582 section 4). Verify its signature first: nothing here does."""
+
+    _name = "roa"
 
     @property
     def asn(self) -> int:
@@ -514,18 +518,10 @@ class ListedFile(NamedTuple):
     digest: bytes
 
 
-class Manifest(_Handle):
+class Manifest(_Payload):
     """The payload of a manifest (RFC 9286 section 4). Verify its signature first: nothing here does. Nor does it judge whether it is stale."""
 
     _name = "manifest"
-
-    def __init__(self, payload: bytes) -> None:
-        super().__init__()
-        fault, piece = _Fault(), bytes(memoryview(payload))
-        status = self._call("new", piece, ctypes.c_size_t(len(piece)), ctypes.byref(fault))
-        if status == Status.BAD_PAYLOAD:
-            raise PayloadError(fault.kind, fault.offset)
-        _check(status)
 
     @property
     def number(self) -> int:

@@ -166,21 +166,29 @@ def first_exceptions_overlap(given):
         expect("what is served afterwards", Router(port).catch_up(), set(FIRST) | {("10.0.0.0/8", 8, 2), ("172.16.0.0/12", 12, 1)})
 
 
+def missing_for_a_while(daemon, status):
+    """The folder `m` is missing until its file is refused, and is back then as it was. The metrics say so. It returns them."""
+    file = "m/" + os.listdir("m")[0]
+    refused = f'rpkirtrd_file_refused{{file="{file}"}}'
+    os.rename("m", "away")
+    daemon.wait("refused", file=file)
+    expect("the metric while it is missing", metrics_of(status).get(refused), 1)
+    os.rename("away", "m")
+    daemon.wait("taken", file=file)
+    metrics = metrics_of(status)
+    expect("the metric once it is back", metrics.get(refused), 0)
+    return metrics
+
+
 @part
 def export_put_back(given):
     """An export that was missing is accepted once it is back, as it was. If it is missing again, that is reported again."""
     os.mkdir("m")
     put("m/list.json", text_of(FIRST))
-    refused = 'rpkirtrd_file_refused{file="m/list.json"}'
     with running(given.program, "--vrps", "m/list.json", "--listen", "127.0.0.1:0", "--check", "1", "--status", "127.0.0.1:0") as daemon:
         port, status = daemon.serves()
         for times in 1, 2:
-            os.rename("m", "away")
-            daemon.wait("refused", file="m/list.json")
-            expect("the metric while it is missing", metrics_of(status).get(refused), 1)
-            os.rename("away", "m")
-            daemon.wait("taken", file="m/list.json")
-            expect("the metric once it is back", metrics_of(status).get(refused), 0)
+            missing_for_a_while(daemon, status)
             expect("how many refusals are reported", daemon.count("refused"), times)
         expect("what is served", Router(port).catch_up(), set(FIRST))
 
@@ -237,18 +245,12 @@ def exceptions_back_beside_refused_ones(given):
     put("list.json", text_of(FIRST))
     put("m/one.json", exceptions(asserted=[("10.0.0.0/8", 1)]))
     put("two.json", exceptions())
-    refused = 'rpkirtrd_file_refused{file="m/one.json"}'
     with running(given.program, "--vrps", "list.json", "--slurm", "m/one.json", "--slurm", "two.json", "--listen", "127.0.0.1:0", "--check", "1", "--status", "127.0.0.1:0") as daemon:
         _port, status = daemon.serves()
         put("two.json", exceptions(asserted=[("10.0.0.0/9", 2)]))
         daemon.wait("refused", file="two.json")
-        os.rename("m", "away")
-        daemon.wait("refused", file="m/one.json")
-        expect("the metric while it is missing", metrics_of(status).get(refused), 1)
-        os.rename("away", "m")
-        daemon.wait("taken", file="m/one.json")
-        expect("the metric once it is back", metrics_of(status).get(refused), 0)
-        expect("the metric of the other", metrics_of(status).get('rpkirtrd_file_refused{file="two.json"}'), 1)
+        metrics = missing_for_a_while(daemon, status)
+        expect("the metric of the other", metrics.get('rpkirtrd_file_refused{file="two.json"}'), 1)
 
 
 @part
