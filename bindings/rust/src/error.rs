@@ -34,7 +34,7 @@ pub enum Error {
         /// in bytes
         offset: u64,
     },
-    /// The intervals of a cache are not valid: an interval is out of its range (1), or expire is not larger than both others (2).
+    /// The intervals of a cache or a router are not valid: an interval is out of its range (1), or expire is not larger than both others (2).
     BadTiming(u32),
     /// A cache is to keep no version, or more than 65,536.
     BadKeep,
