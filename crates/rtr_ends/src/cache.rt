@@ -171,6 +171,13 @@ impl<S: VersionStore> Cache<S> {
         Some((serial, set.as_ref()))
     }
 
+    /// The store of its versions.
+    pub fn version_store(&self) -> &S
+        ensures { result.now ≡ self.now.store }
+    {
+        &self.store
+    }
+
     /// Closes a connection, and drops what was due. Its number is free then. It allocates no memory.
     pub fn close(&mut self, conn: Conn)
         ensures { (m : CacheState) → ShowsCache S.holds m self.old → ShowsCache S.holds (with_conn conn.0 Option.None m) self.new }

@@ -279,6 +279,13 @@ impl<S: VersionStore, T: Stream + Drop> Server<S, T> {
     {
         self.cache.current()
     }
+
+    /// The store of the versions of its cache.
+    pub fn version_store(&self) -> &S
+        ensures { result.now ≡ self.now.cache.store }
+    {
+        self.cache.version_store()
+    }
 }
 
 /// Notifies a router that has asked. Answers whether the notify is still to be sent: bytes were due.

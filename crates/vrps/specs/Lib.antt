@@ -18,3 +18,4 @@ pub mod Store
 pub mod VrpSet
 pub mod Walk
 pub mod Stores
+pub mod NewestSteps

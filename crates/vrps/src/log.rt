@@ -1,6 +1,7 @@
 //! A log of versions that keeps the current set and the steps to it.
 ghost use Rattle.std.specs.Prelude.{◌≡◌, ◌≤◌, ◌↔◌, ◌+◌, ◌%◌, ◌^◌, IsTrue, ℕ, [], ◌∷◌, take, IfOk, option_map};
 ghost use Rattle.vrps.specs.Instance.{Instance};
+ghost use Rattle.vrps.specs.NewestSteps.{newest_step};
 ghost use Rattle.vrps.specs.Steps.{HoldsSteps, kept_step};
 ghost use Rattle.vrps.specs.VrpSet.{IsListing, set_of, size};
 ghost use Rattle.vrps.specs.Wholes.{IsBehind};
@@ -64,6 +65,13 @@ impl VersionLog {
         ensures { (keep : ℕ) (instance : Instance) → HoldsSteps keep instance self.now → option_map (λ step. step.now) result ≡ kept_step keep instance.sets i }
     {
         self.steps.nth_back(i)
+    }
+
+    /// The step to the current version from the one before it. `None`: there is no version before it.
+    pub fn newest_step(&self) -> Option<&Change>
+        ensures { (keep : ℕ) (instance : Instance) → HoldsSteps keep instance self.now → option_map (λ step. step.now) result ≡ newest_step keep instance.sets }
+    {
+        self.steps.front()
     }
 
     /// How many versions before the current one that of this serial is.
