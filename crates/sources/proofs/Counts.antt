@@ -17,7 +17,7 @@ use Rattle.sources.specs.declared.listed.Listed.{Listed}
 
 -- ---- all count where no last second is before the moment
 
-both_false : (a b : Bool) → (a || b) ≡ false → (a ≡ false) × (b ≡ false)
+pub both_false : (a b : Bool) → (a || b) ≡ false → (a ≡ false) × (b ≡ false)
 both_false true b h = absurd (let no : true ≡ false = h in cc)
 both_false false b h = (refl, h)
 

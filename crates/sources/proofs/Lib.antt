@@ -1,5 +1,6 @@
 pub mod Together
 pub mod Counts
+pub mod Ends
 pub mod Stays
 pub mod Until
 pub mod Files

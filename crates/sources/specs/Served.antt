@@ -1,5 +1,5 @@
 -- What is served: what all sources have together, with local exceptions.
-use Rattle.std.specs.Prelude.{◌≡◌, ◌⊎◌, ◌<◌, ◌≤◌, ℕ, ◌+◌, ◌^◌, cond, nat_lt, length, take, count_by, filter, slice_set, Bool, true, false, not, ◌&&◌, ◌||◌, ◌==◌, List, [], ◌∷◌, Option, Some, None, Result, Ok, Err, ⊤}
+use Rattle.std.specs.Prelude.{◌≡◌, ◌⊎◌, ◌<◌, ◌≤◌, ℕ, ◌+◌, ◌^◌, cond, nat_le, nat_lt, length, take, count_by, filter, slice_set, Bool, true, false, not, ◌&&◌, ◌||◌, ◌==◌, List, [], ◌∷◌, Option, Some, None, Result, Ok, Err, ⊤}
 use Rattle.std.specs.List.{All, list_any, slice_get}
 use Rattle.der_lite.specs.Moments.{CivilMoment}
 use Rattle.der_lite.specs.Seconds.{seconds_of}
@@ -169,6 +169,11 @@ NoneTaken n lists = (length lists ≡ n) × All IsNothing lists
 abbrev pub expired_of : ℕ → Option Listed → ℕ
 expired_of now None = 0
 expired_of now (Some l) = count_by (λ last. nat_lt last now) l.lasts.items
+
+-- A record of a file has its last second at the first of these seconds or later, and before the second one.
+abbrev pub ends_between : ℕ → ℕ → Option Listed → Bool
+ends_between from to None = false
+ends_between from to (Some l) = list_any (λ last. nat_le from last && nat_lt last to) l.lasts.items
 
 -- when the export of a file was made
 abbrev pub built_at : Option Listed → Option ℕ

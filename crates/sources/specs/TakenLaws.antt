@@ -1,5 +1,5 @@
 -- What is kept of a file says what it exports at later moments too.
-use Rattle.std.specs.Prelude.{◌≡◌, ◌↔◌, ℕ, ◌+◌, ◌^◌, ◌<◌, ◌≤◌, List, [], ◌∷◌, Option, Some, Ok, Err}
+use Rattle.std.specs.Prelude.{◌≡◌, ◌↔◌, ℕ, ◌+◌, ◌^◌, ◌<◌, ◌≤◌, false, List, [], ◌∷◌, Option, Some, Ok, Err}
 use Rattle.vrps.specs.VrpSet.{empty, size}
 use Rattle.exports.specs.Export.{IsExport}
 use Rattle.exports.specs.declared.export.Export.{Export}
@@ -7,7 +7,7 @@ use Rattle.slurm.specs.declared.fault.SlurmFault.{SlurmFault}
 use Rattle.slurm.specs.declared.filter.Slurm.{Slurm}
 use Rattle.slurm.specs.declared.unite_fault.UniteFault.{UniteFault}
 use Rattle.slurm.specs.declared.unite_fault.UniteFault.TheVariants as unite
-use Rattle.sources.specs.Served.{IsNothing, IsTaken, TakesSlurm, TakesSlurms, counting_at, expired_of}
+use Rattle.sources.specs.Served.{IsNothing, IsTaken, TakesSlurm, TakesSlurms, counting_at, ends_between, expired_of}
 use Rattle.sources.specs.declared.fault.SlurmSetFault.TheVariants.{File, Unite}
 use Rattle.sources.specs.declared.listed.Listed.{Listed}
 
@@ -26,6 +26,10 @@ CountsExpired =
 -- Of a list that has nothing no payload counts at any second, and none has expired.
 abbrev pub NothingCounts : Type 0
 NothingCounts = (l : Listed) → IsNothing l → (at : ℕ) → (counting_at at l ≡ empty) × (expired_of at (Some l) ≡ 0)
+
+-- If no record of a file ends between two seconds, as many have expired at each second from the first to the last.
+abbrev pub NothingEnds : Type 0
+NothingEnds = (from to at : ℕ) (l : Option Listed) → ends_between from to l ≡ false → from ≤ at → at ≤ to → expired_of at l ≡ expired_of to l
 
 -- One file is read alike by `TakesSlurm`, and by `TakesSlurms` as the only one.
 abbrev pub OneSlurm : Type 0

@@ -1,5 +1,5 @@
 //! Laws of sources. The functions do nothing: each states a law, which is proved.
-ghost use Rattle.sources.specs.TakenLaws.{CountsExpired, NothingCounts, OneSlurm, StaysTaken};
+ghost use Rattle.sources.specs.TakenLaws.{CountsExpired, NothingCounts, NothingEnds, OneSlurm, StaysTaken};
 
 use exports::laws::later_exports;
 
@@ -18,6 +18,11 @@ pub fn counts_expired()
 /// Nothing counts of a list that has nothing, and nothing of it has expired.
 pub fn nothing_counts()
     ensures { NothingCounts }
+{}
+
+/// If no record of a file ends between two seconds, as many have expired at each second from the first to the last.
+pub fn nothing_ends()
+    ensures { NothingEnds }
 {}
 
 /// One file of local exceptions gives the same by itself, and as the only one of several.

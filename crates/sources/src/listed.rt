@@ -2,7 +2,7 @@
 ghost use Rattle.std.specs.Prelude.{◌≡◌, ◌<◌, ◌++◌, ◌∷◌, [], cond, nat_le, IfOk, IsErrOf, None, OnOk, Some, replicate};
 ghost use Rattle.vrps.specs.VrpSet.{size};
 ghost use Rattle.exports.specs.Lasting.{counting, last_at};
-ghost use Rattle.sources.specs.Served.{CountsUntil, IsNothing, counting_at, expired_of, is_any_before};
+ghost use Rattle.sources.specs.Served.{CountsUntil, IsNothing, counting_at, ends_between, expired_of, is_any_before};
 
 use prefixes::Vrp;
 use std::alloc::{AllocError, Global};
@@ -67,6 +67,13 @@ impl Listed {
         ensures { result ≡ expired_of now (Some self.now) }
     {
         self.lasts.iter().filter(|last| **last < now).count() as u64
+    }
+
+    /// Whether a record has its last second at `from` or later, and before `to`. Until `to` it has then expired, and at `from` it has not.
+    pub(crate) fn ends_between(&self, from: u64, to: u64) -> bool
+        ensures { result ≡ ends_between from to (Some self.now) }
+    {
+        self.lasts.iter().any(|last| from <= *last && *last < to)
     }
 
     /// The set of the records that count at this moment.

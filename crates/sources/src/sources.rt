@@ -4,7 +4,7 @@ ghost use Rattle.vrps.specs.VrpSet.{empty, size, union};
 ghost use Rattle.points.specs.Answers.{told_by, NewExactly, BecomesAt};
 ghost use Rattle.points.specs.InUse.{accepted_at, no_points};
 ghost use Rattle.points.specs.Offers.{Acceptable, Judged};
-ghost use Rattle.sources.specs.Served.{HasServed, IsServed, DropsSet, LeavesOut, NoneTaken, PassesLimit, TakesExport, TakesSet, TakesSlurm, TakesSlurms, built_at, excepted_by, expired_of, has_length_0, left_out_of, narrowed, with_lists};
+ghost use Rattle.sources.specs.Served.{HasServed, IsServed, DropsSet, LeavesOut, NoneTaken, PassesLimit, TakesExport, TakesSet, TakesSlurm, TakesSlurms, built_at, ends_between, excepted_by, expired_of, has_length_0, left_out_of, narrowed, with_lists};
 
 use crate::fault::{SlurmSetFault, TakeFault, TakeSetFault};
 use crate::listed::Listed;
@@ -77,6 +77,16 @@ impl Sources {
         match self.lists.get(file) {
             Some(list) => list.expired(now),
             None => 0,
+        }
+    }
+
+    /// Whether a record of a file ends between two seconds: it still counts at `from`, in seconds since 1970, and no longer at `to`.
+    pub fn ends_between(&self, file: usize, from: u64, to: u64) -> bool
+        ensures { result ≡ ends_between from to (slice_get self.now.lists.items file) }
+    {
+        match self.lists.get(file) {
+            Some(list) => list.ends_between(from, to),
+            None => false,
         }
     }
 
@@ -183,15 +193,6 @@ impl Sources {
     pub fn served(&self, now: Moment) -> Result<ServedSet, SetFault>
         ensures is { IfOk result (λ t. IsServed self.now.repository self.now.lists.items self.now.exceptions self.now.leaves_out now t.set) }
         ensures those { IfOk result (λ t. HasServed self.now.repository self.now.lists.items self.now.exceptions self.now.leaves_out now t.set) }
-        ensures left_out { IfOk result (λ t. LeavesOut self.now.repository self.now.lists.items self.now.exceptions self.now.leaves_out now t.left_out) }
-        ensures too_many { IsErrOf result SetFault.TooMany → PassesLimit self.now.repository self.now.lists.items self.now.exceptions now }
-    {
-        self.served_at(now)
-    }
-
-    /// The same by what it is made of.
-    fn served_at(&self, now: Moment) -> Result<ServedSet, SetFault>
-        ensures ok { IfOk result (λ t. IsServed self.now.repository self.now.lists.items self.now.exceptions self.now.leaves_out now t.set) }
         ensures left_out { IfOk result (λ t. LeavesOut self.now.repository self.now.lists.items self.now.exceptions self.now.leaves_out now t.left_out) }
         ensures too_many { IsErrOf result SetFault.TooMany → PassesLimit self.now.repository self.now.lists.items self.now.exceptions now }
     {
