@@ -23,9 +23,11 @@ mod buffer;
 pub mod laws;
 mod limit;
 mod output;
+mod room;
 mod sink;
 
 pub use buffer::{BUFFER_BYTES, CHUNK_BYTES, LogBuffer};
 pub use limit::{ClientLineLimit, LIMIT_LINES, LIMIT_MILLIS};
 pub use output::Log;
+pub use room::{Room, RoomSink};
 pub use sink::LogSink;

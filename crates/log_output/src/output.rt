@@ -1,5 +1,5 @@
 //! The log: levels, the limit of lines about clients, and lines that wait for room.
-ghost use Rattle.std.specs.Prelude.{◌≡◌, ◌+◌, ◌≤◌, ◌<◌, ◌==◌, ◌&&◌, [], true, None, IfOk, length};
+ghost use Rattle.std.specs.Prelude.{◌≡◌, ◌+◌, ◌≤◌, ◌<◌, ◌==◌, ◌&&◌, [], true, None, IfOk, if◌then◌else◌, length};
 ghost use Rattle.event_log.specs.Levels.{level_of, severity};
 ghost use Rattle.log_output.specs.Buffers.{buffered, saturated};
 ghost use Rattle.log_output.specs.Limits.{limited};
@@ -167,6 +167,16 @@ impl Log {
         ensures { result ≡ is_empty self.now }
     {
         self.is_written() && self.buffer.dropped() == 0 && self.limit.suppressed() == 0
+    }
+
+    /// How long a wait may be, in milliseconds, until the log is written again: a second while something waits.
+    pub fn wait_limit(&self) -> u64
+        ensures { result ≡ if is_empty self.now then 18446744073709551615 else 1000 }
+    {
+        if self.is_empty() {
+            return u64::MAX;
+        }
+        1000
     }
 
     /// How many lines were dropped since the start. It stays at the largest number.

@@ -15,7 +15,11 @@
 #![tactic(auto)]
 
 mod addresses;
+mod manager;
+mod notifier;
 mod watchdog;
 
 pub use addresses::socket_address;
+pub use manager::{OpenNotifySocket, service_manager};
+pub use notifier::{Notifier, NotifySocket, enabled_watchdog};
 pub use watchdog::Watchdog;

@@ -1,3 +1,4 @@
+pub mod Choices
 pub mod Names
 pub mod NameRows
 pub mod Runs

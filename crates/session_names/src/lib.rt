@@ -15,9 +15,11 @@
 //! ```
 #![tactic(auto)]
 
+mod choice;
 pub mod laws;
 mod names;
 mod pace;
 
+pub use choice::{GivenIds, HostFacts, SessionChoice, choose_session};
 pub use names::{SessionIds, first_serial, is_machine_id, session_of, session0_of};
 pub use pace::Pace;
