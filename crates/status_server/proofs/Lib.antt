@@ -3,3 +3,4 @@ pub mod Sources
 pub mod Sending
 pub mod CallLaws
 pub mod ConnectionLaws
+pub mod VersionLaws

@@ -7,3 +7,4 @@ pub mod Plans
 pub mod Progress
 pub mod Resources
 pub mod Responses
+pub mod Versions

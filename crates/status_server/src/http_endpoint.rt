@@ -14,7 +14,7 @@ use std::io::{Read, Write};
 use std::marker::Model;
 
 /// How many calls of its stream a connection has in one turn.
-const BUDGET: u32 = 8;
+pub(crate) const BUDGET: u32 = 8;
 
 /// How many readiness events are read in one turn.
 const READY: usize = 65_536;

@@ -44,11 +44,14 @@ mod http_connection;
 mod http_connections;
 mod http_endpoint;
 mod http_sockets;
+pub mod laws;
 mod plan;
 mod representations;
 mod resources;
 mod responses;
+mod status_endpoint;
 mod status_source;
+mod version_cache;
 
 pub use host::is_served_host;
 pub use http_connection::HttpProgress;
@@ -57,4 +60,6 @@ pub use http_connections::{
 };
 pub use http_endpoint::HttpEndpoint;
 pub use http_sockets::{HttpAccept, HttpReady, HttpSockets};
+pub use status_endpoint::{CachePlace, CacheView, StatusEndpoint};
 pub use status_source::StatusSource;
+pub use version_cache::VersionCache;

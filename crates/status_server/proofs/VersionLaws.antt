@@ -1,0 +1,116 @@
+-- What is kept for a version, before and after more is made of it.
+use Rattle.std.proofs.Common.{◌≡◌, ◌⊎◌, ◌∙◌, ℕ, ◌==◌, Bool, true, false, if◌then◌else◌, List, Option, Some, None, ap, option_map, refl, rules, subst, sym, inl, inr}
+use Rattle.std.specs.Prelude.{unwrap_or}
+use Rattle.std.specs.Borrow.{Bor}
+use Rattle.vrps.specs.declared.serial.Serial.{Serial}
+use Rattle.payload_lists.specs.PayloadList.{list_text}
+use Rattle.status_pages.specs.Csv.{csv_text}
+use Rattle.vrps.specs.Instance.{NumberedSet}
+use Rattle.vrps.specs.VrpSet.{VrpSet, listing}
+use Rattle.status_server.specs.Answers.{AnswersSo, Shown}
+use Rattle.status_server.specs.Connections.{Turns}
+use Rattle.status_server.specs.declared.http_connections.Entry.{Entry}
+use Rattle.status_server.specs.Versions.{KeepsCsv, KeepsIndex, KeepsList, anew, is_same_serial, kept_for, serial_of, shown_in, shown_of, version_of}
+use Rattle.status_server.specs.declared.version_cache.VersionCache.{VersionCache}
+
+-- what is answered of a version with these parts
+abbrev with_parts : Option (List ℕ) → Option (List ℕ) → Option VrpSet → Option NumberedSet → Shown
+with_parts list csv set version =
+    record {
+      status = None;
+      list = Some (option_map (λ v. unwrap_or list (list_text (listing v.set))) version);
+      csv = Some (option_map (λ v. unwrap_or csv (csv_text (listing v.set))) version);
+      set = Some (option_map (λ v. unwrap_or set v.set) version);
+    }
+
+abbrev shown_from : Option NumberedSet → VersionCache → Shown
+shown_from version kept = with_parts kept.list kept.csv kept.index version
+
+-- the same by the test of the serial
+abbrev picked : Bool → Option NumberedSet → VersionCache → VersionCache
+picked same version kept = if same then kept else anew version kept
+
+same_self : (s : Option ℕ) → is_same_serial s s ≡ true
+same_self None = refl
+same_self (Some n) = eq_self n where
+  eq_self : (n : ℕ) → (n == n) ≡ true
+  eq_self n = search (rules)
+
+-- A cache of the serial of the version answers what it has.
+from_same : (version : Option NumberedSet) (kept : VersionCache) → is_same_serial kept.serial (serial_of version) ≡ true → shown_in version kept ≡ shown_from version kept
+from_same version kept same = ap (λ (b : Bool). shown_from version (picked b version kept)) same
+
+-- What is kept for a version has its serial.
+same_kept : (version : Option NumberedSet) (kept : VersionCache) → is_same_serial (kept_for version kept).serial (serial_of version) ≡ true
+same_kept version kept = by_test (is_same_serial kept.serial (serial_of version)) refl where
+  by_test : (b : Bool) → is_same_serial kept.serial (serial_of version) ≡ b → is_same_serial (picked b version kept).serial (serial_of version) ≡ true
+  by_test true e = e
+  by_test false e = same_self (serial_of version)
+
+pub drop_keeps : (version : Option NumberedSet) (kept : VersionCache) → shown_in version (kept_for version kept) ≡ shown_in version kept
+drop_keeps version kept = from_same version (kept_for version kept) (same_kept version kept)
+
+pub new_is_shown : (version : Option NumberedSet) (kept : VersionCache) → is_same_serial kept.serial (serial_of version) ≡ false → shown_in version kept ≡ shown_of version
+new_is_shown version kept differs = ap (λ (b : Bool). shown_from version (picked b version kept)) differs ∙ of_none version where
+  of_none : (version : Option NumberedSet) → shown_from version (anew version kept) ≡ shown_of version
+  of_none version = refl
+
+-- If what is answered is the same, and so is the serial, a call keeps it.
+keeps_by : (version : Option NumberedSet) (old new : VersionCache) → new.serial ≡ (kept_for version old).serial → shown_from version new ≡ shown_from version (kept_for version old)
+    → shown_in version new ≡ shown_in version old
+keeps_by version old new serial shown =
+    from_same version new (subst (λ (s : Option ℕ). is_same_serial s (serial_of version) ≡ true) (sym serial) (same_kept version old)) ∙ shown
+
+-- To make a part of the set of the version keeps what is answered.
+module _ (v : NumberedSet) (old : VersionCache) where
+  abbrev k : VersionCache
+  k = kept_for (Some v) old
+
+  pub list_keeps : (new : VersionCache) → KeepsList v.set k new → shown_in (Some v) new ≡ shown_in (Some v) old
+  list_keeps new h = elim h [
+    | inl e ↦ keeps_by (Some v) old new (ap (λ (c : VersionCache). c.serial) e) (ap (λ (c : VersionCache). shown_from (Some v) c) e)
+    | inr e ↦ keeps_by (Some v) old new (ap (λ (c : VersionCache). c.serial) e.1)
+        (ap (λ (c : VersionCache). shown_from (Some v) c) e.1 ∙ ap (λ (l : Option (List ℕ)). with_parts l k.csv k.index (Some v)) (sym e.0))
+  ]
+
+  pub csv_keeps : (new : VersionCache) → KeepsCsv v.set k new → shown_in (Some v) new ≡ shown_in (Some v) old
+  csv_keeps new h = elim h [
+    | inl e ↦ keeps_by (Some v) old new (ap (λ (c : VersionCache). c.serial) e) (ap (λ (c : VersionCache). shown_from (Some v) c) e)
+    | inr e ↦ keeps_by (Some v) old new (ap (λ (c : VersionCache). c.serial) e.1)
+        (ap (λ (c : VersionCache). shown_from (Some v) c) e.1 ∙ ap (λ (l : Option (List ℕ)). with_parts k.list l k.index (Some v)) (sym e.0))
+  ]
+
+  pub index_keeps : (new : VersionCache) → KeepsIndex v.set k new → shown_in (Some v) new ≡ shown_in (Some v) old
+  index_keeps new h = elim h [
+    | inl e ↦ keeps_by (Some v) old new (ap (λ (c : VersionCache). c.serial) e) (ap (λ (c : VersionCache). shown_from (Some v) c) e)
+    | inr e ↦ keeps_by (Some v) old new (ap (λ (c : VersionCache). c.serial) e.1)
+        (ap (λ (c : VersionCache). shown_from (Some v) c) e.1 ∙ ap (λ (i : Option VrpSet). with_parts k.list k.csv i (Some v)) (sym e.0))
+  ]
+
+-- The same of a version that is lent, once what was made of another was dropped.
+module _ (found : Option (Serial × Bor VrpSet)) (serial : Serial) (set : Bor VrpSet) (old kept new : VersionCache) (is : found ≡ Some (serial, set)) (dropped : kept ≡ kept_for (version_of found) old) where
+  abbrev v : NumberedSet
+  v = record { serial = serial.0; set = set.now }
+
+  step : (P : VersionCache → VersionCache → Type 0) → ((k : VersionCache) → k ≡ kept_for (Some v) old → P k new → shown_in (Some v) new ≡ shown_in (Some v) old)
+      → P kept new → shown_in (version_of found) new ≡ shown_in (version_of found) old
+  step P by h =
+      subst (λ (f : Option (Serial × Bor VrpSet)). kept ≡ kept_for (version_of f) old → shown_in (version_of f) new ≡ shown_in (version_of f) old) (sym is) (λ e. by kept e h) dropped
+
+  pub list_step : KeepsList set.now kept new → shown_in (version_of found) new ≡ shown_in (version_of found) old
+  list_step = step (KeepsList set.now) (λ k e h. list_keeps v old new (subst (λ (c : VersionCache). KeepsList set.now c new) e h))
+
+  pub csv_step : KeepsCsv set.now kept new → shown_in (version_of found) new ≡ shown_in (version_of found) old
+  csv_step = step (KeepsCsv set.now) (λ k e h. csv_keeps v old new (subst (λ (c : VersionCache). KeepsCsv set.now c new) e h))
+
+  pub index_step : KeepsIndex set.now kept new → shown_in (version_of found) new ≡ shown_in (version_of found) old
+  index_step = step (KeepsIndex set.now) (λ k e h. index_keeps v old new (subst (λ (c : VersionCache). KeepsIndex set.now c new) e h))
+
+pub dropped_keeps : (version : Option NumberedSet) (old new : VersionCache) → new ≡ kept_for version old → shown_in version new ≡ shown_in version old
+dropped_keeps version old new e = ap (λ (k : VersionCache). shown_in version k) e ∙ drop_keeps version old
+
+-- The answers of a turn are those of the same shown under the same name.
+pub turns_as : {T : Type 0} (remaining contents : T → Option (List ℕ)) (now budget : ℕ) (vs ws : List (Entry T)) (a b : Shown) (m n : Option (List ℕ)) → a ≡ b → m ≡ n
+    → Turns remaining contents (AnswersSo a m) now budget vs ws → Turns remaining contents (AnswersSo b n) now budget vs ws
+turns_as remaining contents now budget vs ws a b m n shown name h =
+    subst (λ (s : Shown). Turns remaining contents (AnswersSo s n) now budget vs ws) shown (subst (λ (o : Option (List ℕ)). Turns remaining contents (AnswersSo a o) now budget vs ws) name h)

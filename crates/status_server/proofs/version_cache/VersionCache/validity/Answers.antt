@@ -1,0 +1,11 @@
+use Rattle.status_server.proofs.VersionLaws.{dropped_keeps, index_step}
+use Rattle.status_server.proofs.version_cache.VersionCache.validity.Goals as goal
+
+pub returns-in_default-clause-keeps : goal.returns-in_default-clause-keeps
+returns-in_default-clause-keeps c = dropped_keeps _ _ _ c.drop_old.ensures
+
+pub returns-in_err-validity_of-clause-keeps : goal.returns-in_err-validity_of-clause-keeps
+returns-in_err-validity_of-clause-keeps c = index_step _ _ _ _ _ _ c.in-Some.is c.drop_old.ensures c.validity_of.ensures.keeps
+
+pub returns-clause-keeps : goal.returns-clause-keeps
+returns-clause-keeps c = index_step _ _ _ _ _ _ c.in-Some.is c.drop_old.ensures c.validity_of.ensures.keeps
