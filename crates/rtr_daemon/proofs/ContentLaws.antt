@@ -14,7 +14,7 @@ use Rattle.rtr_daemon.specs.Serving.{LoadsExport}
 use Rattle.rtr_daemon.specs.declared.refusal.Refusal.{Refusal}
 use Rattle.rtr_daemon.specs.Files.{AreContents, AreNumbered, Follows, FollowsEach, Loads, LoadsEach, names_of, path_of, paths_of}
 use Rattle.rtr_daemon.specs.PointOffers.{OffersEach, OffersPoint, points_of}
-use Rattle.rtr_daemon.specs.declared.polling.WatchedPoint.{WatchedPoint}
+use Rattle.rtr_daemon.specs.declared.point_polling.WatchedPoint.{WatchedPoint}
 use Rattle.rtr_daemon.specs.declared.watched_file.WatchedExport.{WatchedExport}
 use Rattle.rtr_daemon.specs.declared.watched_file.WatchedFile.{WatchedFile}
 

@@ -1,6 +1,7 @@
 -- If no record expires between two seconds, the set of the sources is the same at both.
 use Rattle.std.proofs.Common.{◌≡◌, ℕ, suc, ◌+◌, ◌<◌, ◌≤◌, Bool, true, false, cond, nat_lt, List, [], ◌∷◌, None, Some, refl, sym, ap, ◌∙◌, arith}
-use Rattle.std.specs.Prelude.{nat_le, not, count_by}
+use Rattle.std.specs.Prelude.{nat_le, not, count_by, slice_get, min, max}
+use Rattle.std.proofs.Math.Nat.{min-le_left, min-le_right, le-max_left, le-max_right}
 use Rattle.std.specs.FinMap as map
 use Rattle.std.specs.Ordering.{nat_cmp}
 use Rattle.std.specs.Cmp.Lexicographic.{slice_cmp}
@@ -15,7 +16,8 @@ use Rattle.points.specs.InUse.{Lists, Payloads, Points, no_points}
 use Rattle.sources.specs.Served.{counting_at, excepted_by, narrowed, with_lists}
 use Rattle.sources.specs.declared.listed.Listed.{Listed}
 use Rattle.sources.specs.declared.sources.Sources.{Sources}
-use Rattle.rtr_daemon.specs.Serving.{IsServedAt, SameExpired}
+use Rattle.sources.proofs.Ends.{nothing_ends}
+use Rattle.rtr_daemon.specs.Serving.{IsServedAt, NoneEnds, SameExpired}
 
 -- how many of these last seconds are before a second
 abbrev gone : ℕ → List ℕ → ℕ
@@ -94,3 +96,22 @@ served_later before now s set none m seconds same h = record {
         (ap (λ n. with_lists n (set_of h.served.used) s.lists.items) h.seconds ∙ same_lists before now s.lists.items same (set_of h.served.used) ∙ ap (λ n. with_lists n (set_of h.served.used) s.lists.items) (sym seconds));
   };
 }
+
+-- If no record ends between two seconds, as many have expired at any two seconds from the first to the last.
+pub none_ended : (from to a b : ℕ) (ls : List Listed) → NoneEnds from to ls → from ≤ a → a ≤ to → from ≤ b → b ≤ to → SameExpired a b ls
+none_ended from to a b ls none a_low a_high b_low b_high = λ i lt. nothing_ends from to a (slice_get ls i) (none i lt) a_low a_high ∙ sym (nothing_ends from to b (slice_get ls i) (none i lt) b_low b_high)
+
+-- If no record ends from the least to the greatest of three seconds, as many have expired at the second as at the third, and at the first as at the third.
+pub none_ended_of : (judged current now least from greatest to : ℕ) (ls : List Listed) → least ≡ min judged current → from ≡ min least now → greatest ≡ max judged current → to ≡ max greatest now → NoneEnds from to ls → SameExpired current now ls × SameExpired judged now ls
+none_ended_of judged current now least from greatest to ls e1 e2 e3 e4 none =
+    let j_low = min-le_left judged current in
+    let c_low = min-le_right judged current in
+    let l_low = min-le_left least now in
+    let n_low = min-le_right least now in
+    let j_high = le-max_left judged current in
+    let c_high = le-max_right judged current in
+    let g_high = le-max_left greatest now in
+    let n_high = le-max_right greatest now in (
+      none_ended from to current now ls none (omega (arith, e1, e2, c_low, l_low)) (omega (arith, e3, e4, c_high, g_high)) (omega (arith, e2, n_low)) (omega (arith, e4, n_high)),
+      none_ended from to judged now ls none (omega (arith, e1, e2, j_low, l_low)) (omega (arith, e3, e4, j_high, g_high)) (omega (arith, e2, n_low)) (omega (arith, e4, n_high)),
+    )

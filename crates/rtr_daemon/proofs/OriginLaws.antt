@@ -29,7 +29,7 @@ use Rattle.rtr_daemon.specs.Files.{Follows, FollowsEach, FollowsSlurms, LoadsEac
 use Rattle.rtr_daemon.specs.Origins.{ExceptionsComeFrom, ExportComesFrom, ExportsComeFrom, PointComesFrom, PointsComeFrom, SourcesComeFrom}
 use Rattle.rtr_daemon.specs.PointOffers.{IsOffered, OffersEach, OffersPoint, points_of}
 use Rattle.rtr_daemon.specs.declared.daemon.Daemon.{Daemon}
-use Rattle.rtr_daemon.specs.declared.polling.WatchedPoint.{WatchedPoint}
+use Rattle.rtr_daemon.specs.declared.point_polling.WatchedPoint.{WatchedPoint}
 use Rattle.rtr_daemon.specs.declared.watched_file.WatchedExport.{WatchedExport}
 use Rattle.rtr_daemon.specs.declared.watched_file.WatchedFile.{WatchedFile}
 

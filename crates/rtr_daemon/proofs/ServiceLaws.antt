@@ -210,7 +210,7 @@ server_on holds remaining contents old server goes p h =
 
 -- The newest version is the set of the sources at another second too.
 pub current_on : {S T : Type 0} (holds : ℕ → Instance → S → Type 0) (remaining contents : T → Option (List ℕ)) (old : Service S T) (now : ℕ) (m : CivilMoment) → seconds_of m ≡ now → old.has_points ≡ false → SameExpired old.current_at now old.sources.lists.items
-    → Continues holds remaining contents old (record old { current_at = now })
+    → Continues holds remaining contents old (record old { current_at = now; judged_at = now })
 current_on holds remaining contents old now m seconds none same p h =
     (p, no_later p, record { server = h.server; newest = λ e. let was = h.newest e in record { version = was.version; is = was.is; served = served_later old.current_at now old.sources was.version.set (h.points none) m seconds same was.served }; points = h.points }, refl, refl)
 

@@ -49,6 +49,16 @@ pub record JudgesAges {S T : Type 0} (old new : Daemon S T) : Type 0 where
   pub names : names_of new.exports.items ≡ names_of old.exports.items
   pub rest : new ≡ record old { exports = new.exports; is_old = new.is_old }
 
+-- Which records have expired was judged.
+pub record JudgesExpiry {S T : Type 0} (old new : Daemon S T) : Type 0 where
+  pub names : names_of new.exports.items ≡ names_of old.exports.items
+  pub rest :
+      new
+      ≡ record old {
+        service = record old.service { is_pending = new.service.is_pending; current_at = new.service.current_at; judged_at = new.service.judged_at };
+        exports = new.exports;
+      }
+
 -- The sources are unchanged, the paths too, and when files are polled next.
 pub record KeepsFiles {S T : Type 0} (old new : Daemon S T) : Type 0 where
   pub sources : new.service.sources ≡ old.service.sources

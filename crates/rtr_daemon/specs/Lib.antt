@@ -3,10 +3,12 @@ pub mod DiskAnswers
 pub mod Due
 pub mod Files
 pub mod Notes
+pub mod Opening
 pub mod Origins
 pub mod PointOffers
 pub mod Pacing
 pub mod Queue
+pub mod Running
 pub mod Serving
 pub mod Stalling
 pub mod Turns

@@ -15,7 +15,7 @@ use Rattle.payload_commands.specs.Directories.{Supplies}
 use Rattle.payload_commands.specs.declared.directories.Directory.{Directory}
 use Rattle.sources.specs.declared.sources.Sources.{Sources}
 use Rattle.rtr_daemon.specs.DiskAnswers.{DiskAnswers}
-use Rattle.rtr_daemon.specs.declared.polling.WatchedPoint.{WatchedPoint}
+use Rattle.rtr_daemon.specs.declared.point_polling.WatchedPoint.{WatchedPoint}
 use Rattle.rtr_daemon.specs.declared.refusal.Refusal.{Refusal}
 use Rattle.rtr_daemon.specs.declared.refusal.Refusal.TheVariants.{Clock, Point}
 

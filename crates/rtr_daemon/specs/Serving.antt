@@ -14,7 +14,7 @@ use Rattle.vrps.specs.declared.store.Published.TheVariants.{New, Unchanged}
 use Rattle.rtr_ends.specs.CacheState.{CacheCall, Open}
 use Rattle.rtr_server.specs.Clients.{Past, ShowsServer, present}
 use Rattle.points.specs.InUse.{no_points}
-use Rattle.sources.specs.Served.{ExportTaken, PassesLimit, ServesAt, SlurmsTaken, expired_of}
+use Rattle.sources.specs.Served.{ExportTaken, PassesLimit, ServesAt, SlurmsTaken, ends_between, expired_of}
 use Rattle.sources.specs.declared.fault.SlurmSetFault.{SlurmSetFault}
 use Rattle.sources.specs.declared.fault.TakeFault.{TakeFault}
 use Rattle.sources.specs.declared.listed.Listed.{Listed}
@@ -67,6 +67,10 @@ IsFresh clock service = (service.is_pending ≡ true) ⊎ clock service.current_
 -- At both seconds the same number of payloads of each file has expired.
 abbrev pub SameExpired : ℕ → ℕ → List Listed → Type 0
 SameExpired before now lists = (i : ℕ) → i < length lists → expired_of before (slice_get lists i) ≡ expired_of now (slice_get lists i)
+
+-- No record of a file ends between two seconds.
+abbrev pub NoneEnds : ℕ → ℕ → List Listed → Type 0
+NoneEnds from to lists = (i : ℕ) → i < length lists → ends_between from to (slice_get lists i) ≡ false
 
 -- No version was published between two pasts.
 abbrev pub KeepsVersions : Past → Past → Type 0

@@ -23,23 +23,40 @@
 //! ```
 #![tactic(auto)]
 
+mod accept_errors;
 mod accepting;
+mod ages;
 mod client_table;
 mod clients;
 mod daemon;
 mod environment;
 pub mod laws;
+mod point_polling;
+mod poll_token;
 mod polling;
+mod publishing;
+mod readable;
 mod refusal;
 mod refusals;
+mod running;
 mod service;
 mod set_changes;
+mod slurm_contents;
 mod slurm_polling;
+mod start_faults;
+mod starting;
 mod statistics;
 mod status;
 mod watched_file;
 
 pub use daemon::{CheckReport, Daemon, Paths, Plan, StopReason};
 pub use environment::{AcceptResult, Disk, EventLog, Ready, Sockets, Stamp, Time};
+pub use poll_token::{FIRST_CONNECTION, FIRST_STATUS_CONNECTION, PollToken, STATUS_TOKEN};
+pub use readable::{FileForm, Unreadable};
 pub use refusal::{FileFault, Refusal, StartFault};
+pub use running::{
+    AfterTurn, WaitLimits, limit_clients, report_check, report_end, run, wait_for_clock,
+};
 pub use service::{PublishReport, Service};
+pub use set_changes::StepStore;
+pub use start_faults::SocketFault;

@@ -7,10 +7,10 @@ ghost use Rattle.points.specs.InUse.{no_points};
 ghost use Rattle.rtr_server.specs.Clients.{AdmitsTo, KeepsOthers, Past, Serves, ShowsServer, is_gone, slot_at};
 ghost use Rattle.sources.specs.Served.{ExportTaken, SetDropped, SetTaken, SlurmTaken, SlurmsTaken};
 ghost use Rattle.rtr_daemon.specs.PointOffers.{OffersTo};
-ghost use Rattle.rtr_daemon.specs.Serving.{Continues, GoesOn, IsFresh, IsOfSecond, IsReason, IsServedAt, Issues, OnlyServer, OnlySources, PacesSo, SameExpired, ShowsService, StaysFresh, TakesSo};
+ghost use Rattle.rtr_daemon.specs.Serving.{Continues, GoesOn, IsFresh, IsOfSecond, IsReason, IsServedAt, Issues, NoneEnds, OnlyServer, OnlySources, PacesSo, SameExpired, ShowsService, StaysFresh, TakesSo};
 
 use crate::refusal::Refusal;
-use crate::set_changes::change_counts;
+use crate::set_changes::{ChangeCounts, StepStore};
 use event_log::moment_at;
 use payload_commands::Directory;
 use points::{Offered, PointFault};
@@ -34,6 +34,8 @@ pub struct Service<S, T> {
     current_at: u64,
     /// Whether there may be publication points.
     has_points: bool,
+    /// The second since 1970 at which expiry was judged last.
+    judged_at: u64,
 }
 
 impl<S: VersionStore, T: Stream + Drop> Service<S, T> {
@@ -50,6 +52,7 @@ impl<S: VersionStore, T: Stream + Drop> Service<S, T> {
             pace: Pace::new(),
             current_at: 0,
             has_points: true,
+            judged_at: 0,
         }
     }
 
@@ -62,6 +65,7 @@ impl<S: VersionStore, T: Stream + Drop> Service<S, T> {
         let mut service = Service::new(server, sources);
         service.pace = Pace::after(start);
         service.has_points = false;
+        service.judged_at = start;
         service
     }
 
@@ -114,11 +118,6 @@ impl<S: VersionStore, T: Stream + Drop> Service<S, T> {
         ensures rest { OnlyServer self.old self.new }
     {
         self.server.drop_client(client)
-    }
-
-    /// How many records of a file have expired since it was loaded, by this second since 1970.
-    pub fn expired(&self, file: usize, now: u64) -> u64 {
-        self.sources.expired(file, now)
     }
 
     /// Loads the export of a file, and answers how many of its entries had expired.
@@ -194,33 +193,34 @@ impl<S: VersionStore, T: Stream + Drop> Service<S, T> {
         self.is_pending = true;
     }
 
-    /// Makes a version pending if records have expired since the newest version, by this second since 1970. If there are publication points, one
-    /// is pending in any case.
-    pub(crate) fn judge_expiry(&mut self, now: u64)
+    /// Judges which records have expired by this second since 1970. A version is pending if a record of a file has expired since the newest
+    /// version, and in any case if there are publication points. It answers whether more or fewer records may have expired than at the second
+    /// that was judged before.
+    pub(crate) fn judge_expiry(&mut self, now: u64) -> bool
         ensures goes { Continues S.holds T.remaining T.contents self.old self.new }
         ensures fresh { IsFresh (λ at. at ≡ now) self.new }
-        ensures rest { self.new ≡ record self.old { is_pending = self.new.is_pending; current_at = self.new.current_at } }
+        ensures same { result ≡ false → SameExpired self.old.judged_at now self.old.sources.lists.items }
+        ensures judged { self.new.judged_at ≡ now }
+        ensures rest { self.new ≡ record self.old { is_pending = self.new.is_pending; current_at = self.new.current_at; judged_at = self.new.judged_at } }
     {
-        if self.is_current_at(now) {
+        let from = self.judged_at.min(self.current_at).min(now);
+        let to = self.judged_at.max(self.current_at).max(now);
+        let ends = is_any_ended(&self.sources, from, to);
+        self.judged_at = now;
+        if !ends && self.is_current_if_none_ended(now) {
             self.current_at = now;
         } else {
             self.is_pending = true;
         }
+        ends
     }
 
-    /// Whether the sources have no publication points, and no record of a file has expired between the newest version and this second.
-    fn is_current_at(&self, now: u64) -> bool
+    /// Whether there are no publication points, and this second is one of the calendar.
+    fn is_current_if_none_ended(&self, now: u64) -> bool
         ensures points { result ≡ true → self.now.has_points ≡ false }
         ensures moment { result ≡ true → (m : CivilMoment) × (seconds_of m ≡ now) }
-        ensures same { result ≡ true → SameExpired self.now.current_at now self.now.sources.lists.items }
     {
-        if self.has_points {
-            return false;
-        }
-        let Some(_moment) = moment_at(now) else {
-            return false;
-        };
-        !has_expired_between(&self.sources, self.current_at, now)
+        !self.has_points && moment_at(now).is_some()
     }
 
     /// Offers the content of a directory to the publication point of its name, at a time in seconds since 1970.
@@ -266,7 +266,9 @@ impl<S: VersionStore, T: Stream + Drop> Service<S, T> {
             Err(fault) => Err(Refusal::Set(fault)),
         }
     }
+}
 
+impl<S: StepStore, T: Stream + Drop> Service<S, T> {
     /// Publishes the set of the sources at a time in seconds since 1970. If that fails, the version stays pending, and the served set stays.
     pub fn publish(&mut self, now: u64) -> Result<PublishReport, Refusal>
         ensures issues { IfOk result (λ report. Issues S.holds T.remaining T.contents now report.published self.old self.new) }
@@ -282,20 +284,33 @@ impl<S: VersionStore, T: Stream + Drop> Service<S, T> {
         ensures current { IfErr result (λ _. self.new.current_at ≡ self.old.current_at) }
     {
         let ServedSet { set, left_out } = self.served(now)?;
-        let counts = change_counts(self.set(), &set);
         let records = set.len() as u64;
         match self.server.publish(set) {
             Err(_) => Err(Refusal::Set(SetFault::Memory)),
             Ok(published) => {
                 self.is_pending = false;
                 self.current_at = now;
+                let ChangeCounts {
+                    announced,
+                    withdrawn,
+                } = self.counts_of(&published, records);
                 Ok(PublishReport {
                     published,
-                    announced: counts.announced,
-                    withdrawn: counts.withdrawn,
+                    announced,
+                    withdrawn,
                     records,
                     left_out,
                 })
+            }
+        }
+    }
+
+    /// What a version that was published just now announces and withdraws.
+    fn counts_of(&self, published: &Published, records: u64) -> ChangeCounts {
+        match published {
+            Published::Unchanged => ChangeCounts::none(),
+            Published::New(_) => {
+                ChangeCounts::of_version(self.server.version_store().newest_step(), records)
             }
         }
     }
@@ -335,22 +350,14 @@ impl<S: VersionStore, T: Stream + Drop> Service<S, T> {
             self.pace.published(second);
         }
     }
-
-    /// The served set.
-    fn set(&self) -> Option<&VrpSet> {
-        match self.server.current() {
-            Some((_serial, set)) => Some(set),
-            None => None,
-        }
-    }
 }
 
-/// Whether records of a file have expired from one second to another, or are no longer expired.
-fn has_expired_between(sources: &Sources, before: u64, now: u64) -> bool
-    ensures { result ≡ false → SameExpired before now sources.now.lists.items }
+/// Whether a record of a file ends between two seconds since 1970. Each file is walked once.
+fn is_any_ended(sources: &Sources, from: u64, to: u64) -> bool
+    ensures { result ≡ false → NoneEnds from to sources.now.lists.items }
 {
     for file in 0..sources.files() {
-        if sources.expired(file, before) != sources.expired(file, now) {
+        if sources.ends_between(file, from, to) {
             return true;
         }
     }

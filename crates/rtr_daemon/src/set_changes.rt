@@ -1,7 +1,22 @@
-//! How many records change from one set to another.
-use prefixes::Vrp;
-use std::cmp::Ordering;
-use vrps::VrpSet;
+//! How many records change from one version to the next.
+ghost use Rattle.std.specs.Prelude.{◌≡◌, ℕ, option_map};
+ghost use Rattle.vrps.specs.Instance.{Instance};
+ghost use Rattle.vrps.specs.NewestSteps.{newest_step};
+
+use vrps::{Change, VersionLog, VersionStore};
+
+/// A store of versions that keeps the step to its current version.
+pub trait StepStore: VersionStore {
+    /// The step to the current version from the one before it. `None`: there is no version before it.
+    fn newest_step(&self) -> Option<&Change>
+        ensures { (keep : ℕ) (i : Instance) → Self.holds keep i self.now → option_map (λ step. step.now) result ≡ newest_step keep i.sets };
+}
+
+impl StepStore for VersionLog {
+    fn newest_step(&self) -> Option<&Change> {
+        VersionLog::newest_step(self)
+    }
+}
 
 /// How many records are announced and withdrawn.
 #[derive(Clone, Copy, Debug, PartialEq, Eq)]
@@ -10,49 +25,26 @@ pub(crate) struct ChangeCounts {
     pub(crate) withdrawn: u64,
 }
 
-/// How many records are announced and withdrawn from one set to another. Both are walked once, side by side.
-pub(crate) fn change_counts(before: Option<&VrpSet>, after: &VrpSet) -> ChangeCounts {
-    match before {
-        None => ChangeCounts {
-            announced: after.len() as u64,
+impl ChangeCounts {
+    /// No record is announced or withdrawn.
+    pub(crate) fn none() -> ChangeCounts {
+        ChangeCounts {
+            announced: 0,
             withdrawn: 0,
-        },
-        Some(before) => differences(before.as_slice(), after.as_slice()),
-    }
-}
-
-fn differences(before: &[Vrp], after: &[Vrp]) -> ChangeCounts {
-    let (mut old, mut new) = (before, after);
-    let mut found = ChangeCounts {
-        announced: 0,
-        withdrawn: 0,
-    };
-    for _record in 0..before.len().saturating_add(after.len()) {
-        match (old, new) {
-            ([gone, older @ ..], [come, newer @ ..]) => match gone.cmp(come) {
-                Ordering::Less => {
-                    found.withdrawn = found.withdrawn.saturating_add(1);
-                    old = older;
-                }
-                Ordering::Greater => {
-                    found.announced = found.announced.saturating_add(1);
-                    new = newer;
-                }
-                Ordering::Equal => {
-                    old = older;
-                    new = newer;
-                }
-            },
-            _ => return with_rest(found, old, new),
         }
     }
-    with_rest(found, old, new)
-}
 
-/// The counts with the rest of one list after the other has ended.
-fn with_rest(found: ChangeCounts, old: &[Vrp], new: &[Vrp]) -> ChangeCounts {
-    ChangeCounts {
-        announced: found.announced.saturating_add(new.len() as u64),
-        withdrawn: found.withdrawn.saturating_add(old.len() as u64),
+    /// The counts of a first version of this many records, or of the step to a later one.
+    pub(crate) fn of_version(step: Option<&Change>, records: u64) -> ChangeCounts {
+        match step {
+            None => ChangeCounts {
+                announced: records,
+                withdrawn: 0,
+            },
+            Some(step) => ChangeCounts {
+                announced: step.announce.len() as u64,
+                withdrawn: step.withdraw.len() as u64,
+            },
+        }
     }
 }

@@ -1,8 +1,6 @@
 //! Polling the files of local exceptions, which are loaded together (RFC 8416 section 4.2).
-ghost use Rattle.std.specs.Prelude.{◌≡◌, ◌∷◌, ◌++◌, [], ℕ, All, IfErr, IfOk, List, OnOk, false, map};
-ghost use Rattle.rtr_daemon.specs.DiskAnswers.{ReadsWhole};
-ghost use Rattle.rtr_daemon.specs.Files.{AreContents, FollowsSlurms, IsKnown, IsOneUnread, IsUnread, ReadsSlurms, path_of, paths_of};
-ghost use Rattle.rtr_daemon.specs.declared.environment.Stamp.{Stamp as AStamp};
+ghost use Rattle.std.specs.Prelude.{◌≡◌, All, IfOk, false, map};
+ghost use Rattle.rtr_daemon.specs.Files.{FollowsSlurms, IsKnown, ReadsSlurms, paths_of};
 ghost use Rattle.rtr_daemon.specs.Due.{OnlyFiles};
 ghost use Rattle.rtr_daemon.specs.Serving.{Continues, LoadsSlurms, OnlySources, TakesSo};
 
@@ -11,138 +9,15 @@ use crate::environment::{Disk, EventLog, Stamp, Time};
 use crate::polling::log_refused_file;
 use crate::refusal::{Refusal, StartFault};
 use crate::service::Service;
+use crate::slurm_contents::{Contents, SlurmRefusal, contents_of, settled_contents};
 use crate::statistics::Statistics;
 use crate::watched_file::{FileState, WatchedFile};
 use event_log::LogEvent;
 use rtr_server::Stream;
 use slurm::UniteFault;
 use sources::SlurmSetFault;
-use std::alloc::{AllocError, Global};
+use std::alloc::Global;
 use vrps::VersionStore;
-
-/// How many times files are read at the start that change while they are read.
-const TRIES: u8 = 16;
-
-/// The stamp and the content of each file, in their order.
-#[derive(Drop)]
-struct Contents {
-    stamps: Vec<Stamp>,
-    bytes: Vec<Vec<u8>>,
-}
-
-impl Contents {
-    fn new(alloc: Global) -> Contents
-        ensures { result.bytes.items ≡ [] }
-    {
-        Contents {
-            stamps: Vec::new(alloc),
-            bytes: Vec::new(alloc),
-        }
-    }
-
-    fn add(&mut self, stamp: Stamp, bytes: Vec<u8>) -> Result<(), AllocError>
-        ensures { OnOk result (self.new.bytes.items ≡ self.old.bytes.items ++ bytes ∷ []) }
-    {
-        self.stamps.push(stamp)?;
-        self.bytes.push(bytes)?;
-        Ok(())
-    }
-
-    /// Notes that the file of this index was loaded, and answers whether a refusal was reported before.
-    fn note_loaded(&self, index: usize, file: &mut WatchedFile, now: u64) -> bool
-        ensures { file.new.path ≡ file.old.path }
-    {
-        match self.stamps.get(index) {
-            Some(stamp) => file.set_loaded(*stamp, now),
-            None => false,
-        }
-    }
-
-    /// The refusal of the file of this index.
-    fn refused(&self, index: usize, why: Refusal) -> SlurmRefusal {
-        SlurmRefusal {
-            index,
-            stamp: self.stamps.get(index).copied(),
-            why,
-        }
-    }
-}
-
-/// The refusal of the files: the index of the file at fault, its stamp if it was read, and the reason.
-#[derive(Drop)]
-struct SlurmRefusal {
-    index: usize,
-    stamp: Option<Stamp>,
-    why: Refusal,
-}
-
-/// Reads all files. The error is the first that cannot be read.
-fn contents_of<W: Disk>(
-    slurms: &[WatchedFile],
-    alloc: Global,
-    env: &mut W,
-) -> Result<Contents, SlurmRefusal>
-    ensures reads { IfOk result (λ contents. AreContents W.answers (paths_of slurms.now) (map (λ b. b.items) contents.bytes.items)) }
-    ensures fails { IfErr result (λ _. IsOneUnread W.answers (paths_of slurms.now)) }
-{
-    let mut contents = Contents::new(alloc);
-    for file in slurms {
-        let index = contents.bytes.len();
-        match add_content(&mut contents, file, env) {
-            Ok(()) => {}
-            Err(why) => {
-                return Err(SlurmRefusal {
-                    index,
-                    stamp: None,
-                    why,
-                });
-            }
-        }
-    }
-    Ok(contents)
-}
-
-/// Reads a file.
-fn add_content<W: Disk>(
-    contents: &mut Contents,
-    file: &WatchedFile,
-    env: &mut W,
-) -> Result<(), Refusal>
-    ensures reads { IfOk result (λ _. (stamp : AStamp) × (read : List ℕ) × ReadsWhole W.answers (path_of file.now) stamp read × (map (λ b. b.items) contents.new.bytes.items ≡ map (λ b. b.items) contents.old.bytes.items ++ read ∷ [])) }
-    ensures fails { IfErr result (λ _. IsUnread W.answers (path_of file.now)) }
-{
-    let (stamp, bytes) = file.content(env)?;
-    if contents.add(stamp, bytes).is_err() {
-        return Err(Refusal::memory());
-    }
-    Ok(())
-}
-
-/// Reads all files, again if one changes while it is read, up to 16 times.
-fn settled_contents<W: Disk>(
-    slurms: &[WatchedFile],
-    alloc: Global,
-    env: &mut W,
-) -> Result<Contents, SlurmRefusal>
-    ensures { IfOk result (λ contents. AreContents W.answers (paths_of slurms.now) (map (λ b. b.items) contents.bytes.items)) }
-{
-    let mut last = contents_of(slurms, alloc, env);
-    for _time in 1..TRIES {
-        if !is_changing(&last) {
-            return last;
-        }
-        last = contents_of(slurms, alloc, env);
-    }
-    last
-}
-
-/// Whether a file changed while it was read.
-fn is_changing(contents: &Result<Contents, SlurmRefusal>) -> bool {
-    match contents {
-        Ok(_) => false,
-        Err(refusal) => matches!(refusal.why, Refusal::Changing),
-    }
-}
 
 /// Loads the content of all files. If it is refused, nothing changes.
 fn take<S: VersionStore, T: Stream + Drop>(

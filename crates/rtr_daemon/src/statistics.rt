@@ -3,12 +3,13 @@ ghost use Rattle.rtr_daemon.specs.Due.{IsKept};
 
 use crate::refusal::Refusal;
 use crate::service::PublishReport;
-use prefixes::{IpPrefix, Vrp};
+use prefixes::IpPrefix;
 use rtr_pdu::Kind;
 use rtr_server::{ByteCounts, PdusByKind};
 use status_pages::{ChangeStatus, PdusByType, TotalTraffic};
 use std::alloc::{AllocError, Global};
 use std::collections::VecDeque;
+use vrps::VrpSet;
 
 /// How many of the last versions are listed.
 const CHANGES: usize = 64;
@@ -35,15 +36,14 @@ pub(crate) struct Families {
 }
 
 impl Families {
-    pub(crate) fn of(records: &[Vrp]) -> Families {
-        let mut found = Families { ipv4: 0, ipv6: 0 };
-        for vrp in records {
-            match vrp.prefix() {
-                IpPrefix::V4(_) => found.ipv4 = found.ipv4.saturating_add(1),
-                IpPrefix::V6(_) => found.ipv6 = found.ipv6.saturating_add(1),
-            }
+    /// Of a set, in which all of IPv4 is before all of IPv6.
+    pub(crate) fn of(set: &VrpSet) -> Families {
+        let records = set.as_slice();
+        let ipv4 = records.partition_point(|vrp| matches!(vrp.prefix(), IpPrefix::V4(_)));
+        Families {
+            ipv4: ipv4 as u64,
+            ipv6: records.len().saturating_sub(ipv4) as u64,
         }
-        found
     }
 }
 

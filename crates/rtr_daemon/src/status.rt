@@ -1,8 +1,9 @@
 //! The status of a daemon.
+use crate::ages::built_of;
 use crate::client_table::ClientEntry;
 use crate::clients::{ClientCounters, number_of};
-use crate::daemon::{Daemon, built_of};
-use crate::polling::WatchedPoint;
+use crate::daemon::Daemon;
+use crate::point_polling::WatchedPoint;
 use crate::refusal::Refusal;
 use crate::statistics::{Failure, TrafficTotals, total};
 use crate::watched_file::{WatchedExport, WatchedFile};

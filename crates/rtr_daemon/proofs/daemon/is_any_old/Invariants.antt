@@ -1,7 +1,0 @@
--- The paths and numbers are as they were.
-use Rattle.std.proofs.Common.{◌≡◌}
-use Rattle.rtr_daemon.specs.Files.{names_of}
-use Rattle.rtr_daemon.proofs.daemon.is_any_old.Given as goal
-
-abbrev pub invariant-loop-export : goal.invariant-loop-export
-invariant-loop-export g l = names_of l.export-items ≡ names_of l.initial.export-items

@@ -1,7 +1,0 @@
--- What was read last are bytes that were read whole of the path of each file.
-use Rattle.std.specs.Prelude.{IfOk, map}
-use Rattle.rtr_daemon.specs.Files.{AreContents, paths_of}
-use Rattle.rtr_daemon.proofs.slurm_polling.settled_contents.Given as goal
-
-abbrev pub invariant-loop-time : goal.invariant-loop-time
-invariant-loop-time g l = IfOk l.last (λ contents. AreContents g.W.Disk.answers (paths_of l.slurms) (map (λ b. b.items) contents.bytes.items))

@@ -1,0 +1,59 @@
+-- The run of the daemon's program: what it waits for, what it may open, and how it ends (rpkirtrd(8)).
+use Rattle.std.specs.Prelude.{◌≡◌, ◌≤◌, ℕ, zero, suc, ◌-◌, min, max, List, codes, Option, Result, Ok, Err}
+use Rattle.std.specs.IoError.{error_kind}
+use Rattle.std.specs.declared.io.Error.{Error}
+use Rattle.std.specs.declared.io.ErrorKind.{ErrorKind}
+use Rattle.std.specs.declared.io.ErrorKind.TheVariants as kinds
+use Rattle.vrps.specs.Instance.{Instance}
+use Rattle.vrps.specs.declared.set.SetFault.TheVariants.{Memory}
+use Rattle.rtr_daemon.specs.Serving.{GoesOn}
+use Rattle.rtr_daemon.specs.declared.daemon.StopReason.{StopReason}
+use Rattle.rtr_daemon.specs.declared.daemon.StopReason.TheVariants.{Once, Old, Checked}
+use Rattle.rtr_daemon.specs.declared.refusal.Refusal.{Refusal}
+use Rattle.rtr_daemon.specs.declared.refusal.Refusal.TheVariants as refused
+use Rattle.rtr_daemon.specs.declared.service.Service.{Service}
+
+-- The first second of the year 2020. A clock before it was not set yet.
+abbrev pub year_2020 : ℕ
+year_2020 = 1577836800
+
+-- The clock answered a second of the year 2020 or later.
+abbrev pub IsClockSet : (ℕ → Type 0) → Type 0
+IsClockSet clock = (second : ℕ) × clock second × (year_2020 ≤ second)
+
+-- How many clients there may be: as many as asked for, but no more than the descriptors allow. The program keeps 16 of them, and one for each HTTP
+-- connection. One client may always be there.
+abbrev pub clients_within : ℕ → ℕ → ℕ → ℕ
+clients_within asked descriptors http = min asked (max 1 (descriptors - 16 - http))
+
+-- this many turns of a daemon, one after the other, as its service goes through them
+abbrev pub GoesThrough : {S T : Type 0} → (ℕ → Type 0) → (ℕ → Instance → S → Type 0) → (T → Option (List ℕ)) → (T → Option (List ℕ)) → ℕ → Service S T → Service S T → Type 0
+GoesThrough clock holds remaining contents zero old new = new ≡ old
+GoesThrough {S} {T} clock holds remaining contents (suc n) old new =
+    (now : Service S T) × GoesThrough clock holds remaining contents n old now × GoesOn clock holds remaining contents now new
+
+-- The exit status: 0 if the run ended well, and 1 if a file is too old. If the system failed it is 3, or 4 without memory.
+abbrev pub failure_status : ErrorKind → ℕ
+failure_status kinds.OutOfMemory = 4
+failure_status kind = 3
+
+abbrev pub exit_status : Result StopReason Error → ℕ
+exit_status (Ok Once) = 0
+exit_status (Ok Checked) = 0
+exit_status (Ok Old) = 1
+exit_status (Err error) = failure_status (error_kind error)
+
+-- and what the log says of it
+abbrev pub exit_words : Result StopReason Error → List ℕ
+exit_words (Ok Once) = codes "the client has gone"
+exit_words (Ok Checked) = codes "the configuration is valid, and with --check-config nothing is served"
+exit_words (Ok Old) = codes "an export is older than --max-age"
+exit_words (Err error) = codes "the system does not say what is ready"
+
+-- Without a machine id the session is random. If it cannot be had, memory ran out, or the random source failed.
+abbrev pub refusal_of : ErrorKind → Error → Refusal
+refusal_of kinds.OutOfMemory error = refused.Set Memory
+refusal_of kind error = refused.Device error
+
+abbrev pub random_refusal : Error → Refusal
+random_refusal error = refusal_of (error_kind error) error

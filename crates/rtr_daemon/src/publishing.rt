@@ -1,0 +1,147 @@
+//! Publishing a pending version, and what is noted of it.
+ghost use Rattle.std.specs.Prelude.{◌≡◌, IfErr, IfOk};
+ghost use Rattle.rtr_daemon.specs.Due.{FailureNoted, KeepsFiles, OnlyNotes, PublishesIfDue, WakesIfPublished};
+ghost use Rattle.rtr_daemon.specs.Queue.{QueuesBehind, SameClients, WakesIfNew};
+ghost use Rattle.rtr_daemon.specs.Serving.{GoesOn, IsFresh};
+
+use crate::daemon::Daemon;
+use crate::environment::{EventLog, Time};
+use crate::refusal::Refusal;
+use crate::service::PublishReport;
+use crate::set_changes::StepStore;
+use crate::statistics::Families;
+use event_log::{LogEvent, Publication};
+use rtr_server::Stream;
+use std::alloc::Global;
+use vrps::{Published, Serial};
+
+impl<S: StepStore + Drop, T: Stream + Drop> Daemon<S, T> {
+    /// Publishes a pending version, if the last version is of an earlier second.
+    pub(crate) fn publish_pending<W: Time + EventLog>(&mut self, env: &mut W)
+        ensures goes { GoesOn W.can_be S.holds T.remaining T.contents self.old.service self.new.service }
+        ensures wakes { WakesIfPublished self.old self.new }
+        ensures due { PublishesIfDue W.can_be W.can_tick self.old.held_until self.old self.new }
+        ensures fresh { IsFresh W.can_be self.old.service → IsFresh W.can_be self.new.service }
+        ensures round { self.new.next_round ≡ self.old.next_round }
+        ensures kept { KeepsFiles self.old self.new }
+        ensures clients { SameClients self.old.clients self.new.clients }
+        ensures queue { QueuesBehind self.old.clients.queue.items self.new.clients }
+    {
+        let now = env.seconds();
+        if !self.service.is_pending() {
+            return;
+        }
+        let began = env.millis();
+        if began < self.held_until {
+            return;
+        }
+        let second = self.paced(began);
+        match self.service.publish_paced(now, second) {
+            None => {}
+            Some(tried) => self.note_tried(tried, now, began, env),
+        }
+    }
+
+    /// Notes that a publication succeeded or failed.
+    fn note_tried<W: Time + EventLog>(
+        &mut self,
+        tried: Result<PublishReport, Refusal>,
+        now: u64,
+        began: u64,
+        env: &mut W,
+    )
+        ensures rest { OnlyNotes self.old self.new }
+        ensures failed { IfErr tried (λ refusal. FailureNoted refusal self.new) }
+        ensures wakes { IfOk tried (λ report. WakesIfNew report.published self.old.clients self.new.clients) }
+        ensures clients { SameClients self.old.clients self.new.clients }
+        ensures queue { QueuesBehind self.old.clients.queue.items self.new.clients }
+    {
+        match tried {
+            Ok(report) => self.note_published(report, now, began, env),
+            Err(refusal) => self.note_failure(refusal, now, env),
+        }
+    }
+
+    /// Notes what was published, and notifies all routers.
+    fn note_published<W: Time + EventLog>(
+        &mut self,
+        report: PublishReport,
+        now: u64,
+        began: u64,
+        env: &mut W,
+    )
+        ensures rest { OnlyNotes self.old self.new }
+        ensures wakes { WakesIfNew report.published self.old.clients self.new.clients }
+        ensures clients { SameClients self.old.clients self.new.clients }
+        ensures queue { QueuesBehind self.old.clients.queue.items self.new.clients }
+    {
+        self.statistics.end_failure();
+        self.note_left_out(report.left_out, now, env);
+        let Published::New(serial) = report.published else {
+            return;
+        };
+        self.note_version(serial, report, now);
+        self.clients.wake_all();
+        let milliseconds = env.millis().saturating_sub(began);
+        env.log(
+            now,
+            &LogEvent::Published(Publication {
+                session: self.session_ids.session,
+                serial: serial.0,
+                announced: report.announced,
+                withdrawn: report.withdrawn,
+                records: report.records,
+                milliseconds,
+            }),
+        );
+        if !self.is_ready {
+            self.is_ready = true;
+            env.log(now, &LogEvent::Ready);
+        }
+    }
+
+    /// Reports how many records are left out, if the number has changed.
+    fn note_left_out<W: EventLog>(&mut self, records: u64, now: u64, env: &mut W)
+        ensures { self.new ≡ record self.old { statistics = self.new.statistics } }
+    {
+        if self.statistics.set_left_out(records) {
+            env.log(now, &LogEvent::LeftOut { records });
+        }
+    }
+
+    /// Adds a version to the statistics.
+    fn note_version(&mut self, serial: Serial, report: PublishReport, now: u64)
+        ensures { self.new ≡ record self.old { statistics = self.new.statistics } }
+    {
+        if let Some((_serial, set)) = self.service.server().current() {
+            let families = Families::of(set);
+            self.statistics.add_version(serial.0, now, report, families);
+        }
+    }
+
+    /// Reports that publication failed. It is tried again at the next poll of the files.
+    fn note_failure<W: EventLog>(&mut self, refusal: Refusal, now: u64, env: &mut W)
+        ensures rest { OnlyNotes self.old self.new }
+        ensures noted { FailureNoted refusal self.new }
+        ensures clients { self.new.clients ≡ self.old.clients }
+    {
+        self.held_until = self.next_check;
+        log_failure(self.alloc, &refusal, now, env);
+        self.statistics.note_failure(refusal, now);
+    }
+}
+
+/// Reports why no version could be published.
+fn log_failure<W: EventLog>(alloc: Global, refusal: &Refusal, now: u64, env: &mut W) {
+    let what = "publication";
+    match refusal.to_string(alloc) {
+        Ok(reason) => env.log(
+            now,
+            &LogEvent::Failed {
+                what,
+                reason: reason.as_str(),
+            },
+        ),
+        Err(_) => env.log(now, &LogEvent::Memory { what }),
+    }
+}

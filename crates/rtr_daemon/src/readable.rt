@@ -1,0 +1,57 @@
+//! Which files are read.
+ghost use Rattle.std.specs.Prelude.{◌≡◌};
+ghost use Rattle.rtr_daemon.specs.Opening.{judgement};
+
+use std::io::{self, ErrorKind};
+use thiserror::Error;
+
+/// What the system says of a file.
+#[derive(Clone, Copy, Debug, PartialEq, Eq)]
+pub struct FileForm {
+    /// Whether it is a regular file. To open another one, such as a pipe, may block.
+    pub is_regular: bool,
+    /// Its size in bytes.
+    pub size: u64,
+}
+
+/// Why a file is not read.
+#[derive(Clone, Copy, Debug, Drop, PartialEq, Eq, Error)]
+pub enum Unreadable {
+    /// It is not regular.
+    #[error("it is no regular file")]
+    NotRegular,
+    /// It is larger than the limit.
+    #[error("it has more bytes than --max-size allows")]
+    TooLarge,
+}
+
+impl From<Unreadable> for io::Error {
+    fn from(fault: Unreadable) -> io::Error {
+        match fault {
+            Unreadable::NotRegular => {
+                io::Error::new(ErrorKind::InvalidInput, "it is no regular file")
+            }
+            Unreadable::TooLarge => {
+                io::Error::new(
+                    ErrorKind::FileTooLarge,
+                    "it has more bytes than --max-size allows",
+                )
+            }
+        }
+    }
+}
+
+impl FileForm {
+    /// Refuses a file that is not regular, or has more bytes than `most`.
+    pub fn judge(self, most: u64) -> Result<(), Unreadable>
+        ensures { result ≡ judgement most self }
+    {
+        if !self.is_regular {
+            return Err(Unreadable::NotRegular);
+        }
+        if self.size > most {
+            return Err(Unreadable::TooLarge);
+        }
+        Ok(())
+    }
+}

@@ -1,0 +1,134 @@
+//! The content of the files of local exceptions, read together (RFC 8416 section 4.2).
+ghost use Rattle.std.specs.Prelude.{◌≡◌, ◌∷◌, ◌++◌, [], ℕ, IfErr, IfOk, List, OnOk, map};
+ghost use Rattle.rtr_daemon.specs.DiskAnswers.{ReadsWhole};
+ghost use Rattle.rtr_daemon.specs.Files.{AreContents, IsOneUnread, IsUnread, path_of, paths_of};
+ghost use Rattle.rtr_daemon.specs.declared.environment.Stamp.{Stamp as AStamp};
+
+use crate::environment::{Disk, Stamp};
+use crate::refusal::Refusal;
+use crate::watched_file::WatchedFile;
+use std::alloc::{AllocError, Global};
+
+/// How many times files are read at the start that change while they are read.
+const TRIES: u8 = 16;
+
+/// The stamp and the content of each file, in their order.
+#[derive(Drop)]
+pub(crate) struct Contents {
+    stamps: Vec<Stamp>,
+    pub(crate) bytes: Vec<Vec<u8>>,
+}
+
+impl Contents {
+    fn new(alloc: Global) -> Contents
+        ensures { result.bytes.items ≡ [] }
+    {
+        Contents {
+            stamps: Vec::new(alloc),
+            bytes: Vec::new(alloc),
+        }
+    }
+
+    fn add(&mut self, stamp: Stamp, bytes: Vec<u8>) -> Result<(), AllocError>
+        ensures { OnOk result (self.new.bytes.items ≡ self.old.bytes.items ++ bytes ∷ []) }
+    {
+        self.stamps.push(stamp)?;
+        self.bytes.push(bytes)?;
+        Ok(())
+    }
+
+    /// Notes that the file of this index was loaded, and answers whether a refusal was reported before.
+    pub(crate) fn note_loaded(&self, index: usize, file: &mut WatchedFile, now: u64) -> bool
+        ensures { file.new.path ≡ file.old.path }
+    {
+        match self.stamps.get(index) {
+            Some(stamp) => file.set_loaded(*stamp, now),
+            None => false,
+        }
+    }
+
+    /// The refusal of the file of this index.
+    pub(crate) fn refused(&self, index: usize, why: Refusal) -> SlurmRefusal {
+        SlurmRefusal {
+            index,
+            stamp: self.stamps.get(index).copied(),
+            why,
+        }
+    }
+}
+
+/// The refusal of the files: the index of the file at fault, its stamp if it was read, and the reason.
+#[derive(Drop)]
+pub(crate) struct SlurmRefusal {
+    pub(crate) index: usize,
+    pub(crate) stamp: Option<Stamp>,
+    pub(crate) why: Refusal,
+}
+
+/// Reads all files. The error is the first that cannot be read.
+pub(crate) fn contents_of<W: Disk>(
+    slurms: &[WatchedFile],
+    alloc: Global,
+    env: &mut W,
+) -> Result<Contents, SlurmRefusal>
+    ensures reads { IfOk result (λ contents. AreContents W.answers (paths_of slurms.now) (map (λ b. b.items) contents.bytes.items)) }
+    ensures fails { IfErr result (λ _. IsOneUnread W.answers (paths_of slurms.now)) }
+{
+    let mut contents = Contents::new(alloc);
+    for file in slurms {
+        let index = contents.bytes.len();
+        match add_content(&mut contents, file, env) {
+            Ok(()) => {}
+            Err(why) => {
+                return Err(SlurmRefusal {
+                    index,
+                    stamp: None,
+                    why,
+                });
+            }
+        }
+    }
+    Ok(contents)
+}
+
+/// Reads a file.
+fn add_content<W: Disk>(
+    contents: &mut Contents,
+    file: &WatchedFile,
+    env: &mut W,
+) -> Result<(), Refusal>
+    ensures reads { IfOk result (λ _. (stamp : AStamp) × (read : List ℕ) × ReadsWhole W.answers (path_of file.now) stamp read × (map (λ b. b.items) contents.new.bytes.items ≡ map (λ b. b.items) contents.old.bytes.items ++ read ∷ [])) }
+    ensures fails { IfErr result (λ _. IsUnread W.answers (path_of file.now)) }
+{
+    let (stamp, bytes) = file.content(env)?;
+    if contents.add(stamp, bytes).is_err() {
+        return Err(Refusal::memory());
+    }
+    Ok(())
+}
+
+/// Reads all files, again if one changes while it is read, up to 16 times.
+pub(crate) fn settled_contents<W: Disk>(
+    slurms: &[WatchedFile],
+    alloc: Global,
+    env: &mut W,
+) -> Result<Contents, SlurmRefusal>
+    ensures { IfOk result (λ contents. AreContents W.answers (paths_of slurms.now) (map (λ b. b.items) contents.bytes.items)) }
+{
+    let mut last = contents_of(slurms, alloc, env);
+    for _time in 1..TRIES {
+        if !is_changing(&last) {
+            return last;
+        }
+        last = contents_of(slurms, alloc, env);
+    }
+    last
+}
+
+/// Whether a file changed while it was read.
+fn is_changing(contents: &Result<Contents, SlurmRefusal>) -> bool {
+    match contents {
+        Ok(_) => false,
+        Err(refusal) => matches!(refusal.why, Refusal::Changing),
+    }
+}

@@ -1,0 +1,234 @@
+//! The start of a daemon: all sources are read before it serves.
+ghost use Rattle.std.specs.Prelude.{◌≡◌, ℕ, IfOk, Ok, false, map};
+ghost use Rattle.points.specs.InUse.{no_points};
+ghost use Rattle.sources.specs.Served.{NoneTaken};
+ghost use Rattle.rtr_server.specs.Clients.{Past, ShowsServer};
+ghost use Rattle.rtr_daemon.specs.Files.{AreNumbered, Loads, LoadsEach, names_of};
+ghost use Rattle.rtr_daemon.specs.PointOffers.{OffersEach, OffersPoint, points_of};
+ghost use Rattle.std.specs.String.{string_bytes};
+ghost use Rattle.rtr_daemon.specs.Origins.{SourcesComeFrom};
+ghost use Rattle.rtr_daemon.specs.Serving.{Continues, LeadsToService};
+
+use crate::accepting::Listeners;
+use crate::client_table::ClientTable;
+use crate::daemon::{Daemon, Paths, Plan};
+use crate::environment::{Disk, EventLog, Time};
+use crate::point_polling::{WatchedPoint, offer};
+use crate::polling::{log_expired, take};
+use crate::refusal::{Refusal, StartFault};
+use crate::service::Service;
+use crate::slurm_polling::read_slurms;
+use crate::statistics::Statistics;
+use crate::watched_file::{Look, WatchedExport, WatchedFile};
+use rtr_server::{Server, Stream};
+use session_names::SessionIds;
+use sources::Sources;
+use std::alloc::{AllocError, Global};
+use vrps::VersionStore;
+
+impl<S: VersionStore + Drop, T: Stream + Drop> Daemon<S, T> {
+    /// A daemon over a server whose cache has no version. It reads all files, and answers with the first that is refused. The first version is
+    /// published in a later second than this one. No router is admitted before.
+    pub fn open<W: Disk + Time + EventLog>(
+        alloc: Global,
+        plan: Plan,
+        session_ids: SessionIds,
+        server: Server<S, T>,
+        sources: Paths,
+        env: &mut W,
+    ) -> Result<Daemon<S, T>, StartFault>
+        ensures leads { IfOk result (λ daemon. (p : Past) → ShowsServer S.holds T.remaining T.contents p server → LeadsToService W.can_be S.holds T.remaining T.contents p daemon.service) }
+        ensures comes { IfOk result (λ daemon. SourcesComeFrom W.answers W.can_be daemon) }
+        ensures closed { IfOk result (λ daemon. daemon.is_ready ≡ false) }
+        ensures planned { IfOk result (λ daemon. (daemon.plan ≡ plan) × (daemon.session_ids ≡ session_ids)) }
+    {
+        let now = env.seconds();
+        let millis = env.millis();
+        let Paths {
+            files,
+            slurms,
+            points,
+        } = sources;
+        let held = sources_of(alloc, files.len(), plan.leaves_out_length_0)?;
+        let mut service = Service::after(now, server, held);
+        let mut exports = watched_exports(alloc, files)?;
+        let mut slurms = watched_slurms(alloc, slurms)?;
+        let mut offered = watched_points(alloc, points)?;
+        read_all(&mut exports, &mut service, alloc, now, env)?;
+        read_slurms(&mut slurms, &mut service, alloc, now, env)?;
+        read_points(&mut offered, &mut service, alloc, now, env)?;
+        let listeners = Listeners::new(alloc, plan.listeners)?;
+        let statistics = Statistics::new(alloc)?;
+        let mut daemon = Daemon {
+            alloc,
+            plan,
+            session_ids,
+            service,
+            clients: ClientTable::new(alloc),
+            listeners,
+            exports,
+            slurms,
+            points: offered,
+            statistics,
+            started: now,
+            opened: millis,
+            is_ready: false,
+            has_parted: false,
+            is_old: false,
+            clock_behind: 0,
+            next_check: millis.saturating_add(plan.check),
+            next_round: millis,
+            held_until: millis,
+        };
+        daemon.judge_ages(env);
+        Ok(daemon)
+    }
+}
+
+/// Sources of this many files, of which none is loaded.
+fn sources_of(alloc: Global, files: usize, leaves_out: bool) -> Result<Sources, AllocError>
+    ensures { IfOk result (λ s. (s.repository ≡ no_points) × NoneTaken files s.lists.items) }
+{
+    let mut sources = Sources::new(alloc, files)?;
+    if leaves_out {
+        sources.leave_out_length_0();
+    }
+    Ok(sources)
+}
+
+fn watched_exports(alloc: Global, paths: Vec<String>) -> Result<Vec<WatchedExport>, AllocError>
+    ensures numbered { IfOk result (λ exports. AreNumbered exports.items) }
+    ensures paths { IfOk result (λ exports. map (λ e. e.file.path) exports.items ≡ paths.items) }
+{
+    let mut exports = Vec::new(alloc);
+    for path in paths {
+        let number = exports.len();
+        exports.push(WatchedExport::new(path, number))?;
+    }
+    Ok(exports)
+}
+
+fn watched_slurms(alloc: Global, paths: Vec<String>) -> Result<Vec<WatchedFile>, AllocError>
+    ensures { IfOk result (λ files. map (λ f. f.path) files.items ≡ paths.items) }
+{
+    let mut slurms = Vec::new(alloc);
+    for path in paths {
+        slurms.push(WatchedFile::new(path))?;
+    }
+    Ok(slurms)
+}
+
+fn watched_points(alloc: Global, paths: Vec<String>) -> Result<Vec<WatchedPoint>, AllocError>
+    ensures { IfOk result (λ points. map (λ p. p.path) points.items ≡ paths.items) }
+{
+    let mut offered = Vec::new(alloc);
+    for path in paths {
+        offered.push(WatchedPoint::new(path))?;
+    }
+    Ok(offered)
+}
+
+/// Reads and loads each export.
+fn read_all<S: VersionStore, T: Stream + Drop, W: Disk + EventLog>(
+    exports: &mut Vec<WatchedExport>,
+    service: &mut Service<S, T>,
+    alloc: Global,
+    now: u64,
+    env: &mut W,
+) -> Result<(), StartFault>
+    ensures goes { Continues S.holds T.remaining T.contents service.old service.new }
+    ensures loads { IfOk result (λ _. LoadsEach W.answers now exports.old.items service.old.sources service.new.sources) }
+    ensures names { IfOk result (λ _. names_of exports.new.items ≡ names_of exports.old.items) }
+{
+    for export in exports.iter_mut() {
+        read_export(export, service, alloc, now, env)?;
+    }
+    Ok(())
+}
+
+/// Reads and loads an export at the start, and reports how many of its entries had expired.
+fn read_export<S: VersionStore, T: Stream + Drop, W: Disk + EventLog>(
+    export: &mut WatchedExport,
+    service: &mut Service<S, T>,
+    alloc: Global,
+    now: u64,
+    env: &mut W,
+) -> Result<(), StartFault>
+    ensures goes { Continues S.holds T.remaining T.contents service.old service.new }
+    ensures loads { IfOk result (λ _. (expired : ℕ) × Loads W.answers export.old now (Ok expired) service.old.sources service.new.sources) }
+    ensures path { export.new.file.path ≡ export.old.file.path }
+    ensures number { export.new.number ≡ export.old.number }
+{
+    match read_one(export, service, alloc, now, env) {
+        Ok(expired) => {
+            log_expired(export.path(), expired, now, env);
+            Ok(())
+        }
+        Err(refusal) => Err(StartFault::of(export.path(), alloc, refusal)),
+    }
+}
+
+/// Reads and loads an export, and answers how many of its entries had expired. If it changes while it is read, it is read again, up to 16 times.
+fn read_one<S: VersionStore, T: Stream + Drop, W: Disk>(
+    export: &mut WatchedExport,
+    service: &mut Service<S, T>,
+    alloc: Global,
+    now: u64,
+    env: &mut W,
+) -> Result<u64, Refusal>
+    ensures goes { Continues S.holds T.remaining T.contents service.old service.new }
+    ensures loads { IfOk result (λ expired. Loads W.answers export.old now (Ok expired) service.old.sources service.new.sources) }
+    ensures path { export.new.file.path ≡ export.old.file.path }
+    ensures number { export.new.number ≡ export.old.number }
+{
+    for _time in 0..16u8 {
+        match export.file.look(env, false) {
+            Look::Unchanged | Look::Unstable | Look::RefusedBefore => {}
+            Look::Failed(error) => return Err(Refusal::Device(error)),
+            Look::Read(stamp, bytes) => {
+                let expired = take(service, export.number, bytes.as_slice(), alloc, now)?;
+                let _ = export.set_loaded(stamp, now, expired);
+                return Ok(expired);
+            }
+        }
+    }
+    Err(Refusal::Changing)
+}
+
+fn read_points<S: VersionStore, T: Stream + Drop, W: Disk>(
+    points: &mut Vec<WatchedPoint>,
+    service: &mut Service<S, T>,
+    alloc: Global,
+    now: u64,
+    env: &mut W,
+) -> Result<(), StartFault>
+    ensures goes { Continues S.holds T.remaining T.contents service.old service.new }
+    ensures offers { IfOk result (λ _. OffersEach W.answers (λ at. at ≡ now) points.old.items service.old.sources service.new.sources) }
+    ensures paths { IfOk result (λ _. points_of points.new.items ≡ points_of points.old.items) }
+{
+    for point in points.iter_mut() {
+        read_point(point, service, alloc, now, env)?;
+    }
+    Ok(())
+}
+
+/// Offers a directory at the start.
+fn read_point<S: VersionStore, T: Stream + Drop, W: Disk>(
+    point: &mut WatchedPoint,
+    service: &mut Service<S, T>,
+    alloc: Global,
+    now: u64,
+    env: &mut W,
+) -> Result<(), StartFault>
+    ensures goes { Continues S.holds T.remaining T.contents service.old service.new }
+    ensures offers { OffersPoint W.answers (string_bytes point.old.path) now service.old.sources service.new.sources }
+    ensures path { point.new.path ≡ point.old.path }
+{
+    match offer(service, point.path.as_str(), alloc, now, env) {
+        Ok(held) => {
+            let _ = point.set_accepted(held, now);
+            Ok(())
+        }
+        Err(refusal) => Err(StartFault::of(point.path.as_str(), alloc, refusal)),
+    }
+}
