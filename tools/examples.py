@@ -25,8 +25,8 @@ def read(path):
 def libraries():
     """The libraries of crates.txt with code of their own: those that are no program, hold more than tests, and are no part of an example."""
     heads = [line.split(":")[0].split() for line in read(f"{TOP}/crates.txt").splitlines() if line.split("#")[0].strip()]
-    # (no crate can stand on a static library: its example is in C)
-    names = [head[0] for head in heads if "staticlib" not in head]
+    # (no crate can stand on a static library: its example is in C. The start of the daemon's program needs a whole system: rpkirtrd shows it)
+    names = [head[0] for head in heads if "staticlib" not in head and head[0] != "rpkirtrd_start"]
     return [it for it in names if "example" not in it and it != "frames" and os.path.isfile(f"{TOP}/crates/{it}/src/lib.rt")]
 
 

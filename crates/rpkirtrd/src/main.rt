@@ -2,15 +2,16 @@
 #![tactic(auto)]
 
 mod connection;
-mod running;
+mod disk;
+mod host;
+mod pages;
 mod service_manager;
-mod session_choice;
+mod sockets;
 mod standard_error;
-mod status_endpoint;
+mod starting;
 mod system;
-mod version_cache;
 
-use running::{out_of_memory, run_words};
+use starting::{out_of_memory, run_words};
 use std::io::Write;
 use std::process::ExitCode;
 use std::{env, fs, io};
@@ -28,15 +29,12 @@ fn main(rt: HostRuntime) -> ExitCode {
     let status = match own_words(&rt) {
         Ok(words) => run_words(&rt, words.as_slice(), &mut out, &mut err),
         Err(e) if e.kind() == io::ErrorKind::OutOfMemory => out_of_memory(&mut err),
-        Err(_) => refuse_words(&mut err),
+        Err(_) => {
+            let _ = writeln!(err, "rpkirtrd: a word is not UTF-8\nTry rpkirtrd --help.");
+            2
+        }
     };
     ExitCode::from(status)
-}
-
-/// Reports that a word is not UTF-8, and answers the exit status.
-fn refuse_words<E: Write>(err: &mut E) -> u8 {
-    let _ = writeln!(err, "rpkirtrd: a word is not UTF-8\nTry rpkirtrd --help.");
-    2
 }
 
 fn own_words(rt: &HostRuntime) -> io::Result<Vec<String>> {

@@ -1,3 +1,4 @@
 pub mod Decimals
 pub mod DecimalRows
 pub mod Bounds
+pub mod Derived

@@ -17,6 +17,7 @@
 //! ```
 #![tactic(auto)]
 
+mod derived;
 mod fault;
 mod help;
 mod options;
@@ -24,6 +25,7 @@ mod settings;
 mod values;
 mod words;
 
+pub use derived::session_warning;
 pub use fault::{OptionFault, Wanted};
 pub use help::VERSION;
 pub use settings::Settings;

@@ -1,0 +1,124 @@
+//! The start of the daemon, and its exit status.
+use crate::connection::Connection;
+use crate::host::SystemHost;
+use crate::pages::Pages;
+use crate::system::System;
+use rpkirtrd_cli::{Command, OptionFault, Settings, read_words};
+use rpkirtrd_start::{check, serve};
+use rtr_daemon::SocketFault;
+use status_server::MAX_CONNECTIONS;
+use std::env::Env;
+use std::io::Write;
+use std::net::Net;
+use std::random::RandomSource;
+use std::rt::Files;
+use std::time::Clock;
+
+/// Reports that memory ran out, and answers the exit status.
+pub fn out_of_memory<E: Write>(err: &mut E) -> u8 {
+    let _ = writeln!(err, "rpkirtrd: out of memory");
+    4
+}
+
+/// Runs a command line, and answers the exit status. It is 0 if all is done, 1 for refused input, and 2 if the words do not parse. It is 3 if a
+/// file, a socket or an output failed, and 4 if memory ran out.
+pub fn run_words<
+    R: Files + Env + Net + Clock + RandomSource + AllocGlobal + Clone + Drop,
+    O: Write,
+    E: Write,
+>(rt: &R, words: &[String], out: &mut O, err: &mut E) -> u8 {
+    match read_words(rt.alloc(), words) {
+        Ok(Command::Help(text)) | Ok(Command::Version(text)) => print(text.as_str(), out),
+        Ok(Command::Serve(settings)) if settings.check_config => check_config(rt, settings, err),
+        Ok(Command::Serve(settings)) => serve_routers(rt, settings, err),
+        Err(OptionFault::Memory) => out_of_memory(err),
+        Err(fault) => {
+            let _ = writeln!(err, "rpkirtrd: {fault}\nTry rpkirtrd --help.");
+            2
+        }
+    }
+}
+
+/// Prints a text with a newline at its end, and answers the exit status.
+fn print<O: Write>(text: &str, out: &mut O) -> u8 {
+    let newline = if text.ends_with('\n') { "" } else { "\n" };
+    match write!(out, "{text}{newline}") {
+        Ok(()) => 0,
+        Err(_) => 3,
+    }
+}
+
+/// Reports which socket cannot be opened, and answers the exit status.
+pub fn refuse_socket<E: Write>(fault: &SocketFault, err: &mut E) -> u8 {
+    let _ = writeln!(err, "rpkirtrd: {fault}");
+    fault.status()
+}
+
+/// Reads the files as at a start, reports what would be served, and answers the exit status that the start would have. No socket is opened.
+fn check_config<R: Files + Net + Clock + RandomSource + AllocGlobal + Clone + Drop, E: Write>(
+    rt: &R,
+    settings: Settings,
+    err: &mut E,
+) -> u8 {
+    let mut system = match System::open(rt, err, &settings, &[]) {
+        Ok(system) => system,
+        Err(fault) => return refuse_socket(&fault, err),
+    };
+    let (mut host, http) = (SystemHost { rt }, http_connections(&settings));
+    let checked = check::<Connection, SystemHost<'_, R>, System<'_, R, E>>(
+        rt.alloc(),
+        settings,
+        descriptors(),
+        http,
+        &mut host,
+        &mut system,
+    );
+    system.end(checked)
+}
+
+/// Opens the sockets, reads the files, and serves.
+fn serve_routers<
+    R: Files + Env + Net + Clock + RandomSource + AllocGlobal + Clone + Drop,
+    E: Write,
+>(rt: &R, settings: Settings, err: &mut E) -> u8 {
+    let mut system = match System::open(rt, err, &settings, settings.listen.as_slice()) {
+        Ok(system) => system,
+        Err(fault) => return refuse_socket(&fault, err),
+    };
+    system.find_manager();
+    let mut pages = match Pages::open(rt, &settings, &mut system) {
+        Ok(pages) => pages,
+        Err(fault) => return system.end_without_socket(&fault),
+    };
+    let (mut host, http) = (SystemHost { rt }, http_connections(&settings));
+    let served = serve::<Connection, SystemHost<'_, R>, System<'_, R, E>, Pages>(
+        rt.alloc(),
+        settings,
+        descriptors(),
+        http,
+        &mut host,
+        &mut pages,
+        &mut system,
+    );
+    system.end(served)
+}
+
+/// How many HTTP connections there may be.
+fn http_connections(settings: &Settings) -> usize {
+    match settings.status {
+        Some(_) => MAX_CONNECTIONS,
+        None => 0,
+    }
+}
+
+/// The limit of descriptors of this process.
+fn descriptors() -> usize {
+    let mut limit = libc::types::rlimit {
+        rlim_cur: 1024,
+        rlim_max: 1024,
+    };
+    if libc::getrlimit(libc::RLIMIT_NOFILE, &mut limit) != 0 {
+        return 1024;
+    }
+    usize::try_from(limit.rlim_cur).unwrap_or(usize::MAX)
+}

@@ -1,0 +1,102 @@
+//! What follows from settings.
+ghost use Rattle.std.specs.Prelude.{◌≡◌, ◌++◌, IfOk, OnOk, codes, option_copied};
+ghost use Rattle.std.specs.List.{flat_map};
+ghost use Rattle.std.specs.String.{string_bytes};
+ghost use Rattle.rpkirtrd_cli.specs.Derived.{address_line, millis_of, notify_warning, path_line, path_lines, session_warning};
+
+use crate::settings::Settings;
+use std::alloc::{AllocError, Global};
+use std::net::SocketAddr;
+
+/// The least number of seconds between two notifies (RFC 8210 section 8.2).
+const NOTIFY_SECONDS: u32 = 60;
+
+/// The warning that the session is random at each start, if it is.
+pub fn session_warning(is_random: bool) -> Option<&'static str>
+    ensures { option_copied result ≡ session_warning is_random }
+{
+    if !is_random {
+        return None;
+    }
+    Some("/etc/machine-id names no machine: the session is random at each start; --session sets it")
+}
+
+impl Settings {
+    /// The interval between two polls of the files, in milliseconds.
+    pub fn check_millis(&self) -> u64
+        ensures { result ≡ millis_of self.now.check }
+    {
+        u64::from(self.check) * 1000
+    }
+
+    /// After how long a client that is blocked on writing is closed, in milliseconds.
+    pub fn stall_millis(&self) -> u64
+        ensures { result ≡ millis_of self.now.stall }
+    {
+        u64::from(self.stall) * 1000
+    }
+
+    /// The warning that routers may be notified too often, if they may.
+    pub fn notify_warning(&self) -> Option<&'static str>
+        ensures { option_copied result ≡ notify_warning self.now.check }
+    {
+        if self.check >= NOTIFY_SECONDS {
+            return None;
+        }
+        Some(
+            "with --check below 60 routers may be notified more than once a minute (RFC 8210 section 8.2)",
+        )
+    }
+
+    /// The listening addresses for routers, one on a line.
+    pub fn listen_text(&self, alloc: Global) -> Result<String, AllocError>
+        ensures { IfOk result (λ text. string_bytes text ≡ flat_map address_line self.now.listen.items) }
+    {
+        let mut text = String::new(alloc);
+        add_addresses(&mut text, self.listen.as_slice())?;
+        Ok(text)
+    }
+
+    /// The options of all sources, each with its path on a line.
+    pub fn sources_text(&self, alloc: Global) -> Result<String, AllocError>
+        ensures { IfOk result (λ text. string_bytes text ≡ path_lines (codes "--vrps") self.now.vrps.items ++ path_lines (codes "--points") self.now.points.items ++ path_lines (codes "--slurm") self.now.slurm.items) }
+    {
+        let mut text = String::new(alloc);
+        add_paths(&mut text, "--vrps", self.vrps.as_slice())?;
+        add_paths(&mut text, "--points", self.points.as_slice())?;
+        add_paths(&mut text, "--slurm", self.slurm.as_slice())?;
+        Ok(text)
+    }
+}
+
+/// Adds addresses.
+fn add_addresses(text: &mut String, addresses: &[SocketAddr]) -> Result<(), AllocError>
+    ensures { OnOk result (string_bytes text.new ≡ string_bytes text.old ++ flat_map address_line addresses.now) }
+{
+    for address in addresses {
+        add_address(text, address)?;
+    }
+    Ok(())
+}
+
+fn add_address(text: &mut String, address: &SocketAddr) -> Result<(), AllocError>
+    ensures { OnOk result (string_bytes text.new ≡ string_bytes text.old ++ address_line address.now) }
+{
+    write!(text, "{address}\n")
+}
+
+/// Adds the paths of an option.
+fn add_paths(text: &mut String, option: &str, paths: &[String]) -> Result<(), AllocError>
+    ensures { OnOk result (string_bytes text.new ≡ string_bytes text.old ++ path_lines option.now paths.now) }
+{
+    for path in paths {
+        add_path(text, option, path.as_str())?;
+    }
+    Ok(())
+}
+
+fn add_path(text: &mut String, option: &str, path: &str) -> Result<(), AllocError>
+    ensures { OnOk result (string_bytes text.new ≡ string_bytes text.old ++ path_line option.now path.now) }
+{
+    write!(text, "{option} {path}\n")
+}
