@@ -10,8 +10,6 @@ mod event_log_example;
 #[cfg(test)]
 mod exports_example;
 #[cfg(test)]
-mod fault_texts;
-#[cfg(test)]
 mod feed_example;
 #[cfg(test)]
 mod json_texts_example;
@@ -29,8 +27,6 @@ mod points_example;
 mod prefix_texts_example;
 #[cfg(test)]
 mod prefixes_example;
-#[cfg(test)]
-mod printed;
 #[cfg(test)]
 mod relays_example;
 #[cfg(test)]

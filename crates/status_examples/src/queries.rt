@@ -74,26 +74,6 @@ fn queries_that_ask_for_none(rt: HostRuntime) -> Result<(), Fail> {
     Ok(())
 }
 
-#[test]
-fn faults_say_what_to_write(rt: HostRuntime) -> Result<(), Fail> {
-    let text = format!(in rt.alloc(); "{}", QueryFault::Keys)?;
-    assert!(rt;
-        text.as_str()
-            == "write ?asn=NUMBER&prefix=PREFIX, each of the two keys once and no other, as in ?asn=64496&prefix=192.0.2.0/24"
-    );
-    let text = format!(in rt.alloc(); "{}", QueryFault::Asn)?;
-    assert!(rt;
-        text.as_str()
-            == "write the AS number under asn in decimal digits, from 0 to 4294967295, with AS before it or without"
-    );
-    let text = format!(in rt.alloc(); "{}", QueryFault::Prefix(PrefixFault::HostBits))?;
-    assert!(rt;
-        text.as_str()
-            == "write an IPv4 or IPv6 prefix under prefix, as 192.0.2.0/24 or 2001:db8::/32: a bit behind the prefix length is set (fault 2)"
-    );
-    Ok(())
-}
-
 /// Ends of paths with a fault.
 const REFUSED_PATHS: &[(&str, QueryFault)] = &[
     ("", QueryFault::Path),

@@ -1,44 +1,51 @@
 //! Streams in memory.
-use std::alloc::Global;
+use std::alloc::{AllocError, Global};
 use std::cell::RefCell;
+use std::io;
 use std::io::{ErrorKind, Read, Write};
 use std::rc::Rc;
-use std::test::Fail;
-use std::{io, str};
 
 /// Bytes that the test and a stream share.
 pub(crate) type Shared = Rc<RefCell<Vec<u8>>>;
 
-pub(crate) fn shared(alloc: Global, bytes: &[u8]) -> Result<Shared, Fail> {
-    let mut list = Vec::new(alloc);
-    list.extend_from_slice(bytes)?;
-    Ok(Rc::new(alloc, RefCell::new(list))?)
+/// No bytes yet.
+pub(crate) fn shared(alloc: Global) -> Result<Shared, AllocError> {
+    Ok(Rc::new(alloc, RefCell::new(Vec::new(alloc)))?)
 }
 
-/// Whether both have the same bytes.
-pub(crate) fn is_list(list: &Shared, other: &Shared) -> bool {
-    match (list.try_borrow(), other.try_borrow()) {
-        (Ok(list), Ok(other)) => list.as_slice() == other.as_slice(),
-        _ => false,
-    }
-}
-
-/// Whether it is this text.
-pub(crate) fn is_text(list: &Shared, text: &str) -> bool {
+/// Whether it has these bytes and no others.
+pub(crate) fn is_list(list: &Shared, bytes: &[u8]) -> bool {
     match list.try_borrow() {
-        Ok(list) => list.as_slice() == text.as_bytes(),
         Err(_) => false,
+        Ok(list) => list.as_slice() == bytes,
     }
 }
 
-/// Whether it begins with one text, and contains another.
-pub(crate) fn has(alloc: Global, list: &Shared, begin: &str, part: &str) -> Result<bool, Fail> {
+/// Whether it begins so, and ends so.
+pub(crate) fn has_ends(list: &Shared, begin: &[u8], end: &[u8]) -> bool {
     match list.try_borrow() {
-        Err(_) => Ok(false),
-        Ok(list) => {
-            let text = String::from_str(alloc, str::from_utf8(list.as_slice())?)?;
-            Ok(text.as_str().starts_with(begin) && text.as_str().contains(part))
-        }
+        Err(_) => false,
+        Ok(list) => list.as_slice().starts_with(begin) && list.as_slice().ends_with(end),
+    }
+}
+
+/// Appends bytes. The answer is whether there is memory for them.
+pub(crate) fn put(list: &Shared, bytes: &[u8]) -> bool {
+    match list.try_borrow_mut() {
+        Err(_) => false,
+        Ok(mut list) => list.extend_from_slice(bytes).is_ok(),
+    }
+}
+
+/// How many responses it has.
+pub(crate) fn responses(list: &Shared) -> usize {
+    match list.try_borrow() {
+        Err(_) => 0,
+        Ok(list) => list
+            .as_slice()
+            .windows(8)
+            .filter(|part| *part == b"HTTP/1.1".as_slice())
+            .count(),
     }
 }
 
@@ -52,7 +59,7 @@ pub(crate) struct Wire {
 }
 
 impl Wire {
-    pub(crate) fn of(input: &Shared, output: &Shared, piece: usize) -> Result<Wire, Fail> {
+    pub(crate) fn of(input: &Shared, output: &Shared, piece: usize) -> Result<Wire, AllocError> {
         Ok(Wire {
             input: input.clone()?,
             place: 0,
@@ -83,16 +90,11 @@ impl Read for Wire {
 
 impl Write for Wire {
     fn write(&mut self, buf: &[u8]) -> io::Result<usize> {
-        match self.output.try_borrow_mut() {
-            Err(_) => Err(io::Error::from(ErrorKind::Other)),
-            Ok(mut list) => {
-                let piece = &buf[..self.piece.min(buf.len())];
-                if list.extend_from_slice(piece).is_err() {
-                    return Err(io::Error::from(ErrorKind::OutOfMemory));
-                }
-                Ok(piece.len())
-            }
+        let piece = &buf[..self.piece.min(buf.len())];
+        if !put(&self.output, piece) {
+            return Err(io::Error::from(ErrorKind::OutOfMemory));
         }
+        Ok(piece.len())
     }
 
     fn flush(&mut self) -> io::Result<()> {

@@ -1,0 +1,192 @@
+#!/usr/bin/env python3
+"""Compares the texts of the status pages, the log, the options and the faults with those that are written here. The program page_texts prints
+them for made-up values.
+
+usage: tests/page_texts.py PROGRAM
+
+A whole text stands in tests/texts, a page without its style. Requests and their responses stand in tests/page_requests.py, and command lines
+in tests/page_options.py. Each text that differs is printed with its words and the first place. The status is 1 where one differs."""
+import os
+import re
+import subprocess
+import sys
+
+import page_options
+import page_requests
+
+TEXTS = os.path.join(os.path.dirname(os.path.abspath(__file__)), "texts")
+
+# Each stored text, with the words that print it.
+WHOLE = {
+    "page-empty.html": "page empty",
+    "page-named.html": "page named",
+    "page-well.html": "page well",
+    "page-failing.html": "page failing",
+    "page-huge.html": "page huge",
+    "route-page-valid.html": "route-page 192.0.2.0/25 64496",
+    "route-page-not-found.html": "route-page 2001:db8::/32 64496",
+    "metrics-empty.txt": "metrics empty",
+    "metrics-small.txt": "metrics small",
+    "help.txt": "settings --help",
+    "log.txt": "log text",
+    "log.json": "log json",
+    "times.txt": "times",
+    "faults.txt": "faults",
+    "values.txt": "values",
+}
+
+# Words, with the whole text.
+SHORT = {
+    "csv": "ASN,IP Prefix,Max Length,Trust Anchor\n",
+    "csv small": "ASN,IP Prefix,Max Length,Trust Anchor\nAS64496,192.0.2.0/24,25,\nAS4294967295,2001:db8::/32,48,\n",
+    "export": '{"metadata":{"buildtime":"2026-11-26T00:37:00Z","generated":1795653420,"vrps":523456},"roas":',
+}
+
+REFUSED = (
+    '/srv/<b>\\"a\\\\b\\"&c\\n.json: refused since 2026-11-26T00:33:40Z: entry 3 of roas cannot be read: <prefix> is no prefix (fault 3)\n'
+)
+OLD = "/var/db/rpki-client/json: its data are older than the maximum age\n"
+
+# The health of caches: whether they are healthy, and the text. A file of the small cache is refused since 200 seconds; it is 1795653420 then.
+HEALTH = {
+    "empty": "ill\nno version is published yet\n",
+    "first": "healthy\nok\n",
+    "small": "healthy\nok\n",
+    "200 1795653420": "healthy\nok\n",
+    "199 1795653420": f"ill\n{REFUSED}",
+    "none 1795656820": "healthy\nok\n",
+    "none 1795656821": f"ill\n{REFUSED}",
+    "none 0": "healthy\nok\n",
+    "old": f"ill\n{OLD}",
+    "silent": f"ill\nno version is published yet\n{OLD}",
+}
+
+# The state of a router: for how many seconds it is connected, how many seconds ago the last version was published, and how many versions it
+# lacks.
+STATES = {
+    "100 59 0": '<td class="ok">current</td>',
+    "100 59 1": "<td>1 version to send</td>",
+    "100 60 1": '<td class="warn">1 version behind for 60\u202fs</td>',
+    "100 0 2": '<td class="warn">2 versions behind for 60\u202fmin</td>',
+    "100 0 9": '<td class="warn">9 versions behind for 60\u202fmin</td>',
+    "59 0 none": '<td class="dim">nothing sent yet</td>',
+    "60 0 none": '<td class="warn">nothing sent for 60\u202fs</td>',
+}
+
+# A route and its AS, its state and why it is not valid, and the records that match, are of another AS, or have too small a maximum.
+SMALLER = ("AS0", "192.0.2.0/24", "24")
+GREATER = ("AS64496", "192.0.2.0/24", "25")
+OTHER = ("AS64497", "192.0.2.0/25", "25")
+ROUTES = [
+    ("192.0.2.0/25", "64496", "valid", None, [GREATER], [OTHER], [SMALLER]),
+    ("192.0.2.0/24", "64497", "invalid", "as", [], [SMALLER, GREATER], []),
+    ("192.0.2.128/26", "64496", "invalid", "length", [], [], [SMALLER, GREATER]),
+    ("192.0.2.128/26", "64511", "invalid", "as", [], [], [SMALLER, GREATER]),
+    ("2001:db8::/32", "4294967295", "not-found", None, [], [], []),
+]
+
+
+class Texts:
+    """What the program prints, and how often that was not what was expected."""
+
+    def __init__(self, program):
+        self.program, self.compared, self.failed = program, 0, 0
+
+    def run(self, words, given=""):
+        """What it prints on standard output and standard error."""
+        done = subprocess.run([self.program, *words], input=given.encode(), capture_output=True, timeout=60)
+        if done.returncode:
+            return f"status {done.returncode}: {done.stderr.decode()}", ""
+        return done.stdout.decode(), done.stderr.decode()
+
+    def check(self, what, holds, found=""):
+        self.compared += 1
+        if not holds:
+            self.failed += 1
+            print(f"{what}: {found}", file=sys.stderr)
+
+    def same(self, what, found, wanted):
+        """Compares two texts, and prints the first line that differs."""
+        if found == wanted:
+            return self.check(what, True)
+        at = len(os.path.commonprefix([found, wanted]))
+        line = wanted.count("\n", 0, at) + 1
+        return self.check(what, False, f"line {line} differs: expected {wanted[at:at + 120]!r}, found {found[at:at + 120]!r}")
+
+
+def without_style(page):
+    return re.sub(r"(?s)(<style>\n).*?(</style>\n)", r"\1\2", page)
+
+
+def compare_stored(texts):
+    """Each text of tests/texts, all of which are compared."""
+    texts.check("the files of tests/texts", sorted(os.listdir(TEXTS)) == sorted(WHOLE), sorted(set(os.listdir(TEXTS)) ^ set(WHOLE)))
+    for name, words in WHOLE.items():
+        with open(os.path.join(TEXTS, name), encoding="utf-8", newline="") as it:
+            texts.same(f"{words} (tests/texts/{name})", without_style(texts.run(words.split(" "))[0]), it.read())
+    for words, wanted in SHORT.items():
+        texts.same(words, texts.run(words.split(" "))[0], wanted)
+
+
+def compare_status(texts):
+    for words, wanted in HEALTH.items():
+        texts.same(f"health {words}", texts.run(["health", *words.split(" ")])[0], wanted)
+    for words, state in STATES.items():
+        page = texts.run(["page", *words.split(" ")])[0]
+        texts.check(f"page {words}", state in page, f"no {state}")
+        texts.check(f"page {words}", ("1 of 1 router is behind. " in page) == ("warn" in state), "what is told of routers that are behind")
+    page = texts.run(["page", "empty"])[0]
+    texts.check("page empty", "<script" not in page and "http:" not in page, "it asks for something else")
+    metrics = texts.run(["metrics", "crowded"])[0]
+    for line in ("rpkirtrd_publication_failing 1", "rpkirtrd_clients 300", "rpkirtrd_routers_without_metrics 44"):
+        texts.check("metrics crowded", f"\n{line}\n" in metrics, f"no {line}")
+    texts.check("metrics crowded", metrics.count("rpkirtrd_router_serial{") == 255, "the number of routers")
+
+
+def compare_routes(texts):
+    for prefix, asn, state, reason, matched, of_other, too_short in ROUTES:
+        wanted = page_requests.route(f"AS{asn}", prefix, state, reason, matched=matched, unmatched_as=of_other, unmatched_length=too_short)
+        texts.same(f"route {prefix} {asn}", texts.run(["route", prefix, asn])[0], wanted)
+
+
+def compare_responses(texts):
+    """The response to each request, in pieces of each length."""
+    bodies = {"page": texts.run(["page", "small"])[0], "metrics": texts.run(["metrics", "small"])[0]}
+    for row in page_requests.EVERY:
+        for piece in row.pieces:
+            what = f"http {row.cache} {piece} {row.name or ''} {row.request[:70]!r}"
+            found, state = texts.run(["http", row.cache, str(piece), *([row.name] if row.name else [])], row.request)
+            if row.whole is not None:
+                texts.same(what, found, page_requests.filled(row.whole, bodies))
+            texts.check(what, found.startswith(row.begin), f"expected {row.begin!r}, found {found[:200]!r}")
+            for part in row.parts:
+                texts.check(what, part in found, f"no {part!r} in {found[:400]!r}")
+            texts.check(what, row.state in (None, state.strip()), f"the connection is {state.strip()}")
+
+
+def compare_options(texts):
+    for line, part in page_options.READ:
+        found = texts.run(["settings", *line.split()])[0]
+        texts.check(f"settings {line}", part in found, f"expected {part!r}, found {found[:400]!r}")
+    for line, reason in page_options.refused():
+        texts.same(f"settings {line}", texts.run(["settings", *line.split()])[0], f"{reason}\n")
+    lines = texts.run(["settings", "--help"])[0].splitlines()
+    texts.check("settings --help", all(len(it) <= 80 and it == it.rstrip() for it in lines), "a line is too long, or ends in a blank")
+
+
+def main(program):
+    texts = Texts(program)
+    compare_stored(texts)
+    compare_status(texts)
+    compare_routes(texts)
+    compare_responses(texts)
+    compare_options(texts)
+    print(f"{texts.compared - texts.failed} passed, {texts.failed} failed")
+    return 1 if texts.failed else 0
+
+
+if __name__ == "__main__":
+    if len(sys.argv) != 2:
+        print(__doc__, file=sys.stderr)
+        sys.exit(2)
+    sys.exit(main(sys.argv[1]))
