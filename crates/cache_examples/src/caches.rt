@@ -352,10 +352,7 @@ fn expect_same_in_pieces<S: VersionStore, R: AllocGlobal + Abort>(
     assert!(rt; whole.len() == 200_032);
     for (size, publish) in [(1, false), (4096, false), (7, true)] {
         let whole = whole.as_slice();
-        assert!(rt;
-            is_same_in(cache, rt.alloc(), conn, size, publish, whole)?,
-            "{size}"
-        );
+        assert!(rt; is_same_in(cache, rt.alloc(), conn, size, publish, whole)?);
     }
     Ok(())
 }

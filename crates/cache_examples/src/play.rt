@@ -205,7 +205,7 @@ fn go_on<S: VersionStore, R: AllocGlobal + Abort>(
 ) -> Result<(), Fail> {
     for (place, step) in script.steps.iter().enumerate() {
         let is_so = goes(cache, conns, rt.alloc(), size, step)?;
-        assert!(rt; is_so, "{}, step {place}", script.name);
+        assert!(rt; is_so);
     }
     Ok(())
 }

@@ -333,7 +333,7 @@ fn is_answered_up_to(alloc: Global, calls: u8) -> Result<bool, Fail> {
 #[test]
 fn each_read_may_fail(rt: HostRuntime) -> Result<(), Fail> {
     for calls in 0..5u8 {
-        assert!(rt; is_answered_up_to(rt.alloc(), calls)?, "{calls}");
+        assert!(rt; is_answered_up_to(rt.alloc(), calls)?);
     }
     Ok(())
 }
@@ -364,8 +364,8 @@ fn is_stalled(alloc: Global, calls: u8, fails: bool) -> Result<bool, Fail> {
 #[test]
 fn each_write_may_fail_or_take_nothing(rt: HostRuntime) -> Result<(), Fail> {
     for calls in 0..=10u8 {
-        assert!(rt; is_stalled(rt.alloc(), calls, true)?, "{calls}");
-        assert!(rt; is_stalled(rt.alloc(), calls, false)?, "{calls}");
+        assert!(rt; is_stalled(rt.alloc(), calls, true)?);
+        assert!(rt; is_stalled(rt.alloc(), calls, false)?);
     }
     Ok(())
 }

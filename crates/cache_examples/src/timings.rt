@@ -54,10 +54,7 @@ fn is_told(refresh: u32, retry: u32, expire: u32, fault: Option<TimingFault>) ->
 /// Checks each row.
 fn expect_told<R: Abort>(rt: &R, rows: &[(u32, u32, u32, Option<TimingFault>)]) {
     for &(refresh, retry, expire, fault) in rows {
-        assert!(rt;
-            is_told(refresh, retry, expire, fault),
-            "{refresh} {retry} {expire}"
-        );
+        assert!(rt; is_told(refresh, retry, expire, fault));
     }
 }
 

@@ -1,12 +1,13 @@
-//! Examples of a daemon, which are the tests of `session_names`, `event_log`, `log_output`, `sd_notify`, `rpkirtrd_cli` and `rtr_daemon`. They are of its
-//! sessions and serials, their pace, its clock, the lines of its log and their output, its command line, and its turns. Sockets, files, clocks
-//! and log are in memory. They are a crate of their own, as a crate with tests is proved twice.
+//! Examples of a daemon, which are the tests of `session_names`, `event_log`, `log_output`, `sd_notify` and `rtr_daemon`. They are of its
+//! sessions and serials, their pace, its clock, the levels and the output of its log, and its turns. Sockets, files, clocks and log are in
+//! memory. `page_texts` prints the lines of the log and the command line. They are a crate of their own, as a crate with tests is proved
+//! twice.
 #![tactic(auto)]
 
 #[cfg(test)]
 mod following;
 #[cfg(test)]
-mod lines;
+mod levels;
 #[cfg(test)]
 mod managers;
 #[cfg(test)]
@@ -18,6 +19,6 @@ mod outputs;
 #[cfg(test)]
 mod stage;
 #[cfg(test)]
-mod wires;
+mod starts;
 #[cfg(test)]
-mod words;
+mod wires;

@@ -30,9 +30,9 @@ const OTHERS: &[&str] = &[
 #[test]
 fn an_as_number_may_have_as_before_it(rt: HostRuntime) {
     for &(text, number) in NUMBERS {
-        assert!(rt; parse_asn(text) == Some(Asn(number)), "{text}");
+        assert!(rt; parse_asn(text) == Some(Asn(number)));
     }
     for &text in OTHERS {
-        assert!(rt; parse_asn(text).is_none(), "{text}");
+        assert!(rt; parse_asn(text).is_none());
     }
 }

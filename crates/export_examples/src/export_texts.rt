@@ -138,7 +138,7 @@ const REPEATED: &[(&[u8], &str)] = &[
 fn expect_texts<R: AllocGlobal + Abort>(rt: &R, rows: &[(&[u8], &str)]) -> Result<(), Fail> {
     for &(bytes, text) in rows {
         let found = fault_in(rt.alloc(), bytes)?;
-        assert!(rt; found.as_str() == text, "{found}");
+        assert!(rt; found.as_str() == text);
     }
     Ok(())
 }
@@ -150,7 +150,7 @@ fn expect_of_entries<R: AllocGlobal + Abort>(rt: &R, rows: &[(&str, &str)]) -> R
             "{{\"roas\":[{{\"asn\":1,\"prefix\":\"10.0.0.0/8\",\"maxLength\":8}},{entry}]}}"
         )?;
         let found = fault_in(rt.alloc(), file.as_bytes())?;
-        assert!(rt; found.as_str() == text, "{found}");
+        assert!(rt; found.as_str() == text);
     }
     Ok(())
 }

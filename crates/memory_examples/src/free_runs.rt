@@ -12,7 +12,6 @@ use prefixes::{Asn, IpPrefix, Route};
 use rtr_ends::{Cache, Conn, Router};
 use rtr_pdu::{Counted, Next, Unit, UnitReader, Version, encode, read_unit, write_unit};
 use std::alloc::{AllocError, Global};
-use std::test::Fail;
 use vrps::{OriginIndex, OriginState, Serial, VersionLog, VrpSet};
 
 /// A ROA with a version, with a maximum that is the prefix's length, with a prefix twice, and with host bits.
@@ -103,8 +102,19 @@ fn tell_others(rt: &HostRuntime, others: &mut Cursor) {
     tell_whether(rt, others.bits().is_ok_and(|it| it.bytes.len() == 1));
 }
 
+/// Whether a prefix covers another, and a serial is before another.
+fn tell_order(rt: &HostRuntime) {
+    if let (Ok(short), Ok(long)) = (
+        IpPrefix::parse("192.0.2.0/24"),
+        IpPrefix::parse("192.0.2.0/25"),
+    ) {
+        tell_whether(rt, short.covers(&long));
+    }
+    tell_whether(rt, Serial(4_294_967_295).is_before(Serial(0)));
+}
+
 #[test]
-fn free_readings(rt: HostRuntime) -> Result<(), Fail> {
+fn free_readings(rt: HostRuntime) {
     begin(rt.alloc());
     let mut whole = Cursor::new(ONE_PREFIX);
     tell_nested(&rt, &mut whole);
@@ -115,18 +125,19 @@ fn free_readings(rt: HostRuntime) -> Result<(), Fail> {
             b"\x04\x01\xaa\x06\x02\x2a\x03\x16\x05a.roa\x18\x0f20250101120000Z\x03\x02\x00\xc0",
         ),
     );
-    let short = IpPrefix::parse("192.0.2.0/24")?;
-    tell_whether(&rt, short.covers(&IpPrefix::parse("192.0.2.0/25")?));
-    tell_whether(&rt, Serial(4_294_967_295).is_before(Serial(0)));
-    Ok(())
+    tell_order(&rt);
 }
 
 /// The list of one entry.
-fn entry(alloc: Global, text: &str, max_len: Option<u8>) -> Result<Vec<RoaEntry>, Fail> {
-    let prefix = IpPrefix::parse(text)?;
+fn entry(alloc: Global, text: &str, max_len: Option<u8>) -> Option<Vec<RoaEntry>> {
     let mut entries = Vec::new(alloc);
-    entries.push(RoaEntry { prefix, max_len })?;
-    Ok(entries)
+    let Ok(prefix) = IpPrefix::parse(text) else {
+        return None;
+    };
+    if entries.push(RoaEntry { prefix, max_len }).is_err() {
+        return None;
+    }
+    Some(entries)
 }
 
 /// Prints whether a ROA of one entry is made.
@@ -136,13 +147,16 @@ fn tell_made(rt: &HostRuntime, entries: Vec<RoaEntry>) {
 }
 
 #[test]
-fn free_roas(rt: HostRuntime) -> Result<(), Fail> {
-    let one = entry(rt.alloc(), "192.0.2.0/24", None)?;
-    let other = entry(rt.alloc(), "2001:db8::/32", Some(48))?;
-    begin(rt.alloc());
-    tell_made(&rt, one);
-    tell_made(&rt, other);
-    Ok(())
+fn free_roas(rt: HostRuntime) {
+    let alloc = rt.alloc();
+    if let (Some(one), Some(other)) = (
+        entry(alloc, "192.0.2.0/24", None),
+        entry(alloc, "2001:db8::/32", Some(48)),
+    ) {
+        begin(alloc);
+        tell_made(&rt, one);
+        tell_made(&rt, other);
+    }
 }
 
 /// Prints what a router sends.
@@ -166,20 +180,28 @@ fn tell_asked(rt: &HostRuntime, router: &mut Router, route: &Route) {
     tell_sent(rt, router);
 }
 
+/// An index over the one record that the router has.
+fn index_of(alloc: Global) -> Option<OriginIndex> {
+    match set_of(alloc, &[V]) {
+        Some(set) => OriginIndex::over(alloc, &set).ok(),
+        None => None,
+    }
+}
+
 #[test]
-fn free_states(rt: HostRuntime) -> Result<(), Fail> {
-    let route = Route {
-        prefix: IpPrefix::parse("192.0.2.0/24")?,
-        origin: Some(64496),
-    };
-    let set = set_of(rt.alloc(), &[V])?;
-    let index = OriginIndex::over(rt.alloc(), &set)?;
-    let mut router = Router::new(rt.alloc());
-    answered(&mut router, ANSWER);
-    begin(rt.alloc());
-    tell_whether(&rt, index.state(&route) == OriginState::Valid);
-    tell_asked(&rt, &mut router, &route);
-    Ok(())
+fn free_states(rt: HostRuntime) {
+    let alloc = rt.alloc();
+    if let (Ok(prefix), Some(index)) = (IpPrefix::parse("192.0.2.0/24"), index_of(alloc)) {
+        let route = Route {
+            prefix,
+            origin: Some(64496),
+        };
+        let mut router = Router::new(alloc);
+        answered(&mut router, ANSWER);
+        begin(alloc);
+        tell_whether(&rt, index.state(&route) == OriginState::Valid);
+        tell_asked(&rt, &mut router, &route);
+    }
 }
 
 /// Answers all, notifies, answers another connection that nothing changed, and closes the first.
@@ -202,23 +224,40 @@ fn tell_empty(rt: &HostRuntime, cache: &mut Cache<VersionLog>, conn: Conn) {
     tell_whether(rt, cache.is_open(conn));
 }
 
-/// Publishes a set, and opens two connections.
-fn prepare(cache: &mut Cache<VersionLog>, set: VrpSet) -> Result<(Conn, Conn), AllocError> {
-    cache.publish(set)?;
-    Ok((cache.open()?, cache.open()?))
+/// Two connections.
+fn both_opened(cache: &mut Cache<VersionLog>) -> Result<(Conn, Conn), AllocError> {
+    let conn = cache.open()?;
+    let other = cache.open()?;
+    Ok((conn, other))
+}
+
+/// The answers of a cache that has published a set, and of one that has not.
+fn tell_answers(
+    rt: &HostRuntime,
+    cache: &mut Cache<VersionLog>,
+    empty: &mut Cache<VersionLog>,
+    set: VrpSet,
+) {
+    if cache.publish(set).is_err() {
+        return;
+    }
+    if let (Ok((conn, other)), Ok(early)) = (both_opened(cache), empty.open()) {
+        begin(rt.alloc());
+        tell_served(rt, cache, conn, other);
+        tell_empty(rt, empty, early);
+    }
 }
 
 #[test]
-fn free_answers(rt: HostRuntime) -> Result<(), Fail> {
-    let set = set_of(rt.alloc(), &[V])?;
-    let mut cache = cache_from(rt.alloc(), 5)?;
-    let (conn, other) = prepare(&mut cache, set)?;
-    let mut empty = cache_from(rt.alloc(), 5)?;
-    let early = empty.open()?;
-    begin(rt.alloc());
-    tell_served(&rt, &mut cache, conn, other);
-    tell_empty(&rt, &mut empty, early);
-    Ok(())
+fn free_answers(rt: HostRuntime) {
+    let alloc = rt.alloc();
+    if let (Some(mut cache), Some(mut empty), Some(set)) = (
+        cache_from(alloc, 5),
+        cache_from(alloc, 5),
+        set_of(alloc, &[V]),
+    ) {
+        tell_answers(&rt, &mut cache, &mut empty, set);
+    }
 }
 
 /// Prints whether the first PDU of the answer is read, piece by piece and from a stream, and that the others are left.

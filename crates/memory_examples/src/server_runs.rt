@@ -1,10 +1,10 @@
 use crate::end_runs::{RESET_QUERY, SERIAL_QUERY, cache_from};
-use crate::telling::{V, W, begin, no_memory, push, tell, tell_bytes, twice};
+use crate::telling::{V, W, begin, no_memory, payload, tell, tell_bytes, twice};
+use rtr_ends::Cache;
 use rtr_server::{Client, CloseReason, Duplex, Server, Turn};
 use std::alloc::Global;
 use std::io;
 use std::io::{ErrorKind, Read, Write};
-use std::test::Fail;
 use vrps::{VersionLog, VrpSet};
 
 /// What comes from a router: this, and then nothing more for now.
@@ -62,19 +62,19 @@ fn is_published(rt: &HostRuntime, server: &mut Memory, set: VrpSet) -> bool {
 }
 
 /// Publishes a set, and once more if memory ran out.
-fn publish(rt: &HostRuntime, server: &mut Memory, set: VrpSet, again: VrpSet) {
+fn publish(rt: &HostRuntime, server: &mut Memory, (set, again): (VrpSet, VrpSet)) {
     if !is_published(rt, server, set) {
         is_published(rt, server, again);
     }
 }
 
 /// Admits a client, at the second try if memory ran out.
-fn admitted(rt: &HostRuntime, server: &mut Memory, query: &'static [u8]) -> Result<Client, Fail> {
+fn admitted(rt: &HostRuntime, server: &mut Memory, query: &'static [u8]) -> Option<Client> {
     if let Ok(client) = server.admit(line(query)) {
-        return Ok(client);
+        return Some(client);
     }
     tell(rt, "memory");
-    Ok(server.admit(line(query))?)
+    server.admit(line(query)).ok()
 }
 
 /// What went to a client, if it is there.
@@ -102,36 +102,65 @@ fn tell_served(rt: &HostRuntime, server: &mut Memory, client: Client) {
     tell(rt, word(server.serve(client, 9)));
 }
 
-/// Two clients come with this query, and then each of them is served.
-fn tell_both(rt: &HostRuntime, server: &mut Memory, query: &'static [u8]) -> Result<(), Fail> {
+/// Two clients come with this query.
+fn both_admitted(
+    rt: &HostRuntime,
+    server: &mut Memory,
+    query: &'static [u8],
+) -> Option<(Client, Client)> {
     let client = admitted(rt, server, query)?;
     let other = admitted(rt, server, query)?;
-    tell_served(rt, server, client);
-    tell_served(rt, server, other);
-    Ok(())
+    Some((client, other))
+}
+
+/// Two clients come with this query, and then each of them is served.
+fn tell_both(rt: &HostRuntime, server: &mut Memory, query: &'static [u8]) {
+    if let Some((client, other)) = both_admitted(rt, server, query) {
+        tell_served(rt, server, client);
+        tell_served(rt, server, other);
+    }
 }
 
 /// Two routers ask what has changed: if memory runs out for the change, that client ends with a report, and the other is answered.
 #[test]
-fn serve_serial_queries(rt: HostRuntime) -> Result<(), Fail> {
+fn serve_serial_queries(rt: HostRuntime) {
     let alloc = rt.alloc();
-    let (first, first_again) = twice(alloc, &[V])?;
-    let (second, second_again) = twice(alloc, &[V, W])?;
-    let cache = cache_from(alloc, 5)?;
-    begin(alloc);
-    let mut server = Server::new(alloc, cache, 2);
-    publish(&rt, &mut server, first, first_again);
-    publish(&rt, &mut server, second, second_again);
-    tell_both(&rt, &mut server, SERIAL_QUERY)
+    if let (Some(first), Some(second), Some(cache)) = (
+        twice(alloc, &[V]),
+        twice(alloc, &[V, W]),
+        cache_from(alloc, 5),
+    ) {
+        begin(alloc);
+        let mut server = Server::new(alloc, cache, 2);
+        publish(&rt, &mut server, first);
+        publish(&rt, &mut server, second);
+        tell_both(&rt, &mut server, SERIAL_QUERY);
+    }
 }
 
 /// Sixty records, whose answer fills the small room.
-fn sixty(alloc: Global) -> Result<VrpSet, Fail> {
+fn sixty(alloc: Global) -> Option<VrpSet> {
     let mut list = Vec::new(alloc);
     for asn in 1..61 {
-        push(&mut list, &("192.0.2.0/24", 24, asn))?;
+        if list.push(payload(&("192.0.2.0/24", 24, asn))?).is_err() {
+            return None;
+        }
     }
-    Ok(VrpSet::from_list(list)?)
+    VrpSet::from_list(list).ok()
+}
+
+/// A cache that has published them.
+fn cache_of_sixty(alloc: Global) -> Option<Cache<VersionLog>> {
+    match (cache_from(alloc, 5), sixty(alloc)) {
+        (Some(mut cache), Some(set)) => {
+            if cache.publish(set).is_ok() {
+                Some(cache)
+            } else {
+                None
+            }
+        }
+        _ => None,
+    }
 }
 
 /// Serves a client, and prints how much went to it.
@@ -146,13 +175,13 @@ fn tell_length(rt: &HostRuntime, server: &mut Memory, client: Client) {
 
 /// An answer goes out whole, whether there is memory for a large room or not.
 #[test]
-fn serve_a_long_answer(rt: HostRuntime) -> Result<(), Fail> {
+fn serve_a_long_answer(rt: HostRuntime) {
     let alloc = rt.alloc();
-    let mut cache = cache_from(alloc, 5)?;
-    cache.publish(sixty(alloc)?)?;
-    let mut server = Server::new(alloc, cache, 1);
-    let client = server.admit(line(RESET_QUERY))?;
-    begin(alloc);
-    tell_length(&rt, &mut server, client);
-    Ok(())
+    if let Some(cache) = cache_of_sixty(alloc) {
+        let mut server = Server::new(alloc, cache, 1);
+        if let Ok(client) = server.admit(line(RESET_QUERY)) {
+            begin(alloc);
+            tell_length(&rt, &mut server, client);
+        }
+    }
 }

@@ -2,8 +2,7 @@ use crate::telling::{V, begin, is_told, no_memory, set_of, tell, tell_payloads};
 use der_lite::Moment;
 use slurm::{SlurmFault, UniteFault, apply, read_slurm};
 use sources::{SlurmSetFault, Sources};
-use std::alloc::Global;
-use std::test::Fail;
+use std::alloc::{AllocError, Global};
 
 /// Filters of each kind, of which one matches the first payload, and an assertion of the second.
 const FILE: &str = r#"{
@@ -35,14 +34,13 @@ fn read_exceptions(rt: HostRuntime) {
 }
 
 #[test]
-fn apply_exceptions(rt: HostRuntime) -> Result<(), Fail> {
+fn apply_exceptions(rt: HostRuntime) {
     let alloc = rt.alloc();
-    let set = set_of(alloc, &[V])?;
-    let slurm = read_slurm(alloc, FILE.as_bytes())?;
-    begin(alloc);
-    let _done = is_told(&rt, apply(&slurm, alloc, &set))
-        || is_told(&rt, apply(&slurm, alloc, &set));
-    Ok(())
+    if let (Some(set), Ok(slurm)) = (set_of(alloc, &[V]), read_slurm(alloc, FILE.as_bytes())) {
+        begin(alloc);
+        let _done = is_told(&rt, apply(&slurm, alloc, &set))
+            || is_told(&rt, apply(&slurm, alloc, &set));
+    }
 }
 
 /// A file that is about nothing that the first one is about.
@@ -68,12 +66,23 @@ const BEFORE: &str = r#"{
     }
 }"#;
 
-fn files(alloc: Global, texts: &[&str]) -> Result<Vec<Vec<u8>>, Fail> {
+fn files(alloc: Global, texts: &[&str]) -> Result<Vec<Vec<u8>>, AllocError> {
     let mut files = Vec::new(alloc);
     for text in texts {
         files.push(Vec::from_slice(alloc, text.as_bytes())?)?;
     }
     Ok(files)
+}
+
+/// Sources that have the assertion before.
+fn sources_before(alloc: Global) -> Option<Sources> {
+    let Ok(mut sources) = Sources::new(alloc, 0) else {
+        return None;
+    };
+    if sources.take_slurm(BEFORE.as_bytes()).is_err() {
+        return None;
+    }
+    Some(sources)
 }
 
 /// Prints what is served, or that there was no memory for it.
@@ -100,19 +109,25 @@ fn are_taken(rt: &HostRuntime, sources: &mut Sources, files: &[Vec<u8>]) -> bool
     true
 }
 
-#[test]
-fn take_files_of_exceptions(rt: HostRuntime) -> Result<(), Fail> {
-    let alloc = rt.alloc();
-    let now = Moment::parse("20231114221320Z").ok_or("no moment")?;
-    let two = files(alloc, &[FILE, OTHER])?;
-    let mut sources = Sources::new(alloc, 0)?;
-    sources.take_slurm(BEFORE.as_bytes())?;
-    begin(alloc);
-    let taken = are_taken(&rt, &mut sources, two.as_slice());
-    let _told = is_served(&rt, &sources, now) || is_served(&rt, &sources, now);
+/// Replaces the exceptions, prints what is served, and does so once more if memory ran out.
+fn tell_taken(rt: &HostRuntime, sources: &mut Sources, files: &[Vec<u8>], now: Moment) {
+    let taken = are_taken(rt, sources, files);
+    let _told = is_served(rt, sources, now) || is_served(rt, sources, now);
     if !taken {
-        let _again = are_taken(&rt, &mut sources, two.as_slice());
-        let _told = is_served(&rt, &sources, now);
+        let _again = are_taken(rt, sources, files);
+        let _told = is_served(rt, sources, now);
     }
-    Ok(())
+}
+
+#[test]
+fn take_files_of_exceptions(rt: HostRuntime) {
+    let alloc = rt.alloc();
+    if let (Some(now), Ok(two), Some(mut sources)) = (
+        Moment::parse("20231114221320Z"),
+        files(alloc, &[FILE, OTHER]),
+        sources_before(alloc),
+    ) {
+        begin(alloc);
+        tell_taken(&rt, &mut sources, two.as_slice(), now);
+    }
 }

@@ -2,7 +2,6 @@
 
 use prefixes::{Asn, IpPrefix, Vrp};
 use std::alloc::{AllocError, Global};
-use std::test::Fail;
 use vrps::{SetFault, VrpSet};
 
 /// A request for this many bytes signals the observer that the preparations are over. It is not refused.
@@ -58,30 +57,40 @@ pub(crate) fn is_told(rt: &HostRuntime, set: Result<VrpSet, SetFault>) -> bool {
     true
 }
 
-/// Adds the payload of a row.
-pub(crate) fn push(list: &mut Vec<Vrp>, &(text, max_len, asn): &Row) -> Result<(), Fail> {
-    let vrp = Vrp::new(IpPrefix::parse(text)?, max_len, Asn(asn))?;
-    Ok(list.push(vrp)?)
+/// The payload of a row.
+pub(crate) fn payload(&(text, max_len, asn): &Row) -> Option<Vrp> {
+    match IpPrefix::parse(text) {
+        Ok(prefix) => Vrp::new(prefix, max_len, Asn(asn)).ok(),
+        Err(_) => None,
+    }
 }
 
-pub(crate) fn set_of(alloc: Global, rows: &[Row]) -> Result<VrpSet, Fail> {
+/// The set of these rows, if there is memory.
+pub(crate) fn set_of(alloc: Global, rows: &[Row]) -> Option<VrpSet> {
     let mut list = Vec::new(alloc);
     for row in rows {
-        push(&mut list, row)?;
+        if list.push(payload(row)?).is_err() {
+            return None;
+        }
     }
-    Ok(VrpSet::from_list(list)?)
+    VrpSet::from_list(list).ok()
 }
 
 /// The set of these rows, once for each of two tries.
-pub(crate) fn twice(alloc: Global, rows: &[Row]) -> Result<(VrpSet, VrpSet), Fail> {
-    Ok((set_of(alloc, rows)?, set_of(alloc, rows)?))
+pub(crate) fn twice(alloc: Global, rows: &[Row]) -> Option<(VrpSet, VrpSet)> {
+    match (set_of(alloc, rows), set_of(alloc, rows)) {
+        (Some(set), Some(again)) => Some((set, again)),
+        _ => None,
+    }
 }
 
 /// The sets of these lists of rows, each of them twice.
-pub(crate) fn each_twice(alloc: Global, lists: &[&[Row]]) -> Result<Vec<(VrpSet, VrpSet)>, Fail> {
+pub(crate) fn each_twice(alloc: Global, lists: &[&[Row]]) -> Option<Vec<(VrpSet, VrpSet)>> {
     let mut sets = Vec::new(alloc);
     for rows in lists {
-        sets.push(twice(alloc, rows)?)?;
+        if sets.push(twice(alloc, rows)?).is_err() {
+            return None;
+        }
     }
-    Ok(sets)
+    Some(sets)
 }

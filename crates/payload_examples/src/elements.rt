@@ -1,6 +1,9 @@
 //! Elements by hand, and their faults.
 
+use crate::roas::changed;
 use der_lite::{Bits, Cursor, DerFault, DerWriter, is_integer, unsigned};
+use example_values::hex::bytes;
+use example_values::payloads::{NO_BITS, ONE_PREFIX};
 use std::alloc::{AllocError, Global};
 use std::process::Abort;
 use std::test::Fail;
@@ -63,7 +66,7 @@ fn is_read(tag: u8, bytes: &[u8], len: usize) -> bool {
 
 fn expect_read<R: Abort>(rt: &R, rows: &[(u8, &[u8], usize)]) {
     for (tag, bytes, len) in rows {
-        assert!(rt; is_read(*tag, bytes, *len), "at {bytes:?}");
+        assert!(rt; is_read(*tag, bytes, *len));
     }
 }
 
@@ -98,7 +101,7 @@ const FAULTS: &[(u8, &[u8], u8)] = &[
 
 fn expect_faults<R: Abort>(rt: &R, rows: &[(u8, &[u8], u8)]) {
     for (tag, bytes, number) in rows {
-        assert!(rt; fault(*tag, bytes) == Some((*number, 0)), "at {bytes:?}");
+        assert!(rt; fault(*tag, bytes) == Some((*number, 0)));
     }
 }
 
@@ -135,7 +138,7 @@ fn tells_offsets_in_the_payload(rt: HostRuntime) {
 /// Each beginning of an element of this tag is cut.
 fn expect_cut<R: Abort>(rt: &R, tag: u8, whole: &[u8]) {
     for cut in 0..whole.len() {
-        assert!(rt; fault(tag, &whole[..cut]) == Some((1, 0)), "{cut} bytes");
+        assert!(rt; fault(tag, &whole[..cut]) == Some((1, 0)));
     }
 }
 
@@ -180,7 +183,7 @@ fn expect_heads<R: Abort>(rt: &R, alloc: Global, rows: &[(u32, &[u8])]) {
             *len,
             head,
         ));
-        assert!(rt; is_written, "{len}");
+        assert!(rt; is_written);
     }
 }
 
@@ -247,8 +250,8 @@ fn is_number(element: &[u8], number: u32) -> bool {
 
 fn expect_numbers<R: Abort>(rt: &R, alloc: Global, rows: &[(u32, &[u8])]) {
     for (number, element) in rows {
-        assert!(rt; is_written(alloc, *number, element), "{number}");
-        assert!(rt; is_number(element, *number), "{number}");
+        assert!(rt; is_written(alloc, *number, element));
+        assert!(rt; is_number(element, *number));
     }
 }
 
@@ -290,17 +293,6 @@ fn walk(payload: &[u8]) -> Result<usize, DerFault> {
     Ok(count)
 }
 
-const ATTESTATION: &[u8; 25] = b"\
-    \x30\x17\x02\x03\x00\xfb\xf0\
-    \x30\x10\x30\x0e\x04\x02\x00\x01\
-    \x30\x08\x30\x06\x03\x04\x00\xc0\x00\x02";
-
-/// The same with an address of no bits.
-const OF_NO_BITS: &[u8] = b"\
-    \x30\x14\x02\x03\x00\xfb\xf0\
-    \x30\x0d\x30\x0b\x04\x02\x00\x01\
-    \x30\x05\x30\x03\x03\x01\x00";
-
 /// The attestation with a byte behind it.
 const WITH_MORE: &[u8] = b"\
     \x30\x17\x02\x03\x00\xfb\xf0\
@@ -335,41 +327,29 @@ const NOT_NESTED: &[(&[u8], u8, usize)] = &[
 
 fn expect_walk_faults<R: Abort>(rt: &R, rows: &[(&[u8], u8, usize)]) {
     for (payload, number, offset) in rows {
-        assert!(rt;
-            walk_fault(payload) == Some((*number, *offset)),
-            "at {payload:?}"
-        );
+        assert!(rt; walk_fault(payload) == Some((*number, *offset)));
     }
 }
 
 #[test]
 fn walks_nested_elements(rt: HostRuntime) {
-    assert!(rt; walk(ATTESTATION).ok() == Some(3));
-    assert!(rt; walk(OF_NO_BITS).ok() == Some(0));
+    assert!(rt; walk(bytes(ONE_PREFIX).as_slice()).ok() == Some(3));
+    assert!(rt; walk(bytes(NO_BITS).as_slice()).ok() == Some(0));
     expect_walk_faults(&rt, NOT_NESTED);
 }
 
 /// No beginning of nested elements is mistaken for all of them.
 fn expect_no_beginning<R: Abort>(rt: &R, whole: &[u8]) {
     for cut in 0..whole.len() {
-        assert!(rt; walk_fault(&whole[..cut]) == Some((1, 0)), "{cut} bytes");
+        assert!(rt; walk_fault(&whole[..cut]) == Some((1, 0)));
     }
 }
 
 #[test]
 fn walks_no_beginning_and_nothing_more(rt: HostRuntime) {
-    expect_no_beginning(&rt, ATTESTATION);
+    expect_no_beginning(&rt, bytes(ONE_PREFIX).as_slice());
     assert!(rt; walk_fault(WITH_MORE) == Some((5, 25)));
     assert!(rt; walk_fault(WITH_LONG_LENGTH) == Some((3, 0)));
-}
-
-/// The attestation with this byte at this place.
-fn changed(index: usize, byte: u8) -> [u8; 25] {
-    let mut payload = *ATTESTATION;
-    if index < 25 {
-        payload[index] = byte;
-    }
-    payload
 }
 
 /// Whether nested elements are accepted, or have a fault that is reported inside them.
@@ -384,11 +364,11 @@ fn is_inside(payload: &[u8]) -> bool {
 fn tells_faults_inside_the_payload(rt: HostRuntime) {
     for index in 0..25usize {
         for byte in 0..=255u8 {
-            assert!(rt; is_inside(&changed(index, byte)), "{byte} at {index}");
+            assert!(rt; is_inside(changed(ONE_PREFIX, index, byte).as_slice()));
         }
     }
-    assert!(rt; walk_fault(&changed(16, 9)) == Some((1, 15)));
-    assert!(rt; walk_fault(&changed(18, 5)) == Some((1, 19)));
+    assert!(rt; walk_fault(changed(ONE_PREFIX, 16, 9).as_slice()) == Some((1, 15)));
+    assert!(rt; walk_fault(changed(ONE_PREFIX, 18, 5).as_slice()) == Some((1, 19)));
 }
 
 #[test]

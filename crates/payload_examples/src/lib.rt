@@ -15,7 +15,3 @@ mod offers;
 mod prefix_texts;
 #[cfg(test)]
 mod roas;
-#[cfg(test)]
-mod sequences;
-#[cfg(test)]
-mod written_roas;

@@ -29,7 +29,7 @@ fn is_written(alloc: Global, text: &str) -> bool {
 
 fn expect_written<R: Abort>(rt: &R, alloc: Global, texts: &[&str]) {
     for text in texts {
-        assert!(rt; is_written(alloc, text), "{text}");
+        assert!(rt; is_written(alloc, text));
     }
 }
 
@@ -50,7 +50,7 @@ const COUNTED: &[(&str, u64)] = &[
 fn expect_seconds<R: Abort>(rt: &R, rows: &[(&str, u64)]) {
     for (text, seconds) in rows {
         let counted = Moment::from_text(text.as_bytes()).map(|m| m.seconds());
-        assert!(rt; counted == Some(*seconds), "{text}");
+        assert!(rt; counted == Some(*seconds));
     }
 }
 
@@ -89,11 +89,11 @@ const MONTHS: &[(u16, u64)] = &[
 #[test]
 fn days_of_years_and_months(rt: HostRuntime) {
     for &(year, days, february) in YEARS {
-        assert!(rt; days_of_year(year) == days, "{year}");
-        assert!(rt; days_of_month(year, 2) == february, "{year}");
+        assert!(rt; days_of_year(year) == days);
+        assert!(rt; days_of_month(year, 2) == february);
     }
     for &(month, days) in MONTHS {
-        assert!(rt; days_of_month(2025, month) == days, "{month}");
+        assert!(rt; days_of_month(2025, month) == days);
     }
 }
 
@@ -135,7 +135,7 @@ const NO_MOMENTS: &[&str] = &[
 
 fn expect_no_moments<R: Abort>(rt: &R, texts: &[&str]) {
     for text in texts {
-        assert!(rt; Moment::parse(text).is_none(), "{text}");
+        assert!(rt; Moment::parse(text).is_none());
     }
 }
 
@@ -176,7 +176,7 @@ fn compare(texts: &[&str], i: usize, k: usize) -> bool {
 fn expect_ascending<R: Abort>(rt: &R, texts: &[&str]) {
     for i in 0..texts.len() {
         for k in 0..texts.len() {
-            assert!(rt; compare(texts, i, k), "{i} {k}");
+            assert!(rt; compare(texts, i, k));
         }
     }
 }
@@ -228,7 +228,7 @@ fn is_fault(bytes: &[u8], number: u8) -> bool {
 
 fn expect_faults<R: Abort>(rt: &R, rows: &[(&[u8], u8)]) {
     for (bytes, number) in rows {
-        assert!(rt; is_fault(bytes, *number), "at {bytes:?}");
+        assert!(rt; is_fault(bytes, *number));
     }
 }
 

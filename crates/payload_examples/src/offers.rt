@@ -194,7 +194,7 @@ const FIRST_OFFERS: &[(&str, Answer)] = &[
 fn expect_first<R: Abort>(rt: &R, alloc: Global, rows: &[(&str, Answer)]) {
     for (now, want) in rows {
         let answer = offer(&mut Point::new(alloc), FIRST, FILES, now);
-        assert!(rt; is(answer, want), "{now}");
+        assert!(rt; is(answer, want));
     }
 }
 
@@ -215,7 +215,7 @@ const HELD_OFFERS: &[(&[u8], &str, Answer)] = &[
 
 fn expect_held<R: Abort>(rt: &R, point: &mut Point, rows: &[(&[u8], &str, Answer)]) {
     for (manifest, now, want) in rows {
-        assert!(rt; is(offer(point, manifest, &[], now), want), "{now}");
+        assert!(rt; is(offer(point, manifest, &[], now), want));
     }
 }
 
@@ -246,7 +246,7 @@ fn at_noon(alloc: Global, (number, this_update, listed, files, _want): &Later) -
 
 fn expect_later<R: Abort>(rt: &R, alloc: Global, rows: &[Later]) {
     for (row, later) in rows.iter().enumerate() {
-        assert!(rt; is(at_noon(alloc, later), &later.4), "row {row}");
+        assert!(rt; is(at_noon(alloc, later), &later.4));
     }
 }
 
@@ -339,7 +339,7 @@ type Step<'a> = (&'a str, &'a [u8], &'a [FileIn<'a>], &'a str, Answer);
 fn expect_answers<R: Abort>(rt: &R, repository: &mut Repository, steps: &[Step]) {
     for (name, manifest, files, now, want) in steps {
         let answer = offer_to(repository, name, manifest, files, now);
-        assert!(rt; is(answer, want), "{name} {now}");
+        assert!(rt; is(answer, want));
     }
 }
 

@@ -63,7 +63,7 @@ fn is_written(alloc: Global, text: &str, written: &str) -> bool {
 
 fn expect_written<R: Abort>(rt: &R, alloc: Global, rows: &[(&str, &str)]) {
     for (text, written) in rows {
-        assert!(rt; is_written(alloc, text, written), "{text}");
+        assert!(rt; is_written(alloc, text, written));
     }
 }
 
@@ -142,7 +142,7 @@ const BAD_TEXT: &[&str] = &[
 
 fn expect_refused<R: Abort>(rt: &R, texts: &[&str], want: &PrefixFault) {
     for text in texts {
-        assert!(rt; IpPrefix::parse(text).err() == Some(*want), "{text}");
+        assert!(rt; IpPrefix::parse(text).err() == Some(*want));
     }
 }
 
@@ -180,13 +180,13 @@ fn is_number(alloc: Global, text: &str, number: u32) -> bool {
 
 fn expect_numbers<R: Abort>(rt: &R, alloc: Global, rows: &[(&str, u32)]) {
     for (text, number) in rows {
-        assert!(rt; is_number(alloc, text, *number), "{text}");
+        assert!(rt; is_number(alloc, text, *number));
     }
 }
 
 fn expect_no_numbers<R: Abort>(rt: &R, texts: &[&str]) {
     for text in texts {
-        assert!(rt; Asn::parse(text) == Err(PrefixFault::BadText), "{text}");
+        assert!(rt; Asn::parse(text) == Err(PrefixFault::BadText));
     }
 }
 
@@ -219,7 +219,7 @@ fn is_judged(text: &str, max_len: u8, fits: bool) -> bool {
 
 fn expect_judged<R: Abort>(rt: &R, rows: &[(&str, u8, bool)]) {
     for (text, max_len, fits) in rows {
-        assert!(rt; is_judged(text, *max_len, *fits), "{text}");
+        assert!(rt; is_judged(text, *max_len, *fits));
     }
 }
 
@@ -248,7 +248,7 @@ fn covers(text: &str, other: &str) -> Option<bool> {
 
 fn expect_covers<R: Abort>(rt: &R, rows: &[(&str, &str, bool)]) {
     for (text, other, want) in rows {
-        assert!(rt; covers(text, other) == Some(*want), "{text} {other}");
+        assert!(rt; covers(text, other) == Some(*want));
     }
 }
 

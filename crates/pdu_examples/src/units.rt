@@ -16,12 +16,6 @@ const SERIAL_NOTIFY: [u8; 12] = [
     0x01, 0x00, 0x12, 0x34, 0x00, 0x00, 0x00, 0x0c, 0x00, 0x00, 0x00, 0x05,
 ];
 
-const SERIAL_QUERY: [u8; 12] = [
-    0x01, 0x01, 0x12, 0x34, 0x00, 0x00, 0x00, 0x0c, 0x00, 0x00, 0x00, 0x05,
-];
-
-const RESET_QUERY: [u8; 8] = [0x01, 0x02, 0x00, 0x00, 0x00, 0x00, 0x00, 0x08];
-
 /// A Cache Response, an announcement of 192.0.2.0/24 up to 24 of AS 64496, and End of Data.
 const ANSWER: [u8; 52] = [
     0x01, 0x03, 0x12, 0x34, 0x00, 0x00, 0x00, 0x08, 0x01, 0x04, 0x00, 0x00, 0x00, 0x00, 0x00, 0x14,
@@ -34,14 +28,6 @@ const ANSWER: [u8; 52] = [
 const ANNOUNCEMENT: [u8; 32] = [
     0x01, 0x06, 0x00, 0x00, 0x00, 0x00, 0x00, 0x20, 0x01, 0x20, 0x30, 0x00, 0x20, 0x01, 0x0d, 0xb8,
     0x00, 0x00, 0x00, 0x00, 0x00, 0x00, 0x00, 0x00, 0x00, 0x00, 0x00, 0x00, 0x00, 0x00, 0xfb, 0xf0,
-];
-
-const CACHE_RESET: [u8; 8] = [0x01, 0x08, 0x00, 0x00, 0x00, 0x00, 0x00, 0x08];
-
-/// No Data Available, with the Reset Query that it answers.
-const ERROR_REPORT: [u8; 24] = [
-    0x01, 0x0a, 0x00, 0x02, 0x00, 0x00, 0x00, 0x18, 0x00, 0x00, 0x00, 0x08, 0x01, 0x02, 0x00, 0x00,
-    0x00, 0x00, 0x00, 0x08, 0x00, 0x00, 0x00, 0x00,
 ];
 
 /// The bytes of those of these PDUs that there are in this version.
@@ -93,11 +79,7 @@ fn comes_back_by_bytes(alloc: Global, version: Version, bytes: &[u8]) -> Result<
 }
 
 /// Whether they come back in every cutting into two pieces, and byte by byte.
-pub(crate) fn always_comes_back(
-    alloc: Global,
-    version: Version,
-    bytes: &[u8],
-) -> Result<bool, AllocError> {
+fn always_comes_back(alloc: Global, version: Version, bytes: &[u8]) -> Result<bool, AllocError> {
     for cut in 0..bytes.len() {
         if !comes_back(alloc, version, bytes, cut)? {
             return Ok(false);
@@ -107,10 +89,7 @@ pub(crate) fn always_comes_back(
 }
 
 /// The fault of the first PDU, how many bytes are held then, and how many are left: at a router of this version, or at the cache.
-pub(crate) fn first_fault(
-    router: Option<Version>,
-    bytes: &[u8],
-) -> (Option<UnitFault>, usize, usize) {
+fn first_fault(router: Option<Version>, bytes: &[u8]) -> (Option<UnitFault>, usize, usize) {
     let mut reader = match router {
         Some(version) => UnitReader::for_router(version),
         None => UnitReader::for_cache(),
@@ -124,67 +103,157 @@ pub(crate) fn first_fault(
     (fault, reader.held().len(), piece.len())
 }
 
-#[test]
-fn units_in_every_cutting(rt: HostRuntime) -> Result<(), Fail> {
-    for units in [
-        SERIAL_NOTIFY.as_slice(),
-        &SERIAL_QUERY,
-        &RESET_QUERY,
-        &ANSWER,
-        &ANNOUNCEMENT,
-        &CACHE_RESET,
-        &ERROR_REPORT,
-    ] {
-        assert!(rt; always_comes_back(rt.alloc(), Version::V1, units)?);
+/// PDUs of a version.
+const CUT: &[(Version, &str)] = &[
+    (Version::V1, "01 00 1234 0000000c 00000005"),
+    (Version::V1, wire::SERIAL_QUERY),
+    (Version::V1, wire::RESET_QUERY),
+    (Version::V1, wire::ANSWER),
+    (
+        Version::V1,
+        "01 06 0000 00000020 01 20 30 00 20010db8 00000000 00000000 00000000 0000fbf0",
+    ),
+    (Version::V1, wire::CACHE_RESET),
+    // No Data Available, with the Reset Query that it answers.
+    (
+        Version::V1,
+        "01 0a 0002 00000018 00000008 0102000000000008 00000000",
+    ),
+    (
+        Version::V0,
+        "00 00 0777 0000000c 00000005 | 00 01 0777 0000000c 00000005 | 00 02 0000 00000008",
+    ),
+    (
+        Version::V0,
+        "00 03 0777 00000008 | 00 04 0000 00000014 01 18 18 00 c0000200 0000fbf0 | 00 07 0777 0000000c 00000005",
+    ),
+    (
+        Version::V0,
+        "00 03 0777 00000008 | 00 04 0000 00000014 01 18 18 00 c0000200 0000fbf0 | 00 06 0000 00000020 00 20 30 00 20010db8 00000000 00000000 00000000 0000fbf0 | 00 07 0777 0000000c 00000005 | 00 08 0000 00000008",
+    ),
+    // Code 0, Corrupt Data, to the Serial Query of another session.
+    (
+        Version::V0,
+        "00 0a 0000 0000001c 0000000c 00 01 1234 0000000c 00000005 00000000 | 00 07 0777 0000000c 00000005",
+    ),
+];
+
+fn expect_cut<R: Abort>(rt: &R, alloc: Global, rows: &[(Version, &str)]) -> Result<(), AllocError> {
+    for &(version, text) in rows {
+        assert!(rt; always_comes_back(alloc, version, bytes(text).as_slice())?);
     }
     Ok(())
+}
+
+#[test]
+fn units_in_every_cutting(rt: HostRuntime) -> Result<(), Fail> {
+    Ok(expect_cut(&rt, rt.alloc(), CUT)?)
+}
+
+/// A PDU of 4,096 bytes with this head, and sevens after it.
+fn longest(alloc: Global, head: &str) -> Result<Vec<u8>, AllocError> {
+    let mut unit = bytes(head).as_slice().to_vec(alloc)?;
+    for _seven in 16..4096u32 {
+        unit.push(7)?;
+    }
+    Ok(unit)
+}
+
+/// Whether it comes back, cut at its ends and around its header.
+fn longest_comes_back(alloc: Global, head: &str) -> Result<bool, AllocError> {
+    let unit = longest(alloc, head)?;
+    for cut in [0, 7, 8, 9, 4095, 4096usize] {
+        if !comes_back(alloc, Version::V1, unit.as_slice(), cut)? {
+            return Ok(false);
+        }
+    }
+    Ok(true)
 }
 
 #[test]
 fn longest_units(rt: HostRuntime) -> Result<(), Fail> {
-    let heads = [
-        [
-            0x01, 0x09, 0x01, 0x00, 0x00, 0x00, 0x10, 0x00, 7, 7, 7, 7, 7, 7, 7, 7,
-        ],
-        [
-            0x01, 0x0a, 0x00, 0x00, 0x00, 0x00, 0x10, 0x00, 0, 0, 0, 0, 0, 0, 0x0f, 0xf0,
-        ],
-    ];
-    for head in heads {
-        let mut unit = vec![in rt.alloc(); 7u8; 4096]?;
-        assert!(rt; unit.len() == 4096);
-        for i in 0..16usize {
-            unit[i] = head[i];
-        }
-        for cut in [0, 7, 8, 9, 4095, 4096usize] {
-            assert!(rt; comes_back(rt.alloc(), Version::V1, unit.as_slice(), cut)?);
-        }
-    }
+    let key = "01 09 0100 00001000 0707070707070707";
+    assert!(rt; longest_comes_back(rt.alloc(), key)?);
+    let report = "01 0a 0000 00001000 00000000 00000ff0";
+    assert!(rt; longest_comes_back(rt.alloc(), report)?);
     Ok(())
+}
+
+/// A router's version, or none for a cache. What comes, the fault of its first PDU, how many bytes are held then, and how many are left.
+type Faulty = (
+    Option<Version>,
+    &'static str,
+    Option<UnitFault>,
+    usize,
+    usize,
+);
+
+const VERSION: Option<UnitFault> = Some(UnitFault::Version);
+
+const LENGTH: Option<UnitFault> = Some(UnitFault::Length);
+
+const TYPE: Option<UnitFault> = Some(UnitFault::Type);
+
+const OLD: Option<Version> = Some(Version::V0);
+
+const NEW: Option<Version> = Some(Version::V1);
+
+const FAULTS: &[Faulty] = &[
+    (None, "01 05 0000 00000008 01", TYPE, 8, 1),
+    (None, "01 04 0000 ffffffff 01", LENGTH, 8, 1),
+    (
+        None,
+        "01 09 0000 ffffffff 0101",
+        Some(UnitFault::TooLong),
+        8,
+        2,
+    ),
+    (
+        None,
+        "01 04 0000 00000014 01 18 17 00 c0000200 0000fbf0 01",
+        Some(UnitFault::Record),
+        20,
+        1,
+    ),
+    (
+        None,
+        "01 0a 0000 00000010 00000001 00000000",
+        Some(UnitFault::ErrorReport),
+        16,
+        0,
+    ),
+    (None, "01 02", Some(UnitFault::Truncated), 2, 0),
+    (None, "", None, 0, 0),
+];
+
+/// A Router Key, an End of Data with intervals, and a type that there is in no version. An End of Data without intervals in version 1. The
+/// other version, and one that there is not.
+const FAULTS_OF_A_VERSION: &[Faulty] = &[
+    (None, "00 09 0100 00000022 07", TYPE, 8, 1),
+    (None, "00 07 0777 00000018 00", LENGTH, 8, 1),
+    (None, "00 05 0000 00000008", TYPE, 8, 0),
+    (OLD, "00 09 0100 00000022 07", TYPE, 8, 1),
+    (OLD, "00 07 0777 00000018 00", LENGTH, 8, 1),
+    (None, "01 07 0777 0000000c 00000005", LENGTH, 8, 4),
+    (NEW, "01 07 0777 0000000c 00000005", LENGTH, 8, 4),
+    (NEW, "00 02 0000 00000008", VERSION, 8, 0),
+    (OLD, "00 03 0777 00000008", None, 0, 0),
+    (OLD, wire::RESPONSE, VERSION, 8, 0),
+    (NEW, "00 03 0777 00000008", VERSION, 8, 0),
+    (None, "02 02 0000 00000008", VERSION, 8, 0),
+    (None, "00 02 0000", Some(UnitFault::Truncated), 4, 0),
+];
+
+fn expect_faults<R: Abort>(rt: &R, rows: &[Faulty]) {
+    for &(router, text, fault, held, left) in rows {
+        assert!(rt; first_fault(router, bytes(text).as_slice()) == (fault, held, left));
+    }
 }
 
 #[test]
 fn faults(rt: HostRuntime) {
-    let version = [0x00, 0x02, 0x00, 0x00, 0x00, 0x00, 0x00, 0x08];
-    assert!(rt; first_fault(Some(Version::V1), &version) == (Some(UnitFault::Version), 8, 0));
-    let kind = [0x01, 0x05, 0x00, 0x00, 0x00, 0x00, 0x00, 0x08, 0x01];
-    assert!(rt; first_fault(None, &kind) == (Some(UnitFault::Type), 8, 1));
-    let length = [0x01, 0x04, 0x00, 0x00, 0xff, 0xff, 0xff, 0xff, 0x01];
-    assert!(rt; first_fault(None, &length) == (Some(UnitFault::Length), 8, 1));
-    let long = [0x01, 0x09, 0x00, 0x00, 0xff, 0xff, 0xff, 0xff, 0x01, 0x01];
-    assert!(rt; first_fault(None, &long) == (Some(UnitFault::TooLong), 8, 2));
-    let record = [
-        0x01, 0x04, 0x00, 0x00, 0x00, 0x00, 0x00, 0x14, 0x01, 0x18, 0x17, 0x00, 0xc0, 0x00, 0x02,
-        0x00, 0x00, 0x00, 0xfb, 0xf0, 0x01,
-    ];
-    assert!(rt; first_fault(None, &record) == (Some(UnitFault::Record), 20, 1));
-    let report = [
-        0x01, 0x0a, 0x00, 0x00, 0x00, 0x00, 0x00, 0x10, 0x00, 0x00, 0x00, 0x01, 0x00, 0x00, 0x00,
-        0x00,
-    ];
-    assert!(rt; first_fault(None, &report) == (Some(UnitFault::ErrorReport), 16, 0));
-    assert!(rt; first_fault(None, &[0x01, 0x02]) == (Some(UnitFault::Truncated), 2, 0));
-    assert!(rt; first_fault(None, &[]) == (None, 0, 0));
+    expect_faults(&rt, FAULTS);
+    expect_faults(&rt, FAULTS_OF_A_VERSION);
     assert!(rt; UnitFault::Truncated.number() == 7);
 }
 
@@ -244,22 +313,16 @@ fn agreement_at_each_byte(rt: HostRuntime) {
         let mut reader = UnitReader::for_router(Version::V1);
         let (mut front, mut back) = notify.as_slice().split_at(cut);
         assert!(rt; matches!(reader.next(&mut front), Next::NeedMore));
-        assert!(rt; reader.held().len() == cut, "{cut}");
+        assert!(rt; reader.held().len() == cut);
         reader.agreed();
         let read = reader.next(&mut back);
         if cut < 8 {
-            assert!(rt; matches!(read, Next::Fault(UnitFault::Version)), "{cut}");
-            assert!(rt; reader.held().len() == 8, "{cut}");
+            assert!(rt; matches!(read, Next::Fault(UnitFault::Version)));
+            assert!(rt; reader.held().len() == 8);
         } else {
-            assert!(rt;
-                matches!(read, Next::Unit(Unit::SerialNotify { .. })),
-                "{cut}"
-            );
+            assert!(rt; matches!(read, Next::Unit(Unit::SerialNotify { .. })));
             let mut again = notify.as_slice();
-            assert!(rt;
-                matches!(reader.next(&mut again), Next::Fault(UnitFault::Version)),
-                "{cut}"
-            );
+            assert!(rt; matches!(reader.next(&mut again), Next::Fault(UnitFault::Version)));
         }
     }
 }
@@ -404,7 +467,7 @@ fn units_to_a_writer(rt: HostRuntime) -> Result<(), Fail> {
     assert!(rt; whole.device().as_slice() == bytes(wire::V).as_slice());
     assert!(rt; (whole.calls(), whole.failures()) == (1, 0));
     for calls in 0..=20u8 {
-        assert!(rt; is_written(rt.alloc(), &unit, calls), "{calls}");
+        assert!(rt; is_written(rt.alloc(), &unit, calls));
     }
     Ok(())
 }

@@ -1,8 +1,8 @@
-use crate::units::{always_comes_back, first_fault};
 use arrayvec::ArrayVec;
 use example_values::hex::bytes;
 use example_values::sets::payload;
 use example_values::units as wire;
+use prefixes::Vrp;
 use rtr_pdu::{
     Counted, ErrorReport, Kind, Next, ReadFault, RouterKey, Unit, UnitFault, UnitReader, Version,
     encode_as, encode_prefix, read_all, read_unit_of,
@@ -57,165 +57,54 @@ fn router_key() -> Unit {
     Unit::RouterKey(RouterKey::new(true, [7; 20], 64496, &[1, 2]))
 }
 
+/// Whether a PDU of version 0 is written as these bytes.
+fn is_written(unit: &Unit, text: &str) -> bool {
+    let mut buffer = ArrayVec::new();
+    if !unit.fits(Version::V0) {
+        return false;
+    }
+    encode_as(Version::V0, unit, &mut buffer);
+    buffer.as_slice() == bytes(text).as_slice()
+}
+
+/// Whether an announcement of a payload, and a Reset Query, are written in each version.
+fn are_written_in_both(vrp: &Vrp) -> bool {
+    let mut buffer = ArrayVec::new();
+    encode_prefix(Version::V0, true, vrp, &mut buffer);
+    let is_old = buffer.as_slice() == bytes(V).as_slice();
+    encode_prefix(Version::V1, true, vrp, &mut buffer);
+    let is_new = buffer.as_slice() == bytes(wire::V).as_slice();
+    encode_as(Version::V1, &Unit::ResetQuery, &mut buffer);
+    is_old && is_new && buffer.as_slice() == bytes(wire::RESET_QUERY).as_slice()
+}
+
+/// Whether PDUs with a session or a serial are written.
+fn are_named() -> bool {
+    let (session, serial) = (0x777, 5);
+    is_written(&Unit::SerialNotify { session, serial }, NOTIFY)
+        && is_written(&Unit::SerialQuery { session, serial }, QUERY)
+        && is_written(&Unit::CacheResponse { session }, RESPONSE)
+        && is_written(&Unit::EndOfData0 { session, serial }, END)
+}
+
+/// Whether a record is written as these bytes.
+fn is_record(announce: bool, vrp: Vrp, text: &str) -> bool {
+    is_written(&Unit::Prefix { announce, vrp }, text)
+}
+
 #[test]
 fn each_unit_is_written(rt: HostRuntime) -> Result<(), Fail> {
     let v = payload("192.0.2.0/24", 24, 64496)?;
     let v6 = payload("2001:db8::/32", 48, 64496)?;
     let query = bytes("00 01 1234 0000000c 00000005");
     assert!(rt; query.len() < 20);
-    let rows = [
-        (
-            Unit::SerialNotify {
-                session: 0x777,
-                serial: 5,
-            },
-            NOTIFY,
-        ),
-        (
-            Unit::SerialQuery {
-                session: 0x777,
-                serial: 5,
-            },
-            QUERY,
-        ),
-        (Unit::ResetQuery, RESET_QUERY),
-        (Unit::CacheResponse { session: 0x777 }, RESPONSE),
-        (
-            Unit::Prefix {
-                announce: true,
-                vrp: v,
-            },
-            V,
-        ),
-        (
-            Unit::Prefix {
-                announce: false,
-                vrp: v6,
-            },
-            V6_WITHDRAWN,
-        ),
-        (
-            Unit::EndOfData0 {
-                session: 0x777,
-                serial: 5,
-            },
-            END,
-        ),
-        (Unit::CacheReset, CACHE_RESET),
-        (
-            Unit::ErrorReport(ErrorReport::new(0, query.as_slice(), "")),
-            REPORT,
-        ),
-    ];
-    let mut buffer = ArrayVec::new();
-    for (unit, text) in &rows {
-        assert!(rt; unit.fits(Version::V0));
-        encode_as(Version::V0, unit, &mut buffer);
-        assert!(rt; buffer.as_slice() == bytes(text).as_slice(), "{text}");
-    }
-    encode_prefix(Version::V0, true, &v, &mut buffer);
-    assert!(rt; buffer.as_slice() == bytes(V).as_slice());
-    encode_prefix(Version::V1, true, &v, &mut buffer);
-    assert!(rt; buffer.as_slice() == bytes(wire::V).as_slice());
-    encode_as(Version::V1, &Unit::ResetQuery, &mut buffer);
-    assert!(rt; buffer.as_slice() == bytes(wire::RESET_QUERY).as_slice());
-    Ok(())
-}
-
-/// The PDU with which these bytes begin, in version 0.
-fn first_of(text: &str) -> Option<Unit> {
-    let all = bytes(text);
-    let mut piece = all.as_slice();
-    match UnitReader::of_version(Version::V0).next(&mut piece) {
-        Next::Unit(unit) => Some(unit),
-        _ => None,
-    }
-}
-
-/// Whether these bytes are a PDU of version 0 that is written so again.
-fn comes_back(text: &str) -> bool {
-    let mut buffer = ArrayVec::new();
-    match first_of(text) {
-        Some(unit) => {
-            if !unit.fits(Version::V0) {
-                return false;
-            }
-            encode_as(Version::V0, &unit, &mut buffer);
-            buffer.as_slice() == bytes(text).as_slice()
-        }
-        None => false,
-    }
-}
-
-#[test]
-fn each_unit_is_read(rt: HostRuntime) -> Result<(), Fail> {
-    let notify = first_of(NOTIFY);
-    assert!(rt;
-        matches!(
-            notify,
-            Some(Unit::SerialNotify {
-                session: 0x777,
-                serial: 5
-            })
-        )
-    );
-    let query = first_of(QUERY);
-    assert!(rt;
-        matches!(
-            query,
-            Some(Unit::SerialQuery {
-                session: 0x777,
-                serial: 5
-            })
-        )
-    );
-    assert!(rt; matches!(first_of(RESET_QUERY), Some(Unit::ResetQuery)));
-    let response = first_of(RESPONSE);
-    assert!(rt; matches!(response, Some(Unit::CacheResponse { session: 0x777 })));
-    assert!(rt; matches!(first_of(V), Some(Unit::Prefix { announce: true, .. })));
-    let withdrawn = first_of(V6_WITHDRAWN);
-    assert!(rt;
-        matches!(
-            withdrawn,
-            Some(Unit::Prefix {
-                announce: false,
-                ..
-            })
-        )
-    );
-    assert!(rt; comes_back(V) && comes_back(V6_WITHDRAWN));
-    let end = first_of(END);
-    assert!(rt;
-        matches!(
-            end,
-            Some(Unit::EndOfData0 {
-                session: 0x777,
-                serial: 5
-            })
-        )
-    );
-    assert!(rt; matches!(first_of(CACHE_RESET), Some(Unit::CacheReset)));
-    match first_of(REPORT) {
-        Some(Unit::ErrorReport(report)) => {
-            assert!(rt; report.code() == 0);
-            assert!(rt; report.copy() == bytes("00 01 1234 0000000c 00000005").as_slice());
-            assert!(rt; report.text().is_empty());
-        }
-        _ => return Err(Fail::from("report")),
-    }
-    Ok(())
-}
-
-#[test]
-fn units_in_every_cutting(rt: HostRuntime) -> Result<(), Fail> {
-    for units in [
-        wire::all_of(&[NOTIFY, QUERY, RESET_QUERY]),
-        bytes(ANSWER),
-        wire::all_of(&[RESPONSE, V, V6_WITHDRAWN, END, CACHE_RESET]),
-        wire::all_of(&[REPORT, END]),
-    ] {
-        assert!(rt; always_comes_back(rt.alloc(), Version::V0, units.as_slice())?);
-    }
+    assert!(rt; are_named());
+    assert!(rt; is_record(true, v, V) && is_record(false, v6, V6_WITHDRAWN));
+    assert!(rt; is_written(&Unit::ResetQuery, RESET_QUERY));
+    assert!(rt; is_written(&Unit::CacheReset, CACHE_RESET));
+    let report = Unit::ErrorReport(ErrorReport::new(0, query.as_slice(), ""));
+    assert!(rt; is_written(&report, REPORT));
+    assert!(rt; are_written_in_both(&v));
     Ok(())
 }
 
@@ -266,29 +155,6 @@ fn types_of_a_version(rt: HostRuntime) {
     assert!(rt; Version::first(&[2]) == new && Version::first(&[]) == new);
 }
 
-#[test]
-fn faults_of_each_version(rt: HostRuntime) {
-    let fault = |router, text: &str| first_fault(router, bytes(text).as_slice());
-    // A Router Key, an End of Data with intervals, and a type that there is in no version.
-    let key = "00 09 0100 00000022 07";
-    assert!(rt; fault(None, key) == (Some(UnitFault::Type), 8, 1));
-    let long_end = "00 07 0777 00000018 00";
-    assert!(rt; fault(None, long_end) == (Some(UnitFault::Length), 8, 1));
-    assert!(rt; fault(None, "00 05 0000 00000008") == (Some(UnitFault::Type), 8, 0));
-    assert!(rt; fault(Some(Version::V0), key) == (Some(UnitFault::Type), 8, 1));
-    assert!(rt; fault(Some(Version::V0), long_end) == (Some(UnitFault::Length), 8, 1));
-    // An End of Data without intervals in version 1.
-    let short_end = "01 07 0777 0000000c 00000005";
-    assert!(rt; fault(None, short_end) == (Some(UnitFault::Length), 8, 4));
-    assert!(rt; fault(Some(Version::V1), short_end) == (Some(UnitFault::Length), 8, 4));
-    // The other version, and one that there is not.
-    assert!(rt; fault(Some(Version::V0), RESPONSE) == (None, 0, 0));
-    assert!(rt; fault(Some(Version::V0), wire::RESPONSE) == (Some(UnitFault::Version), 8, 0));
-    assert!(rt; fault(Some(Version::V1), RESPONSE) == (Some(UnitFault::Version), 8, 0));
-    assert!(rt; fault(None, "02 02 0000 00000008") == (Some(UnitFault::Version), 8, 0));
-    assert!(rt; fault(None, "00 02 0000") == (Some(UnitFault::Truncated), 4, 0));
-}
-
 /// Checks how many PDUs a cache reads of these, which fault follows them, and the version that is reported then.
 fn expect_read<R: Abort>(
     rt: &R,
@@ -301,14 +167,14 @@ fn expect_read<R: Abort>(
     let mut reader = UnitReader::for_cache();
     let mut piece = all.as_slice();
     for _ in 0..units {
-        assert!(rt; matches!(reader.next(&mut piece), Next::Unit(_)), "{text}");
+        assert!(rt; matches!(reader.next(&mut piece), Next::Unit(_)));
     }
     let found = match reader.next(&mut piece) {
         Next::Fault(fault) => Some(fault),
         _ => None,
     };
-    assert!(rt; found == fault && piece.is_empty(), "{text}");
-    assert!(rt; reader.version() == Some(version), "{text}");
+    assert!(rt; found == fault && piece.is_empty());
+    assert!(rt; reader.version() == Some(version));
 }
 
 #[test]
@@ -348,14 +214,11 @@ fn a_version_is_told_once_a_header_has_come(rt: HostRuntime) {
         let mut reader = UnitReader::for_cache();
         for (at, byte) in all.as_slice().iter().enumerate() {
             let told = if at < 8 { None } else { Some(version) };
-            assert!(rt;
-                reader.held().len() == at && reader.version() == told,
-                "{at}"
-            );
+            assert!(rt; reader.held().len() == at && reader.version() == told);
             let one = [*byte];
             let mut piece = one.as_slice();
             let is_unit = matches!(reader.next(&mut piece), Next::Unit(_));
-            assert!(rt; is_unit == (at + 1 == all.len()), "{at}");
+            assert!(rt; is_unit == (at + 1 == all.len()));
         }
         assert!(rt; reader.held().is_empty() && reader.version() == Some(version));
     }
@@ -393,8 +256,8 @@ fn notifies_before_agreement(rt: HostRuntime) {
     ] {
         let mut reader = UnitReader::for_router(version);
         for text in [NOTIFY, NOTIFY_1, NOTIFY_2] {
-            assert!(rt; is_notify(&mut reader, text), "{text}");
-            assert!(rt; reader.version() == Some(version), "{text}");
+            assert!(rt; is_notify(&mut reader, text));
+            assert!(rt; reader.version() == Some(version));
         }
         reader.agreed();
         assert!(rt; is_notify(&mut reader, same));
@@ -426,10 +289,7 @@ fn a_router_agrees_at_the_first_other_unit(rt: HostRuntime) -> Result<(), Fail> 
             Some(UnitFault::Version),
         ),
     ] {
-        assert!(rt;
-            read_by_router(rt.alloc(), &units)? == (count, fault),
-            "{count}"
-        );
+        assert!(rt; read_by_router(rt.alloc(), &units)? == (count, fault));
     }
     Ok(())
 }

@@ -1,8 +1,8 @@
 //! Configurations of routers: intervals that are kept, and the most records.
-use crate::play::{holds, play, sends};
-use crate::scripts::{ASKED, ASKED_AT_100};
+use crate::play::{Step, play, sends};
+use crate::scripts::ASKED_AT_100;
 use example_values::hex::bytes;
-use example_values::units::{ANSWER, RESET_QUERY, RESPONSE, V, W, bytes_in};
+use example_values::units::{ANSWER, END_5, RESET_QUERY, RESPONSE, SERIAL_QUERY, V, W, bytes_in};
 use rtr_ends::{End, Link, Router, RouterConfig, Timing};
 use rtr_pdu::Version;
 use std::test::Fail;
@@ -28,7 +28,7 @@ fn a_kept_interval_stands_against_an_end_of_data(rt: HostRuntime) -> Result<(), 
     };
     router.configure(config);
     assert!(rt; *router.config() == config);
-    play(&rt, &mut router, Version::V1, ASKED_AT_100, "configured");
+    play(&rt, &mut router, Version::V1, ASKED_AT_100);
     router.receive(bytes(ANSWER).as_slice(), 100);
     assert!(rt; intervals(&router) == Some((900, 600, 1800)));
     assert!(rt; router.due() == Some(1000));
@@ -56,6 +56,20 @@ fn a_configuration_has_the_intervals_of_version_0(rt: HostRuntime) -> Result<(),
     Ok(())
 }
 
+/// At most one record is accepted. A second is one too many, and what was committed stays.
+const AT_MOST_ONE: &[Step] = &[
+    Step::Connects(0),
+    Step::Sends(RESET_QUERY),
+    Step::Takes(&[RESPONSE, V, END_5], 0),
+    Step::Holds(1, Version::V1, 4660, 5),
+    Step::Connects(0),
+    Step::Sends(SERIAL_QUERY),
+    Step::Takes(&[RESPONSE, W], 0),
+    Step::HasLink(Link::Ended(End::TooMany)),
+    Step::Holds(1, Version::V1, 4660, 5),
+    Step::Leaves(V, 0),
+];
+
 #[test]
 fn an_answer_has_at_most_the_configured_records(rt: HostRuntime) {
     let mut router = Router::new(rt.alloc());
@@ -66,14 +80,5 @@ fn an_answer_has_at_most_the_configured_records(rt: HostRuntime) {
         keeps_expire: false,
         most: 1,
     });
-    play(&rt, &mut router, Version::V1, ASKED, "at most one");
-    router.receive(bytes(ANSWER).as_slice(), 0);
-    assert!(rt; holds(&router, 1, Version::V1, 4660, 5));
-    router.connect(0);
-    router.pull(&mut [0; 64]);
-    router.receive(bytes(RESPONSE).as_slice(), 0);
-    router.receive(bytes(W).as_slice(), 0);
-    assert!(rt; router.link() == Link::Ended(End::TooMany));
-    assert!(rt; holds(&router, 1, Version::V1, 4660, 5));
-    assert!(rt; router.receive(bytes(V).as_slice(), 0) == 0);
+    play(&rt, &mut router, Version::V1, AT_MOST_ONE);
 }

@@ -132,28 +132,26 @@ fn goes(router: &mut Router, version: Version, step: &Step) -> bool {
     true
 }
 
-/// Plays steps of a script of this name.
-pub(crate) fn play<R: Abort>(
-    rt: &R,
-    router: &mut Router,
-    version: Version,
-    steps: &[Step],
-    name: &str,
-) {
+/// The place of the first step that does not go as it has to.
+pub(crate) fn first_wrong(router: &mut Router, version: Version, steps: &[Step]) -> Option<usize> {
     for (place, step) in steps.iter().enumerate() {
-        assert!(rt; goes(router, version, step), "{name}, step {place}");
+        if !goes(router, version, step) {
+            return Some(place);
+        }
     }
+    None
+}
+
+/// Plays steps.
+pub(crate) fn play<R: Abort>(rt: &R, router: &mut Router, version: Version, steps: &[Step]) {
+    let place = first_wrong(router, version, steps);
+    assert!(rt; place.is_none(), "step {place:?}");
 }
 
 /// A router of this version at which these steps have been played.
-pub(crate) fn played<R: AllocGlobal + Abort>(
-    rt: &R,
-    version: Version,
-    steps: &[Step],
-    name: &str,
-) -> Router {
+pub(crate) fn played<R: AllocGlobal + Abort>(rt: &R, version: Version, steps: &[Step]) -> Router {
     let mut router = Router::new(rt.alloc());
     router.speak(version);
-    play(rt, &mut router, version, steps, name);
+    play(rt, &mut router, version, steps);
     router
 }

@@ -1,6 +1,7 @@
 //! The protocol's table: what each PDU does on each link of a router, in each version.
 use crate::play::{Step, holds, played, sends};
 use crate::scripts::{ASKED as FIRST, ASKED_SINCE as SINCE, HOLDING};
+use example_values::hex::Bytes;
 use example_values::units::{
     CACHE_RESET, END_5, END_6, RESET_QUERY, RESPONSE, SERIAL_QUERY, V, W, bytes_in,
 };
@@ -193,17 +194,21 @@ const CELLS: &[(&str, [Does; 5])] = &[
     ),
 ];
 
-/// Whether a report of code 0 on this PDU is pending.
+/// The report of code 0 on this PDU.
+fn report_on(version: Version, unit: &Bytes) -> Bytes {
+    let len = (unit.len() % 128) as u8;
+    let head = [version.number(), 10, 0, 0, 0, 0, 0, len + 16, 0, 0, 0, len];
+    let mut report = Bytes::new();
+    let _fits = report.try_extend_from_slice(&head);
+    let _fits = report.try_extend_from_slice(unit.as_slice());
+    let _fits = report.try_extend_from_slice(&[0; 4]);
+    report
+}
+
+/// Whether that report is pending, and nothing else, and the link has ended by it.
 fn reports(router: &mut Router, version: Version, unit: &str) -> bool {
-    let mut room = [0u8; 128];
-    let unit = bytes_in(version.number(), unit);
-    let head = bytes_in(version.number(), "01 0a 0000");
-    let count = router.pull(&mut room);
-    room.starts_with(head.as_slice())
-        && count == unit.len().saturating_add(16)
-        && room.get(12..count.saturating_sub(4)) == Some(unit.as_slice())
-        && room.get(count.saturating_sub(4)..count) == Some([0u8; 4].as_slice())
-        && router.link() == Link::Ended(End::Reported(error_code::CORRUPT_DATA))
+    let report = report_on(version, &bytes_in(version.number(), unit));
+    router.link() == Link::Ended(End::Reported(error_code::CORRUPT_DATA)) && sends(router, &report)
 }
 
 /// Whether this PDU does that on a router of this version.
@@ -230,21 +235,20 @@ fn is_kept(router: &Router, does: &Does, records: usize) -> bool {
         && router.committed().is_some() == (kept == 1)
 }
 
+/// Whether a PDU does that at a router of this version that has this many records.
+fn does_so(router: &mut Router, version: Version, unit: &str, does: &Does, records: usize) -> bool {
+    let piece = bytes_in(version.number(), unit);
+    router.table().len() == records
+        && (records == 0 || holds(router, 1, version, 4660, 5))
+        && router.receive(piece.as_slice(), 0) == piece.len()
+        && is_done(router, version, unit, does)
+        && is_kept(router, does, records)
+}
+
 fn each_cell<R: AllocGlobal + Abort>(rt: &R, version: Version, unit: &str, cells: &[Does; 5]) {
     for (&(steps, records), does) in LINKS.iter().zip(cells.iter()) {
-        let mut router = played(rt, version, steps, unit);
-        assert!(rt; router.table().len() == records, "{unit}");
-        assert!(rt;
-            records == 0 || holds(&router, 1, version, 4660, 5),
-            "{unit}"
-        );
-        let piece = bytes_in(version.number(), unit);
-        assert!(rt;
-            router.receive(piece.as_slice(), 0) == piece.len(),
-            "{unit}"
-        );
-        assert!(rt; is_done(&mut router, version, unit, does), "{unit}");
-        assert!(rt; is_kept(&router, does, records), "{unit}");
+        let mut router = played(rt, version, steps);
+        assert!(rt; does_so(&mut router, version, unit, does, records));
     }
 }
 

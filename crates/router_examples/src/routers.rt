@@ -1,5 +1,5 @@
 //! Routers: the scripts, hostile PDUs, and whole answers in pieces.
-use crate::play::{holds, play, played, sends};
+use crate::play::{first_wrong, holds, played, sends};
 use crate::scripts::{
     ASKED, ASKED_AT_100, ASKED_SINCE, AT_CALLS, AT_MOMENTS, AT_UNITS, SCRIPTS, Script,
 };
@@ -10,14 +10,18 @@ use example_values::units::{ANSWER, END_5, RESET_QUERY, RESPONSE, bytes_in};
 use prefixes::{IpPrefix, Route};
 use rtr_ends::{AskFault, CommittedVersion, End, Link, Router, StreamFault};
 use rtr_pdu::{Version, error_code};
-use std::alloc::{AllocError, AllocGlobal, Global};
+use std::alloc::{AllocGlobal, Global};
 use std::process::Abort;
 use std::test::Fail;
 use vrps::Serial;
 
 fn play_script<R: AllocGlobal + Abort>(rt: &R, script: &Script) {
-    let mut router = played(rt, Version::V1, script.begin, script.name);
-    play(rt, &mut router, Version::V1, script.steps, script.name);
+    let mut router = Router::new(rt.alloc());
+    let place = match first_wrong(&mut router, Version::V1, script.begin) {
+        None => first_wrong(&mut router, Version::V1, script.steps),
+        place => place,
+    };
+    assert!(rt; place.is_none(), "{}, step {place:?}", script.name);
 }
 
 fn play_each<R: AllocGlobal + Abort>(rt: &R, scripts: &[Script]) {
@@ -115,68 +119,78 @@ fn an_answer_commits_at_its_last_byte(rt: HostRuntime) {
     let answer = bytes(ANSWER);
     assert!(rt; answer.len() == 52);
     for cut in 0..=answer.len() {
-        let mut router = played(&rt, Version::V1, ASKED, "asked");
+        let mut router = played(&rt, Version::V1, ASKED);
         let (front, _) = answer.as_slice().split_at(cut);
         let records = if cut < 52 { None } else { Some(1) };
-        assert!(rt; commits(&mut router, front, records), "{cut}");
+        assert!(rt; commits(&mut router, front, records));
     }
 }
 
 const CHANGE: &str =
     "01 03 1234 00000008 | 01 04 0000 00000014 00 18 18 00 c0000200 0000fbf0 | 01 07 1234 00000018 00000006 00000e10 00000258 00001c20";
 
+/// Whether the front of a change is consumed, and is committed if all of it came.
+fn changes(router: &mut Router, front: &[u8]) -> bool {
+    let is_taken = router.receive(front, 0) == front.len();
+    router.closed(0);
+    is_taken
+        && (if front.len() < 52 {
+            holds(router, 1, Version::V1, 4660, 5)
+        } else {
+            holds(router, 0, Version::V1, 4660, 6)
+        })
+}
+
 #[test]
 fn a_change_commits_at_its_last_byte(rt: HostRuntime) {
     let change = bytes_in(1, CHANGE);
     assert!(rt; change.len() == 52);
     for cut in 0..=change.len() {
-        let mut router = played(&rt, Version::V1, ASKED_SINCE, "asked");
+        let mut router = played(&rt, Version::V1, ASKED_SINCE);
         let (front, _) = change.as_slice().split_at(cut);
-        let (records, serial) = if cut < 52 { (1, 5) } else { (0, 6) };
-        assert!(rt; router.receive(front, 0) == front.len());
-        router.closed(0);
-        assert!(rt; holds(&router, records, Version::V1, 4660, serial), "{cut}");
+        assert!(rt; changes(&mut router, front));
     }
 }
 
 /// Whether the latest commit withdrew and announced this many records.
-fn has_changed(router: &Router, withdrawn: usize, announced: usize) -> Result<bool, AllocError> {
-    match router.last_change()? {
-        None => Ok(false),
-        Some(change) => Ok(
-            change.withdraw.len() == withdrawn && change.announce.len() == announced,
-        ),
+fn has_changed(router: &Router, withdrawn: usize, announced: usize) -> bool {
+    match router.last_change() {
+        Ok(Some(change)) => {
+            change.withdraw.len() == withdrawn && change.announce.len() == announced
+        }
+        _ => false,
     }
 }
 
-#[test]
-fn the_latest_commit_tells_what_it_changed(rt: HostRuntime) -> Result<(), Fail> {
-    let mut router = played(&rt, Version::V1, ASKED, "asked");
-    assert!(rt; router.last_change()?.is_none());
+/// Whether there is no latest commit.
+fn has_no_change(router: &Router) -> bool {
+    match router.last_change() {
+        Ok(change) => change.is_none(),
+        Err(_) => false,
+    }
+}
+
+/// Whether the latest commit is an answer, then a change, and none after they have expired.
+fn tells_changes(router: &mut Router) -> bool {
+    let is_none = has_no_change(router);
     router.receive(bytes(ANSWER).as_slice(), 0);
-    assert!(rt; has_changed(&router, 0, 1)?);
-    router.ask()?;
+    let is_announced = has_changed(router, 0, 1) && router.ask().is_ok();
     router.pull(&mut [0; 64]);
-    assert!(rt; has_changed(&router, 0, 1)?);
+    let stays = has_changed(router, 0, 1);
     router.receive(bytes_in(1, CHANGE).as_slice(), 0);
-    assert!(rt; has_changed(&router, 1, 0)?);
+    let is_withdrawn = has_changed(router, 1, 0);
     router.tick(7201);
-    assert!(rt; router.last_change()?.is_none());
-    Ok(())
-}
-
-/// The route of this prefix and this AS.
-fn route(prefix: &str, asn: u32) -> Result<Route, Fail> {
-    let prefix = IpPrefix::parse(prefix)?;
-    let origin = Some(asn);
-    Ok(Route { prefix, origin })
+    is_none && is_announced && stays && is_withdrawn && has_no_change(router)
 }
 
 #[test]
-fn a_committed_version_is_told_with_its_names(rt: HostRuntime) {
-    let mut router = played(&rt, Version::V1, ASKED_AT_100, "asked");
-    assert!(rt; router.committed_version().is_none());
-    router.receive(bytes(ANSWER).as_slice(), 100);
+fn the_latest_commit_tells_what_it_changed(rt: HostRuntime) {
+    let mut router = played(&rt, Version::V1, ASKED);
+    assert!(rt; tells_changes(&mut router));
+}
+
+/// Whether what is committed is an answer of moment 100.
+fn is_named(router: &Router) -> bool {
     let version = CommittedVersion {
         version: Version::V1,
         session: 4660,
@@ -186,17 +200,31 @@ fn a_committed_version_is_told_with_its_names(rt: HostRuntime) {
         retry: 600,
         expire: 7200,
     };
-    assert!(rt; router.committed_version() == Some(version));
+    router.committed_version() == Some(version)
 }
 
 #[test]
-fn the_records_that_cover_a_route_are_told(rt: HostRuntime) -> Result<(), Fail> {
-    let mut router = played(&rt, Version::V1, ASKED, "asked");
+fn a_committed_version_is_told_with_its_names(rt: HostRuntime) {
+    let mut router = played(&rt, Version::V1, ASKED_AT_100);
+    assert!(rt; router.committed_version().is_none());
+    router.receive(bytes(ANSWER).as_slice(), 100);
+    assert!(rt; is_named(&router));
+}
+
+/// How many records of the table cover a route of this prefix and this AS, if they are all that it has or none.
+fn covering(router: &Router, text: &str, asn: u32) -> Option<usize> {
+    let prefix = IpPrefix::parse(text).ok()?;
+    let origin = Some(asn);
+    let found = router.covering(&Route { prefix, origin }).ok()?;
+    (found.is_empty() || found.as_slice() == router.table().as_slice()).then_some(found.len())
+}
+
+#[test]
+fn the_records_that_cover_a_route_are_told(rt: HostRuntime) {
+    let mut router = played(&rt, Version::V1, ASKED);
     router.receive(bytes(ANSWER).as_slice(), 0);
-    let found = router.covering(&route("192.0.2.128/25", 64497)?)?;
-    assert!(rt; found.as_slice() == router.table().as_slice());
-    assert!(rt; router.covering(&route("192.0.0.0/16", 64496)?)?.is_empty());
-    Ok(())
+    assert!(rt; covering(&router, "192.0.2.128/25", 64497) == Some(1));
+    assert!(rt; covering(&router, "192.0.0.0/16", 64496) == Some(0));
 }
 
 /// Refresh, retry and expire of an End of Data, and what is kept of them: the nearest that RFC 8210 section 6 allows.
@@ -234,8 +262,8 @@ fn keeps(router: &mut Router, told: &str, kept: &[u64; 3]) -> bool {
 #[test]
 fn intervals_are_brought_into_their_ranges(rt: HostRuntime) {
     for (told, kept) in INTERVALS {
-        let mut router = played(&rt, Version::V1, ASKED_AT_100, "asked");
-        assert!(rt; keeps(&mut router, told, kept), "{told}");
+        let mut router = played(&rt, Version::V1, ASKED_AT_100);
+        assert!(rt; keeps(&mut router, told, kept));
     }
 }
 
@@ -353,11 +381,7 @@ fn expect_refused<R: AllocGlobal + Abort>(rt: &R, version: Version, row: &Hostil
         let mut router = Router::new(rt.alloc());
         router.speak(version);
         router.connect(0);
-        assert!(rt;
-            refuses(&mut router, version, row, &came, cut),
-            "{cut} of {}",
-            row.0
-        );
+        assert!(rt; refuses(&mut router, version, row, &came, cut));
     }
 }
 
@@ -386,26 +410,24 @@ fn taken_of(router: &mut Router, bytes: &[u8], cut: usize) -> usize {
     count
 }
 
-/// Passes in an answer in pieces of this many bytes.
-fn router_fed<R: AllocGlobal + Abort>(rt: &R, answer: &[u8], size: usize) -> Router {
-    let mut router = played(rt, Version::V1, ASKED, "asked");
+/// Whether a router that has put its first question consumes an answer of this many records in pieces of this many bytes.
+fn is_fed(router: &mut Router, answer: &[u8], size: usize, records: usize) -> bool {
     for piece in answer.chunks(size.max(1)) {
-        assert!(rt; router.receive(piece, 0) == piece.len());
+        if router.receive(piece, 0) != piece.len() {
+            return false;
+        }
     }
-    router
+    has(router, Some(records))
 }
 
 /// Whether an answer of this many records makes the same table in pieces of every size.
 fn expect_one_table<R: AllocGlobal + Abort>(rt: &R, answer: &[u8], records: usize) {
-    let whole = router_fed(rt, answer, 200_032);
-    assert!(rt; has(&whole, Some(records)));
+    let mut whole = played(rt, Version::V1, ASKED);
+    assert!(rt; is_fed(&mut whole, answer, 200_032, records));
     for size in [1, 7, 4096] {
-        let router = router_fed(rt, answer, size);
-        assert!(rt; has(&router, Some(records)));
-        assert!(rt;
-            router.table().as_slice() == whole.table().as_slice(),
-            "{size}"
-        );
+        let mut router = played(rt, Version::V1, ASKED);
+        assert!(rt; is_fed(&mut router, answer, size, records));
+        assert!(rt; router.table().as_slice() == whole.table().as_slice());
     }
 }
 

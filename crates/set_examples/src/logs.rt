@@ -1,187 +1,247 @@
 //! Logs of versions.
 use crate::sets::is_change;
-use example_values::sets::{Rows, V, W, set_of};
+use example_values::sets::{Rows, V, W, set_in, set_of};
 use std::alloc::Global;
 use std::process::Abort;
 use std::rc::Rc;
 use std::test::Fail;
 use vrps::{Published, Serial, Since, VersionLog, VersionStore, VrpSet, WholeLog};
 
-/// Publishes the set of these rows.
-fn publish<S: VersionStore>(store: &mut S, alloc: Global, rows: Rows) -> Result<Published, Fail> {
-    let set = Rc::new(alloc, set_of(alloc, rows)?)?;
-    Ok(store.publish(set)?)
-}
+/// What is withdrawn and announced since a version, or nothing if that is not known.
+type Answer = Option<(Rows, Rows)>;
 
-/// A log that keeps two versions, from serial 4 on, whichever way it keeps them.
-fn expect_changes<R: AllocGlobal + Abort, S: VersionStore>(
-    rt: &R,
-    log: &mut S,
-) -> Result<(), Fail> {
-    let alloc = rt.alloc();
-    assert!(rt; log.session() == 0x1234);
-    assert!(rt; log.current().is_none());
-    assert!(rt; matches!(log.since(Serial(4))?, Since::NoData));
-    let published: [(Rows, Published); 5] = [
-        (&[], Published::New(Serial(4))),
-        (&[V], Published::New(Serial(5))),
-        (&[V], Published::Unchanged),
-        (&[V, W], Published::New(Serial(6))),
-        (&[V], Published::New(Serial(7))),
-    ];
-    for (rows, answer) in published {
-        assert!(rt; publish(log, alloc, rows)? == answer);
-    }
-    let Some((serial, now)) = log.current() else {
-        return Err(Fail::from("no version"));
-    };
-    assert!(rt; serial == Serial(7));
-    assert!(rt; now.as_ref().is_same(&set_of(alloc, &[V])?));
-    let changes: [(u32, Rows, Rows); 3] = [(5, &[], &[]), (6, &[W], &[]), (7, &[], &[])];
-    for (serial, withdraw, announce) in changes {
-        let Since::Change(change) = log.since(Serial(serial))? else {
-            return Err(Fail::from("no change"));
-        };
-        assert!(rt; is_change(alloc, &change, withdraw, announce)?, "{serial}");
-    }
-    for serial in [4, 8, 0, 2147483655] {
-        assert!(rt;
-            matches!(log.since(Serial(serial))?, Since::Unknown),
-            "{serial}"
-        );
-    }
-    Ok(())
-}
+/// The first serial, and how many versions are kept before the current one. The sets that are published, each with the answer, and then the
+/// answers for serials.
+type Story = (
+    u32,
+    u32,
+    &'static [(Rows, Published)],
+    &'static [(u32, Answer)],
+);
 
-#[test]
-fn a_log_knows_what_changed_since_a_version(rt: HostRuntime) -> Result<(), Fail> {
-    expect_changes(&rt, &mut VersionLog::new(rt.alloc(), 0x1234, 4, 2)?)?;
-    expect_changes(&rt, &mut WholeLog::new(rt.alloc(), 0x1234, 4, 2)?)
-}
+const NO_CHANGE: Answer = Some((&[], &[]));
 
-/// Whether this is answered: what is withdrawn and announced, or nothing if the version is not known.
-fn is_answer(alloc: Global, since: &Since, want: Option<(Rows, Rows)>) -> Result<bool, Fail> {
-    match (since, want) {
-        (Since::Unknown, None) => Ok(true),
-        (Since::Change(change), Some((withdraw, announce))) => {
-            is_change(alloc, change, withdraw, announce)
-        }
-        _ => Ok(false),
-    }
-}
-
-/// Sets, and what is answered for versions, of which the first has serial 10.
-const COMES_AND_GOES: &[(&[Rows], &[(u32, Option<(Rows, Rows)>)])] = &[
+const STORIES: &[Story] = &[
     (
-        &[&[], &[V], &[V, W], &[W]],
+        4,
+        2,
+        &[
+            (&[], Published::New(Serial(4))),
+            (&[V], Published::New(Serial(5))),
+            (&[V], Published::Unchanged),
+            (&[V, W], Published::New(Serial(6))),
+            (&[V], Published::New(Serial(7))),
+        ],
+        &[
+            (5, NO_CHANGE),
+            (6, Some((&[W], &[]))),
+            (7, NO_CHANGE),
+            (4, None),
+            (8, None),
+            (0, None),
+            (2147483655, None),
+        ],
+    ),
+    // What comes and goes is in neither list.
+    (
+        10,
+        8,
+        &[
+            (&[], Published::New(Serial(10))),
+            (&[V], Published::New(Serial(11))),
+            (&[V, W], Published::New(Serial(12))),
+            (&[W], Published::New(Serial(13))),
+        ],
         &[(10, Some((&[], &[W]))), (11, Some((&[V], &[W])))],
     ),
     (
-        &[&[V], &[], &[V]],
-        &[(10, Some((&[], &[]))), (11, Some((&[], &[V]))), (13, None)],
+        10,
+        8,
+        &[
+            (&[V], Published::New(Serial(10))),
+            (&[], Published::New(Serial(11))),
+            (&[V], Published::New(Serial(12))),
+        ],
+        &[(10, NO_CHANGE), (11, Some((&[], &[V]))), (13, None)],
+    ),
+    // Serials go round.
+    (
+        4294967295,
+        2,
+        &[
+            (&[V], Published::New(Serial(4294967295))),
+            (&[V, W], Published::New(Serial(0))),
+        ],
+        &[(4294967295, Some((&[], &[W])))],
     ),
 ];
 
-/// Publishes sets, and asks for what changed since versions.
-fn expect_since<R: AllocGlobal + Abort, S: VersionStore>(
-    rt: &R,
-    log: &mut S,
-    sets: &[Rows],
-    table: &[(u32, Option<(Rows, Rows)>)],
-) -> Result<(), Fail> {
-    for rows in sets {
-        let _published = publish(log, rt.alloc(), rows)?;
+/// What is answered to the set of these rows, if there is memory.
+fn publish<S: VersionStore>(store: &mut S, alloc: Global, rows: Rows) -> Option<Published> {
+    let Ok(set) = Rc::new(alloc, set_in(alloc, rows)?) else {
+        return None;
+    };
+    match store.publish(set) {
+        Ok(published) => Some(published),
+        Err(_) => None,
     }
-    for &(serial, want) in table {
-        let since = log.since(Serial(serial))?;
-        assert!(rt; is_answer(rt.alloc(), &since, want)?, "{serial}");
+}
+
+/// Whether this is answered for a serial.
+fn answers<S: VersionStore>(log: &S, alloc: Global, serial: u32, want: &Answer) -> bool {
+    match (log.since(Serial(serial)), want) {
+        (Ok(Since::Unknown), None) => true,
+        (Ok(Since::Change(change)), Some((withdraw, announce))) => {
+            is_change(alloc, &change, withdraw, announce)
+        }
+        _ => false,
     }
-    Ok(())
+}
+
+/// Whether a log of session 0x1234 has no version.
+fn is_new<S: VersionStore>(log: &S) -> bool {
+    log.session() == 0x1234
+        && log.current().is_none()
+        && matches!(log.since(Serial(4)), Ok(Since::NoData))
+}
+
+/// Whether the current version has this serial and the set of these rows.
+fn is_current<S: VersionStore>(log: &S, alloc: Global, serial: u32, rows: Rows) -> bool {
+    match (log.current(), set_in(alloc, rows)) {
+        (Some((found, set)), Some(want)) => found == Serial(serial) && set.as_ref().is_same(&want),
+        _ => false,
+    }
+}
+
+/// Whether sets are published so.
+fn publishes<S: VersionStore>(log: &mut S, alloc: Global, sets: &[(Rows, Published)]) -> bool {
+    for (rows, want) in sets {
+        let published = publish(log, alloc, rows);
+        if published != Some(*want) {
+            return false;
+        }
+        if let Published::New(serial) = want {
+            if !is_current(log, alloc, serial.0, rows) {
+                return false;
+            }
+        }
+    }
+    true
+}
+
+/// Whether a new log goes by a story, whichever way it keeps versions.
+fn goes<S: VersionStore>(log: &mut S, alloc: Global, (_, _, sets, table): &Story) -> bool {
+    if !is_new(log) || !publishes(log, alloc, sets) {
+        return false;
+    }
+    for (serial, want) in *table {
+        if !answers(log, alloc, *serial, want) {
+            return false;
+        }
+    }
+    true
+}
+
+/// Whether both logs go by a story.
+fn both_go(alloc: Global, story: &Story) -> Result<bool, Fail> {
+    let (start, keep) = (story.0, story.1);
+    if keep < 1 || keep > 65536 {
+        return Ok(false);
+    }
+    Ok(
+        goes(
+            &mut VersionLog::new(alloc, 0x1234, start, keep)?,
+            alloc,
+            story,
+        ) && goes(
+            &mut WholeLog::new(alloc, 0x1234, start, keep)?,
+            alloc,
+            story,
+        ),
+    )
 }
 
 #[test]
-fn what_comes_and_goes_is_in_neither_list(rt: HostRuntime) -> Result<(), Fail> {
-    let alloc = rt.alloc();
-    for &(sets, table) in COMES_AND_GOES {
-        expect_since(&rt, &mut VersionLog::new(alloc, 1, 10, 8)?, sets, table)?;
-        expect_since(&rt, &mut WholeLog::new(alloc, 1, 10, 8)?, sets, table)?;
+fn logs_know_what_changed_since_a_version(rt: HostRuntime) -> Result<(), Fail> {
+    for story in STORIES {
+        assert!(rt; both_go(rt.alloc(), story)?);
     }
     Ok(())
 }
 
-/// Publishes a set and none in turn, from position 0 of serial 0 up to position 65536 and then one more, and asks for what changed.
-fn expect_long<R: AllocGlobal + Abort, S: VersionStore>(rt: &R, log: &mut S) -> Result<(), Fail> {
-    let alloc = rt.alloc();
-    let set = Rc::new(alloc, set_of(alloc, &[V])?)?;
-    let none = Rc::new(alloc, VrpSet::empty(alloc))?;
+/// Publishes a set and none in turn, from position 0 of serial 0 up to position 65536.
+fn is_filled<S: VersionStore>(log: &mut S, set: &Rc<VrpSet>, none: &Rc<VrpSet>) -> bool {
     for position in 0..=65536u32 {
-        let now = if position % 2 == 0 { &set } else { &none };
-        let published = log.publish(Rc::clone(now)?)?;
-        assert!(rt; published == Published::New(Serial(position)));
+        let now = if position % 2 == 0 { set } else { none };
+        let Ok(now) = Rc::clone(now) else {
+            return false;
+        };
+        if !matches!(log.publish(now), Ok(Published::New(Serial(serial))) if serial == position) {
+            return false;
+        }
     }
-    expect_nothing_since(rt, log, 0)?;
-    let _published = log.publish(none)?;
-    assert!(rt; matches!(log.since(Serial(0))?, Since::Unknown));
-    expect_nothing_since(rt, log, 1)
+    true
 }
 
-/// Asks for what changed since a version: nothing was withdrawn and nothing announced.
-fn expect_nothing_since<R: Abort, S: VersionStore>(
-    rt: &R,
-    log: &S,
-    serial: u32,
-) -> Result<(), Fail> {
-    let Since::Change(change) = log.since(Serial(serial))? else {
-        return Err(Fail::from("no change"));
-    };
-    assert!(rt; change.withdraw.is_empty());
-    assert!(rt; change.announce.is_empty());
-    Ok(())
+/// Whether a log that is filled so, and gets one version more, knows as many as it keeps.
+fn keeps_most<S: VersionStore>(
+    log: &mut S,
+    alloc: Global,
+    set: &Rc<VrpSet>,
+    none: &Rc<VrpSet>,
+) -> bool {
+    is_filled(log, set, none)
+        && answers(log, alloc, 0, &NO_CHANGE)
+        && publish(log, alloc, &[]).is_some()
+        && answers(log, alloc, 0, &None)
+        && answers(log, alloc, 1, &NO_CHANGE)
 }
 
 #[test]
 fn a_log_keeps_65536_versions(rt: HostRuntime) -> Result<(), Fail> {
-    expect_long(&rt, &mut VersionLog::new(rt.alloc(), 1, 0, 65536)?)?;
-    expect_long(&rt, &mut WholeLog::new(rt.alloc(), 1, 0, 65536)?)
+    let alloc = rt.alloc();
+    let set = Rc::new(alloc, set_of(alloc, &[V])?)?;
+    let none = Rc::new(alloc, VrpSet::empty(alloc))?;
+    assert!(rt;
+        keeps_most(
+            &mut VersionLog::new(alloc, 1, 0, 65536)?,
+            alloc,
+            &set,
+            &none
+        )
+    );
+    assert!(rt; keeps_most(&mut WholeLog::new(alloc, 1, 0, 65536)?, alloc, &set, &none));
+    Ok(())
 }
 
-/// Whether the step of this place is kept, and is this change.
-fn is_kept(
-    log: &VersionLog,
-    alloc: Global,
-    place: usize,
-    step: Option<(Rows, Rows)>,
-) -> Result<bool, Fail> {
-    match (log.kept(place), step) {
-        (None, None) => Ok(true),
+/// Whether a step is kept, and is this change.
+fn is_step(alloc: Global, step: Option<&vrps::Change>, want: &Answer) -> bool {
+    match (step, want) {
+        (None, None) => true,
         (Some(kept), Some((withdraw, announce))) => is_change(alloc, kept, withdraw, announce),
-        _ => Ok(false),
+        _ => false,
     }
+}
+
+/// Whether a log that keeps two steps of these four sets lends them.
+fn lends_steps(log: &mut VersionLog, alloc: Global) -> bool {
+    let is_empty = log.kept(0).is_none() && log.newest_step().is_none();
+    let sets: [Rows; 4] = [&[], &[V], &[V, W], &[W]];
+    for rows in sets {
+        if publish(log, alloc, rows).is_none() {
+            return false;
+        }
+    }
+    is_empty
+        && is_step(alloc, log.kept(0), &Some((&[], &[W])))
+        && is_step(alloc, log.kept(1), &Some((&[V], &[])))
+        && is_step(alloc, log.kept(2), &None)
+        && is_step(alloc, log.newest_step(), &Some((&[V], &[])))
 }
 
 #[test]
 fn kept_steps_are_lent(rt: HostRuntime) -> Result<(), Fail> {
     let mut log = VersionLog::new(rt.alloc(), 1, 10, 2)?;
-    assert!(rt; log.kept(0).is_none());
-    let sets: [Rows; 4] = [&[], &[V], &[V, W], &[W]];
-    for rows in sets {
-        let _published = publish(&mut log, rt.alloc(), rows)?;
-    }
-    let steps: [Option<(Rows, Rows)>; 3] = [Some((&[], &[W])), Some((&[V], &[])), None];
-    for (place, &step) in steps.iter().enumerate() {
-        assert!(rt; is_kept(&log, rt.alloc(), place, step)?, "{place}");
-    }
-    Ok(())
-}
-
-#[test]
-fn serials_of_a_log_go_round(rt: HostRuntime) -> Result<(), Fail> {
-    let mut log = VersionLog::new(rt.alloc(), 0x1234, 4294967295, 2)?;
-    let published: [(Rows, u32); 2] = [(&[V], 4294967295), (&[V, W], 0)];
-    for (rows, serial) in published {
-        assert!(rt; publish(&mut log, rt.alloc(), rows)? == Published::New(Serial(serial)));
-    }
-    let since = log.since(Serial(4294967295))?;
-    assert!(rt; is_answer(rt.alloc(), &since, Some((&[], &[W])))?);
+    assert!(rt; lends_steps(&mut log, rt.alloc()));
     Ok(())
 }

@@ -19,7 +19,7 @@ fn expect_probes<R: AllocGlobal + Abort>(
             prefix: IpPrefix::parse(text)?,
             origin: Some(asn),
         };
-        assert!(rt; index.state_counted(&route) == (state, probes), "{text}");
+        assert!(rt; index.state_counted(&route) == (state, probes));
     }
     Ok(())
 }

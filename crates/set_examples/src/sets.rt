@@ -1,4 +1,5 @@
-use example_values::sets::{Row, Rows, V, W, payload, set_of};
+use example_values::sets::{Row, Rows, V, W, payload, record, set_in, set_of};
+use prefixes::Vrp;
 use std::alloc::Global;
 use std::process::Abort;
 use std::test::Fail;
@@ -13,18 +14,16 @@ const Y: Row = ("2001:db8::/32", 48, 64496);
 const Z: Row = ("10.0.0.0/8", 8, 1);
 
 /// Whether a set has these rows and no others, in their order.
-pub(crate) fn is_set(alloc: Global, set: &VrpSet, rows: &[Row]) -> Result<bool, Fail> {
-    Ok(set.as_slice() == set_of(alloc, rows)?.as_slice())
+pub(crate) fn is_set(alloc: Global, set: &VrpSet, rows: &[Row]) -> bool {
+    match set_in(alloc, rows) {
+        Some(other) => set.as_slice() == other.as_slice(),
+        None => false,
+    }
 }
 
 /// Whether a change withdraws these rows and announces those.
-pub(crate) fn is_change(
-    alloc: Global,
-    change: &Change,
-    withdraw: Rows,
-    announce: Rows,
-) -> Result<bool, Fail> {
-    Ok(is_set(alloc, &change.withdraw, withdraw)? && is_set(alloc, &change.announce, announce)?)
+pub(crate) fn is_change(alloc: Global, change: &Change, withdraw: Rows, announce: Rows) -> bool {
+    is_set(alloc, &change.withdraw, withdraw) && is_set(alloc, &change.announce, announce)
 }
 
 /// Whether a set has these records in this order.
@@ -34,7 +33,8 @@ fn ascends(set: &VrpSet, rows: &[Row]) -> Result<bool, Fail> {
             return Ok(false);
         }
     }
-    Ok(set.len() == rows.len())
+    let other = payload("10.0.0.0/8", 9, 1)?;
+    Ok(set.len() == rows.len() && !set.is_empty() && !set.contains(&other))
 }
 
 /// Whether a `for` over a set yields the members in their order.
@@ -50,9 +50,15 @@ fn is_walked(set: &VrpSet) -> bool {
 }
 
 /// Whether a set is the same if it is duplicated, and as a list.
-fn is_duplicated(set: &VrpSet) -> Result<bool, Fail> {
-    let list = set.duplicate()?.into_list();
-    Ok(set.duplicate()?.as_slice() == set.as_slice() && list.as_slice() == set.as_slice())
+fn is_duplicated(set: &VrpSet) -> bool {
+    let (Ok(first), Ok(second)) = (set.duplicate(), set.duplicate()) else {
+        return false;
+    };
+    let is_same = first.as_slice() == set.as_slice();
+    let list = first.into_list();
+    is_same
+        && list.as_slice() == set.as_slice()
+        && VrpSet::try_from(second.into_list()).is_ok_and(|it| it.is_same(set))
 }
 
 #[test]
@@ -75,12 +81,8 @@ fn sets_ascend(rt: HostRuntime) -> Result<(), Fail> {
     ];
     let set = set_of(rt.alloc(), &rows)?;
     assert!(rt; ascends(&set, &ascending)?);
-    assert!(rt; is_walked(&set));
-    assert!(rt; VrpSet::try_from(set.duplicate()?.into_list())?.is_same(&set));
-    assert!(rt; !set.is_empty());
+    assert!(rt; is_walked(&set) && is_duplicated(&set));
     assert!(rt; VrpSet::empty(rt.alloc()).is_empty());
-    assert!(rt; !set.contains(&payload("10.0.0.0/8", 9, 1)?));
-    assert!(rt; is_duplicated(&set)?);
     Ok(())
 }
 
@@ -98,35 +100,39 @@ const BETWEEN: &[(Rows, Rows, Rows, Rows)] = &[
 ];
 
 /// The change between the sets of these rows.
-fn between(alloc: Global, old: Rows, new: Rows) -> Result<Change, Fail> {
-    let (old, new) = (set_of(alloc, old)?, set_of(alloc, new)?);
-    Ok(Change::between(alloc, &old, &new)?)
+fn between(alloc: Global, old: Rows, new: Rows) -> Option<Change> {
+    match (set_in(alloc, old), set_in(alloc, new)) {
+        (Some(old), Some(new)) => Change::between(alloc, &old, &new).ok(),
+        _ => None,
+    }
 }
 
 /// Whether a change leads from the set of these rows to that of those.
-fn leads(alloc: Global, change: &Change, old: Rows, new: Rows) -> Result<bool, Fail> {
-    let set = change.apply(alloc, &set_of(alloc, old)?)?;
-    is_set(alloc, &set, new)
+fn leads(alloc: Global, change: &Change, old: Rows, new: Rows) -> bool {
+    let Some(old) = set_in(alloc, old) else {
+        return false;
+    };
+    match change.apply(alloc, &old) {
+        Ok(set) => is_set(alloc, &set, new),
+        Err(_) => false,
+    }
 }
 
-fn expect_between<R: AllocGlobal + Abort>(
-    rt: &R,
-    cases: &[(Rows, Rows, Rows, Rows)],
-) -> Result<(), Fail> {
-    for (index, &(old, new, withdraw, announce)) in cases.iter().enumerate() {
-        let change = between(rt.alloc(), old, new)?;
-        assert!(rt;
-            is_change(rt.alloc(), &change, withdraw, announce)?,
-            "{index}"
-        );
-        assert!(rt; leads(rt.alloc(), &change, old, new)?, "{index}");
+/// Whether the change between two sets is this, and leads from the one to the other.
+fn is_between(alloc: Global, &(old, new, withdraw, announce): &(Rows, Rows, Rows, Rows)) -> bool {
+    match between(alloc, old, new) {
+        Some(change) => {
+            is_change(alloc, &change, withdraw, announce) && leads(alloc, &change, old, new)
+        }
+        None => false,
     }
-    Ok(())
 }
 
 #[test]
-fn changes_lead_from_set_to_set(rt: HostRuntime) -> Result<(), Fail> {
-    expect_between(&rt, BETWEEN)
+fn changes_lead_from_set_to_set(rt: HostRuntime) {
+    for row in BETWEEN {
+        assert!(rt; is_between(rt.alloc(), row));
+    }
 }
 
 /// A set, what is withdrawn and announced, and the set to which that leads.
@@ -139,23 +145,19 @@ const APPLIED: &[(Rows, Rows, Rows, Rows)] = &[
     (&[V, W], &[V, W, Y], &[Z], &[Z]),
 ];
 
-fn expect_applied<R: AllocGlobal + Abort>(
-    rt: &R,
-    cases: &[(Rows, Rows, Rows, Rows)],
-) -> Result<(), Fail> {
-    for (index, &(old, withdraw, announce, new)) in cases.iter().enumerate() {
-        let change = Change {
-            withdraw: set_of(rt.alloc(), withdraw)?,
-            announce: set_of(rt.alloc(), announce)?,
-        };
-        assert!(rt; leads(rt.alloc(), &change, old, new)?, "{index}");
-    }
-    Ok(())
+/// Whether a change of these sets leads from this set to that.
+fn applies(alloc: Global, &(old, withdraw, announce, new): &(Rows, Rows, Rows, Rows)) -> bool {
+    let (Some(withdraw), Some(announce)) = (set_in(alloc, withdraw), set_in(alloc, announce)) else {
+        return false;
+    };
+    leads(alloc, &Change { withdraw, announce }, old, new)
 }
 
 #[test]
-fn changes_apply_to_any_set(rt: HostRuntime) -> Result<(), Fail> {
-    expect_applied(&rt, APPLIED)
+fn changes_apply_to_any_set(rt: HostRuntime) {
+    for row in APPLIED {
+        assert!(rt; applies(rt.alloc(), row));
+    }
 }
 
 #[test]
@@ -173,10 +175,7 @@ fn serials_go_round(rt: HostRuntime) {
         (5, 5, false),
         (4294967295, 0, true),
     ] {
-        assert!(rt;
-            Serial(earlier).is_before(Serial(later)) == want,
-            "{earlier} {later}"
-        );
+        assert!(rt; Serial(earlier).is_before(Serial(later)) == want);
     }
 }
 
@@ -221,10 +220,7 @@ fn the_final_segment_tells_the_origin(rt: HostRuntime) -> Result<(), Fail> {
             let numbers = numbers.to_vec(rt.alloc())?;
             segments.push(Segment { kind, numbers })?;
         }
-        assert!(rt;
-            origin_of_path(segments.as_slice(), 64500) == *want,
-            "{index}"
-        );
+        assert!(rt; origin_of_path(segments.as_slice(), 64500) == *want);
     }
     Ok(())
 }
@@ -237,14 +233,28 @@ const SAME: &[(Rows, Rows, bool)] = &[
     (&[], &[], true),
 ];
 
-#[test]
-fn equal_sets_are_same(rt: HostRuntime) -> Result<(), Fail> {
-    for &(rows, others, is_same) in SAME {
-        let set = set_of(rt.alloc(), rows)?;
-        assert!(rt; set.is_same(&set_of(rt.alloc(), others)?) == is_same);
+/// Whether both lists make the same set.
+fn is_same(alloc: Global, rows: Rows, others: Rows) -> Option<bool> {
+    match (set_in(alloc, rows), set_in(alloc, others)) {
+        (Some(set), Some(other)) => Some(set.is_same(&other)),
+        _ => None,
     }
-    assert!(rt; VrpSet::empty(rt.alloc()).is_same(&set_of(rt.alloc(), &[])?));
-    Ok(())
+}
+
+/// Whether no rows make the empty set.
+fn is_empty_set(alloc: Global) -> bool {
+    match set_in(alloc, &[]) {
+        Some(set) => VrpSet::empty(alloc).is_same(&set),
+        None => false,
+    }
+}
+
+#[test]
+fn equal_sets_are_same(rt: HostRuntime) {
+    for &(rows, others, want) in SAME {
+        assert!(rt; is_same(rt.alloc(), rows, others) == Some(want));
+    }
+    assert!(rt; is_empty_set(rt.alloc()));
 }
 
 /// Records as they come, each with whether it is new: in ascending order, and out of order from some place on.
@@ -262,29 +272,49 @@ const GATHERED: &[&[(Row, bool)]] = &[
     ],
 ];
 
-/// Whether records that come one by one are new if it is said so, are found from then on, and are the same set at the end.
-fn gathers(alloc: Global, rows: &[(Row, bool)]) -> Result<bool, Fail> {
+/// Whether a record is new if it is said so, and is found from then on.
+fn inserts(gathered: &mut Gathered, vrp: Vrp, is_new: bool) -> bool {
+    let was_there = gathered.contains(&vrp);
+    match gathered.insert(vrp) {
+        Ok(is_inserted) => {
+            was_there != is_new && is_inserted == is_new && gathered.contains(&vrp)
+        }
+        Err(_) => false,
+    }
+}
+
+/// Whether both hold of records that come one by one, and a record that did not come is not found.
+fn all_come(gathered: &mut Gathered, list: &mut Vec<Vrp>, rows: &[(Row, bool)]) -> bool {
+    for &((text, max_len, asn), is_new) in rows {
+        let Some(vrp) = record(text, max_len, asn) else {
+            return false;
+        };
+        if !inserts(gathered, vrp, is_new) || list.push(vrp).is_err() {
+            return false;
+        }
+    }
+    record("172.16.0.0/12", 12, 1).is_some_and(|it| !gathered.contains(&it))
+}
+
+/// Whether they are the same set as a list of them at the end.
+fn is_same_set(alloc: Global, gathered: Gathered, list: Vec<Vrp>) -> bool {
+    let len = gathered.len();
+    match (gathered.into_set(alloc), VrpSet::from_list(list)) {
+        (Ok(set), Ok(listed)) => len == set.len() && set.is_same(&listed),
+        _ => false,
+    }
+}
+
+/// Whether both hold of these records.
+fn gathers(alloc: Global, rows: &[(Row, bool)]) -> bool {
     let mut gathered = Gathered::new(alloc);
     let mut list = Vec::new(alloc);
-    for &((text, max_len, asn), is_new) in rows {
-        let vrp = payload(text, max_len, asn)?;
-        if gathered.contains(&vrp) == is_new || gathered.insert(vrp)? != is_new {
-            return Ok(false);
-        }
-        list.push(vrp)?;
-    }
-    let set = VrpSet::from_list(list)?;
-    Ok(gathered.len() == set.len() && gathered.into_set(alloc)?.is_same(&set))
+    all_come(&mut gathered, &mut list, rows) && is_same_set(alloc, gathered, list)
 }
 
 #[test]
-fn gathered_records_make_a_set(rt: HostRuntime) -> Result<(), Fail> {
+fn gathered_records_make_a_set(rt: HostRuntime) {
     for rows in GATHERED {
-        assert!(rt; gathers(rt.alloc(), rows)?);
+        assert!(rt; gathers(rt.alloc(), rows));
     }
-    let mut gathered = Gathered::new(rt.alloc());
-    gathered.insert(payload("192.0.2.0/24", 24, 64496)?)?;
-    assert!(rt; gathered.contains(&payload("192.0.2.0/24", 24, 64496)?));
-    assert!(rt; !gathered.contains(&payload("10.0.0.0/8", 8, 1)?));
-    Ok(())
 }

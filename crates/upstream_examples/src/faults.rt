@@ -1,138 +1,246 @@
-//! Caches that are wrong, by the errors of RFC 8210 section 12: the connection ends with the right Error Report, and what was committed stays.
-use crate::streams::{has_at, is_list, plain, settle, shared};
-use example_values::hex::bytes;
+//! Caches that are wrong or lie, by RFC 8210 sections 5, 8 and 12. The outcome says why the connection ended, the right Error Report went out,
+//! and what was committed stays until it expires.
+use crate::play::{Step, play, wrong};
 use example_values::units::{ANSWER, ANSWER_0, RESET_QUERY};
 use rtr_ends::End;
 use rtr_pdu::{Version, error_code};
 use std::alloc::Global;
 use std::process::Abort;
-use std::test::Fail;
-use upstreams::{DisconnectReason, PollOutcome, Upstream};
-use vrps::Serial;
+use upstreams::{DisconnectReason, PollOutcome};
 
-/// A fault: what the cache sends to a Serial Query, and the code of the Error Report.
-type Fault = (&'static str, u16);
+/// What the cache sends to a Serial Query, and how the link ends.
+type Lie = (&'static str, End);
 
-/// Each leaves the table.
-const FAULTS: &[Fault] = &[
+/// In what it sends are faulty PDUs, or those that do not belong there. An Error Report goes out.
+const FAULTS: &[Lie] = &[
     // A header of a wrong length.
-    ("01 03 1234 00000009 00", error_code::CORRUPT_DATA),
+    (
+        "01 03 1234 00000009 00",
+        End::Reported(error_code::CORRUPT_DATA),
+    ),
     // A record before its Cache Response.
     (
         "01 04 0000 00000014 01 18 18 00 c6336400 0000fbf1",
-        error_code::CORRUPT_DATA,
+        End::Reported(error_code::CORRUPT_DATA),
     ),
     // An End of Data before its Cache Response.
     (
         "01 07 1234 00000018 00000006 00000e10 00000258 00001c20",
-        error_code::CORRUPT_DATA,
+        End::Reported(error_code::CORRUPT_DATA),
     ),
     // A query.
-    ("01 02 0000 00000008", error_code::CORRUPT_DATA),
+    (
+        "01 02 0000 00000008",
+        End::Reported(error_code::CORRUPT_DATA),
+    ),
     // Another version.
-    ("02 03 1234 00000008", error_code::UNSUPPORTED_VERSION),
+    (
+        "02 03 1234 00000008",
+        End::Reported(error_code::UNSUPPORTED_VERSION),
+    ),
     // A type that there is not.
-    ("01 63 0000 00000008", error_code::UNSUPPORTED_TYPE),
+    (
+        "01 63 0000 00000008",
+        End::Reported(error_code::UNSUPPORTED_TYPE),
+    ),
     // A record is withdrawn that is not in the table.
     (
         "01 03 1234 00000008 | 01 04 0000 00000014 00 18 18 00 c6336400 0000fbf1",
-        error_code::UNKNOWN_WITHDRAWAL,
+        End::Reported(error_code::UNKNOWN_WITHDRAWAL),
     ),
     // A record is announced that is in it.
     (
         "01 03 1234 00000008 | 01 04 0000 00000014 01 18 18 00 c0000200 0000fbf0",
-        error_code::DUPLICATE_ANNOUNCEMENT,
+        End::Reported(error_code::DUPLICATE_ANNOUNCEMENT),
     ),
     // Another version after agreement.
     (
         "01 03 1234 00000008 | 00 04 0000 00000014 01 18 18 00 c6336400 0000fbf1",
-        error_code::UNEXPECTED_VERSION,
+        End::Reported(error_code::UNEXPECTED_VERSION),
     ),
 ];
 
-/// Whether the fault ends the connection with its report, and the table stays.
-fn is_reported(alloc: Global, fault: &Fault) -> Result<bool, Fail> {
-    let (answer, wrong) = (bytes(ANSWER), bytes(fault.0));
-    let output = shared(alloc)?;
-    let first = plain(answer.as_slice(), &output)?;
-    let second = plain(wrong.as_slice(), &output)?;
-    let mut upstream = Upstream::new(alloc, 60);
-    upstream.connect(first, 0);
-    let is_first = settle(&mut upstream, 0) == PollOutcome::WaitsToRead;
-    upstream.connect(second, 1);
-    let ended = DisconnectReason::LinkEnded(End::Reported(fault.1));
-    let is_ended = settle(&mut upstream, 1) == PollOutcome::Disconnected(ended);
-    let [high, low] = fault.1.to_be_bytes();
-    Ok(
-        is_first
-            && is_ended
-            && !upstream.is_connected()
-            && upstream.committed() == Some((Version::V1, 4660, Serial(5)))
-            && upstream.table().len() == 1
-            && has_at(&output, 20, &[1, 10, high, low]),
-    )
-}
+/// In what it sends are PDUs of an answer. An Error Report goes out.
+const LIES: &[Lie] = &[
+    // A maximum length below the length of the prefix (section 5.6).
+    (
+        "01 03 1234 00000008 | 01 04 0000 00000014 01 18 17 00 c6336400 0000fbf1",
+        End::Reported(error_code::CORRUPT_DATA),
+    ),
+    // A host bit is set.
+    (
+        "01 03 1234 00000008 | 01 04 0000 00000014 01 18 18 00 c6336401 0000fbf1",
+        End::Reported(error_code::CORRUPT_DATA),
+    ),
+    // A prefix of 33 bits.
+    (
+        "01 03 1234 00000008 | 01 04 0000 00000014 01 21 21 00 c6336400 0000fbf1",
+        End::Reported(error_code::CORRUPT_DATA),
+    ),
+    // A PDU of over 4,096 bytes (section 5.1).
+    (
+        "01 03 1234 00000008 | 01 09 0000 00001001",
+        End::Reported(error_code::CORRUPT_DATA),
+    ),
+    // A second Cache Response (section 5.5).
+    (
+        "01 03 1234 00000008 | 01 03 1234 00000008",
+        End::Reported(error_code::CORRUPT_DATA),
+    ),
+    // A Cache Reset inside an answer (section 5.9).
+    (
+        "01 03 1234 00000008 | 01 08 0000 00000008",
+        End::Reported(error_code::CORRUPT_DATA),
+    ),
+    // An End of Data of version 0 (section 5.8).
+    (
+        "01 03 1234 00000008 | 01 07 1234 0000000c 00000006",
+        End::Reported(error_code::CORRUPT_DATA),
+    ),
+];
 
-#[test]
-fn faults_are_reported(rt: HostRuntime) -> Result<(), Fail> {
-    for fault in FAULTS {
-        assert!(rt; is_reported(rt.alloc(), fault)?);
+/// In what it sends are Error Reports (section 5.11), which are never answered.
+const REPORTS: &[Lie] = &[
+    (
+        "01 0a 0001 00000010 00000000 00000000",
+        End::Told(error_code::INTERNAL_ERROR),
+    ),
+    (
+        "01 0a 0003 00000010 00000000 00000000",
+        End::Told(error_code::INVALID_REQUEST),
+    ),
+    (
+        "01 0a 0005 00000010 00000000 00000000",
+        End::Told(error_code::UNSUPPORTED_TYPE),
+    ),
+    // A code that there is not.
+    ("01 0a 0063 00000010 00000000 00000000", End::Told(99)),
+    // Inside an answer.
+    (
+        "01 03 1234 00000008 | 01 0a 0001 00000010 00000000 00000000",
+        End::Told(error_code::INTERNAL_ERROR),
+    ),
+    // Its lengths do not add up.
+    ("01 0a 0001 00000010 00000001 00000000", End::Malformed),
+];
+
+/// The Error Report that goes out after the queries, or none if the link ended by one of the cache.
+fn report(end: &End) -> Step {
+    match end {
+        End::Reported(error_code::CORRUPT_DATA) => Step::SentAt(20, "01 0a 0000"),
+        End::Reported(error_code::UNSUPPORTED_VERSION) => Step::SentAt(20, "01 0a 0004"),
+        End::Reported(error_code::UNSUPPORTED_TYPE) => Step::SentAt(20, "01 0a 0005"),
+        End::Reported(error_code::UNKNOWN_WITHDRAWAL) => Step::SentAt(20, "01 0a 0006"),
+        End::Reported(error_code::DUPLICATE_ANNOUNCEMENT) => Step::SentAt(20, "01 0a 0007"),
+        End::Reported(error_code::UNEXPECTED_VERSION) => Step::SentAt(20, "01 0a 0008"),
+        _ => Step::Sent("01 02 0000 00000008 01 01 1234 0000000c 00000005"),
     }
-    Ok(())
 }
 
-/// After Error Report 4 the next connection is of version 0, and the one after that too.
-#[test]
-fn another_version_is_tried(rt: HostRuntime) -> Result<(), Fail> {
-    let alloc = rt.alloc();
-    let (report, answer) = (
-        bytes("01 0a 0004 00000010 00000000 00000000"),
-        bytes(ANSWER_0),
-    );
-    let (output, output_0) = (shared(alloc)?, shared(alloc)?);
-    let first = plain(report.as_slice(), &output)?;
-    let second = plain(answer.as_slice(), &output_0)?;
-    let mut upstream = Upstream::new(alloc, 60);
-    upstream.connect(first, 0);
-    let ended = DisconnectReason::LinkEnded(End::Told(error_code::UNSUPPORTED_VERSION));
-    assert!(rt; settle(&mut upstream, 0) == PollOutcome::Disconnected(ended));
-    assert!(rt; is_list(&output, bytes(RESET_QUERY).as_slice()));
-    upstream.connect(second, 1);
-    assert!(rt; settle(&mut upstream, 1) == PollOutcome::WaitsToRead);
-    assert!(rt; is_list(&output_0, bytes("00 02 0000 00000008").as_slice()));
-    assert!(rt; upstream.committed() == Some((Version::V0, 4660, Serial(5))));
-    Ok(())
+/// The first step that goes wrong if a router holds a record since time 0, and what comes at time 1 ends the link. What was committed stays
+/// for 7,200 seconds.
+fn wrong_of(alloc: Global, &(units, end): &Lie) -> Option<usize> {
+    let ended = DisconnectReason::LinkEnded(end);
+    let steps = [
+        Step::Connects(ANSWER, 0),
+        Step::Settles(0, PollOutcome::WaitsToRead),
+        Step::Connects(units, 1),
+        Step::Settles(1, PollOutcome::Disconnected(ended)),
+        report(&end),
+        Step::IsConnected(false),
+        Step::Commits(Version::V1, 4660, 5),
+        Step::Holds(Some(1)),
+        Step::Ticks(7200, None),
+        Step::Holds(Some(1)),
+        Step::Ticks(7201, None),
+        Step::Holds(None),
+    ];
+    wrong(alloc, 60, &steps)
 }
+
+fn expect_told<R: Abort>(rt: &R, alloc: Global, lies: &[Lie]) {
+    for lie in lies {
+        assert!(rt; wrong_of(alloc, lie).is_none(), "{}", lie.0);
+    }
+}
+
+#[test]
+fn faults_and_lies_are_told(rt: HostRuntime) {
+    expect_told(&rt, rt.alloc(), FAULTS);
+    expect_told(&rt, rt.alloc(), LIES);
+    expect_told(&rt, rt.alloc(), REPORTS);
+}
+
+/// The records stay, and so does the connection.
+const REFUSALS_THAT_KEEP: &[Step] = &[
+    Step::Connects(ANSWER, 0),
+    Step::Settles(0, PollOutcome::WaitsToRead),
+    // No Data Available (section 12).
+    Step::Connects("01 0a 0002 00000010 00000000 00000000", 1),
+    Step::Settles(1, PollOutcome::WaitsToRead),
+    Step::Holds(Some(1)),
+    // A Cache Reset, after which the router sends a Reset Query (section 5.9).
+    Step::Connects("01 08 0000 00000008", 2),
+    Step::Settles(2, PollOutcome::WaitsToRead),
+    Step::Holds(Some(1)),
+];
+
+/// Another session: Corrupt Data, and all records are dropped (section 5.1).
+const REFUSAL_THAT_DROPS: &[Step] = &[
+    Step::Connects(ANSWER, 0),
+    Step::Settles(0, PollOutcome::WaitsToRead),
+    Step::Connects("01 03 1235 00000008", 1),
+    Step::Settles(
+        1,
+        PollOutcome::Disconnected(DisconnectReason::LinkEnded(End::Reported(
+            error_code::CORRUPT_DATA,
+        ))),
+    ),
+    Step::Holds(None),
+];
+
+/// After Error Report 4 the next connection is of version 0.
+const ANOTHER_VERSION_IS_TRIED: &[Step] = &[
+    Step::Connects("01 0a 0004 00000010 00000000 00000000", 0),
+    Step::Settles(
+        0,
+        PollOutcome::Disconnected(DisconnectReason::LinkEnded(End::Told(
+            error_code::UNSUPPORTED_VERSION,
+        ))),
+    ),
+    Step::Sent(RESET_QUERY),
+    Step::Connects(ANSWER_0, 1),
+    Step::Settles(1, PollOutcome::WaitsToRead),
+    Step::Sent("01 02 0000 00000008 00 02 0000 00000008"),
+    Step::Commits(Version::V0, 4660, 5),
+];
 
 /// A cache of version 0 answers in its own version: the link ends with Error Report 4, and the next connection is of version 0.
-#[test]
-fn an_answer_of_version_0_is_tried_again(rt: HostRuntime) -> Result<(), Fail> {
-    let alloc = rt.alloc();
-    let answer = bytes(ANSWER_0);
-    let (output, output_0) = (shared(alloc)?, shared(alloc)?);
-    let first = plain(answer.as_slice(), &output)?;
-    let second = plain(answer.as_slice(), &output_0)?;
-    let mut upstream = Upstream::new(alloc, 60);
-    upstream.connect(first, 0);
-    let ended = DisconnectReason::LinkEnded(End::Reported(error_code::UNSUPPORTED_VERSION));
-    assert!(rt; settle(&mut upstream, 0) == PollOutcome::Disconnected(ended));
-    upstream.connect(second, 1);
-    assert!(rt; settle(&mut upstream, 1) == PollOutcome::WaitsToRead);
-    assert!(rt; upstream.committed() == Some((Version::V0, 4660, Serial(5))));
-    Ok(())
-}
+const AN_ANSWER_OF_VERSION_0_IS_TRIED_AGAIN: &[Step] = &[
+    Step::Connects(ANSWER_0, 0),
+    Step::Settles(
+        0,
+        PollOutcome::Disconnected(DisconnectReason::LinkEnded(End::Reported(
+            error_code::UNSUPPORTED_VERSION,
+        ))),
+    ),
+    Step::Connects(ANSWER_0, 1),
+    Step::Settles(1, PollOutcome::WaitsToRead),
+    Step::Commits(Version::V0, 4660, 5),
+];
 
-/// The version can be set.
+const A_VERSION_IS_SET: &[Step] = &[
+    Step::Speaks(Version::V0),
+    Step::Connects(ANSWER_0, 1),
+    Step::Settles(1, PollOutcome::WaitsToRead),
+    Step::Sent("00 02 0000 00000008"),
+];
+
 #[test]
-fn a_version_is_set(rt: HostRuntime) -> Result<(), Fail> {
-    let alloc = rt.alloc();
-    let answer = bytes(ANSWER_0);
-    let output = shared(alloc)?;
-    let stream = plain(answer.as_slice(), &output)?;
-    let mut upstream = Upstream::new(alloc, 60);
-    upstream.set_version(Version::V0);
-    upstream.connect(stream, 1);
-    assert!(rt; settle(&mut upstream, 1) == PollOutcome::WaitsToRead);
-    assert!(rt; is_list(&output, bytes("00 02 0000 00000008").as_slice()));
-    Ok(())
+fn refusals_and_versions_are_taken_in(rt: HostRuntime) {
+    play(&rt, 60, REFUSALS_THAT_KEEP);
+    play(&rt, 60, REFUSAL_THAT_DROPS);
+    play(&rt, 60, ANOTHER_VERSION_IS_TRIED);
+    play(&rt, 60, AN_ANSWER_OF_VERSION_0_IS_TRIED_AGAIN);
+    play(&rt, 60, A_VERSION_IS_SET);
 }
