@@ -16,7 +16,7 @@ tar -c --exclude=out --exclude=.git . | tar -x -C "$room" || exit 1
 cd "$room" && git init -q . || exit 1
 
 listed() {
-    python3 tests/wrong_bodies.py --list "$@"
+    python3 tests/gate/wrong_bodies.py --list "$@"
 }
 
 # The crates of which edits are to be tried.
@@ -45,9 +45,9 @@ changed() { # changed FILE SED CRATES
     mv saved "$1"
 }
 
-: >tests/refused.txt
-expect 'nothing was refused yet' 'command_parts der_lite event_log exports feed frames json_texts log_output payload_commands payload_lists payloads points prefix_texts prefixes rpkiobject rpkirtr rpkirtr_c rpkirtrd_cli rsa_sha256 rtr_commands rtr_daemon rtr_ends rtr_pdu rtr_server rtr_world sd_notify session_names signed_objects slurm sources status_pages status_server upstreams vrps world_scripts '
-listed --all >tests/refused.txt
+: >tests/gate/refused.txt
+expect 'nothing was refused yet' 'command_parts der_lite event_log exports feed frames json_texts log_output payload_commands payload_lists payloads points prefix_texts prefixes rpkiobject rpkirtr rpkirtr_c rpkirtrd_cli rpkirtrd_start rsa_sha256 rtr_commands rtr_daemon rtr_ends rtr_pdu rtr_server rtr_world sd_notify session_names signed_objects slurm sources status_pages status_server upstreams vrps world_scripts '
+listed --all >tests/gate/refused.txt
 expect 'all was refused' ''
 
 # a comment
@@ -56,14 +56,16 @@ changed crates/rtr_ends/src/router.rt '1s|$| Changed.|' ''
 changed crates/rtr_ends/src/router.rt 's|self.machine.out.pull(room)|self.machine.out.pull(&mut *room)|' 'rtr_ends '
 changed crates/rtr_ends/proofs/router/Router/receive/Answers.antt '$s|$| |' 'rtr_ends '
 # a contract, a definition, and a type
-changed crates/rtr_ends/src/router.rt 's|ensures within { result ≤ |ensures within { 0 + result ≤ |' 'feed rpkirtr rpkirtr_c rpkirtrd_cli rtr_commands rtr_daemon rtr_ends rtr_server rtr_world upstreams world_scripts '
-changed crates/rtr_pdu/specs/Version.antt '$s|$|\nmore : ℕ\nmore = 1|' 'feed rpkirtr rpkirtr_c rpkirtrd_cli rtr_commands rtr_daemon rtr_ends rtr_pdu rtr_server rtr_world upstreams world_scripts '
+changed crates/rtr_ends/src/router.rt 's|ensures within { result ≤ |ensures within { 0 + result ≤ |' 'feed rpkirtr_c rtr_commands rtr_ends rtr_server rtr_world upstreams '
+changed crates/rtr_pdu/specs/Version.antt '$s|$|\nmore : ℕ\nmore = 1|' 'feed rpkirtr rpkirtr_c rpkirtrd_cli rpkirtrd_start rtr_commands rtr_daemon rtr_ends rtr_pdu rtr_server rtr_world upstreams world_scripts '
 changed crates/rpkirtr_cli/src/lib.rt '$s|$|\npub struct More;|' 'rpkirtr '
 # a lemma that is named from above, and one that is not
 changed crates/rtr_ends/proofs/TableLaws.antt '$s|$| |' 'rpkirtr_c rtr_commands rtr_ends rtr_server rtr_world upstreams '
 changed crates/rtr_ends/proofs/LinkCells.antt '$s|$| |' 'rtr_ends '
+# a new function that nothing names
+changed crates/vrps/src/log.rt 's|^    /// How many versions before|    /// One.\n    pub fn one_alone(\&self) -> u8 {\n        1\n    }\n\n&|' 'vrps '
 # the libraries of a crate
-changed crates.txt 's|^vrps: .*|& arrayvec|' 'command_parts event_log exports feed log_output payload_commands payload_lists rpkiobject rpkirtr rpkirtr_c rpkirtrd_cli rtr_commands rtr_daemon rtr_ends rtr_server rtr_world session_names slurm sources status_pages status_server upstreams vrps world_scripts '
+changed crates.txt 's|^vrps: .*|& arrayvec|' 'command_parts event_log exports feed log_output payload_commands payload_lists rpkiobject rpkirtr rpkirtr_c rpkirtrd_cli rpkirtrd_start rtr_commands rtr_daemon rtr_ends rtr_server rtr_world session_names slurm sources status_pages status_server upstreams vrps world_scripts '
 # an edit, which alone is tried
 changed crates/vrps/wrong/a_group_has_no_records.edit '$s|$| |' 'vrps '
 echo ' ' >>crates/vrps/wrong/a_group_has_no_records.edit

@@ -24,6 +24,103 @@ STATES = [
 ]
 
 
+def states(name, records, *routes):
+    """Routes with their states over one list: a record has its prefix, maximum length and AS, and a route its prefix, origin and state."""
+    entries = (it.split(" ") for it in records)
+    listed = ",".join(f'{{"asn":{asn},"maxLength":{longest},"prefix":"{prefix}"}}' for prefix, longest, asn in entries)
+    files = {"list.json": f"[{listed}]"}
+    rows = (it.split(" ") for it in routes)
+    return [Case(f"{name}-{prefix}-{origin}", f"route --vrps list.json {prefix} {origin}", 0, f"{word}\n", files=files) for prefix, origin, word in rows]
+
+
+STATES_OF_TABLES = [
+    states(
+        "as-0-beside-another",
+        ["192.0.2.0/24 25 64496", "192.0.2.0/24 24 0"],
+        "192.0.2.0/25 64496 valid",
+        "192.0.2.0/26 64496 invalid",
+        "192.0.2.0/24 none invalid",
+        "192.0.2.0/24 0 invalid",
+        "192.0.0.0/16 64496 not-found",
+    ),
+    states(
+        "nested-prefixes",
+        ["10.0.0.0/8 24 1", "10.1.0.0/16 16 2"],
+        "10.1.2.0/24 1 valid",
+        "10.1.0.0/16 2 valid",
+        "10.1.0.0/25 1 invalid",
+        "10.1.2.0/24 2 invalid",
+        "11.0.0.0/8 1 not-found",
+    ),
+    states(
+        "three-nested-prefixes",
+        ["10.0.0.0/8 8 1", "10.1.0.0/16 24 2", "10.1.2.0/24 24 3"],
+        "10.0.0.0/8 1 valid",
+        "10.0.0.0/9 1 invalid",
+        "10.1.0.0/16 1 invalid",
+        "10.1.0.0/16 2 valid",
+        "10.1.2.0/24 2 valid",
+        "10.1.2.0/24 3 valid",
+        "10.1.2.0/25 3 invalid",
+        "10.1.3.0/24 3 invalid",
+        "10.1.3.0/24 2 valid",
+        "10.2.0.0/16 2 invalid",
+        "10.0.0.0/7 1 not-found",
+        "11.0.0.0/8 1 not-found",
+        "10.1.2.0/24 none invalid",
+        "9.0.0.0/8 none not-found",
+    ),
+    states(
+        "several-maxima",
+        ["198.51.100.0/24 24 10", "198.51.100.0/24 26 10", "198.51.100.0/24 25 11"],
+        "198.51.100.0/24 10 valid",
+        "198.51.100.0/26 10 valid",
+        "198.51.100.192/26 11 invalid",
+        "198.51.100.128/25 11 valid",
+        "198.51.100.0/27 10 invalid",
+        "198.51.100.0/24 12 invalid",
+        "198.51.101.0/24 10 not-found",
+        "198.51.100.0/23 10 not-found",
+    ),
+    states(
+        "as-0",
+        ["203.0.113.0/24 32 0", "203.0.113.0/24 24 20", "192.0.2.0/24 32 0"],
+        "203.0.113.0/24 20 valid",
+        "203.0.113.0/25 20 invalid",
+        "203.0.113.0/24 0 invalid",
+        "192.0.2.0/24 20 invalid",
+        "192.0.2.1/32 0 invalid",
+        "192.0.2.0/24 none invalid",
+        "192.0.0.0/16 0 not-found",
+    ),
+    states(
+        "all-addresses",
+        ["0.0.0.0/0 8 30", "::/0 0 31"],
+        "0.0.0.0/0 30 valid",
+        "10.0.0.0/8 30 valid",
+        "10.0.0.0/9 30 invalid",
+        "255.255.255.255/32 31 invalid",
+        "::/0 31 valid",
+        "::/0 30 invalid",
+        "2001:db8::/32 31 invalid",
+    ),
+    states(
+        "families",
+        ["2001:db8::/32 48 40", "2001:db8:1::/48 64 41", "0.0.0.0/0 32 40"],
+        "2001:db8::/32 40 valid",
+        "2001:db8:1::/48 40 valid",
+        "2001:db8:1::/48 41 valid",
+        "2001:db8:1::/49 40 invalid",
+        "2001:db8:1::/64 41 valid",
+        "2001:db8:1::/65 41 invalid",
+        "2001:db8:2::/64 41 invalid",
+        "2001:db9::/32 40 not-found",
+        "2001::/16 40 not-found",
+        "::/0 40 not-found",
+    ),
+]
+
+
 def refused(name, prefix, origin):
     return Case(name, ["route", "--vrps", "routes.json", prefix, origin], 1, "refused word\n", files=ROUTES_JSON)
 

@@ -10,8 +10,10 @@ from cases.shared import (
     END_OF_DATA_0,
     FULL,
     RESET_QUERY,
+    RESET_QUERY_0,
     ROUTER_KEY_0,
     SERIAL_QUERY,
+    SERIAL_QUERY_0,
     Case,
     device_failed,
     error_report,
@@ -39,6 +41,18 @@ ANSWER_0 = {
     END_OF_DATA_0: "end-of-data 1911 5",
 }
 OLD_QUERY = "000112340000000c00000005"
+# A PDU of each type that there is in version 0, and what is printed of it.
+EACH_TYPE_0 = {
+    "000007770000000c00000005": "serial-notify 1911 5",
+    SERIAL_QUERY_0: "serial-query 1911 5",
+    RESET_QUERY_0: "reset-query",
+    CACHE_RESPONSE_0: "cache-response 1911",
+    ANNOUNCEMENT_0: "announce 192.0.2.0/24 24 64496",
+    "0006000000000020" + "00203000" + "20010db8000000000000000000000000" + "0000fbf0": "withdraw 2001:db8::/32 48 64496",
+    END_OF_DATA_0: "end-of-data 1911 5",
+    "0008000000000008": "cache-reset",
+    error_report(0, OLD_QUERY, 0): f"error-report 0 {OLD_QUERY}",
+}
 
 
 def reads(name, stream, status, output):
@@ -57,6 +71,7 @@ CASES = [
     reads("a-maximum-length-below-the-prefix", "0104000000000014" + "01181700" + "c0000200" + "0000fbf0", 1, "refused 5 at 0\n"),
     reads("an-error-report-whose-text-is-no-utf-8", "010a000200000011" + "00000000" + "00000001" + "ff", 1, "refused 6 at 0\n"),
     # the first header tells the version of all
+    reads("version-0-one-of-each-type", "".join(EACH_TYPE_0), 0, lines(*EACH_TYPE_0.values())),
     reads("version-0-answer", "".join(ANSWER_0), 0, lines(*ANSWER_0.values())),
     reads("version-0-error-report", error_report(0, OLD_QUERY, 0), 0, f"error-report 0 {OLD_QUERY}\n"),
     reads("version-0-then-version-1", CACHE_RESPONSE_0 + CACHE_RESPONSE, 1, "cache-response 1911\nrefused 1 at 8\n"),

@@ -316,6 +316,46 @@ BOTH_VERSIONS = [
 ]
 
 
+def relays(name, first, *versions, kept=()):
+    """A chain of two relays (sessions 17, 18 and 19). The first cache goes by a script, and each relay publishes what its router held: a set for
+    each version. `kept` are the places of versions that a relay publishes once more, as its router held nothing newer."""
+    rows = [plays(f"{name}-at-the-first-cache", *first)]
+    for session in (18, 19):
+        text, output = f"world 1 {session} 5 16", ""
+        for serial, items in enumerate(versions, 5):
+            for _ in range(2 if serial - 5 in kept else 1):
+                text += f"; publish {items}".rstrip() + "; catch-up 0; show 0"
+                output += f"{CAUGHT_UP}0 {session} {serial} {len(items.split())}\n"
+        rows.append(plays(f"{name}-at-session-{session}", text, output))
+    return rows
+
+
+AT_17 = f"world 1 17 5 16; publish {V}; catch-up 0; show 0"
+SHOWN_AT_17 = f"{CAUGHT_UP}0 17 5 1\n"
+CHAINS = [
+    relays(
+        "a-chain",
+        (f"{AT_17}; publish {V} {W}; catch-up 0; show 0; publish; catch-up 0; show 0", f"{SHOWN_AT_17}{CAUGHT_UP}0 17 6 2\n{CAUGHT_UP}0 17 7 0\n"),
+        V,
+        f"{V} {W}",
+        "",
+    ),
+    # the answer to the first relay is cut before its last byte
+    relays(
+        "a-chain-that-is-cut",
+        (
+            f"{AT_17}; publish {V} {W}; connect 0; router-sends 0 12; cache-gets 0 12; cache-sends 0 52; router-gets 0 51; cut 0 0; show 0; catch-up 0; show 0",
+            f"{SHOWN_AT_17}0 17 5 1\n{CAUGHT_UP}0 17 6 2\n",
+        ),
+        V,
+        f"{V} {W}",
+        kept=[0],
+    ),
+    # a restart of the first cache is one version more of a relay
+    relays("a-chain-whose-cache-restarts", (f"{AT_17}; restart 99 1; publish {W}; catch-up 0; show 0", f"{SHOWN_AT_17}{CAUGHT_UP}0 99 1 1\n"), V, W),
+]
+
+
 def versions_later(count, output):
     """A query of a serial that is so many versions old."""
     later = "; ".join("publish" if it % 2 else f"publish {V}" for it in range(1, count + 1))

@@ -1,7 +1,7 @@
 #!/usr/bin/env python3
 """Tells what the proofs, tests and wrong bodies of each crate took, in seconds of one processor.
 
-usage: tests/seconds.py PID FILE
+usage: tests/gate/seconds.py PID FILE
 
 It looks each second at what the process PID has started, as long as that runs. When it is ended by SIGTERM it prints a table of the crates, and then what
 stands in FILE: a line 'SECONDS NAME' for each further step."""

@@ -2,7 +2,7 @@
 """Counts in the pages, and in the comments of sources and definitions, turns of phrase that a reader stumbles over, and sentences of more
 than 30 words.
 
-usage: tests/prose.py [--list [PAGE]]
+usage: tests/gate/prose.py [--list [PAGE]]
 
 The pages are README.md, SECURITY.md, examples/README.md, docs/*.md but the generated DEFINITIONS.md, and the manual pages. The comments are
 those of crates/*/src and crates/*/specs. Code, examples and output do not count. The status is 1 if a count over all pages, or over all
@@ -13,7 +13,7 @@ import os
 import re
 import sys
 
-TOP = os.path.realpath(f"{os.path.dirname(os.path.abspath(__file__))}/..")
+TOP = os.path.realpath(f"{os.path.dirname(os.path.abspath(__file__))}/../..")
 LONGEST = 30
 
 # Each turn, its pattern, and how often it may occur in all pages and in all comments: some are right now and then. The bounds of comments are

@@ -1,7 +1,7 @@
 #!/usr/bin/env python3
 """Checks the names of types, functions and modules.
 
-usage: tests/names.py
+usage: tests/gate/names.py
 
 The status is 1 if a name that was replaced is in the sources, definitions or proofs of its crate again, or if two libraries declare one public
 type name for different things. Each finding is one line. Comments and texts in quotes are not looked at."""
@@ -11,7 +11,7 @@ import os
 import re
 import sys
 
-TOP = os.path.realpath(f"{os.path.dirname(os.path.abspath(__file__))}/..")
+TOP = os.path.realpath(f"{os.path.dirname(os.path.abspath(__file__))}/../..")
 
 # The names that were replaced, by crate, each with the name in its place.
 REPLACED = {

@@ -1,10 +1,10 @@
 #!/usr/bin/env python3
 """Tries the wrong bodies of crates/NAME/wrong: each must be refused by the contract of the function that it changes.
 
-usage: tests/wrong_bodies.py [--after-gate] [--all] [--list] [--minutes N] [NAME | NAME/EDIT]..
+usage: tests/gate/wrong_bodies.py [--after-gate] [--all] [--list] [--minutes N] [NAME | NAME/EDIT]..
 
-Without words those are tried that were not yet refused as the texts stand (tests/refused.py says what decides that), with --all each, else
-those of these crates or these single edits (with or without the ending .edit). What is refused is kept in tests/refused.txt, which --all
+Without words those are tried that were not yet refused as the texts stand (tests/gate/refused.py says what decides that), with --all each, else
+those of these crates or these single edits (with or without the ending .edit). What is refused is kept in tests/gate/refused.txt, which --all
 writes anew. --list only tells which would be tried, with the sum of what decides it.
 
 An edit has the form of those in must-fail. Proofs are modular: a proof knows of other functions their contracts alone. So edits of
@@ -25,7 +25,7 @@ import tempfile
 import threading
 import time
 
-TOP = os.path.realpath(f"{os.path.dirname(os.path.abspath(__file__))}/..")
+TOP = os.path.realpath(f"{os.path.dirname(os.path.abspath(__file__))}/../..")
 
 sys.path.insert(0, f"{TOP}/tools")
 import refused
@@ -331,7 +331,7 @@ def told(found, wanted):
     for edit, is_well, what in sorted(found, key=lambda it: it[0].label):
         print(f"wrong body {edit.label}: {what}")
     if len(found) < wanted:
-        print(f"wrong bodies: {wanted - len(found)} of {wanted} were not tried, as the time was over: tests/wrong_bodies.py tries all")
+        print(f"wrong bodies: {wanted - len(found)} of {wanted} were not tried, as the time was over: tests/gate/wrong_bodies.py tries all")
     failed = sum(not it[1] for it in found)
     print(f"{len(found) - failed} passed, {failed} failed")
     return failed
@@ -349,9 +349,9 @@ def main(words):
     crates = sorted(RT.rtlib.crates_below(TOP), key=lambda it: len(it.below()))
     edits = {it: edits_of(it, words) for it in crates}
     if flags - {"--after-gate", "--all", "--list"} or (words and not any(edits.values())):
-        print("usage: tests/wrong_bodies.py [--after-gate] [--all] [--list] [--minutes N] [NAME | NAME/EDIT]..\n0 passed, 1 failed")
+        print("usage: tests/gate/wrong_bodies.py [--after-gate] [--all] [--list] [--minutes N] [NAME | NAME/EDIT]..\n0 passed, 1 failed")
         return 1
-    sums = {edit.label: refused.sum_of(crate, edit.text) for crate, some in edits.items() for edit in some}
+    sums = {edit.label: refused.sum_of(crate, edit) for crate, some in edits.items() for edit in some}
     known = Refused(sums, bool(words))
     is_new = lambda edit: words or "--all" in flags or known.kept.get(edit.label) != sums[edit.label]
     wanted = {crate: left for crate, some in edits.items() if (left := [it for it in some if is_new(it)])}

@@ -6,7 +6,7 @@ as these fit before them each time."""
 import os
 import sys
 
-sys.path.insert(0, f"{os.path.dirname(os.path.abspath(__file__))}/../tools")
+sys.path.insert(0, f"{os.path.dirname(os.path.abspath(__file__))}/../../tools")
 from kit import RT
 
 # The most that a check takes, in bytes.
