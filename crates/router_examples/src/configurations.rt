@@ -1,11 +1,10 @@
 //! Configurations of routers: intervals that are kept, and the most records.
-use crate::play::{Step, play, sends};
+use crate::play::{all_go, sends};
 use crate::scripts::ASKED_AT_100;
 use example_values::hex::bytes;
-use example_values::units::{ANSWER, END_5, RESET_QUERY, RESPONSE, SERIAL_QUERY, V, W, bytes_in};
-use rtr_ends::{End, Link, Router, RouterConfig, Timing};
+use example_values::units::{ANSWER, RESET_QUERY, bytes_in};
+use rtr_ends::{Router, RouterConfig, Timing};
 use rtr_pdu::Version;
-use std::test::Fail;
 
 /// The intervals of what is committed.
 fn intervals(router: &Router) -> Option<(u32, u32, u32)> {
@@ -15,60 +14,72 @@ fn intervals(router: &Router) -> Option<(u32, u32, u32)> {
     }
 }
 
-#[test]
-fn a_kept_interval_stands_against_an_end_of_data(rt: HostRuntime) -> Result<(), Fail> {
-    let mut router = Router::new(rt.alloc());
-    assert!(rt; *router.config() == RouterConfig::default());
-    let config = RouterConfig {
-        intervals: Timing::new(900, 60, 1800)?,
-        keeps_refresh: true,
+/// A configuration with these intervals, of which refresh and expire are kept or not.
+fn with_intervals(intervals: Timing, keeps: bool) -> RouterConfig {
+    RouterConfig {
+        intervals,
+        keeps_refresh: keeps,
         keeps_retry: false,
-        keeps_expire: true,
+        keeps_expire: keeps,
         most: 1_000_000,
-    };
+    }
+}
+
+/// Whether kept intervals stand against those of an End of Data.
+fn keeps(router: &mut Router, config: RouterConfig) -> bool {
+    let is_default = *router.config() == RouterConfig::default();
     router.configure(config);
-    assert!(rt; *router.config() == config);
-    play(&rt, &mut router, Version::V1, ASKED_AT_100);
+    let is_asked = *router.config() == config && all_go(router, Version::V1, ASKED_AT_100);
     router.receive(bytes(ANSWER).as_slice(), 100);
-    assert!(rt; intervals(&router) == Some((900, 600, 1800)));
-    assert!(rt; router.due() == Some(1000));
-    Ok(())
+    is_default
+        && is_asked
+        && intervals(router) == Some((900, 600, 1800))
+        && router.due() == Some(1000)
 }
 
 #[test]
-fn a_configuration_has_the_intervals_of_version_0(rt: HostRuntime) -> Result<(), Fail> {
+fn a_kept_interval_stands_against_an_end_of_data(rt: HostRuntime) {
     let mut router = Router::new(rt.alloc());
+    match Timing::new(900, 60, 1800) {
+        Ok(timing) => assert!(rt; keeps(&mut router, with_intervals(timing, true))),
+        Err(_) => assert!(rt; false),
+    }
+}
+
+/// Whether a router of version 0 has the intervals of its configuration.
+fn has_intervals(router: &mut Router, config: RouterConfig) -> bool {
     router.speak(Version::V0);
-    router.configure(RouterConfig {
-        intervals: Timing::new(900, 60, 1800)?,
-        keeps_refresh: false,
-        keeps_retry: false,
-        keeps_expire: false,
-        most: 1_000_000,
-    });
+    router.configure(config);
     router.connect(0);
     router.closed(0);
-    assert!(rt; router.due() == Some(60));
+    let is_retried = router.due() == Some(60);
     router.connect(0);
-    assert!(rt; sends(&mut router, &bytes_in(0, RESET_QUERY)));
+    let is_asked = sends(router, &bytes_in(0, RESET_QUERY));
     router.receive(bytes_in(0, ANSWER).as_slice(), 0);
-    assert!(rt; intervals(&router) == Some((900, 60, 1800)));
-    Ok(())
+    is_retried && is_asked && intervals(router) == Some((900, 60, 1800))
+}
+
+#[test]
+fn a_configuration_has_the_intervals_of_version_0(rt: HostRuntime) {
+    let mut router = Router::new(rt.alloc());
+    match Timing::new(900, 60, 1800) {
+        Ok(timing) => assert!(rt; has_intervals(&mut router, with_intervals(timing, false))),
+        Err(_) => assert!(rt; false),
+    }
 }
 
 /// At most one record is accepted. A second is one too many, and what was committed stays.
-const AT_MOST_ONE: &[Step] = &[
-    Step::Connects(0),
-    Step::Sends(RESET_QUERY),
-    Step::Takes(&[RESPONSE, V, END_5], 0),
-    Step::Holds(1, Version::V1, 4660, 5),
-    Step::Connects(0),
-    Step::Sends(SERIAL_QUERY),
-    Step::Takes(&[RESPONSE, W], 0),
-    Step::HasLink(Link::Ended(End::TooMany)),
-    Step::Holds(1, Version::V1, 4660, 5),
-    Step::Leaves(V, 0),
-];
+const AT_MOST_ONE: &str = "\
+    connects 0
+    sends RESET_QUERY
+    takes 0 RESPONSE | V | END_5
+    holds 1 1 4660 5
+    connects 0
+    sends SERIAL_QUERY
+    takes 0 RESPONSE | W
+    link too-many
+    holds 1 1 4660 5
+    leaves 0 V";
 
 #[test]
 fn an_answer_has_at_most_the_configured_records(rt: HostRuntime) {
@@ -80,5 +91,5 @@ fn an_answer_has_at_most_the_configured_records(rt: HostRuntime) {
         keeps_expire: false,
         most: 1,
     });
-    play(&rt, &mut router, Version::V1, AT_MOST_ONE);
+    assert!(rt; all_go(&mut router, Version::V1, AT_MOST_ONE));
 }

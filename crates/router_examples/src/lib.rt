@@ -13,6 +13,14 @@ mod routers;
 #[cfg(test)]
 mod scripts;
 #[cfg(test)]
+mod scripts_answers;
+#[cfg(test)]
+mod scripts_calls;
+#[cfg(test)]
+mod scripts_clock;
+#[cfg(test)]
+mod scripts_records;
+#[cfg(test)]
 mod scripts_v0;
 #[cfg(test)]
 mod scripts_wake;

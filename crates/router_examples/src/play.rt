@@ -1,55 +1,58 @@
-//! Scripts of what happens at a router, and one function that plays them.
+//! Scripts of what happens at a router, and one function that plays them. Each line is a step: a word, and what belongs to it.
+//!
+//! - `speaks VERSION`, `connects NOW`, `ticks NOW`, `closes NOW`: this is called.
+//! - `takes NOW PDUS`: these PDUs come, one after the other, and all of each is consumed.
+//! - `leaves NOW PDUS`: nothing of these PDUs is consumed.
+//! - `takes-part COUNT NOW PDUS`: of these PDUs, in one piece, this many bytes are consumed.
+//! - `begins BYTES`: these bytes are pulled, in one piece.
+//! - `sends PDUS`: these PDUs are pending, and nothing else.
+//! - `asks`, `asks busy`, `asks not-connected`: it is asked to put its question, and answers so.
+//! - `due MOMENT`: it wants to be called again at this moment.
+//! - `wakes MOMENT`, `wakes never`: it has nothing to do before this moment, or at all.
+//! - `pending yes`, `pending no`: it has bytes to send, or none.
+//! - `link STATE`: the state of its link; `reported` and `told` have the code of the Error Report.
+//! - `holds RECORDS VERSION SESSION SERIAL`, `holds nothing`: what is committed.
+//! - `judges PREFIX AS STATE`: a route has this state.
+//!
+//! Bars part PDUs, and each has a name (`example_values::scripts`) or is spelled in hexadecimal digits.
 use example_values::hex::Bytes;
-use example_values::units::bytes_in;
+use example_values::scripts::{Words, unit_in, units_in};
 use prefixes::{IpPrefix, Route};
 use rtr_ends::laws::router_has_room;
-use rtr_ends::{AskFault, Link, Router};
+use rtr_ends::{AskFault, End, Link, Router};
 use rtr_pdu::Version;
-use std::alloc::AllocGlobal;
-use std::process::Abort;
+use std::alloc::Global;
 use vrps::{OriginState, Serial};
 
-/// What happens at a router, and the result that it must have.
-pub(crate) enum Step {
-    Speaks(Version),
-    Connects(u64),
-    /// These PDUs come, one after the other, and all of each is consumed.
-    Takes(&'static [&'static str], u64),
-    /// Nothing of this PDU is consumed.
-    Leaves(&'static str, u64),
-    /// Of these PDUs, in one piece, this many bytes are consumed.
-    TakesPart(&'static str, usize, u64),
-    /// These bytes are pulled, in one piece.
-    Begins(&'static str),
-    /// These PDUs are pending, and nothing else.
-    Sends(&'static str),
-    /// It is asked to put its question.
-    Asks(Result<(), AskFault>),
-    Ticks(u64),
-    /// The connection is closed.
-    Closes(u64),
-    /// It wants to be called again at this moment.
-    IsDue(u64),
-    /// It has nothing to do before this moment, if ever.
-    WakesAt(Option<u64>),
-    HasBytes(bool),
-    HasLink(Link),
-    /// This many records are committed, under this session and serial of this version.
-    Holds(usize, Version, u16, u32),
-    HoldsNothing,
-    /// A route of this prefix and AS has this state.
-    Judges(&'static str, u32, OriginState),
-}
-
-/// Whether all of these PDUs is consumed.
-fn takes(router: &mut Router, version: Version, units: &[&str], now: u64) -> bool {
-    for unit in units {
-        let piece = bytes_in(version.number(), unit);
+/// Whether all of each of these PDUs is consumed.
+fn takes(router: &mut Router, version: Version, units: &str, now: u64) -> bool {
+    for name in units.split('|') {
+        let piece = unit_in(version.number(), name);
         if router.receive(piece.as_slice(), now) != piece.len() {
             return false;
         }
     }
     true
+}
+
+/// Whether as many bytes of PDUs are consumed as a line says.
+fn receives(
+    router: &mut Router,
+    version: Version,
+    word: &str,
+    words: &mut Words<'_>,
+) -> Option<bool> {
+    let count = if word == "takes-part" {
+        words.number()?
+    } else {
+        0
+    };
+    let now = words.number()?;
+    if word == "takes" {
+        return Some(takes(router, version, words.rest, now));
+    }
+    let piece = units_in(version.number(), words.rest);
+    Some(router.receive(piece.as_slice(), now) as u64 == count)
 }
 
 /// Whether exactly these bytes are pending.
@@ -60,6 +63,35 @@ pub(crate) fn sends(router: &mut Router, expected: &Bytes) -> bool {
     }
     let count = router.pull(&mut room);
     room.get(..count) == Some(expected.as_slice()) && !router.has_bytes()
+}
+
+/// Whether a piece is pulled that is these bytes.
+fn begins(router: &mut Router, front: &Bytes) -> bool {
+    let mut room = [0u8; 64];
+    match room.get_mut(..front.len()) {
+        None => false,
+        Some(out) => router.pull(out) == front.len() && *out == *front.as_slice(),
+    }
+}
+
+fn asks(router: &mut Router, answer: &str) -> bool {
+    match router.ask() {
+        Ok(()) => answer.is_empty(),
+        Err(AskFault::Busy) => answer == "busy",
+        Err(AskFault::NotConnected) => answer == "not-connected",
+    }
+}
+
+/// Whether a line is one of these calls, which is then made.
+fn calls(router: &mut Router, word: &str, now: u64) -> bool {
+    match word {
+        "speaks" => router.speak(if now == 0 { Version::V0 } else { Version::V1 }),
+        "connects" => router.connect(now),
+        "ticks" => router.tick(now),
+        "closes" => router.closed(now),
+        _ => return false,
+    }
+    true
 }
 
 /// Whether this many records are committed, under this session and serial of this version.
@@ -75,83 +107,104 @@ pub(crate) fn holds(
         && router.committed() == Some((version, session, Serial(serial)))
 }
 
-/// Whether a piece is pulled that is these bytes.
-fn begins(router: &mut Router, front: &Bytes) -> bool {
-    let mut room = [0u8; 64];
-    match room.get_mut(..front.len()) {
-        None => false,
-        Some(out) => router.pull(out) == front.len() && *out == *front.as_slice(),
+/// Whether what is committed is what a line says.
+fn is_held(router: &Router, words: &mut Words<'_>) -> bool {
+    let records = words.next();
+    match router.committed() {
+        None => records == "nothing" && router.table().is_empty(),
+        Some((version, session, serial)) => {
+            records.parse::<usize>().ok() == Some(router.table().len())
+                && words.number() == Some(u64::from(version.number()))
+                && words.number() == Some(u64::from(session))
+                && words.number() == Some(u64::from(serial.0))
+        }
     }
 }
 
-fn judges(router: &Router, text: &str, asn: u32, state: OriginState) -> bool {
-    match IpPrefix::parse(text) {
-        Err(_) => false,
-        Ok(prefix) => {
-            let origin = Some(asn);
-            router.route_state(&Route { prefix, origin }) == state
+/// Whether the link is in the state that a line says.
+fn is_link(router: &Router, words: &mut Words<'_>) -> bool {
+    let state = words.next();
+    match router.link() {
+        Link::Closed => state == "closed",
+        Link::Idle => state == "idle",
+        Link::Asked => state == "asked",
+        Link::Answering => state == "answering",
+        Link::Ended(End::Expired) => state == "expired",
+        Link::Ended(End::TooMany) => state == "too-many",
+        Link::Ended(End::Reported(code)) => {
+            state == "reported" && words.number() == Some(u64::from(code))
         }
+        Link::Ended(End::Told(code)) => {
+            state == "told" && words.number() == Some(u64::from(code))
+        }
+        Link::Ended(_) => false,
     }
+}
+
+/// Whether a route has the state that a line says.
+fn judges(router: &Router, words: &mut Words<'_>) -> Option<bool> {
+    let prefix = IpPrefix::parse(words.next()).ok()?;
+    let origin = u32::try_from(words.number()?).ok()?;
+    let route = Route {
+        prefix,
+        origin: Some(origin),
+    };
+    Some(match router.route_state(&route) {
+        OriginState::NotFound => words.rest == "not-found",
+        OriginState::Invalid => words.rest == "invalid",
+        OriginState::Valid => words.rest == "valid",
+    })
 }
 
 /// Whether a router has what it has to have.
-fn stands(router: &Router, step: &Step) -> bool {
-    match step {
-        Step::IsDue(moment) => router.due() == Some(*moment),
-        Step::WakesAt(moment) => router.wake_at() == *moment,
-        Step::HasBytes(has) => router.has_bytes() == *has,
-        Step::HasLink(link) => router.link() == *link,
-        Step::Holds(records, version, session, serial) => {
-            holds(router, *records, *version, *session, *serial)
-        }
-        Step::HoldsNothing => router.table().is_empty() && router.committed().is_none(),
-        Step::Judges(text, asn, state) => judges(router, text, *asn, *state),
+fn stands(router: &Router, word: &str, words: &mut Words<'_>) -> bool {
+    match word {
+        "due" => router.due() == words.number(),
+        "wakes" => router.wake_at() == words.number(),
+        "pending" => router.has_bytes() == (words.rest == "yes"),
+        "link" => is_link(router, words),
+        "holds" => is_held(router, words),
+        "judges" => judges(router, words) == Some(true),
         _ => false,
     }
 }
 
-/// Whether a step goes as it has to. PDUs are spelled in version 1, and come and go as they are in this version.
-fn goes(router: &mut Router, version: Version, step: &Step) -> bool {
-    match step {
-        Step::Speaks(version) => router.speak(*version),
-        Step::Connects(now) => router.connect(*now),
-        Step::Ticks(now) => router.tick(*now),
-        Step::Closes(now) => router.closed(*now),
-        Step::Takes(units, now) => return takes(router, version, units, *now),
-        Step::Leaves(unit, now) => {
-            return router.receive(bytes_in(version.number(), unit).as_slice(), *now) == 0;
+/// Whether a line goes as it has to. PDUs are spelled in version 1, and come and go as they are in this version.
+fn goes(router: &mut Router, version: Version, line: &str) -> bool {
+    let mut words = Words { rest: line };
+    let word = words.next();
+    match word {
+        "speaks" | "connects" | "ticks" | "closes" => match words.number() {
+            Some(now) => calls(router, word, now),
+            None => false,
+        },
+        "takes" | "leaves" | "takes-part" => {
+            receives(router, version, word, &mut words) == Some(true)
         }
-        Step::TakesPart(units, count, now) => {
-            return router.receive(bytes_in(version.number(), units).as_slice(), *now) == *count;
+        "begins" => begins(router, &units_in(version.number(), words.rest)),
+        "sends" => sends(router, &units_in(version.number(), words.rest)),
+        "asks" => asks(router, words.rest),
+        _ => stands(router, word, &mut words),
+    }
+}
+
+/// Whether all lines go as they have to.
+pub(crate) fn all_go(router: &mut Router, version: Version, steps: &str) -> bool {
+    for line in steps.lines() {
+        if !goes(router, version, line.trim()) {
+            return false;
         }
-        Step::Begins(front) => return begins(router, &bytes_in(version.number(), front)),
-        Step::Sends(units) => return sends(router, &bytes_in(version.number(), units)),
-        Step::Asks(answer) => return router.ask() == *answer,
-        _ => return stands(router, step),
     }
     true
 }
 
-/// The place of the first step that does not go as it has to.
-pub(crate) fn first_wrong(router: &mut Router, version: Version, steps: &[Step]) -> Option<usize> {
-    for (place, step) in steps.iter().enumerate() {
-        if !goes(router, version, step) {
-            return Some(place);
-        }
-    }
-    None
-}
-
-/// Plays steps.
-pub(crate) fn play<R: Abort>(rt: &R, router: &mut Router, version: Version, steps: &[Step]) {
-    let place = first_wrong(router, version, steps);
-    assert!(rt; place.is_none(), "step {place:?}");
-}
-
-/// A router of this version at which these steps have been played.
-pub(crate) fn played<R: AllocGlobal + Abort>(rt: &R, version: Version, steps: &[Step]) -> Router {
-    let mut router = Router::new(rt.alloc());
+/// A router of this version at which these lines went as they have to.
+pub(crate) fn played(alloc: Global, version: Version, steps: &str) -> Option<Router> {
+    let mut router = Router::new(alloc);
     router.speak(version);
-    play(rt, &mut router, version, steps);
-    router
+    if all_go(&mut router, version, steps) {
+        Some(router)
+    } else {
+        None
+    }
 }

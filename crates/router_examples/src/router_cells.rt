@@ -1,196 +1,113 @@
 //! The protocol's table: what each PDU does on each link of a router, in each version.
-use crate::play::{Step, holds, played, sends};
+use crate::play::{holds, played, sends};
 use crate::scripts::{ASKED as FIRST, ASKED_SINCE as SINCE, HOLDING};
 use example_values::hex::Bytes;
-use example_values::units::{
-    CACHE_RESET, END_5, END_6, RESET_QUERY, RESPONSE, SERIAL_QUERY, V, W, bytes_in,
-};
+use example_values::scripts::Words;
+use example_values::units::{CACHE_RESET, END_6, RESET_QUERY, RESPONSE, SERIAL_QUERY, W, bytes_in};
 use rtr_ends::{End, Link, Router};
 use rtr_pdu::{Version, error_code};
-use std::alloc::AllocGlobal;
+use std::alloc::{AllocGlobal, Global};
 use std::process::Abort;
 
 /// The links of the protocol's table: how a router comes there, and how many records it has then. The states: idle. A first Reset Query is
 /// not answered yet, and no version is agreed on. A Serial Query is not answered yet. Its answer has begun. The answer to a first Reset
 /// Query has begun.
-const LINKS: [(&[Step], usize); 5] = [
+const LINKS: &[(&str, usize)] = &[
     (HOLDING, 1),
     (FIRST, 0),
     (SINCE, 1),
-    (
-        &[
-            Step::Connects(0),
-            Step::Sends(RESET_QUERY),
-            Step::Takes(&[RESPONSE, V, END_5], 0),
-            Step::Asks(Ok(())),
-            Step::Sends(SERIAL_QUERY),
-            Step::Takes(&[RESPONSE], 0),
-        ],
-        1,
-    ),
-    (
-        &[
-            Step::Connects(0),
-            Step::Sends(RESET_QUERY),
-            Step::Takes(&[RESPONSE], 0),
-        ],
-        0,
-    ),
+    (SINCE_ANSWERING, 1),
+    (FIRST_ANSWERING, 0),
 ];
 
-/// What a PDU does.
-#[derive(Clone, Copy)]
-enum Does {
-    /// Nothing is sent, and the link is this one. What is committed stays.
-    Goes(Link),
-    /// It is asked what changed since, or for all. What is committed stays.
-    AsksSince,
-    AsksAll,
-    /// An Error Report with code 0 and the PDU ends the link. What is committed stays, or is dropped.
-    Reports,
-    Fails,
-    /// The link ends by a report of this code that was read. What is committed stays, or is dropped.
-    Ends(u16),
-    Empties(u16),
-    /// This many records are committed as serial 6.
-    Commits(usize),
-}
+const SINCE_ANSWERING: &str = "\
+    connects 0
+    sends RESET_QUERY
+    takes 0 RESPONSE | V | END_5
+    asks
+    sends SERIAL_QUERY
+    takes 0 RESPONSE";
 
-const IDLE: Does = Does::Goes(Link::Idle);
-
-const ASKED: Does = Does::Goes(Link::Asked);
-
-const ANSWERING: Does = Does::Goes(Link::Answering);
+const FIRST_ANSWERING: &str = "\
+    connects 0
+    sends RESET_QUERY
+    takes 0 RESPONSE";
 
 /// A Router Key, which version 1 alone has.
 const ROUTER_KEY: &str = "01 09 0100 00000020 0102030405060708090a0b0c0d0e0f1011121314 0000fbf0";
 
 /// Each PDU, and what it does on each link. Spelled in version 1: in version 0 it is the same but for the version bytes and the End of
-/// Data, and there are no Router Keys.
-const CELLS: &[(&str, [Does; 5])] = &[
+/// Data, and there are no Router Keys. These are the words for what it does.
+///
+/// - `idle`, `asked`, `answering`: nothing is sent, and the link is this one. What is committed stays.
+/// - `asks-since`, `asks-all`: it is asked what changed since, or for all. What is committed stays.
+/// - `reports`, `fails`: an Error Report with code 0 and the PDU ends the link. What is committed stays, or is dropped.
+/// - `ends-CODE`, `empties-CODE`: the link ends by a report of this code that was read. What is committed stays, or is dropped.
+/// - `commits-COUNT`: this many records are committed as serial 6.
+const CELLS: &[(&str, &str)] = &[
     // A Serial Notify of another session, of later serials, of the serial that is committed, of one before it, and of two too far.
     (
         "01 00 2222 0000000c 00000006",
-        [Does::Fails, ASKED, Does::Fails, Does::Fails, Does::Fails],
+        "fails asked fails fails fails",
     ),
     (
         "01 00 1234 0000000c 00000006",
-        [Does::AsksSince, ASKED, ASKED, ANSWERING, ANSWERING],
+        "asks-since asked asked answering answering",
     ),
     (
         "01 00 1234 0000000c 80000004",
-        [Does::AsksSince, ASKED, ASKED, ANSWERING, ANSWERING],
+        "asks-since asked asked answering answering",
     ),
     (
         "01 00 1234 0000000c 00000005",
-        [IDLE, ASKED, ASKED, ANSWERING, ANSWERING],
+        "idle asked asked answering answering",
     ),
     (
         "01 00 1234 0000000c 00000004",
-        [IDLE, ASKED, ASKED, ANSWERING, ANSWERING],
+        "idle asked asked answering answering",
     ),
     (
         "01 00 1234 0000000c 80000005",
-        [IDLE, ASKED, ASKED, ANSWERING, ANSWERING],
+        "idle asked asked answering answering",
     ),
     (
         "01 00 1234 0000000c 80000006",
-        [IDLE, ASKED, ASKED, ANSWERING, ANSWERING],
+        "idle asked asked answering answering",
     ),
     // A Cache Response of the committed session, and of another.
-    (
-        RESPONSE,
-        [
-            Does::Reports,
-            ANSWERING,
-            ANSWERING,
-            Does::Reports,
-            Does::Reports,
-        ],
-    ),
+    (RESPONSE, "reports answering answering reports reports"),
     (
         "01 03 2222 00000008",
-        [
-            Does::Reports,
-            ANSWERING,
-            Does::Fails,
-            Does::Reports,
-            Does::Reports,
-        ],
+        "reports answering fails reports reports",
     ),
-    (
-        W,
-        [
-            Does::Reports,
-            Does::Reports,
-            Does::Reports,
-            ANSWERING,
-            ANSWERING,
-        ],
-    ),
-    (
-        ROUTER_KEY,
-        [
-            Does::Reports,
-            Does::Reports,
-            Does::Reports,
-            ANSWERING,
-            ANSWERING,
-        ],
-    ),
+    (W, "reports reports reports answering answering"),
+    (ROUTER_KEY, "reports reports reports answering answering"),
     // An End of Data of the session that answers, and of another.
-    (
-        END_6,
-        [
-            Does::Reports,
-            Does::Reports,
-            Does::Reports,
-            Does::Commits(1),
-            Does::Commits(0),
-        ],
-    ),
+    (END_6, "reports reports reports commits-1 commits-0"),
     (
         "01 07 2222 00000018 00000006 00000e10 00000258 00001c20",
-        [
-            Does::Reports,
-            Does::Reports,
-            Does::Reports,
-            Does::Fails,
-            Does::Fails,
-        ],
+        "reports reports reports fails fails",
     ),
-    (
-        CACHE_RESET,
-        [
-            Does::Reports,
-            Does::Reports,
-            Does::AsksAll,
-            Does::Reports,
-            Does::Reports,
-        ],
-    ),
+    (CACHE_RESET, "reports reports asks-all reports reports"),
     // Queries.
-    (SERIAL_QUERY, [Does::Reports; 5]),
-    (RESET_QUERY, [Does::Reports; 5]),
+    (SERIAL_QUERY, "reports reports reports reports reports"),
+    (RESET_QUERY, "reports reports reports reports reports"),
     // Error Reports: No Data Available, Corrupt Data, Internal Error, Invalid Request.
-    ("01 0a 0002 00000010 00000000 00000000", [IDLE; 5]),
+    (
+        "01 0a 0002 00000010 00000000 00000000",
+        "idle idle idle idle idle",
+    ),
     (
         "01 0a 0000 00000010 00000000 00000000",
-        [
-            Does::Ends(error_code::CORRUPT_DATA),
-            Does::Ends(error_code::CORRUPT_DATA),
-            Does::Empties(error_code::CORRUPT_DATA),
-            Does::Empties(error_code::CORRUPT_DATA),
-            Does::Ends(error_code::CORRUPT_DATA),
-        ],
+        "ends-0 ends-0 empties-0 empties-0 ends-0",
     ),
     (
         "01 0a 0001 00000010 00000000 00000000",
-        [Does::Ends(error_code::INTERNAL_ERROR); 5],
+        "ends-1 ends-1 ends-1 ends-1 ends-1",
     ),
     (
         "01 0a 0003 00000010 00000000 00000000",
-        [Does::Ends(error_code::INVALID_REQUEST); 5],
+        "ends-3 ends-3 ends-3 ends-3 ends-3",
     ),
 ];
 
@@ -212,22 +129,28 @@ fn reports(router: &mut Router, version: Version, unit: &str) -> bool {
 }
 
 /// Whether this PDU does that on a router of this version.
-fn is_done(router: &mut Router, version: Version, unit: &str, does: &Does) -> bool {
+fn is_done(router: &mut Router, version: Version, unit: &str, does: &str) -> bool {
     match does {
-        Does::Goes(link) => router.link() == *link,
-        Does::AsksSince => sends(router, &bytes_in(version.number(), SERIAL_QUERY)),
-        Does::AsksAll => sends(router, &bytes_in(version.number(), RESET_QUERY)),
-        Does::Reports | Does::Fails => reports(router, version, unit),
-        Does::Ends(code) | Does::Empties(code) => { router.link() == Link::Ended(End::Told(*code)) }
-        Does::Commits(count) => holds(router, *count, version, 4660, 6),
+        "idle" => router.link() == Link::Idle,
+        "asked" => router.link() == Link::Asked,
+        "answering" => router.link() == Link::Answering,
+        "asks-since" => sends(router, &bytes_in(version.number(), SERIAL_QUERY)),
+        "asks-all" => sends(router, &bytes_in(version.number(), RESET_QUERY)),
+        "reports" | "fails" => reports(router, version, unit),
+        "ends-0" | "empties-0" => router.link() == Link::Ended(End::Told(error_code::CORRUPT_DATA)),
+        "ends-1" => router.link() == Link::Ended(End::Told(error_code::INTERNAL_ERROR)),
+        "ends-3" => router.link() == Link::Ended(End::Told(error_code::INVALID_REQUEST)),
+        "commits-0" => holds(router, 0, version, 4660, 6),
+        "commits-1" => holds(router, 1, version, 4660, 6),
+        _ => false,
     }
 }
 
 /// Whether a router that had this many records has those that it has to have then.
-fn is_kept(router: &Router, does: &Does, records: usize) -> bool {
+fn is_kept(router: &Router, does: &str, records: usize) -> bool {
     let kept = match does {
-        Does::Commits(_) => return true,
-        Does::Fails | Does::Empties(_) => 0,
+        "commits-0" | "commits-1" => return true,
+        "fails" | "empties-0" => 0,
         _ => records,
     };
     !router.has_bytes()
@@ -236,7 +159,7 @@ fn is_kept(router: &Router, does: &Does, records: usize) -> bool {
 }
 
 /// Whether a PDU does that at a router of this version that has this many records.
-fn does_so(router: &mut Router, version: Version, unit: &str, does: &Does, records: usize) -> bool {
+fn does_so(router: &mut Router, version: Version, unit: &str, does: &str, records: usize) -> bool {
     let piece = bytes_in(version.number(), unit);
     router.table().len() == records
         && (records == 0 || holds(router, 1, version, 4660, 5))
@@ -245,19 +168,47 @@ fn does_so(router: &mut Router, version: Version, unit: &str, does: &Does, recor
         && is_kept(router, does, records)
 }
 
-fn each_cell<R: AllocGlobal + Abort>(rt: &R, version: Version, unit: &str, cells: &[Does; 5]) {
-    for (&(steps, records), does) in LINKS.iter().zip(cells.iter()) {
-        let mut router = played(rt, version, steps);
-        assert!(rt; does_so(&mut router, version, unit, does, records));
+/// Whether a PDU does that at a new router of this version which has come to a link.
+fn does_at(
+    alloc: Global,
+    version: Version,
+    unit: &str,
+    does: &str,
+    (steps, records): (&str, usize),
+) -> bool {
+    match played(alloc, version, steps) {
+        Some(mut router) => does_so(&mut router, version, unit, does, records),
+        None => false,
+    }
+}
+
+/// Whether a PDU does so on each of these links.
+fn does_each(
+    alloc: Global,
+    version: Version,
+    unit: &str,
+    cells: &str,
+    links: &[(&str, usize)],
+) -> bool {
+    let mut words = Words { rest: cells };
+    for &link in links {
+        if !does_at(alloc, version, unit, words.next(), link) {
+            return false;
+        }
+    }
+    true
+}
+
+fn expect_cells<R: AllocGlobal + Abort>(rt: &R, cells: &[(&str, &str)], links: &[(&str, usize)]) {
+    for (unit, row) in cells {
+        assert!(rt; does_each(rt.alloc(), Version::V1, unit, row, links));
+        if *unit != ROUTER_KEY {
+            assert!(rt; does_each(rt.alloc(), Version::V0, unit, row, links));
+        }
     }
 }
 
 #[test]
 fn each_unit_on_each_link(rt: HostRuntime) {
-    for (unit, cells) in CELLS {
-        each_cell(&rt, Version::V1, unit, cells);
-        if *unit != ROUTER_KEY {
-            each_cell(&rt, Version::V0, unit, cells);
-        }
-    }
+    expect_cells(&rt, CELLS, LINKS);
 }

@@ -1,80 +1,108 @@
-//! What a router does if version 0 is spoken, or was, as scripts. PDUs are spelled as they come and go.
-use crate::play::Step;
-use crate::scripts::{HOLDING, HOLDING_0, RESET_QUERY_0, Script};
-use example_values::units::{RESPONSE, V_0};
-use rtr_ends::{End, Link};
-use rtr_pdu::{Version, error_code};
-
-/// Code 2, No Data Available, on nothing.
-const NO_DATA_0: &str = "00 0a 0002 00000010 00000000 00000000";
+//! What a router does if version 0 is spoken, or was, as scripts.
+use crate::scripts::{HOLDING, HOLDING_0, Script};
 
 /// If version 0 is spoken, or was.
 pub(crate) const IN_VERSION_0: &[Script] = &[
-    Script {
-        name: "version 0: connects again",
-        begin: HOLDING_0,
-        steps: &[
-            Step::Closes(0),
-            Step::Connects(0),
-            Step::Sends("00 01 0777 0000000c 00000005"),
-        ],
-    },
-    Script {
-        name: "what is of another version expires",
-        begin: HOLDING_0,
-        steps: &[
-            Step::Speaks(Version::V1),
-            Step::Connects(0),
-            Step::Closes(0),
-            Step::Ticks(7200),
-            Step::Holds(1, Version::V0, 1911, 5),
-            Step::Ticks(7201),
-            Step::HoldsNothing,
-        ],
-    },
+    (
+        "version 0: asks and commits",
+        HOLDING_0,
+        "link idle
+        due 3600
+        ticks 3600
+        sends 00 01 0777 0000000c 00000005
+        takes 3600 00 03 0777 00000008 | 00 07 0777 0000000c 00000006
+        holds 1 0 1911 6",
+    ),
+    (
+        "what is spoken holds from the next connection",
+        HOLDING_0,
+        "speaks 1
+        takes 1 00 00 0777 0000000c 00000006
+        sends 00 01 0777 0000000c 00000005
+        connects 2
+        sends RESET_QUERY
+        holds 1 0 1911 5
+        takes 2 RESPONSE | V
+        holds 1 0 1911 5
+        takes 2 END_5
+        holds 1 1 4660 5
+        speaks 0
+        connects 3
+        sends 00 02 0000 00000008",
+    ),
+    (
+        "an idle router asks at a notify of another version",
+        HOLDING_0,
+        "speaks 1
+        connects 1
+        sends RESET_QUERY
+        takes 1 01 0a 0002 00000010 00000000 00000000
+        link idle
+        holds 1 0 1911 5
+        takes 1 01 00 1234 0000000c 00000005
+        sends RESET_QUERY",
+    ),
+    (
+        "another version is reported in version 0",
+        HOLDING_0,
+        "takes 1 RESPONSE
+        sends 00 0a 0004 00000018 00000008 0103123400000008 00000000
+        link reported 4
+        holds 1 0 1911 5",
+    ),
+    (
+        "version 0: connects again",
+        HOLDING_0,
+        "closes 0
+        connects 0
+        sends 00 01 0777 0000000c 00000005",
+    ),
+    (
+        "what is of another version expires",
+        HOLDING_0,
+        "speaks 1
+        connects 0
+        closes 0
+        ticks 7200
+        holds 1 0 1911 5
+        ticks 7201
+        holds nothing",
+    ),
     // The session of the other version is another one.
-    Script {
-        name: "version 0: a notify of the connection's session",
-        begin: HOLDING,
-        steps: &[
-            Step::Speaks(Version::V0),
-            Step::Connects(0),
-            Step::Sends(RESET_QUERY_0),
-            Step::Takes(&["00 03 0777 00000008", NO_DATA_0], 0),
-            Step::HasLink(Link::Idle),
-            Step::Takes(&["00 00 0777 0000000c 00000005"], 0),
-            Step::Sends(RESET_QUERY_0),
-            Step::Takes(&[NO_DATA_0], 0),
-            Step::Holds(1, Version::V1, 4660, 5),
-            Step::Takes(&["00 00 1234 0000000c 00000006"], 0),
-            Step::Sends("00 0a 0000 0000001c 0000000c 000012340000000c00000006 00000000"),
-            Step::HoldsNothing,
-        ],
-    },
-    Script {
-        name: "version 0: any session answers beside one of version 1",
-        begin: HOLDING,
-        steps: &[
-            Step::Speaks(Version::V0),
-            Step::Connects(0),
-            Step::Sends(RESET_QUERY_0),
-            Step::Takes(&["00 03 2222 00000008"], 0),
-            Step::HasLink(Link::Answering),
-            Step::Takes(&[V_0, "00 07 2222 0000000c 00000007"], 0),
-            Step::Holds(1, Version::V0, 0x2222, 7),
-        ],
-    },
-    Script {
-        name: "version 0: another version at first",
-        begin: &[
-            Step::Speaks(Version::V0),
-            Step::Connects(0),
-            Step::Sends(RESET_QUERY_0),
-        ],
-        steps: &[
-            Step::Takes(&[RESPONSE], 0),
-            Step::Sends("00 0a 0004 00000018 00000008 0103123400000008 00000000"),
-            Step::HasLink(Link::Ended(End::Reported(error_code::UNSUPPORTED_VERSION))),
-        ],
-    },
+    (
+        "version 0: a notify of the connection's session",
+        HOLDING,
+        "speaks 0
+        connects 0
+        sends 00 02 0000 00000008
+        takes 0 00 03 0777 00000008 | NO_DATA_0
+        link idle
+        takes 0 00 00 0777 0000000c 00000005
+        sends 00 02 0000 00000008
+        takes 0 NO_DATA_0
+        holds 1 1 4660 5
+        takes 0 00 00 1234 0000000c 00000006
+        sends 00 0a 0000 0000001c 0000000c 000012340000000c00000006 00000000
+        holds nothing",
+    ),
+    (
+        "version 0: any session answers beside one of version 1",
+        HOLDING,
+        "speaks 0
+        connects 0
+        sends 00 02 0000 00000008
+        takes 0 00 03 2222 00000008
+        link answering
+        takes 0 V_0 | 00 07 2222 0000000c 00000007
+        holds 1 0 8738 7",
+    ),
+    (
+        "version 0: another version at first",
+        "speaks 0
+            connects 0
+            sends 00 02 0000 00000008",
+        "takes 0 RESPONSE
+        sends 00 0a 0004 00000018 00000008 0103123400000008 00000000
+        link reported 4",
+    ),
 ];
