@@ -12,6 +12,7 @@ from cases.shared import (
     ENTRY,
     FULL,
     LIST,
+    PREFIX_TEXTS,
     RESET_QUERY,
     RESET_QUERY_0,
     ROUTER_KEY_0,
@@ -19,9 +20,11 @@ from cases.shared import (
     SERIAL_QUERY_0,
     V_JSON,
     Case,
+    announcement,
     bad_words,
     device_failed,
     error_report,
+    length_of,
     lines,
 )
 
@@ -95,6 +98,63 @@ def answer_0(session):
 
 
 ANSWER_0, NO_CHANGE_0 = answer_0(1911), lines(CACHE_RESPONSE_0, END_OF_DATA_0)
+
+
+def in_0(pdu):
+    """A PDU of version 1 as it is in version 0, whose End of Data has no intervals (RFC 6810 section 5.8)."""
+    return f"0007{pdu[4:8]}0000000c{pdu[16:24]}" if pdu == END_OF_DATA else "00" + pdu[2:]
+
+
+def in_each_version(name, pdu, output, output_0):
+    """The reply to a PDU of version 1, and to the same in version 0, where the sessions are one."""
+    return [replies(name, pdu, output), replies(f"{name}-in-version-0", in_0(pdu), output_0)]
+
+
+def ends(name, pdu, code, copied=None):
+    """A PDU that ends the connection, in each version: a report has a copy of it, or of this, and the query behind it is not answered."""
+    outputs = [lines(error_report(code, copied or pdu)), lines(error_report(code, in_0(copied or pdu), 0))]
+    return [*in_each_version(name, pdu, *outputs), replies(f"{name}-and-a-query", pdu + RESET_QUERY, outputs[0])]
+
+
+def ends_silently(name, pdu):
+    """An Error Report, which is not answered."""
+    return [*in_each_version(name, pdu, "", ""), replies(f"{name}-and-a-query", pdu + RESET_QUERY, "")]
+
+
+IN_EACH_VERSION = [
+    in_each_version("a-query", RESET_QUERY, ANSWER, answer_0(4660)),
+    in_each_version("a-query-with-reserved-bytes-set", "0102ffff00000008", ANSWER, answer_0(4660)),
+    in_each_version("the-serial-that-is-current", SERIAL_QUERY, NO_CHANGE, lines("0003123400000008", "000712340000000c00000005")),
+    in_each_version("the-serial-before", "010112340000000c00000004", lines(CACHE_RESET), lines(in_0(CACHE_RESET))),
+    in_each_version("the-serial-behind", "010112340000000c00000006", lines(CACHE_RESET), lines(in_0(CACHE_RESET))),
+    replies("the-serial-before-and-a-query", "010112340000000c00000004" + RESET_QUERY, lines(CACHE_RESET) + ANSWER),
+    ends("a-serial-of-session-8738", "010122220000000c00000005", 0),
+    # what no router sends
+    ends("a-serial-notify", "010012340000000c00000005", 3),
+    ends("a-cache-response", CACHE_RESPONSE, 3),
+    ends("a-reset", CACHE_RESET, 3),
+    ends("a-record-with-reserved-bits-set", "0104000000000014" + "81181800" + "c0000200" + "0000fbf0", 3, ANNOUNCEMENT),
+    ends("a-record-of-ipv6", announcement("2001:db8::/32", 48, 64499), 3),
+    ends("an-end-of-data", END_OF_DATA, 3),
+    # faults of the type, the length, a length over 4,096, and a record
+    ends("type-5-alone", "0105000000000008", 5),
+    ends("type-11", "010b000000000008", 5),
+    ends("a-record-of-another-length", "01040000ffffffff", 0),
+    ends("a-reset-query-of-another-length", "0102000000000009", 0),
+    ends("a-record-with-a-maximum-length-below-the-prefix", "0104000000000014" + "01181700" + "c0000200" + "0000fbf0", 0),
+    ends_silently("an-error-report", "010a000200000010" + "00000000" * 2),
+    ends_silently("an-error-report-of-15-bytes", "010a00000000000f"),
+    ends_silently("an-error-report-of-4097-bytes", "010a000000001001"),
+    ends_silently("an-error-report-whose-text-is-no-utf-8", "010a000200000011" + "00000000" + "00000001" + "ff"),
+    # no other version behind the first header
+    replies("version-2-and-a-query", VERSION_2 + RESET_QUERY, lines(error_report(4, VERSION_2))),
+    replies("version-0-after-an-answer-and-a-query", RESET_QUERY + RESET_QUERY_0 + RESET_QUERY, ANSWER + lines(error_report(8, RESET_QUERY_0))),
+    replies("version-1-after-an-answer-and-a-query", 2 * (RESET_QUERY_0 + RESET_QUERY), answer_0(4660) + lines(error_report(4, RESET_QUERY, 0))),
+    replies("version-2-after-an-answer-and-a-query", RESET_QUERY_0 + VERSION_2 + RESET_QUERY_0, answer_0(4660) + lines(error_report(4, VERSION_2, 0))),
+    # version 0 has no such type
+    replies("a-router-key", "01" + ROUTER_KEY_0[2:], lines(error_report(3, "01" + ROUTER_KEY_0[2:]))),
+    replies("a-router-key-of-4097-bytes", "0109000000001001", lines(error_report(0, "0109000000001001"))),
+]
 # A Serial Query of version 0 in the session of version 1, and one of version 1 in that of version 0.
 SESSION_OF_1, SESSION_OF_0 = "000112340000000c00000005", "010107770000000c00000005"
 
@@ -208,6 +268,16 @@ LISTS = [
     ),
     announces("list-with-a-key-twice", '[{"asn":1,"asn":64496,"maxLength":24,"prefix":"192.0.2.0/24"}]', ANNOUNCEMENT),
 ]
+
+
+def announces_prefix(text, written):
+    """A list of one prefix, which is spelled so, and is written so."""
+    length = length_of(written)
+    return announces(f"list-prefix-{text}", f'[{{"asn":1,"maxLength":{length},"prefix":"{text}"}}]', announcement(written, length, 1))
+
+
+# Each spelling of a prefix, and that in which it is written.
+PREFIXES = [announces_prefix(*it) for it in {**PREFIX_TEXTS, **{it: it for it in PREFIX_TEXTS.values()}}.items()]
 # An entry that is well formed and makes no payload: the prefix has a bit behind its length.
 NO_PAYLOAD = '{"asn":1,"maxLength":24,"prefix":"192.0.2.1/24"}'
 

@@ -1,6 +1,7 @@
 """What the modules of cases share: the case, and texts, PDUs and payloads that several of them use."""
 import hashlib
 import inspect
+import ipaddress
 import os
 from dataclasses import dataclass, field
 from typing import ClassVar
@@ -83,6 +84,40 @@ def error_report(code, pdu, version=1):
     """An Error Report on a PDU, without a text (RFC 8210 section 5.11)."""
     length = len(pdu) // 2
     return f"{version:02x}0a{code:04x}{length + 16:08x}{length:08x}{pdu}00000000"
+
+
+
+def announcement(prefix, max_len, asn):
+    """The PDU of version 1 that announces a record (RFC 8210 sections 5.6 and 5.7)."""
+    net = ipaddress.ip_network(prefix)
+    kind, length = (4, 20) if net.version == 4 else (6, 32)
+    return f"01{kind:02x}0000{length:08x}01{net.prefixlen:02x}{max_len:02x}00{net.network_address.packed.hex()}{asn:08x}"
+
+
+# Texts of prefixes, each with that in which it is written (RFC 4291 sections 2.2 and 2.3, RFC 5952 section 4).
+PREFIX_TEXTS = {
+    **{it: it for it in ("0.0.0.0/0", "10.0.0.0/8", "192.0.2.0/24", "192.0.2.128/25", "192.0.2.1/32", "255.255.255.255/32")},
+    **{it: it for it in ("::/0", "::/32", "::/128", "1::/16", "1::8/128", "1:0:2:3:4:5:6:7/128", "::ffff:c000:200/128")},
+    **{"0:0:0:0:0:0:0:0/0": "::/0", "0::/0": "::/0", "::0/0": "::/0", "0:0:0:0:0:0:0:1/128": "::1/128", "::000A/128": "::a/128"},
+    **{"1:2:3:4:5:6:7::/112": "1:2:3:4:5:6:7:0/112", "::2:3:4:5:6:7:8/128": "0:2:3:4:5:6:7:8/128"},
+    **{"1:0:0:2:0:0:0:3/128": "1:0:0:2::3/128", "1:2:3:4:5:6:0:0/96": "1:2:3:4:5:6::/96", "0:0:3:4:5:6:0:0/96": "::3:4:5:6:0:0/96"},
+    "ABCD:EF01:2345:6789:ABCD:EF01:2345:6789/128": "abcd:ef01:2345:6789:abcd:ef01:2345:6789/128",
+    "2001:DB8:0:0:8:800:200C:417A/128": "2001:db8::8:800:200c:417a/128",
+    "FF01:0:0:0:0:0:0:101/128": "ff01::101/128",
+    "2001:0DB8:0000:CD30:0000:0000:0000:0000/60": "2001:db8:0:cd30::/60",
+    "2001:0DB8::CD30:0:0:0:0/60": "2001:db8:0:cd30::/60",
+    "2001:0DB8:0:CD30::/60": "2001:db8:0:cd30::/60",
+    "2001:0db8::0001/128": "2001:db8::1/128",
+    "2001:db8:0:0:0:0:2:1/128": "2001:db8::2:1/128",
+    "2001:db8::0:1/128": "2001:db8::1/128",
+    "2001:db8::1:1:1:1:1/128": "2001:db8:0:1:1:1:1:1/128",
+    "2001:0:0:1:0:0:0:1/128": "2001:0:0:1::1/128",
+    "2001:DB8:0:0:1:0:0:1/128": "2001:db8::1:0:0:1/128",
+}
+
+
+def length_of(prefix):
+    return int(prefix.partition("/")[2])
 
 
 # Parts of the payload of a ROA: the AS number 64496, the two families, and the prefix of 192.0.2.0/24.

@@ -209,6 +209,11 @@ TOLD_THE_INTERVALS = f"{WORLD}; tick 0 100; connect 0; {turn(0)}; publish {V} {W
 
 NOTIFIES_AND_TICKS = [
     plays("notify-of-a-new-serial", f"{HELD}; publish {V} {W}; {NOTIFIED}; {ANSWERED}", "0 4660 6 2\n"),
+    plays(
+        "notify-of-a-new-serial-and-two-sets-later",
+        f"{HELD}; publish {V} {W}; {NOTIFIED}; {ANSWERED}; publish {W}; publish; ask 0; {turn(0)}; show 0",
+        "0 4660 6 2\n0 4660 8 0\n",
+    ),
     # none is queued behind one that is still to be sent: the cache could not read the query before it
     plays("notify-twice", f"{HELD}; publish {V} {W}; notify 0; {NOTIFIED}; {ANSWERED}", "0 4660 6 2\n"),
     # one of a version that it holds is no reason to ask; without a connection nobody is notified

@@ -5,8 +5,6 @@
 #[cfg(test)]
 mod caches;
 #[cfg(test)]
-mod follows;
-#[cfg(test)]
 mod play;
 #[cfg(test)]
 mod scripts;

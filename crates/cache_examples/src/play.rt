@@ -1,60 +1,124 @@
-//! Scripts of what happens at a cache, and one function that plays them over any store of versions.
-use example_values::hex::{Bytes, bytes};
-use example_values::sets::{Rows, set_of};
-use example_values::units::all_of;
+//! Scripts of what happens at a cache, and one function that plays them over any store of versions. Each line is a step: a word, and what
+//! belongs to it.
+//!
+//! - `publishes as SERIAL RECORDS`, `publishes same RECORDS`: a set is published, as a version of this serial, or it is the current one.
+//! - `has SERIAL COUNT`, `has nothing`: the current version has this serial and this many records, or there is none.
+//! - `opens PLACE`: a connection is opened. It gets the number that the one of this place had, or a number that none had.
+//! - `PLACE EVENT`: something happens on the connection of this place among those that have been opened.
+//!
+//! Events are these.
+//!
+//! - `takes COUNT PDUS`: this many bytes of these PDUs are consumed.
+//! - `begins BYTES`: these bytes go out first, in one piece.
+//! - `sends PDUS`, `sends-0 PDUS`: these PDUs are due, or the same in version 0, and nothing else.
+//! - `silent`: nothing goes out, and nothing is written into its buffer.
+//! - `notifies yes`, `notifies no`: a notify is asked for, which is or is not sent.
+//! - `pending yes`, `open yes`, and the same with `no`: bytes are due, and the connection continues.
+//! - `closes`: the connection is closed.
+//!
+//! Bars part PDUs, and each has a name (`example_values::scripts`) or is spelled in hexadecimal digits.
+use example_values::hex::Bytes;
+use example_values::scripts::{Words, units_in};
+use example_values::sets::record;
+use prefixes::Vrp;
 use rtr_ends::laws::each_has_room;
 use rtr_ends::{Cache, Conn, Timing};
 use std::alloc::{AllocGlobal, Global};
 use std::process::Abort;
-use std::test::Fail;
-use vrps::{Published, Serial, VersionLog, VersionStore, WholeLog};
+use vrps::{Published, VersionLog, VersionStore, VrpSet, WholeLog};
 
 /// A store of versions: the steps to the current set, and the plain program of whole sets.
 pub(crate) trait Log: VersionStore {
     /// A log of this session without versions, whose first one has the serial `start`, and which keeps two before the current one.
-    fn log(alloc: Global, session: u16, start: u32) -> Result<Self, Fail>;
+    fn log(alloc: Global, session: u16, start: u32) -> Option<Self>;
 }
 
 impl Log for VersionLog {
-    fn log(alloc: Global, session: u16, start: u32) -> Result<VersionLog, Fail> {
-        Ok(VersionLog::new(alloc, session, start, 2)?)
+    fn log(alloc: Global, session: u16, start: u32) -> Option<VersionLog> {
+        VersionLog::new(alloc, session, start, 2).ok()
     }
 }
 
 impl Log for WholeLog {
-    fn log(alloc: Global, session: u16, start: u32) -> Result<WholeLog, Fail> {
-        Ok(WholeLog::new(alloc, session, start, 2)?)
+    fn log(alloc: Global, session: u16, start: u32) -> Option<WholeLog> {
+        WholeLog::new(alloc, session, start, 2).ok()
     }
 }
 
-/// A cache of this session whose first version has this serial, with these versions.
-pub(crate) fn cache_of<S: Log + Drop>(
-    alloc: Global,
-    session: u16,
-    start: u32,
-    versions: &[Rows],
-) -> Result<Cache<S>, Fail> {
-    let mut cache = Cache::new(alloc, S::log(alloc, session, start)?, Timing::default());
-    publish_all(&mut cache, alloc, versions)?;
-    Ok(cache)
+/// The session of a cache, whether it is one of both versions, which has session 0x0777 in version 0, and the serial of the first version.
+pub(crate) type Start = (u16, bool, u32);
+
+/// A name, a cache at its start, and what happens at it.
+pub(crate) type Script = (&'static str, Start, &'static str);
+
+/// The record of this name.
+fn named(name: &str) -> Option<Vrp> {
+    match name {
+        "V" => record("192.0.2.0/24", 24, 64496),
+        "W" => record("198.51.100.0/24", 24, 64497),
+        "X" => record("203.0.113.0/24", 24, 64498),
+        "Y" => record("2001:db8::/32", 48, 64499),
+        _ => None,
+    }
 }
 
-pub(crate) fn publish_all<S: VersionStore>(
+/// The set of the records of these names.
+fn set_named(alloc: Global, names: &str) -> Option<VrpSet> {
+    let mut list = Vec::new(alloc);
+    for name in names.split_whitespace() {
+        let Some(vrp) = named(name) else {
+            return None;
+        };
+        if list.push(vrp).is_err() {
+            return None;
+        }
+    }
+    VrpSet::from_list(list).ok()
+}
+
+/// What is answered if the set of the records of these names is published.
+pub(crate) fn publish<S: VersionStore>(
     cache: &mut Cache<S>,
     alloc: Global,
-    versions: &[Rows],
-) -> Result<(), Fail> {
-    for rows in versions {
-        cache.publish(set_of(alloc, rows)?)?;
+    names: &str,
+) -> Option<Published> {
+    match set_named(alloc, names) {
+        Some(set) => cache.publish(set).ok(),
+        None => None,
     }
-    Ok(())
+}
+
+/// Whether a set is published as a line says.
+fn is_published<S: VersionStore>(
+    cache: &mut Cache<S>,
+    alloc: Global,
+    words: &mut Words<'_>,
+) -> bool {
+    let is_new = words.next() == "as";
+    let serial = if is_new { words.number() } else { None };
+    match publish(cache, alloc, words.rest) {
+        Some(Published::New(found)) => serial == Some(u64::from(found.0)),
+        Some(Published::Unchanged) => !is_new,
+        None => false,
+    }
+}
+
+/// Whether the current version is the one that a line says.
+fn has<S: VersionStore>(cache: &Cache<S>, words: &mut Words<'_>) -> bool {
+    match (cache.current(), words.number()) {
+        (Some((current, set)), Some(serial)) => {
+            u64::from(current.0) == serial && words.number() == Some(set.len() as u64)
+        }
+        (None, None) => true,
+        _ => false,
+    }
 }
 
 /// All that is due, pulled in pieces of at most this many bytes.
-pub(crate) fn pulled<S: VersionStore>(cache: &mut Cache<S>, conn: Conn, size: usize) -> Bytes {
+fn pulled<S: VersionStore>(cache: &mut Cache<S>, conn: Conn, size: usize) -> Bytes {
     let mut all = Bytes::new();
     let mut room = [0u8; 64];
-    for _ in 0..100 {
+    for _ in 0..256 {
         let count = match room.get_mut(..size) {
             None => 0,
             Some(out) => cache.pull(conn, out),
@@ -64,53 +128,6 @@ pub(crate) fn pulled<S: VersionStore>(cache: &mut Cache<S>, conn: Conn, size: us
         }
     }
     all
-}
-
-/// What happens on a connection, and the result that it must have.
-pub(crate) enum Event {
-    /// This many of these bytes are consumed.
-    Takes(&'static str, usize),
-    /// These bytes go out first, in one piece.
-    Begins(&'static str),
-    /// These PDUs are due, and nothing else.
-    Sends(&'static [&'static str]),
-    /// A notify is asked for, which is or is not sent.
-    Notifies(bool),
-    /// Nothing goes out, and nothing is written into its buffer.
-    SendsNothing,
-    /// Bytes are due.
-    HasBytes(bool),
-    /// The connection continues.
-    IsOpen(bool),
-    Closes,
-}
-
-/// What happens at a cache. A connection is named by its place among those that have been opened.
-pub(crate) enum Step {
-    /// A set is published, and this is answered.
-    Publishes(Rows, Published),
-    /// The current version has this serial and this many records.
-    Has(u32, usize),
-    /// Nothing was published yet.
-    HasNothing,
-    /// A connection is opened. It gets the number that the one of this place had, or a number that none had.
-    Opens(usize),
-    At(usize, Event),
-}
-
-/// A cache: its session, or whether it is one of both versions, the serial of the first version, and the versions that it has.
-pub(crate) struct Start {
-    pub session: u16,
-    pub is_both: bool,
-    pub serial: u32,
-    pub versions: &'static [Rows],
-}
-
-/// What happens at a cache from its start on.
-pub(crate) struct Script {
-    pub name: &'static str,
-    pub start: Start,
-    pub steps: &'static [Step],
 }
 
 /// Whether a piece goes out that begins with these bytes.
@@ -127,126 +144,116 @@ fn sends_nothing<S: VersionStore>(cache: &mut Cache<S>, conn: Conn) -> bool {
     cache.pull(conn, &mut out) == 0 && out == [7u8; 8]
 }
 
+/// Whether as many bytes are consumed as a line says.
+fn takes<S: VersionStore>(cache: &mut Cache<S>, conn: Conn, words: &mut Words<'_>) -> bool {
+    let count = words.number();
+    let units = units_in(1, words.rest);
+    count == Some(cache.receive(conn, units.as_slice()) as u64)
+}
+
 /// Whether an event goes as it has to, if bytes go out in pieces of this many.
-fn happens<S: VersionStore>(cache: &mut Cache<S>, conn: Conn, size: usize, event: &Event) -> bool {
-    match event {
-        Event::Takes(units, count) => cache.receive(conn, bytes(units).as_slice()) == *count,
-        Event::Begins(front) => begins(cache, conn, &bytes(front)),
-        Event::Sends(units) => pulled(cache, conn, size).as_slice() == all_of(units).as_slice(),
-        Event::SendsNothing => sends_nothing(cache, conn),
-        Event::Notifies(is_sent) => cache.notify(conn) == *is_sent,
-        Event::HasBytes(has) => cache.has_bytes(conn) == *has,
-        Event::IsOpen(is_open) => cache.is_open(conn) == *is_open,
-        Event::Closes => {
+fn happens<S: VersionStore>(
+    cache: &mut Cache<S>,
+    conn: Conn,
+    size: usize,
+    words: &mut Words<'_>,
+) -> bool {
+    match words.next() {
+        "takes" => takes(cache, conn, words),
+        "begins" => begins(cache, conn, &units_in(1, words.rest)),
+        "sends" => pulled(cache, conn, size).as_slice() == units_in(1, words.rest).as_slice(),
+        "sends-0" => pulled(cache, conn, size).as_slice() == units_in(0, words.rest).as_slice(),
+        "silent" => sends_nothing(cache, conn),
+        "notifies" => cache.notify(conn) == (words.rest == "yes"),
+        "pending" => cache.has_bytes(conn) == (words.rest == "yes"),
+        "open" => cache.is_open(conn) == (words.rest == "yes"),
+        "closes" => {
             cache.close(conn);
             true
         }
+        _ => false,
     }
 }
 
 /// Whether a connection that is opened has this place.
-fn opens<S: VersionStore>(
-    cache: &mut Cache<S>,
-    conns: &mut Vec<Conn>,
-    place: usize,
-) -> Result<bool, Fail> {
-    let conn = cache.open()?;
-    if let Some(known) = conns.get(place) {
-        return Ok(*known == conn);
+fn opens<S: VersionStore>(cache: &mut Cache<S>, conns: &mut Vec<Conn>, place: &str) -> bool {
+    let Ok(conn) = cache.open() else {
+        return false;
+    };
+    if let Some(known) = conn_at(conns.as_slice(), place) {
+        return known == conn;
     }
-    let is_new = !conns.contains(&conn);
-    conns.push(conn)?;
-    Ok(is_new)
+    !conns.contains(&conn) && conns.push(conn).is_ok()
 }
 
-/// Whether a step goes as it has to.
+/// The connection of a place.
+fn conn_at(conns: &[Conn], place: &str) -> Option<Conn> {
+    match place.parse::<usize>() {
+        Ok(place) => conns.get(place).copied(),
+        Err(_) => None,
+    }
+}
+
+/// Whether a line goes as it has to.
 fn goes<S: VersionStore>(
     cache: &mut Cache<S>,
     conns: &mut Vec<Conn>,
     alloc: Global,
     size: usize,
-    step: &Step,
-) -> Result<bool, Fail> {
-    match step {
-        Step::Publishes(rows, answer) => Ok(cache.publish(set_of(alloc, rows)?)? == *answer),
-        Step::Has(serial, count) => Ok(
-            cache
-                .current()
-                .is_some_and(|it| it.0 == Serial(*serial) && it.1.len() == *count),
-        ),
-        Step::HasNothing => Ok(cache.current().is_none()),
-        Step::Opens(place) => opens(cache, conns, *place),
-        Step::At(place, event) => match conns.get(*place) {
-            Some(conn) => Ok(happens(cache, *conn, size, event)),
-            None => Ok(false),
+    line: &str,
+) -> bool {
+    let mut words = Words { rest: line };
+    match words.next() {
+        "publishes" => is_published(cache, alloc, &mut words),
+        "has" => has(cache, &mut words),
+        "opens" => opens(cache, conns, words.rest),
+        place => match conn_at(conns.as_slice(), place) {
+            Some(conn) => happens(cache, conn, size, &mut words),
+            None => false,
         },
     }
 }
 
-/// A cache of session 0x1234, and of 0x0777 in version 0.
-fn cache_of_both<S: Log + Drop>(
-    alloc: Global,
-    start: u32,
-    versions: &[Rows],
-) -> Result<Cache<S>, Fail> {
-    let log = S::log(alloc, 0x1234, start)?;
-    let mut cache = Cache::new_both(alloc, log, 0x0777, Timing::default());
-    publish_all(&mut cache, alloc, versions)?;
-    Ok(cache)
-}
-
-/// Goes through steps at a cache that has these connections.
-fn go_on<S: VersionStore, R: AllocGlobal + Abort>(
-    rt: &R,
-    cache: &mut Cache<S>,
-    conns: &mut Vec<Conn>,
-    script: &Script,
-    size: usize,
-) -> Result<(), Fail> {
-    for (place, step) in script.steps.iter().enumerate() {
-        let is_so = goes(cache, conns, rt.alloc(), size, step)?;
-        assert!(rt; is_so);
+/// Whether all lines go as they have to, with what goes out pulled in pieces of this many bytes.
+fn all_go<S: VersionStore>(cache: &mut Cache<S>, alloc: Global, size: usize, steps: &str) -> bool {
+    let mut conns = Vec::new(alloc);
+    for line in steps.lines() {
+        if !goes(cache, &mut conns, alloc, size, line.trim()) {
+            return false;
+        }
     }
-    Ok(())
+    true
 }
 
-/// Plays steps, with what goes out pulled in pieces of this many bytes.
-fn play<S: VersionStore, R: AllocGlobal + Abort>(
-    rt: &R,
-    cache: &mut Cache<S>,
-    script: &Script,
-    size: usize,
-) -> Result<(), Fail> {
-    let mut conns = Vec::new(rt.alloc());
-    go_on(rt, cache, &mut conns, script, size)?;
-    each_has_room(cache);
-    Ok(())
-}
-
-/// Plays a script from its start on.
-fn play_script<S: Log + Drop, R: AllocGlobal + Abort>(
-    rt: &R,
-    script: &Script,
-    size: usize,
-) -> Result<(), Fail> {
-    let start = &script.start;
-    if start.is_both {
-        let mut cache = cache_of_both::<S>(rt.alloc(), start.serial, start.versions)?;
-        return play(rt, &mut cache, script, size);
+/// A cache at its start.
+fn cache_at<S: Log + Drop>(alloc: Global, (session, is_both, serial): Start) -> Option<Cache<S>> {
+    let log = S::log(alloc, session, serial)?;
+    if is_both {
+        return Some(Cache::new_both(alloc, log, 0x0777, Timing::default()));
     }
-    let mut cache = cache_of::<S>(rt.alloc(), start.session, start.serial, start.versions)?;
-    play(rt, &mut cache, script, size)
+    Some(Cache::new(alloc, log, Timing::default()))
+}
+
+/// A cache of session 0x1234 without versions, whose first one has the serial 5.
+pub(crate) fn cache_of<S: Log + Drop>(alloc: Global) -> Option<Cache<S>> {
+    cache_at(alloc, (0x1234, false, 5))
+}
+
+/// Whether a script goes as it has to from its start on.
+fn is_played<S: Log + Drop>(alloc: Global, start: Start, size: usize, steps: &str) -> bool {
+    let Some(mut cache) = cache_at::<S>(alloc, start) else {
+        return false;
+    };
+    let is_so = all_go(&mut cache, alloc, size, steps);
+    each_has_room(&cache);
+    is_so
 }
 
 /// Plays scripts, each with pieces of one byte, of seven and of 64.
-pub(crate) fn play_each<S: Log + Drop, R: AllocGlobal + Abort>(
-    rt: &R,
-    scripts: &[Script],
-) -> Result<(), Fail> {
-    for script in scripts {
+pub(crate) fn play_each<S: Log + Drop, R: AllocGlobal + Abort>(rt: &R, scripts: &[Script]) {
+    for &(name, start, steps) in scripts {
         for size in [1, 7, 64] {
-            play_script::<S, R>(rt, script, size)?;
+            assert!(rt; is_played::<S>(rt.alloc(), start, size, steps), "{name}");
         }
     }
-    Ok(())
 }

@@ -1,421 +1,239 @@
-//! What a cache answers, and which numbers its connections have.
-use crate::play::{Event, Script, Start, Step};
-use example_values::sets::{V, W};
-use example_values::units::{
-    ANSWER, ANSWER_0, CACHE_RESET, END_0, END_5, END_6, END_7, RESET_QUERY, RESPONSE, SERIAL_QUERY,
-    UNCHANGED, V as V_UNIT, V_0 as V_UNIT_0, W as W_UNIT,
-};
-use vrps::{Published, Serial};
+//! What a cache answers, and which numbers its connections have, as scripts.
+use crate::play::Script;
 
-const QUERY_0: &str = "00 02 0000 00000008";
-
-const RESPONSE_0: &str = "00 03 0777 00000008";
-
-const END_5_0: &str = "00 07 0777 0000000c 00000005";
-
-const NOTIFY: &str = "01 00 1234 0000000c 00000005";
-
-const NOTIFY_0: &str = "00 00 0777 0000000c 00000005";
-
-/// A version that there is not.
-const QUERY_2: &str = "02 02 0000 00000008";
-
-const BOTH_QUERIES: &str = "01 02 0000 00000008 | 01 02 0000 00000008";
-
-/// Session 0x1234, whose one version, of serial 5, has v.
-const OF_V: Start = Start {
-    session: 0x1234,
-    is_both: false,
-    serial: 5,
-    versions: &[&[V]],
-};
-
-/// The same, and 0x0777 in version 0.
-const OF_BOTH: Start = Start {
-    session: 0x1234,
-    is_both: true,
-    serial: 5,
-    versions: &[&[V]],
-};
-
+/// Queries and their answers.
 pub(crate) const SCRIPTS: &[Script] = &[
-    Script {
-        name: "a reset query is answered from the current version",
-        start: OF_V,
-        steps: &[
-            Step::Opens(0),
-            Step::At(0, Event::Takes(RESET_QUERY, 8)),
-            Step::At(0, Event::HasBytes(true)),
-            Step::At(0, Event::Sends(&[ANSWER])),
-            Step::At(0, Event::HasBytes(false)),
-            Step::At(0, Event::Takes(SERIAL_QUERY, 12)),
-            Step::At(0, Event::Sends(&[RESPONSE, END_5])),
-            Step::At(0, Event::Takes(SERIAL_QUERY, 12)),
-            Step::At(0, Event::Sends(&[RESPONSE, END_5])),
-        ],
-    },
-    Script {
-        name: "serials go round",
-        start: Start {
-            session: 0x1234,
-            is_both: false,
-            serial: 4294967295,
-            versions: &[&[V], &[V, W]],
-        },
-        steps: &[
-            Step::Opens(0),
-            Step::At(0, Event::Takes("01 01 1234 0000000c ffffffff", 12)),
-            Step::At(0, Event::Sends(&[RESPONSE, W_UNIT, END_0])),
-        ],
-    },
-    Script {
-        name: "an answer under way keeps its version",
-        start: OF_V,
-        steps: &[
-            Step::Opens(0),
-            Step::At(0, Event::Takes(RESET_QUERY, 8)),
-            Step::At(0, Event::Begins("01 03 1234 00000008 01 04")),
-            Step::Publishes(&[V, W], Published::New(Serial(6))),
-            Step::At(
-                0,
-                Event::Sends(&["0000 00000014 01 18 18 00 c0000200 0000fbf0", END_5]),
-            ),
-            Step::At(0, Event::Takes(SERIAL_QUERY, 12)),
-            Step::At(0, Event::Sends(&[RESPONSE, W_UNIT, END_6])),
-            Step::At(0, Event::Takes(RESET_QUERY, 8)),
-            Step::At(0, Event::Sends(&[RESPONSE, V_UNIT, W_UNIT, END_6])),
-        ],
-    },
-    Script {
-        name: "old serials are reset",
-        start: Start {
-            session: 0x1234,
-            is_both: false,
-            serial: 4,
-            versions: &[&[], &[V], &[V, W], &[V]],
-        },
-        steps: &[
-            Step::Opens(0),
-            Step::At(0, Event::Takes(SERIAL_QUERY, 12)),
-            Step::At(0, Event::Sends(&[RESPONSE, END_7])),
-            Step::Opens(1),
-            Step::At(1, Event::Takes("01 01 1234 0000000c 00000004", 12)),
-            Step::At(1, Event::Sends(&[CACHE_RESET])),
-            Step::At(1, Event::Takes(RESET_QUERY, 8)),
-            Step::At(1, Event::Sends(&[RESPONSE, V_UNIT, END_7])),
-            Step::At(0, Event::Closes),
-            Step::Opens(0),
-        ],
-    },
-    Script {
-        name: "nothing is published",
-        start: Start {
-            session: 0x1234,
-            is_both: false,
-            serial: 4,
-            versions: &[],
-        },
-        steps: &[
-            Step::Opens(0),
-            Step::At(0, Event::Takes(RESET_QUERY, 8)),
-            Step::At(
-                0,
-                Event::Sends(&["01 0a 0002 00000018 00000008 0102000000000008 00000000"]),
-            ),
-            Step::At(0, Event::IsOpen(true)),
-            Step::At(0, Event::Notifies(false)),
-            Step::At(0, Event::Takes(RESET_QUERY, 8)),
-            Step::At(
-                0,
-                Event::Sends(&["01 0a 0002 00000018 00000008 0102000000000008 00000000"]),
-            ),
-        ],
-    },
-    Script {
-        name: "another session where nothing is published",
-        start: Start {
-            session: 0x2222,
-            is_both: false,
-            serial: 5,
-            versions: &[],
-        },
-        steps: &[
-            Step::Opens(0),
-            Step::At(0, Event::Takes(SERIAL_QUERY, 12)),
-            Step::At(
-                0,
-                Event::Sends(&["01 0a 0000 0000001c 0000000c 010112340000000c00000005 00000000"]),
-            ),
-            Step::At(0, Event::IsOpen(false)),
-            Step::At(0, Event::Takes(RESET_QUERY, 0)),
-        ],
-    },
-    Script {
-        name: "two queries in one piece",
-        start: OF_V,
-        steps: &[
-            Step::Opens(0),
-            Step::At(0, Event::Takes(BOTH_QUERIES, 8)),
-            Step::At(0, Event::Takes(RESET_QUERY, 0)),
-            Step::At(0, Event::Sends(&[ANSWER])),
-            Step::At(0, Event::Takes(RESET_QUERY, 8)),
-            Step::At(0, Event::Sends(&[ANSWER])),
-        ],
-    },
+    (
+        "a reset query is answered from the current version",
+        (4660, false, 5),
+        "publishes as 5 V
+        opens 0
+        0 takes 8 RESET_QUERY
+        0 pending yes
+        0 sends ANSWER
+        0 pending no
+        0 takes 12 SERIAL_QUERY
+        0 sends RESPONSE | END_5
+        0 takes 12 SERIAL_QUERY
+        0 sends RESPONSE | END_5",
+    ),
+    (
+        "serials go round",
+        (4660, false, 4294967295),
+        "publishes as 4294967295 V
+        publishes as 0 V W
+        opens 0
+        0 takes 12 01 01 1234 0000000c ffffffff
+        0 sends RESPONSE | W | END_0",
+    ),
+    (
+        "an answer under way keeps its version",
+        (4660, false, 5),
+        "publishes as 5 V
+        opens 0
+        0 takes 8 RESET_QUERY
+        0 begins 01 03 1234 00000008 01 04
+        publishes as 6 V W
+        0 sends 0000 00000014 01 18 18 00 c0000200 0000fbf0 | END_5
+        0 takes 12 SERIAL_QUERY
+        0 sends RESPONSE | W | END_6
+        0 takes 8 RESET_QUERY
+        0 sends RESPONSE | V | W | END_6",
+    ),
+    (
+        "old serials are reset",
+        (4660, false, 4),
+        "publishes as 4
+        publishes as 5 V
+        publishes as 6 V W
+        publishes as 7 V
+        opens 0
+        0 takes 12 SERIAL_QUERY
+        0 sends RESPONSE | END_7
+        opens 1
+        1 takes 12 01 01 1234 0000000c 00000004
+        1 sends CACHE_RESET
+        1 takes 8 RESET_QUERY
+        1 sends RESPONSE | V | END_7
+        0 closes
+        opens 0",
+    ),
+    (
+        "nothing is published",
+        (4660, false, 4),
+        "opens 0
+        0 takes 8 RESET_QUERY
+        0 sends 01 0a 0002 00000018 00000008 0102000000000008 00000000
+        0 open yes
+        0 notifies no
+        0 takes 8 RESET_QUERY
+        0 sends 01 0a 0002 00000018 00000008 0102000000000008 00000000",
+    ),
+    (
+        "another session where nothing is published",
+        (8738, false, 5),
+        "opens 0
+        0 takes 12 SERIAL_QUERY
+        0 sends 01 0a 0000 0000001c 0000000c 010112340000000c00000005 00000000
+        0 open no
+        0 takes 0 RESET_QUERY",
+    ),
+    (
+        "two queries in one piece",
+        (4660, false, 5),
+        "publishes as 5 V
+        opens 0
+        0 takes 8 RESET_QUERY | RESET_QUERY
+        0 takes 0 RESET_QUERY
+        0 sends ANSWER
+        0 takes 8 RESET_QUERY
+        0 sends ANSWER",
+    ),
 ];
 
-/// One version of the protocol after another.
-pub(crate) const OF_VERSIONS: &[Script] = &[
-    Script {
-        name: "a version that there is not",
-        start: OF_V,
-        steps: &[
-            Step::Opens(0),
-            Step::At(0, Event::Sends(&[])),
-            Step::At(0, Event::IsOpen(true)),
-            Step::At(0, Event::Takes(QUERY_2, 8)),
-            Step::At(0, Event::IsOpen(false)),
-            Step::At(
-                0,
-                Event::Sends(&["01 0a 0004 00000018 00000008 0202000000000008 00000000"]),
-            ),
-            Step::At(0, Event::Takes(RESET_QUERY, 0)),
-        ],
-    },
-    Script {
-        name: "version 0 after version 1",
-        start: OF_V,
-        steps: &[
-            Step::Opens(0),
-            Step::At(0, Event::Takes(RESET_QUERY, 8)),
-            Step::At(0, Event::Sends(&[ANSWER])),
-            Step::At(0, Event::IsOpen(true)),
-            Step::At(0, Event::Takes(QUERY_0, 8)),
-            Step::At(0, Event::IsOpen(false)),
-            Step::At(
-                0,
-                Event::Sends(&["01 0a 0008 00000018 00000008 0002000000000008 00000000"]),
-            ),
-            Step::At(0, Event::Takes(RESET_QUERY, 0)),
-        ],
-    },
-    Script {
-        name: "version 1 after version 0",
-        start: OF_V,
-        steps: &[
-            Step::Opens(0),
-            Step::At(0, Event::Takes(QUERY_0, 8)),
-            Step::At(0, Event::Sends(&[ANSWER_0])),
-            Step::At(0, Event::IsOpen(true)),
-            Step::At(0, Event::Takes(RESET_QUERY, 8)),
-            Step::At(0, Event::IsOpen(false)),
-            Step::At(
-                0,
-                Event::Sends(&["00 0a 0004 00000018 00000008 0102000000000008 00000000"]),
-            ),
-            Step::At(0, Event::Takes(RESET_QUERY, 0)),
-        ],
-    },
-    Script {
-        name: "a version that there is not after version 0",
-        start: OF_V,
-        steps: &[
-            Step::Opens(0),
-            Step::At(0, Event::Takes(QUERY_0, 8)),
-            Step::At(0, Event::Sends(&[ANSWER_0])),
-            Step::At(0, Event::IsOpen(true)),
-            Step::At(0, Event::Takes(QUERY_2, 8)),
-            Step::At(0, Event::IsOpen(false)),
-            Step::At(
-                0,
-                Event::Sends(&["00 0a 0004 00000018 00000008 0202000000000008 00000000"]),
-            ),
-            Step::At(0, Event::Takes(RESET_QUERY, 0)),
-        ],
-    },
+/// What changed since a version: what is withdrawn comes first, and each part ascends. The second connection is of version 0.
+pub(crate) const OF_CHANGES: &[Script] = &[
+    (
+        "two records go and two come",
+        (4660, false, 5),
+        "publishes as 5 W V
+        publishes as 6 Y X
+        opens 0
+        0 takes 12 SERIAL_QUERY
+        0 sends RESPONSE | V_WITHDRAWN | W_WITHDRAWN | X | Y | END_6
+        opens 1
+        1 takes 12 00 01 1234 0000000c 00000005
+        1 sends-0 RESPONSE | V_WITHDRAWN | W_WITHDRAWN | X | Y | END_6",
+    ),
+    (
+        "the same back",
+        (4660, false, 5),
+        "publishes as 5 Y X
+        publishes as 6 W V
+        opens 0
+        0 takes 12 SERIAL_QUERY
+        0 sends RESPONSE | X_WITHDRAWN | Y_WITHDRAWN | V | W | END_6
+        opens 1
+        1 takes 12 00 01 1234 0000000c 00000005
+        1 sends-0 RESPONSE | X_WITHDRAWN | Y_WITHDRAWN | V | W | END_6",
+    ),
+    (
+        "a version without records, and none",
+        (4660, false, 5),
+        "opens 0
+        0 takes 12 SERIAL_QUERY
+        0 sends 01 0a 0002 0000001c 0000000c 010112340000000c00000005 00000000
+        opens 1
+        1 takes 8 00 02 0000 00000008
+        1 sends 00 0a 0002 00000018 00000008 0002000000000008 00000000
+        publishes as 5
+        0 takes 8 RESET_QUERY
+        0 sends UNCHANGED
+        1 takes 8 00 02 0000 00000008
+        1 sends 00 03 1234 00000008 | 00 07 1234 0000000c 00000005",
+    ),
 ];
 
-/// A cache of a session in each version.
+/// Connections of both versions at a cache of a session in each. What else is answered in each version is a row of the command `answer`.
 pub(crate) const OF_SESSIONS: &[Script] = &[
-    Script {
-        name: "all in version 0",
-        start: OF_BOTH,
-        steps: &[
-            Step::Opens(0),
-            Step::At(0, Event::Takes(QUERY_0, 8)),
-            Step::At(0, Event::Sends(&[RESPONSE_0, V_UNIT_0, END_5_0])),
-            Step::At(0, Event::IsOpen(true)),
-        ],
-    },
-    Script {
-        name: "no change in version 0",
-        start: OF_BOTH,
-        steps: &[
-            Step::Opens(0),
-            Step::At(0, Event::Takes("00 01 0777 0000000c 00000005", 12)),
-            Step::At(0, Event::Sends(&[RESPONSE_0, END_5_0])),
-            Step::At(0, Event::IsOpen(true)),
-        ],
-    },
-    Script {
-        name: "an unknown serial in version 0",
-        start: OF_BOTH,
-        steps: &[
-            Step::Opens(0),
-            Step::At(0, Event::Takes("00 01 0777 0000000c 00000004", 12)),
-            Step::At(0, Event::Sends(&["00 08 0000 00000008"])),
-            Step::At(0, Event::IsOpen(true)),
-        ],
-    },
-    Script {
-        name: "the session of version 1 in version 0",
-        start: OF_BOTH,
-        steps: &[
-            Step::Opens(0),
-            Step::At(0, Event::Takes("00 01 1234 0000000c 00000005", 12)),
-            Step::At(
-                0,
-                Event::Sends(&["00 0a 0000 0000001c 0000000c 000112340000000c00000005 00000000"]),
-            ),
-            Step::At(0, Event::IsOpen(false)),
-        ],
-    },
-    Script {
-        name: "no change in version 1",
-        start: OF_BOTH,
-        steps: &[
-            Step::Opens(0),
-            Step::At(0, Event::Takes(SERIAL_QUERY, 12)),
-            Step::At(0, Event::Sends(&[UNCHANGED])),
-            Step::At(0, Event::IsOpen(true)),
-        ],
-    },
-    Script {
-        name: "the session of version 0 in version 1",
-        start: OF_BOTH,
-        steps: &[
-            Step::Opens(0),
-            Step::At(0, Event::Takes("01 01 0777 0000000c 00000005", 12)),
-            Step::At(
-                0,
-                Event::Sends(&["01 0a 0000 0000001c 0000000c 010107770000000c00000005 00000000"]),
-            ),
-            Step::At(0, Event::IsOpen(false)),
-        ],
-    },
-    Script {
-        name: "a connection has the version of its first header",
-        start: OF_BOTH,
-        steps: &[
-            Step::Opens(0),
-            Step::Opens(1),
-            Step::At(0, Event::Notifies(true)),
-            Step::At(0, Event::Sends(&[NOTIFY])),
-            Step::At(0, Event::Takes("00 02 0000 000000", 7)),
-            Step::At(0, Event::Notifies(true)),
-            Step::At(0, Event::Takes("08", 0)),
-            Step::At(0, Event::Sends(&[NOTIFY])),
-            Step::At(0, Event::Takes("08", 1)),
-            Step::At(1, Event::Takes(RESET_QUERY, 8)),
-            Step::At(0, Event::Sends(&[RESPONSE_0, V_UNIT_0, END_5_0])),
-            Step::At(1, Event::Sends(&[ANSWER])),
-            Step::At(0, Event::Notifies(true)),
-            Step::At(1, Event::Notifies(true)),
-            Step::At(0, Event::Sends(&[NOTIFY_0])),
-            Step::At(1, Event::Sends(&[NOTIFY])),
-            Step::At(0, Event::Closes),
-            Step::Opens(0),
-            Step::At(0, Event::Takes(RESET_QUERY, 8)),
-            Step::At(0, Event::Sends(&[ANSWER])),
-        ],
-    },
-    Script {
-        name: "a notify behind a header of version 0",
-        start: OF_BOTH,
-        steps: &[
-            Step::Opens(0),
-            Step::At(0, Event::Takes("00 01 0777 0000000c", 8)),
-            Step::At(0, Event::Notifies(true)),
-            Step::At(0, Event::Sends(&[NOTIFY_0])),
-            Step::At(0, Event::Takes("00000005", 4)),
-            Step::At(0, Event::Sends(&[RESPONSE_0, END_5_0])),
-        ],
-    },
+    (
+        "a connection has the version of its first header",
+        (4660, true, 5),
+        "publishes as 5 V
+        opens 0
+        opens 1
+        0 notifies yes
+        0 sends NOTIFY_5
+        0 takes 7 00 02 0000 000000
+        0 notifies yes
+        0 takes 0 08
+        0 sends NOTIFY_5
+        0 takes 1 08
+        1 takes 8 RESET_QUERY
+        0 sends 00 03 0777 00000008 | V_0 | 00 07 0777 0000000c 00000005
+        1 sends ANSWER
+        0 notifies yes
+        1 notifies yes
+        0 sends 00 00 0777 0000000c 00000005
+        1 sends NOTIFY_5
+        0 closes
+        opens 0
+        0 takes 8 RESET_QUERY
+        0 sends ANSWER",
+    ),
+    (
+        "a notify behind a header of version 0",
+        (4660, true, 5),
+        "publishes as 5 V
+        opens 0
+        0 takes 8 00 01 0777 0000000c
+        0 notifies yes
+        0 sends 00 00 0777 0000000c 00000005
+        0 takes 4 00000005
+        0 sends 00 03 0777 00000008 | 00 07 0777 0000000c 00000005",
+    ),
 ];
 
 /// Notifies, and the numbers of connections.
 pub(crate) const OF_CONNECTIONS: &[Script] = &[
-    Script {
-        name: "routers are notified",
-        start: OF_V,
-        steps: &[
-            Step::Opens(0),
-            Step::At(0, Event::Notifies(true)),
-            Step::At(0, Event::Notifies(false)),
-            Step::At(0, Event::Sends(&[NOTIFY])),
-        ],
-    },
-    Script {
-        name: "another session is corrupt",
-        start: Start {
-            session: 0x2222,
-            is_both: false,
-            serial: 9,
-            versions: &[],
-        },
-        steps: &[
-            Step::HasNothing,
-            Step::Publishes(&[V], Published::New(Serial(9))),
-            Step::Publishes(&[V], Published::Unchanged),
-            Step::Has(9, 1),
-            Step::Opens(0),
-            Step::At(0, Event::Takes(SERIAL_QUERY, 12)),
-            Step::At(
-                0,
-                Event::Sends(&["01 0a 0000 0000001c 0000000c 010112340000000c00000005 00000000"]),
-            ),
-            Step::At(0, Event::IsOpen(false)),
-        ],
-    },
-    Script {
-        name: "a number that no connection has",
-        start: OF_V,
-        steps: &[
-            Step::Opens(0),
-            Step::Opens(1),
-            Step::At(1, Event::Takes(RESET_QUERY, 8)),
-            Step::At(0, Event::Closes),
-            Step::At(0, Event::Closes),
-            Step::At(0, Event::Takes(RESET_QUERY, 0)),
-            Step::At(0, Event::SendsNothing),
-            Step::At(0, Event::Notifies(false)),
-            Step::At(0, Event::IsOpen(false)),
-            Step::At(0, Event::HasBytes(false)),
-            Step::At(1, Event::Sends(&[ANSWER])),
-            Step::Opens(0),
-        ],
-    },
-    Script {
-        name: "the least free number is given",
-        start: OF_V,
-        steps: &[
-            Step::Opens(0),
-            Step::Opens(1),
-            Step::Opens(2),
-            Step::Opens(3),
-            Step::Opens(4),
-            Step::At(3, Event::Closes),
-            Step::At(1, Event::Closes),
-            Step::At(2, Event::Closes),
-            Step::At(1, Event::Closes),
-            Step::Opens(1),
-            Step::Opens(2),
-            Step::Opens(3),
-            Step::Opens(5),
-            Step::At(5, Event::Closes),
-            Step::At(4, Event::Closes),
-            Step::Opens(4),
-            Step::Opens(5),
-        ],
-    },
+    (
+        "routers are notified",
+        (4660, false, 5),
+        "publishes as 5 V
+        opens 0
+        0 notifies yes
+        0 notifies no
+        0 sends NOTIFY_5",
+    ),
+    (
+        "another session is corrupt",
+        (8738, false, 9),
+        "has nothing
+        publishes as 9 V
+        publishes same V
+        has 9 1
+        opens 0
+        0 takes 12 SERIAL_QUERY
+        0 sends 01 0a 0000 0000001c 0000000c 010112340000000c00000005 00000000
+        0 open no",
+    ),
+    (
+        "a number that no connection has",
+        (4660, false, 5),
+        "publishes as 5 V
+        opens 0
+        opens 1
+        1 takes 8 RESET_QUERY
+        0 closes
+        0 closes
+        0 takes 0 RESET_QUERY
+        0 silent
+        0 notifies no
+        0 open no
+        0 pending no
+        1 sends ANSWER
+        opens 0",
+    ),
+    (
+        "the least free number is given",
+        (4660, false, 5),
+        "publishes as 5 V
+        opens 0
+        opens 1
+        opens 2
+        opens 3
+        opens 4
+        3 closes
+        1 closes
+        2 closes
+        1 closes
+        opens 1
+        opens 2
+        opens 3
+        opens 5
+        5 closes
+        4 closes
+        opens 4
+        opens 5",
+    ),
 ];

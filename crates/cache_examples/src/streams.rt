@@ -1,18 +1,14 @@
-use crate::play::cache_of;
+//! Inputs that are served and fetched over devices in memory, each call of which may fail.
+use crate::play::{cache_of, publish};
 use example_values::hex::{Bytes, bytes};
-use example_values::sets::V;
 use example_values::units::{ANSWER, RESET_QUERY, UNCHANGED};
 use rtr_ends::{
     Cache, End, Fetched, Link, Router, Served, StreamFault, fetch_stream, serve_stream,
 };
 use rtr_pdu::{Counted, Version};
 use std::alloc::Global;
-use std::cell::RefCell;
 use std::io;
 use std::io::{ErrorKind, Read, Write};
-use std::process::Abort;
-use std::rc::Rc;
-use std::test::Fail;
 use vrps::{Serial, VersionLog};
 
 const TWO_QUERIES: &str = "01 02 0000 00000008 | 01 02 0000 00000008";
@@ -55,31 +51,6 @@ impl Read for Steps {
     }
 }
 
-/// A writer that accepts this many bytes in all, and then fails.
-#[derive(Drop)]
-struct Narrow {
-    taken: Vec<u8>,
-    room: usize,
-}
-
-impl Write for Narrow {
-    fn write(&mut self, buf: &[u8]) -> io::Result<usize> {
-        let count = self.room.min(buf.len());
-        let Some(front) = buf.get(..count) else {
-            return Ok(0);
-        };
-        if count == 0 || self.taken.extend_from_slice(front).is_err() {
-            return Err(io::Error::from(ErrorKind::BrokenPipe));
-        }
-        self.room -= count;
-        Ok(count)
-    }
-
-    fn flush(&mut self) -> io::Result<()> {
-        Ok(())
-    }
-}
-
 /// A writer that accepts this many bytes a call, and after a number of calls none: it fails, or says that it accepted none.
 #[derive(Drop)]
 struct Stalling {
@@ -111,73 +82,35 @@ impl Write for Stalling {
     }
 }
 
-/// A writer into a list that a reader sees too.
-#[derive(Drop)]
-struct SharedEnd {
-    list: Rc<RefCell<Vec<u8>>>,
-}
-
-impl Write for SharedEnd {
-    fn write(&mut self, buf: &[u8]) -> io::Result<usize> {
-        match self.list.try_borrow_mut() {
-            Ok(mut list) => {
-                if list.extend_from_slice(buf).is_err() {
-                    return Err(io::Error::from(ErrorKind::OutOfMemory));
-                }
-                Ok(buf.len())
-            }
-            Err(_) => Err(io::Error::from(ErrorKind::Other)),
-        }
-    }
-
-    fn flush(&mut self) -> io::Result<()> {
-        Ok(())
-    }
-}
-
-/// A reader that gives its second query only if the list has the answer to the first.
-#[derive(Drop)]
-struct Waiting {
-    steps: Steps,
-    list: Rc<RefCell<Vec<u8>>>,
-}
-
-impl Read for Waiting {
-    fn read(&mut self, buf: &mut [u8]) -> io::Result<usize> {
-        if self.steps.left().len() == 8 {
-            match self.list.try_borrow() {
-                Ok(list) => {
-                    if list.as_slice() != bytes(ANSWER).as_slice() {
-                        return Err(io::Error::from(ErrorKind::Other));
-                    }
-                }
-                Err(_) => return Err(io::Error::from(ErrorKind::Other)),
-            }
-        }
-        self.steps.read(buf)
-    }
-}
-
-fn reader_of(units: &str, size: usize, calls: u8) -> Steps {
-    Steps {
+fn stepwise(units: &str, size: usize, calls: u8) -> Counted<Steps> {
+    Counted::new(Steps {
         bytes: bytes(units),
         place: 0,
         size,
         calls,
-    }
-}
-
-fn stepwise(units: &str, size: usize, calls: u8) -> Counted<Steps> {
-    Counted::new(reader_of(units, size, calls))
+    })
 }
 
 fn list(alloc: Global) -> Counted<Vec<u8>> {
     Counted::new(Vec::new(alloc))
 }
 
+fn writer_of(alloc: Global, size: usize, calls: u8, fails: bool) -> Counted<Stalling> {
+    Counted::new(Stalling {
+        taken: Vec::new(alloc),
+        size,
+        calls,
+        fails,
+    })
+}
+
 /// A cache of session 0x1234 whose one version, of serial 5, has v.
-fn cache_of_v(alloc: Global) -> Result<Cache<VersionLog>, Fail> {
-    cache_of::<VersionLog>(alloc, 0x1234, 5, &[&[V]])
+fn cache_of_v(alloc: Global) -> Option<Cache<VersionLog>> {
+    let mut cache = cache_of::<VersionLog>(alloc)?;
+    if publish(&mut cache, alloc, "V").is_none() {
+        return None;
+    }
+    Some(cache)
 }
 
 /// Whether an input is served so. Whatever its result, its connection is closed after it: the next one has its number.
@@ -187,123 +120,51 @@ fn serves<I: Read, O: Write>(
     output: &mut Counted<O>,
     limit: u64,
     served: Result<Served, StreamFault>,
-) -> Result<bool, Fail> {
-    let first = cache.open()?;
+) -> bool {
+    let Ok(first) = cache.open() else {
+        return false;
+    };
     cache.close(first);
-    Ok(serve_stream(cache, input, output, limit) == served && cache.open()? == first)
+    if serve_stream(cache, input, output, limit) != served {
+        return false;
+    }
+    match cache.open() {
+        Ok(next) => next == first,
+        Err(_) => false,
+    }
 }
 
 /// Whether this many answers went out; if they are all, nothing else did.
 fn has_answers(out: &[u8], answers: usize, are_all: bool) -> bool {
-    let answer = bytes(ANSWER);
-    for i in 0..answers {
-        let start = i.saturating_mul(52);
-        if out.get(start..start.saturating_add(52)) != Some(answer.as_slice()) {
-            return false;
-        }
+    let mut all = Bytes::new();
+    for _answer in 0..answers {
+        let _fits = all.try_extend_from_slice(bytes(ANSWER).as_slice());
     }
-    !are_all || out.len() == answers.saturating_mul(52)
+    out.starts_with(all.as_slice()) && (!are_all || out.len() == all.len())
 }
 
 /// Whether these are served so, in at most this many reads, with this many answers; if the cache ends it, it says why after them.
-fn is_served(
-    alloc: Global,
-    units: &str,
-    limit: u64,
-    served: Served,
-    answers: usize,
-) -> Result<bool, Fail> {
+fn is_served(alloc: Global, units: &str, limit: u64, served: Served, answers: usize) -> bool {
     let are_all = served != Served::CacheEnded;
-    let mut cache = cache_of_v(alloc)?;
+    let Some(mut cache) = cache_of_v(alloc) else {
+        return false;
+    };
     let mut input = stepwise(units, 8, 9);
     let mut output = list(alloc);
-    Ok(
-        serves(&mut cache, &mut input, &mut output, limit, Ok(served))?
-            && has_answers(output.device().as_slice(), answers, are_all),
-    )
+    serves(&mut cache, &mut input, &mut output, limit, Ok(served))
+        && has_answers(output.device().as_slice(), answers, are_all)
 }
 
 #[test]
-fn a_connection_is_served_to_its_end(rt: HostRuntime) -> Result<(), Fail> {
+fn a_connection_is_served_to_its_end(rt: HostRuntime) {
     let alloc = rt.alloc();
-    assert!(rt; is_served(alloc, TWO_QUERIES, 9, Served::PeerClosed, 2)?);
+    assert!(rt; is_served(alloc, TWO_QUERIES, 9, Served::PeerClosed, 2));
     let cut = "01 02 0000 00000008 | 01 02";
-    assert!(rt; is_served(alloc, cut, 9, Served::Truncated, 1)?);
-    assert!(rt; is_served(alloc, TWO_QUERIES, 1, Served::Limit, 1)?);
-    assert!(rt; is_served(alloc, TWO_QUERIES, 0, Served::Limit, 0)?);
+    assert!(rt; is_served(alloc, cut, 9, Served::Truncated, 1));
+    assert!(rt; is_served(alloc, TWO_QUERIES, 1, Served::Limit, 1));
+    assert!(rt; is_served(alloc, TWO_QUERIES, 0, Served::Limit, 0));
     let in_both = "01 02 0000 00000008 | 00 02 0000 00000008";
-    assert!(rt; is_served(alloc, in_both, 9, Served::CacheEnded, 1)?);
-    Ok(())
-}
-
-/// Two queries, the second of which comes only if the list has the answer to the first.
-fn waiting_input(list: &Rc<RefCell<Vec<u8>>>) -> Result<Counted<Waiting>, Fail> {
-    Ok(Counted::new(Waiting {
-        steps: reader_of(TWO_QUERIES, 8, 9),
-        list: list.clone()?,
-    }))
-}
-
-#[test]
-fn what_was_read_is_answered_before_the_next_read(rt: HostRuntime) -> Result<(), Fail> {
-    let mut cache = cache_of_v(rt.alloc())?;
-    let list = Rc::new(rt.alloc(), RefCell::new(Vec::new(rt.alloc())))?;
-    let mut input = waiting_input(&list)?;
-    let mut output = Counted::new(SharedEnd { list });
-    assert!(rt;
-        serves(
-            &mut cache,
-            &mut input,
-            &mut output,
-            9,
-            Ok(Served::PeerClosed)
-        )?
-    );
-    assert!(rt; input.calls() == 3 && input.failures() == 0);
-    Ok(())
-}
-
-/// Whether the writer fails that accepts this many bytes of two answers, and has accepted as many.
-fn fails_to_write(alloc: Global, room: usize) -> Result<bool, Fail> {
-    let mut cache = cache_of_v(alloc)?;
-    let mut input = stepwise(TWO_QUERIES, 16, 9);
-    let mut output = Counted::new(Narrow {
-        taken: Vec::new(alloc),
-        room,
-    });
-    let failed = Err(StreamFault::WriteFailed);
-    let is_so = serves(&mut cache, &mut input, &mut output, 9, failed)?;
-    let out = output.device().taken.as_slice();
-    let front = room.min(52);
-    Ok(
-        is_so
-            && output.failures() == 1
-            && input.failures() == 0
-            && out.len() == room
-            && out.get(..front) == bytes(ANSWER).as_slice().get(..front),
-    )
-}
-
-/// Whether one query is answered if the next read fails.
-fn fails_to_read(alloc: Global) -> Result<bool, Fail> {
-    let mut cache = cache_of_v(alloc)?;
-    let mut input = stepwise(TWO_QUERIES, 8, 1);
-    let mut output = list(alloc);
-    let failed = Err(StreamFault::ReadFailed);
-    Ok(
-        serves(&mut cache, &mut input, &mut output, 9, failed)?
-            && output.device().as_slice() == bytes(ANSWER).as_slice(),
-    )
-}
-
-#[test]
-fn a_device_that_fails_ends_the_connection(rt: HostRuntime) -> Result<(), Fail> {
-    for room in [0, 1, 51, 52, 103] {
-        assert!(rt; fails_to_write(rt.alloc(), room)?);
-    }
-    assert!(rt; fails_to_read(rt.alloc())?);
-    assert!(rt; StreamFault::ReadFailed.number() == 1);
-    Ok(())
+    assert!(rt; is_served(alloc, in_both, 9, Served::CacheEnded, 1));
 }
 
 /// What changed since serial 5 of session 4660? Asked twice: nothing changed.
@@ -316,38 +177,35 @@ fn is_unchanged_twice(out: &[u8], len: usize) -> bool {
     both.as_slice().get(..len) == Some(out)
 }
 
-/// Whether what was read before this many calls is answered.
-fn is_answered_up_to(alloc: Global, calls: u8) -> Result<bool, Fail> {
-    let mut cache = cache_of_v(alloc)?;
+/// Whether what was read before this many calls is answered, before the call that fails.
+fn is_answered_up_to(alloc: Global, calls: u8) -> bool {
+    let Some(mut cache) = cache_of_v(alloc) else {
+        return false;
+    };
     let mut input = stepwise(SINCE_TWICE, 5, calls);
     let mut output = list(alloc);
     let failed = Err(StreamFault::ReadFailed);
     // Each answer of 32 bytes follows the 12 bytes of its query.
     let answered = usize::from(calls) * 5 / 12 * 32;
-    Ok(
-        serves(&mut cache, &mut input, &mut output, 9, failed)?
-            && is_unchanged_twice(output.device().as_slice(), answered),
-    )
+    serves(&mut cache, &mut input, &mut output, 9, failed)
+        && input.failures() == 1
+        && is_unchanged_twice(output.device().as_slice(), answered)
 }
 
 #[test]
-fn each_read_may_fail(rt: HostRuntime) -> Result<(), Fail> {
+fn each_read_may_fail(rt: HostRuntime) {
     for calls in 0..5u8 {
-        assert!(rt; is_answered_up_to(rt.alloc(), calls)?);
+        assert!(rt; is_answered_up_to(rt.alloc(), calls));
     }
-    Ok(())
 }
 
 /// Whether two queries are served so to a writer that accepts seven bytes a call, and after this many calls none.
-fn is_stalled(alloc: Global, calls: u8, fails: bool) -> Result<bool, Fail> {
-    let mut cache = cache_of_v(alloc)?;
+fn is_stalled(alloc: Global, calls: u8, fails: bool) -> bool {
+    let Some(mut cache) = cache_of_v(alloc) else {
+        return false;
+    };
     let mut input = stepwise(SINCE_TWICE, 24, 9);
-    let mut output = Counted::new(Stalling {
-        taken: Vec::new(alloc),
-        size: 7,
-        calls,
-        fails,
-    });
+    let mut output = writer_of(alloc, 7, calls, fails);
     // Each answer of 32 bytes needs five calls.
     let whole = usize::from(calls / 5) * 32 + usize::from(calls % 5) * 7;
     let served = if whole < 64 {
@@ -355,19 +213,17 @@ fn is_stalled(alloc: Global, calls: u8, fails: bool) -> Result<bool, Fail> {
     } else {
         Ok(Served::PeerClosed)
     };
-    Ok(
-        serves(&mut cache, &mut input, &mut output, 9, served)?
-            && is_unchanged_twice(output.device().taken.as_slice(), whole),
-    )
+    serves(&mut cache, &mut input, &mut output, 9, served)
+        && input.failures() == 0
+        && is_unchanged_twice(output.device().taken.as_slice(), whole)
 }
 
 #[test]
-fn each_write_may_fail_or_take_nothing(rt: HostRuntime) -> Result<(), Fail> {
+fn each_write_may_fail_or_take_nothing(rt: HostRuntime) {
     for calls in 0..=10u8 {
-        assert!(rt; is_stalled(rt.alloc(), calls, true)?);
-        assert!(rt; is_stalled(rt.alloc(), calls, false)?);
+        assert!(rt; is_stalled(rt.alloc(), calls, true));
+        assert!(rt; is_stalled(rt.alloc(), calls, false));
     }
-    Ok(())
 }
 
 /// Whether these bytes are fetched so, in at most this many reads, with one question that went out in one write.
@@ -393,13 +249,13 @@ fn fetches_nothing(router: &mut Router, alloc: Global) -> bool {
         && output.device().as_slice() == bytes(RESET_QUERY).as_slice()
 }
 
-/// Whether it has serial 5 of session 4660.
+/// Whether it has one record, as serial 5 of session 4660.
 fn has_committed(router: &Router) -> bool {
-    router.committed() == Some((Version::V1, 4660, Serial(5)))
+    router.table().len() == 1 && router.committed() == Some((Version::V1, 4660, Serial(5)))
 }
 
 #[test]
-fn a_router_fetches(rt: HostRuntime) -> Result<(), Fail> {
+fn a_router_fetches(rt: HostRuntime) {
     let alloc = rt.alloc();
     let mut router = Router::new(alloc);
     assert!(rt; fetches_nothing(&mut router, alloc));
@@ -408,20 +264,21 @@ fn a_router_fetches(rt: HostRuntime) -> Result<(), Fail> {
     assert!(rt; fetches(&mut router, alloc, ANSWER, 0, Ok(Fetched::Limit)));
     assert!(rt; router.committed().is_none());
     assert!(rt; fetches(&mut router, alloc, ANSWER, 3, Ok(Fetched::Committed)));
-    assert!(rt; router.table().len() == 1);
     assert!(rt; has_committed(&router));
-    Ok(())
+}
+
+/// Whether a link that ends by a report is told so, and the report goes out behind the question.
+fn tells_an_end(router: &mut Router, alloc: Global) -> bool {
+    let mut input = stepwise(TWO_QUERIES, 4096, 9);
+    let mut output = list(alloc);
+    fetch_stream(router, &mut input, &mut output, 100, 9) == Ok(Fetched::Ended(End::Reported(0)))
+        && output.device().len() == 32
 }
 
 #[test]
-fn a_link_that_ends_is_told(rt: HostRuntime) -> Result<(), Fail> {
+fn a_link_that_ends_is_told(rt: HostRuntime) {
     let mut router = Router::new(rt.alloc());
-    let mut input = stepwise(TWO_QUERIES, 4096, 9);
-    let mut output = list(rt.alloc());
-    let fetched = fetch_stream(&mut router, &mut input, &mut output, 100, 9);
-    assert!(rt; fetched == Ok(Fetched::Ended(End::Reported(0))));
-    assert!(rt; output.device().len() == 32);
-    Ok(())
+    assert!(rt; tells_an_end(&mut router, rt.alloc()));
 }
 
 /// Whether a fetch fails at the third read, and leaves the table empty.
@@ -436,21 +293,18 @@ fn fails_at_a_read(router: &mut Router, alloc: Global) -> bool {
 /// Whether a fetch fails behind the first three bytes of its question.
 fn fails_at_a_write(router: &mut Router, alloc: Global) -> bool {
     let mut input = stepwise(ANSWER, 8, 2);
-    let mut narrow = Counted::new(Narrow {
-        taken: Vec::new(alloc),
-        room: 3,
-    });
-    fetch_stream(router, &mut input, &mut narrow, 100, 9) == Err(StreamFault::WriteFailed)
-        && narrow.device().taken.as_slice() == bytes("01 01 12").as_slice()
+    let mut output = writer_of(alloc, 3, 1, true);
+    fetch_stream(router, &mut input, &mut output, 100, 9) == Err(StreamFault::WriteFailed)
+        && output.failures() == 1
+        && output.device().taken.as_slice() == bytes("01 01 12").as_slice()
 }
 
 #[test]
-fn a_fetch_that_fails_leaves_the_table(rt: HostRuntime) -> Result<(), Fail> {
+fn a_fetch_that_fails_leaves_the_table(rt: HostRuntime) {
     let alloc = rt.alloc();
     let mut router = Router::new(alloc);
     assert!(rt; fails_at_a_read(&mut router, alloc));
     assert!(rt; fetches(&mut router, alloc, ANSWER, 9, Ok(Fetched::Committed)));
     assert!(rt; fails_at_a_write(&mut router, alloc));
     assert!(rt; has_committed(&router));
-    Ok(())
 }

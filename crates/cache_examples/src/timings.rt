@@ -1,3 +1,4 @@
+//! The intervals that a cache tells.
 use rtr_ends::{Timing, TimingFault};
 use std::process::Abort;
 
@@ -6,9 +7,11 @@ const OUT_OF_RANGE: Option<TimingFault> = Some(TimingFault::OutOfRange);
 const EXPIRE_TOO_SMALL: Option<TimingFault> = Some(TimingFault::ExpireTooSmall);
 
 /// Refresh, retry and expire, and why they are refused, if they are.
-const ROWS: &[(u32, u32, u32, Option<TimingFault>)] = &[
+type Row = (u32, u32, u32, Option<TimingFault>);
+
+/// Both sides of each bound.
+const BOUNDS: &[Row] = &[
     (3600, 600, 7200, None),
-    // Both sides of each bound.
     (0, 600, 7200, OUT_OF_RANGE),
     (1, 600, 7200, None),
     (86_400, 600, 172_800, None),
@@ -21,7 +24,10 @@ const ROWS: &[(u32, u32, u32, Option<TimingFault>)] = &[
     (1, 1, 600, None),
     (3600, 600, 172_800, None),
     (3600, 600, 172_801, OUT_OF_RANGE),
-    // Expire is below the other two, as large, and one more.
+];
+
+/// Expire is below the other two, as large, and one more.
+const EXPIRES: &[Row] = &[
     (3600, 600, 3599, EXPIRE_TOO_SMALL),
     (3600, 600, 3600, EXPIRE_TOO_SMALL),
     (3600, 600, 3601, None),
@@ -52,7 +58,7 @@ fn is_told(refresh: u32, retry: u32, expire: u32, fault: Option<TimingFault>) ->
 }
 
 /// Checks each row.
-fn expect_told<R: Abort>(rt: &R, rows: &[(u32, u32, u32, Option<TimingFault>)]) {
+fn expect_told<R: Abort>(rt: &R, rows: &[Row]) {
     for &(refresh, retry, expire, fault) in rows {
         assert!(rt; is_told(refresh, retry, expire, fault));
     }
@@ -60,7 +66,8 @@ fn expect_told<R: Abort>(rt: &R, rows: &[(u32, u32, u32, Option<TimingFault>)]) 
 
 #[test]
 fn intervals_at_their_bounds(rt: HostRuntime) {
-    expect_told(&rt, ROWS);
+    expect_told(&rt, BOUNDS);
+    expect_told(&rt, EXPIRES);
     assert!(rt; Timing::new(3600, 600, 7200) == Ok(Timing::default()));
     assert!(rt; TimingFault::OutOfRange.number() == 1);
     assert!(rt; TimingFault::ExpireTooSmall.number() == 2);
