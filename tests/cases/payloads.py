@@ -79,6 +79,16 @@ OFFERS = [
     offers("no-objects", "--now 20250101000000Z no_objects", 3, "", DEVICE),
 ]
 
+# Texts of no moment: of a day, a time or a year that there is not, of other lengths, and of other characters.
+NO_MOMENTS = (
+    *("", "Z", "19691231235959Z", "00000101000000Z", "20250001000000Z", "20251301000000Z", "20250100000000Z", "20250132000000Z"),
+    *("20250431000000Z", "20250631000000Z", "20250931000000Z", "20251131000000Z", "20250229000000Z", "21000229000000Z", "20000230000000Z"),
+    *("20250101240000Z", "20250101006000Z", "20161231235960Z", "2025010100000Z", "20250101000000", "202501010000000", "20250101000000z"),
+    *("20250101000000ZZ", "120250101000000Z", "20250101000000.5Z", "20250101000000+0000", "202501010000Z", "2025 101000000Z"),
+    *("+0250101000000Z", "2025-01-01000Z", "202501:1000000Z", "2025/101000000Z", "2025010100000\u0661Z"),
+)
+REFUSED_MOMENTS = [Case(f"no-moment-{it}", ["payloads", f"--now={it}", "gone"], 1, "refused word\n") for it in NO_MOMENTS]
+
 
 def offers_one(name, folders, status, output, errors):
     """An offer to the point `one` with other folders."""

@@ -9,14 +9,17 @@ from cases.shared import (
     END_OF_DATA,
     END_OF_DATA_0,
     FULL,
+    PREFIX_TEXTS,
     RESET_QUERY,
     RESET_QUERY_0,
     ROUTER_KEY_0,
     SERIAL_QUERY,
     SERIAL_QUERY_0,
     Case,
+    announcement,
     device_failed,
     error_report,
+    length_of,
     lines,
 )
 
@@ -61,9 +64,19 @@ def reads(name, stream, status, output):
 
 CASES = [
     reads("one-of-each-type", "".join(EACH_TYPE), 0, lines(*EACH_TYPE.values())),
+    # what is reserved is ignored
+    reads("reserved-bits-set", "0106ff0000000020" + "812030ff" + "20010db8000000000000000000000000" + "0000fbf0", 0, "announce 2001:db8::/32 48 64496\n"),
+    reads("a-router-key-of-4096-bytes", "0109010000001000" + "07" * 4088, 0, "router-key\n"),
+    reads("an-error-report-of-4096-bytes", "010a000000001000" + "00000000" + "00000ff0" + "07" * 4080, 0, "error-report 0 -\n"),
     reads("no-bytes", "", 0, ""),
     reads("one-byte", "01", 1, "refused 7 at 0\n"),
     reads("a-beginning-behind-a-pdu", CACHE_RESPONSE + "010200", 1, "cache-response 4660\nrefused 7 at 8\n"),
+    reads(
+        "an-answer-without-its-last-byte",
+        (CACHE_RESPONSE + ANNOUNCEMENT + END_OF_DATA)[:-2],
+        1,
+        "cache-response 4660\nannounce 192.0.2.0/24 24 64496\nrefused 7 at 28\n",
+    ),
     reads("an-ipv4-prefix-of-another-length", "01040000ffffffff", 1, "refused 3 at 0\n"),
     reads("type-5", CACHE_RESPONSE + "0105000000000008", 1, "cache-response 4660\nrefused 2 at 8\n"),
     reads("version-2", "0202000000000008", 1, "refused 1 at 0\n"),
@@ -84,4 +97,9 @@ CASES = [
     device_failed("no-such-file", "units gone.bin"),
     # a failed output comes before a refusal
     Case("a-full-output", "units some.bin", 3, FULL, DEVICE, {"some.bin": bytes.fromhex(CACHE_RESPONSE_0 + "0007")}),
+]
+
+# How prefixes are written, and that each is read again as the same: the cases of `answer` read these and other texts.
+WRITTEN = [
+    reads(f"prefix-{it}", announcement(it, length_of(it), 1), 0, f"announce {it} {length_of(it)} 1\n") for it in dict.fromkeys(PREFIX_TEXTS.values())
 ]

@@ -1,12 +1,8 @@
-//! Elements by hand, and their faults.
+//! Elements by hand, and their faults. Those that are nested as in a ROA or a manifest are rows of the commands `roa` and `manifest`.
 
-use crate::roas::changed;
 use der_lite::{Bits, Cursor, DerFault, DerWriter, is_integer, unsigned};
-use example_values::hex::bytes;
-use example_values::payloads::{NO_BITS, ONE_PREFIX};
 use std::alloc::{AllocError, Global};
 use std::process::Abort;
-use std::test::Fail;
 
 /// How long the content is of the element of this tag at the cursor. A SEQUENCE is read as one
 /// without members.
@@ -161,11 +157,15 @@ const LENGTHS: &[(u32, &[u8])] = &[
 ];
 
 /// The element of this many octets.
-fn octets_of(alloc: Global, len: u32) -> Result<Vec<u8>, AllocError> {
-    let content = vec![in alloc; 7u8; len as usize]?;
+fn octets_of(alloc: Global, len: u32) -> Option<Vec<u8>> {
+    let Ok(content) = vec![in alloc; 7u8; len as usize] else {
+        return None;
+    };
     let mut writer = DerWriter::new(alloc);
-    writer.octets(content.as_slice())?;
-    Ok(writer.into_bytes())
+    match writer.octets(content.as_slice()) {
+        Ok(()) => Some(writer.into_bytes()),
+        Err(_) => None,
+    }
 }
 
 /// Whether this is the element of this many octets behind this head.
@@ -176,14 +176,17 @@ fn is_headed(written: &[u8], len: u32, head: &[u8]) -> bool {
         && cursor.finish().is_ok()
 }
 
+/// Whether this many octets are written behind this head.
+fn is_length(alloc: Global, len: u32, head: &[u8]) -> bool {
+    match octets_of(alloc, len) {
+        Some(written) => is_headed(written.as_slice(), len, head),
+        None => false,
+    }
+}
+
 fn expect_heads<R: Abort>(rt: &R, alloc: Global, rows: &[(u32, &[u8])]) {
     for (len, head) in rows {
-        let is_written = octets_of(alloc, *len).is_ok_and(|it| is_headed(
-            it.as_slice(),
-            *len,
-            head,
-        ));
-        assert!(rt; is_written);
+        assert!(rt; is_length(alloc, *len, head));
     }
 }
 
@@ -203,24 +206,25 @@ fn write_members(writer: &mut DerWriter) -> Result<(), AllocError> {
     writer.ia5("a.roa")
 }
 
-#[test]
-fn writes_each_element(rt: HostRuntime) -> Result<(), Fail> {
-    let mut members = DerWriter::new(rt.alloc());
-    write_members(&mut members)?;
-    assert!(rt; members.as_slice().len() < 100);
-    let mut writer = DerWriter::new(rt.alloc());
-    writer.sequence(members.as_slice())?;
-    assert!(rt;
-        writer.as_slice()
-            == b"\
+/// The sequence of these members.
+const SEQUENCE: &[u8] = b"\
     \x30\x16\x02\x02\x00\x80\
     \x03\x02\x03\xf8\
     \x04\x01\x01\
     \x06\x02\x2a\x03\
-    \x16\x05\x61\x2e\x72\x6f\x61"
-                .as_slice()
-    );
-    Ok(())
+    \x16\x05\x61\x2e\x72\x6f\x61";
+
+/// Whether the sequence of these bytes is written as that.
+fn is_sequence(alloc: Global, members: &[u8]) -> bool {
+    let mut writer = DerWriter::new(alloc);
+    members.len() < 100 && writer.sequence(members).is_ok() && writer.as_slice() == SEQUENCE
+}
+
+#[test]
+fn writes_each_element(rt: HostRuntime) {
+    let mut members = DerWriter::new(rt.alloc());
+    assert!(rt; write_members(&mut members).is_ok());
+    assert!(rt; is_sequence(rt.alloc(), members.as_slice()));
 }
 
 /// Numbers, and their elements.
@@ -258,117 +262,6 @@ fn expect_numbers<R: Abort>(rt: &R, alloc: Global, rows: &[(u32, &[u8])]) {
 #[test]
 fn writes_numbers_in_the_fewest_bytes(rt: HostRuntime) {
     expect_numbers(&rt, rt.alloc(), NUMBERS);
-}
-
-/// How many bytes of address a family with one address has.
-fn walk_family(family: &mut Cursor) -> Result<usize, DerFault> {
-    family.octets()?;
-    let mut addresses = family.sequence()?;
-    let mut entry = addresses.sequence()?;
-    let address = entry.bits()?;
-    entry.finish()?;
-    addresses.finish()?;
-    Ok(address.bytes.len())
-}
-
-/// The same of an AS number and of blocks of one family.
-fn walk_attestation(attestation: &mut Cursor) -> Result<usize, DerFault> {
-    attestation.integer()?;
-    let mut blocks = attestation.sequence()?;
-    let mut family = blocks.sequence()?;
-    let count = walk_family(&mut family)?;
-    family.finish()?;
-    blocks.finish()?;
-    Ok(count)
-}
-
-/// How many bytes of address the elements hold that are nested as in a ROA with one prefix: an AS
-/// number, and a family with one address.
-fn walk(payload: &[u8]) -> Result<usize, DerFault> {
-    let mut whole = Cursor::new(payload);
-    let mut attestation = whole.sequence()?;
-    let count = walk_attestation(&mut attestation)?;
-    attestation.finish()?;
-    whole.finish()?;
-    Ok(count)
-}
-
-/// The attestation with a byte behind it.
-const WITH_MORE: &[u8] = b"\
-    \x30\x17\x02\x03\x00\xfb\xf0\
-    \x30\x10\x30\x0e\x04\x02\x00\x01\
-    \x30\x08\x30\x06\x03\x04\x00\xc0\x00\x02\
-    \x00";
-
-/// The attestation with its length in a byte too many.
-const WITH_LONG_LENGTH: &[u8] = b"\
-    \x30\x81\x17\x02\x03\x00\xfb\xf0\
-    \x30\x10\x30\x0e\x04\x02\x00\x01\
-    \x30\x08\x30\x06\x03\x04\x00\xc0\x00\x02";
-
-/// The number and the offset of the fault of nested elements.
-fn walk_fault(payload: &[u8]) -> Option<(u8, usize)> {
-    place(walk(payload).err())
-}
-
-/// Bytes that are not nested so, and the number and the offset of the fault.
-const NOT_NESTED: &[(&[u8], u8, usize)] = &[
-    (b"", 1u8, 0usize),
-    (b"\x30", 1, 0),
-    (b"\x30\x80", 3, 0),
-    (b"\x30\x04\x02\x02\x00\x01", 4, 2),
-    (b"\x30\x05\x02\x03\x00\xfb\xf0", 1, 7),
-    (b"\x30\x84\xff\xff\xff\xff", 1, 0),
-    (b"\x30\x85\x00\x00\x00\x00\x01", 3, 0),
-    (b"\x1f\x00", 2, 0),
-    (b"\xa0\x00", 2, 0),
-    (b"\x30\x01\xa0", 1, 2),
-];
-
-fn expect_walk_faults<R: Abort>(rt: &R, rows: &[(&[u8], u8, usize)]) {
-    for (payload, number, offset) in rows {
-        assert!(rt; walk_fault(payload) == Some((*number, *offset)));
-    }
-}
-
-#[test]
-fn walks_nested_elements(rt: HostRuntime) {
-    assert!(rt; walk(bytes(ONE_PREFIX).as_slice()).ok() == Some(3));
-    assert!(rt; walk(bytes(NO_BITS).as_slice()).ok() == Some(0));
-    expect_walk_faults(&rt, NOT_NESTED);
-}
-
-/// No beginning of nested elements is mistaken for all of them.
-fn expect_no_beginning<R: Abort>(rt: &R, whole: &[u8]) {
-    for cut in 0..whole.len() {
-        assert!(rt; walk_fault(&whole[..cut]) == Some((1, 0)));
-    }
-}
-
-#[test]
-fn walks_no_beginning_and_nothing_more(rt: HostRuntime) {
-    expect_no_beginning(&rt, bytes(ONE_PREFIX).as_slice());
-    assert!(rt; walk_fault(WITH_MORE) == Some((5, 25)));
-    assert!(rt; walk_fault(WITH_LONG_LENGTH) == Some((3, 0)));
-}
-
-/// Whether nested elements are accepted, or have a fault that is reported inside them.
-fn is_inside(payload: &[u8]) -> bool {
-    match walk(payload) {
-        Ok(_) => true,
-        Err(fault) => fault.number() < 6 && fault.offset <= payload.len(),
-    }
-}
-
-#[test]
-fn tells_faults_inside_the_payload(rt: HostRuntime) {
-    for index in 0..25usize {
-        for byte in 0..=255u8 {
-            assert!(rt; is_inside(changed(ONE_PREFIX, index, byte).as_slice()));
-        }
-    }
-    assert!(rt; walk_fault(changed(ONE_PREFIX, 16, 9).as_slice()) == Some((1, 15)));
-    assert!(rt; walk_fault(changed(ONE_PREFIX, 18, 5).as_slice()) == Some((1, 19)));
 }
 
 #[test]

@@ -1,17 +1,37 @@
-//! Examples of elements, prefixes, payloads and publication points, which are the tests of the public items of these libraries. They use
-//! values of the standards, printed texts, and each public call once on its happy path. They are apart, because a crate with tests is
-//! proved twice.
+//! Examples of elements, prefixes, payloads, publication points, sets, changes, route states, logs of versions, signatures and signed
+//! objects, which are the tests of the public items of these libraries. They use values of the standards, keys and objects of `openssl`,
+//! printed texts, and each public call once on its happy path. They are apart, because a crate with tests is proved twice.
 #![tactic(auto)]
 
 #[cfg(test)]
+mod ber;
+#[cfg(test)]
 mod elements;
+#[cfg(test)]
+mod keys;
+#[cfg(test)]
+mod logs;
 #[cfg(test)]
 mod manifests;
 #[cfg(test)]
 mod moments;
 #[cfg(test)]
+mod object_vectors;
+#[cfg(test)]
+mod objects;
+#[cfg(test)]
 mod offers;
 #[cfg(test)]
 mod prefix_texts;
 #[cfg(test)]
+mod probes;
+#[cfg(test)]
 mod roas;
+#[cfg(test)]
+mod sets;
+#[cfg(test)]
+mod signature_vectors;
+#[cfg(test)]
+mod signatures;
+#[cfg(test)]
+mod states;

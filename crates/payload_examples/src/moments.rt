@@ -1,9 +1,8 @@
-//! Moments by hand: their texts, their order, and their elements.
+//! Moments by hand: their texts, their order, and their elements. Texts of no moment are rows of the command `payloads`.
 
 use der_lite::{Cursor, DerWriter, Moment, days_of_month, days_of_year};
 use std::alloc::Global;
 use std::process::Abort;
-use std::test::Fail;
 
 const TEXTS: &[&str] = &[
     "19700101000000Z",
@@ -86,62 +85,22 @@ const MONTHS: &[(u16, u64)] = &[
     (12, 31),
 ];
 
-#[test]
-fn days_of_years_and_months(rt: HostRuntime) {
-    for &(year, days, february) in YEARS {
-        assert!(rt; days_of_year(year) == days);
-        assert!(rt; days_of_month(year, 2) == february);
+fn expect_years<R: Abort>(rt: &R, rows: &[(u16, u64, u64)]) {
+    for &(year, days, february) in rows {
+        assert!(rt; days_of_year(year) == days && days_of_month(year, 2) == february);
     }
-    for &(month, days) in MONTHS {
+}
+
+fn expect_months<R: Abort>(rt: &R, rows: &[(u16, u64)]) {
+    for &(month, days) in rows {
         assert!(rt; days_of_month(2025, month) == days);
     }
 }
 
-const NO_MOMENTS: &[&str] = &[
-    "",
-    "Z",
-    "19691231235959Z",
-    "00000101000000Z",
-    "20250001000000Z",
-    "20251301000000Z",
-    "20250100000000Z",
-    "20250132000000Z",
-    "20250431000000Z",
-    "20250631000000Z",
-    "20250931000000Z",
-    "20251131000000Z",
-    "20250229000000Z",
-    "21000229000000Z",
-    "20000230000000Z",
-    "20250101240000Z",
-    "20250101006000Z",
-    "20161231235960Z",
-    "2025010100000Z",
-    "20250101000000",
-    "202501010000000",
-    "20250101000000z",
-    "20250101000000ZZ",
-    "120250101000000Z",
-    "20250101000000.5Z",
-    "20250101000000+0000",
-    "202501010000Z",
-    "2025 101000000Z",
-    "+0250101000000Z",
-    "2025-01-01000Z",
-    "202501:1000000Z",
-    "2025/101000000Z",
-    "2025010100000\u{661}Z",
-];
-
-fn expect_no_moments<R: Abort>(rt: &R, texts: &[&str]) {
-    for text in texts {
-        assert!(rt; Moment::parse(text).is_none());
-    }
-}
-
 #[test]
-fn refuses_what_is_no_moment(rt: HostRuntime) {
-    expect_no_moments(&rt, NO_MOMENTS);
+fn days_of_years_and_months(rt: HostRuntime) {
+    expect_years(&rt, YEARS);
+    expect_months(&rt, MONTHS);
 }
 
 const ASCENDING: &[&str] = &[
@@ -186,19 +145,23 @@ fn compares_the_earlier_number_first(rt: HostRuntime) {
     expect_ascending(&rt, ASCENDING);
 }
 
+/// Whether this element is written of a moment, and is read as that.
+fn is_element(alloc: Global, moment: &Moment, element: &[u8]) -> bool {
+    let mut writer = DerWriter::new(alloc);
+    let mut cursor = Cursor::new(element);
+    writer.time(moment).is_ok()
+        && writer.as_slice() == element
+        && cursor.time().ok() == Some(*moment)
+        && cursor.at_end()
+}
+
 #[test]
-fn stands_in_elements_both_ways(rt: HostRuntime) -> Result<(), Fail> {
-    let bytes = b"\x18\x0f20250101120000Z".as_slice();
-    let Some(noon) = Moment::parse("20250101120000Z") else {
-        return Err(Fail::from("moment"));
-    };
-    let mut writer = DerWriter::new(rt.alloc());
-    writer.time(&noon)?;
-    assert!(rt; writer.as_slice() == bytes);
-    let mut cursor = Cursor::new(bytes);
-    assert!(rt; cursor.time().ok() == Some(noon));
-    assert!(rt; cursor.at_end());
-    Ok(())
+fn stands_in_elements_both_ways(rt: HostRuntime) {
+    let element = b"\x18\x0f20250101120000Z".as_slice();
+    match Moment::parse("20250101120000Z") {
+        Some(noon) => assert!(rt; is_element(rt.alloc(), &noon, element)),
+        None => assert!(rt; false),
+    }
 }
 
 /// Elements of no time, and the numbers of their faults.

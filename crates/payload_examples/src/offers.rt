@@ -1,4 +1,4 @@
-//! Offers by hand.
+//! Offers by hand, after a first one. First offers are rows of the command `payloads`.
 
 use crate::roas::is_alone;
 use der_lite::Moment;
@@ -138,8 +138,22 @@ fn listed(alloc: Global, objects: &[Listed]) -> Result<Vec<ListedFile>, AllocErr
     Ok(files)
 }
 
-/// The payload of a manifest of this number and these times, which lists files with the SHA-256 of
-/// these objects.
+/// A manifest of this number and these times, which lists files with the SHA-256 of these objects.
+fn made(
+    alloc: Global,
+    number: u8,
+    (this_update, next_update): (Moment, Moment),
+    objects: &[Listed],
+) -> Option<Manifest> {
+    match (Vec::from_slice(alloc, &[number]), listed(alloc, objects)) {
+        (Ok(number), Ok(files)) => {
+            Manifest::new(alloc, number, this_update, next_update, files).ok()
+        }
+        _ => None,
+    }
+}
+
+/// Its payload.
 fn manifest(
     alloc: Global,
     number: u8,
@@ -147,12 +161,11 @@ fn manifest(
     next_update: &str,
     objects: &[Listed],
 ) -> Option<Vec<u8>> {
-    let this_update = Moment::parse(this_update)?;
-    let next_update = Moment::parse(next_update)?;
-    let number = Vec::from_slice(alloc, &[number]).ok()?;
-    let files = listed(alloc, objects).ok()?;
-    let manifest = Manifest::new(alloc, number, this_update, next_update, files).ok()?;
-    encode_manifest(alloc, &manifest).ok()
+    let moments = (Moment::parse(this_update)?, Moment::parse(next_update)?);
+    match made(alloc, number, moments, objects) {
+        Some(manifest) => encode_manifest(alloc, &manifest).ok(),
+        None => None,
+    }
 }
 
 /// The number and the index of a fault.
@@ -181,28 +194,6 @@ fn accepted(alloc: Global) -> Option<Point> {
         Some(Ok(Offered::New)) => Some(point),
         _ => None,
     }
-}
-
-/// First offers to a point, by their moments, and what they are answered.
-const FIRST_OFFERS: &[(&str, Answer)] = &[
-    (START, Ok(Offered::New)),
-    (END, Ok(Offered::New)),
-    (LATE, Err((3, None))),
-    (EARLY, Err((2, None))),
-];
-
-fn expect_first<R: Abort>(rt: &R, alloc: Global, rows: &[(&str, Answer)]) {
-    for (now, want) in rows {
-        let answer = offer(&mut Point::new(alloc), FIRST, FILES, now);
-        assert!(rt; is(answer, want));
-    }
-}
-
-#[test]
-fn judges_a_first_offer(rt: HostRuntime) {
-    let made = manifest(rt.alloc(), 1, START, END, LISTED);
-    assert!(rt; made.is_some_and(|bytes| bytes.as_slice() == FIRST));
-    expect_first(&rt, rt.alloc(), FIRST_OFFERS);
 }
 
 /// Offers of the first manifest without files, and of what is none, to a point that holds it.
@@ -237,15 +228,24 @@ type Later = (
     Answer,
 );
 
+/// What an offer at noon is answered.
+fn offer_next(alloc: Global, next: &[u8], files: &[FileIn]) -> Option<Answer> {
+    match accepted(alloc) {
+        Some(mut point) => offer(&mut point, next, files, NOON),
+        None => None,
+    }
+}
+
 /// What this offer is answered.
 fn at_noon(alloc: Global, (number, this_update, listed, files, _want): &Later) -> Option<Answer> {
-    let next = manifest(alloc, *number, this_update, NEXT_END, listed)?;
-    let mut point = accepted(alloc)?;
-    offer(&mut point, next.as_slice(), files, NOON)
+    match manifest(alloc, *number, this_update, NEXT_END, listed) {
+        Some(next) => offer_next(alloc, next.as_slice(), files),
+        None => None,
+    }
 }
 
 fn expect_later<R: Abort>(rt: &R, alloc: Global, rows: &[Later]) {
-    for (row, later) in rows.iter().enumerate() {
+    for later in rows {
         assert!(rt; is(at_noon(alloc, later), &later.4));
     }
 }
@@ -279,19 +279,6 @@ fn roa_fault(offered: Result<Offered, PointFault>) -> Option<(usize, u8, usize)>
         Err(PointFault::Roa(index, fault)) => Some((index, fault.kind.number(), fault.offset)),
         _ => None,
     }
-}
-
-/// The fault of a ROA with a version, at noon at a point that accepted the first manifest.
-fn fault_of_version(alloc: Global) -> Option<(usize, u8, usize)> {
-    let noon = Moment::parse(NOON)?;
-    let next = manifest(alloc, 2, NOON, NEXT_END, &[("a.roa", WITH_VERSION)])?;
-    let mut point = accepted(alloc)?;
-    roa_fault(point.offer(next.as_slice(), &[WITH_VERSION_FILE], noon))
-}
-
-#[test]
-fn tells_the_first_fault_of_a_roa(rt: HostRuntime) {
-    assert!(rt; fault_of_version(rt.alloc()) == Some((0, 6, 2)));
 }
 
 /// What a repository answers for a point.
@@ -333,32 +320,26 @@ fn refuses_a_superfluous_maximum(rt: HostRuntime) {
     assert!(rt; uses_the_roa(&repository, NOON));
 }
 
-/// An offer to a point of this name, by its manifest, its files and its moment, and what is answered.
-type Step<'a> = (&'a str, &'a [u8], &'a [FileIn<'a>], &'a str, Answer);
+/// A manifest that lists two files, and these files: the object of the second is another one.
+const WITH_ABC: &[Listed] = &[("a.roa", ROA), ("b.roa", b"abc")];
 
-fn expect_answers<R: Abort>(rt: &R, repository: &mut Repository, steps: &[Step]) {
-    for (name, manifest, files, now, want) in steps {
-        let answer = offer_to(repository, name, manifest, files, now);
-        assert!(rt; is(answer, want));
-    }
+const WITH_ABB: &[FileIn<'static>] = &[ROA_FILE, ABB_ROA];
+
+/// Whether a repository accepts the first manifest for two points, and in between refuses the next one for the first point.
+fn refuses_the_next(alloc: Global, repository: &mut Repository) -> bool {
+    let Some(next) = manifest(alloc, 2, NOON, NEXT_END, WITH_ABC) else {
+        return false;
+    };
+    let first = offer_to(repository, "one", FIRST, WITH_ABB, START);
+    let later = offer_to(repository, "one", next.as_slice(), WITH_ABB, NOON);
+    let other = offer_to(repository, "two", FIRST, WITH_ABB, NOON);
+    is(first, &Ok(Offered::New)) && is(later, &Err((8, Some(1)))) && is(other, &Ok(Offered::New))
 }
 
 #[test]
 fn keeps_what_is_in_use(rt: HostRuntime) {
     let mut repository = Repository::new(rt.alloc());
-    let objects: &[Listed] = &[("a.roa", ROA), ("b.roa", b"abc")];
-    match manifest(rt.alloc(), 2, NOON, NEXT_END, objects) {
-        Some(next) => {
-            let files = &[ROA_FILE, ABB_ROA];
-            let steps: &[Step] = &[
-                ("one", FIRST, files, START, Ok(Offered::New)),
-                ("one", next.as_slice(), files, NOON, Err((8, Some(1)))),
-                ("two", FIRST, files, NOON, Ok(Offered::New)),
-            ];
-            expect_answers(&rt, &mut repository, steps);
-        }
-        None => assert!(rt; false),
-    }
+    assert!(rt; refuses_the_next(rt.alloc(), &mut repository));
     assert!(rt; uses_the_roa(&repository, END));
     assert!(rt; in_use(&repository, LATE).is_some_and(|vrps| vrps.is_empty()));
 }

@@ -4,9 +4,8 @@ use example_values::hex::{Bytes, bytes};
 use example_values::payloads::{BOTH_FAMILIES, NO_BITS, ONE_PREFIX, WITH_MAXIMUM};
 use payloads::{PayloadFault, Roa, RoaEntry, ValueFault, decode_roa, encode_roa};
 use prefixes::{Asn, IpPrefix, Prefix, PrefixFault, V4, Vrp};
-use std::alloc::{AllocError, Global};
+use std::alloc::Global;
 use std::process::Abort;
-use std::test::Fail;
 
 /// The payload of this prefix, this maximum and AS64496.
 fn vrp(text: &str, max_len: u8) -> Result<Vrp, PrefixFault> {
@@ -30,7 +29,7 @@ fn is_written(alloc: Global, roa: &Roa, payload: &[u8]) -> bool {
 }
 
 /// The bytes of a payload with this byte at this place.
-pub(crate) fn changed(text: &str, at: usize, byte: u8) -> Bytes {
+fn changed(text: &str, at: usize, byte: u8) -> Bytes {
     let mut payload = bytes(text);
     if let Some(place) = payload.as_mut_slice().get_mut(at) {
         *place = byte;
@@ -80,33 +79,37 @@ fn writes_each_roa_with_one_other_byte(rt: HostRuntime) {
     assert!(rt; taken(rt.alloc(), NO_BITS).is_some());
 }
 
-/// Adds the entry of this prefix and this maximum.
-fn push(entries: &mut Vec<RoaEntry>, &(text, max_len): &(&str, Option<u8>)) -> Result<(), Fail> {
-    let prefix = IpPrefix::parse(text)?;
-    Ok(entries.push(RoaEntry { prefix, max_len })?)
+/// Whether the entry of this prefix and this maximum is added.
+fn push(entries: &mut Vec<RoaEntry>, &(text, max_len): &(&str, Option<u8>)) -> bool {
+    match IpPrefix::parse(text) {
+        Ok(prefix) => entries.push(RoaEntry { prefix, max_len }).is_ok(),
+        Err(_) => false,
+    }
 }
 
 /// The entries of these prefixes and maxima.
-fn entries_of(alloc: Global, rows: &[(&str, Option<u8>)]) -> Result<Vec<RoaEntry>, Fail> {
+fn entries_of(alloc: Global, rows: &[(&str, Option<u8>)]) -> Option<Vec<RoaEntry>> {
     let mut entries = Vec::new(alloc);
     for row in rows {
-        push(&mut entries, row)?;
+        if !push(&mut entries, row) {
+            return None;
+        }
     }
-    Ok(entries)
+    Some(entries)
 }
 
 /// Prefixes and maxima, and the number of the fault and its index.
 type Values = (&'static [(&'static str, Option<u8>)], Option<(u8, usize)>);
 
+/// Those of a ROA of both families.
+const BOTH: &[(&str, Option<u8>)] = &[
+    ("192.0.2.0/24", None),
+    ("192.0.2.0/25", Some(32)),
+    ("2001:db8::/32", Some(48u8)),
+];
+
 const VALUES: &[Values] = &[
-    (
-        &[
-            ("192.0.2.0/24", None),
-            ("192.0.2.0/25", Some(32)),
-            ("2001:db8::/32", Some(48u8)),
-        ],
-        None,
-    ),
+    (BOTH, None),
     (&[], Some((9u8, 0usize))),
     (
         &[("2001:db8::/32", None), ("192.0.2.0/24", Some(40))],
@@ -143,37 +146,66 @@ fn is_made(made: Result<Roa, ValueFault>, (rows, refusal): &Values) -> bool {
     }
 }
 
-fn expect_made<R: Abort>(rt: &R, alloc: Global, rows: &[Values]) -> Result<(), Fail> {
-    for (row, values) in rows.iter().enumerate() {
-        let made = Roa::new(Asn(64496), entries_of(alloc, values.0)?);
-        assert!(rt; is_made(made, values));
+/// Whether the ROA of a row is made or refused as it has to be.
+fn is_judged(alloc: Global, values: &Values) -> bool {
+    match entries_of(alloc, values.0) {
+        Some(entries) => is_made(Roa::new(Asn(64496), entries), values),
+        None => false,
     }
-    Ok(())
+}
+
+fn expect_judged<R: Abort>(rt: &R, alloc: Global, rows: &[Values]) {
+    for values in rows {
+        assert!(rt; is_judged(alloc, values));
+    }
 }
 
 #[test]
-fn makes_roas_of_values(rt: HostRuntime) -> Result<(), Fail> {
-    expect_made(&rt, rt.alloc(), VALUES)
+fn makes_roas_of_values(rt: HostRuntime) {
+    expect_judged(&rt, rt.alloc(), VALUES);
 }
 
-/// The entries of 65537 prefixes of 24 bits, from 0.0.0.0 on.
-fn too_many(alloc: Global) -> Result<Vec<RoaEntry>, Fail> {
+/// Whether the entry of the prefix of 24 bits with this number, from 0.0.0.0 on, is added.
+fn push_numbered(entries: &mut Vec<RoaEntry>, index: u32) -> bool {
+    if index > 65536 {
+        return false;
+    }
+    match Prefix::<V4>::new(u128::from(index) * 256, 24) {
+        Ok(prefix) => entries
+            .push(RoaEntry {
+                prefix: IpPrefix::V4(prefix),
+                max_len: None,
+            })
+            .is_ok(),
+        Err(_) => false,
+    }
+}
+
+/// The entries of the first 65537 of them.
+fn too_many(alloc: Global) -> Option<Vec<RoaEntry>> {
     let mut entries = Vec::new(alloc);
     for index in 0..65537u32 {
-        let prefix = Prefix::<V4>::new(u128::from(index) * 256, 24)?;
-        entries.push(RoaEntry {
-            prefix: IpPrefix::V4(prefix),
-            max_len: None,
-        })?;
+        if !push_numbered(&mut entries, index) {
+            return None;
+        }
     }
-    Ok(entries)
+    Some(entries)
+}
+
+/// The number and the index of the fault of these entries.
+fn fault_of(entries: Vec<RoaEntry>) -> Option<(u8, usize)> {
+    match Roa::new(Asn(64496), entries) {
+        Ok(_) => None,
+        Err(fault) => Some((fault.kind.number(), fault.index)),
+    }
 }
 
 #[test]
-fn makes_no_roa_of_an_entry_too_many(rt: HostRuntime) -> Result<(), Fail> {
-    let made = Roa::new(Asn(64496), too_many(rt.alloc())?);
-    assert!(rt; made.err().map(|fault| (fault.kind.number(), fault.index)) == Some((19, 65536)));
-    Ok(())
+fn makes_no_roa_of_an_entry_too_many(rt: HostRuntime) {
+    match too_many(rt.alloc()) {
+        Some(entries) => assert!(rt; fault_of(entries) == Some((19, 65536))),
+        None => assert!(rt; false),
+    }
 }
 
 /// Whether these bytes are those of this ROA.
@@ -182,35 +214,49 @@ fn is_read(alloc: Global, payload: &[u8], roa: &Roa) -> bool {
         && again.entries() == roa.entries())
 }
 
+/// Whether the ROA of these entries is written as these bytes, and is read again.
+fn is_both_ways(alloc: Global, entries: Vec<RoaEntry>, payload: &[u8]) -> bool {
+    match Roa::new(Asn(64496), entries) {
+        Ok(roa) => is_written(alloc, &roa, payload) && is_read(alloc, payload, &roa),
+        Err(_) => false,
+    }
+}
+
 #[test]
-fn writes_roas_of_values(rt: HostRuntime) -> Result<(), Fail> {
-    let alloc = rt.alloc();
-    let rows = [
-        ("192.0.2.0/24", None),
-        ("192.0.2.0/25", Some(32)),
-        ("2001:db8::/32", Some(48u8)),
-    ];
-    let roa = Roa::new(Asn(64496), entries_of(alloc, &rows)?)?;
+fn writes_roas_of_values(rt: HostRuntime) {
     let payload = bytes(BOTH_FAMILIES);
-    assert!(rt; is_written(alloc, &roa, payload.as_slice()));
-    assert!(rt; is_read(alloc, payload.as_slice(), &roa));
-    Ok(())
+    match entries_of(rt.alloc(), BOTH) {
+        Some(entries) => assert!(rt; is_both_ways(rt.alloc(), entries, payload.as_slice())),
+        None => assert!(rt; false),
+    }
+}
+
+/// Adds an entry of 24 bits with these bytes of its prefix.
+fn add_entry(payload: &mut Vec<u8>, index: u32) -> bool {
+    let [_, first, second, third] = index.to_be_bytes();
+    payload
+        .extend_from_slice(&[0x30, 6, 3, 4, 0, first, second, third])
+        .is_ok()
 }
 
 /// The payload of AS64496 and of 65,536 prefixes of 24 bits, from 0.0.0.0 on.
-fn long_payload(alloc: Global) -> Result<Vec<u8>, AllocError> {
+fn long_payload(alloc: Global) -> Option<Vec<u8>> {
     let head = bytes("3083080018 020300fbf0 308308000e 3083080009 04020001 3083080000");
-    let mut payload = head.as_slice().to_vec(alloc)?;
+    let Ok(mut payload) = head.as_slice().to_vec(alloc) else {
+        return None;
+    };
     for index in 0..65536u32 {
-        let [_, first, second, third] = index.to_be_bytes();
-        payload.extend_from_slice(&[0x30, 6, 3, 4, 0, first, second, third])?;
+        if !add_entry(&mut payload, index) {
+            return None;
+        }
     }
-    Ok(payload)
+    Some(payload)
 }
 
 #[test]
-fn writes_65536_entries(rt: HostRuntime) -> Result<(), Fail> {
-    let most = long_payload(rt.alloc())?;
-    assert!(rt; is_taken(rt.alloc(), most.as_slice()) == Some(true));
-    Ok(())
+fn writes_65536_entries(rt: HostRuntime) {
+    match long_payload(rt.alloc()) {
+        Some(most) => assert!(rt; is_taken(rt.alloc(), most.as_slice()) == Some(true)),
+        None => assert!(rt; false),
+    }
 }

@@ -1,12 +1,12 @@
 //! Elements in BER, and what DER makes of them (X.690 sections 8.1 and 10.1).
-use crate::vectors::ROA;
+use crate::object_vectors::ROA;
 use signed_objects::{ObjectFault, read_signed_object, to_der};
 use std::alloc::Global;
-use std::test::Fail;
+use std::process::Abort;
 
 /// Elements in hexadecimal digits, and the same in DER. The first is X.690 section 8.9.3, and the third section 8.6.4.2: pieces of a BIT
 /// STRING stay. The last has 16 levels.
-const LENGTHS: [(&str, &str); 9] = [
+const LENGTHS: &[(&str, &str)] = &[
     ("300a1605536d6974680101ff", "300a1605536d6974680101ff"),
     ("30801605536d6974680101ff0000", "300a1605536d6974680101ff"),
     (
@@ -29,7 +29,7 @@ const LENGTHS: [(&str, &str); 9] = [
 
 /// OCTET STRINGs in pieces (X.690 section 8.7.3). The last three are [0] of certificates and of signedAttrs, whose octets stay, and of
 /// eContent.
-const STRINGS: [(&str, &str); 9] = [
+const STRINGS: &[(&str, &str)] = &[
     ("24800401aa0402bbcc0000", "0403aabbcc"),
     ("24060401aa0401bb", "0402aabb"),
     ("248024030401aa04000000", "0401aa"),
@@ -51,7 +51,7 @@ const STRINGS: [(&str, &str); 9] = [
 ];
 
 /// Bytes that are no element in BER, the number of the fault, and its offset.
-const FAULTS: [(&str, u8, usize); 15] = [
+const FAULTS: &[(&str, u8, usize)] = &[
     ("", 1, 0),
     ("30", 1, 0),
     ("3005", 1, 0),
@@ -70,7 +70,7 @@ const FAULTS: [(&str, u8, usize); 15] = [
 ];
 
 /// The same of lengths, levels, and bytes after an element. The number 42 needs 4 GB.
-const MORE_FAULTS: [(&str, u8, usize); 11] = [
+const MORE_FAULTS: &[(&str, u8, usize)] = &[
     (
         "30ff00000000000000000000000000000000000000000000000000000000000000000000000000000000000000000000000000000000000000000000000000000000000000000000000000000000000000000000000000000000000000000000000000000000000000000000000000000000000000000000000000000000000000",
         39,
@@ -105,68 +105,88 @@ const MORE_FAULTS: [(&str, u8, usize); 11] = [
 ];
 
 /// Whether DER makes these of the bytes.
-fn becomes(alloc: Global, bytes: &str, der: &str) -> Result<bool, Fail> {
-    let bytes = hex::decode(alloc, bytes)?;
-    let der = hex::decode(alloc, der)?;
-    let written = to_der(alloc, bytes.as_slice())?;
-    Ok(written == der)
+fn becomes(alloc: Global, bytes: &str, der: &str) -> bool {
+    match (hex::decode(alloc, bytes), hex::decode(alloc, der)) {
+        (Ok(bytes), Ok(der)) => to_der(alloc, bytes.as_slice()).is_ok_and(|written| written == der),
+        _ => false,
+    }
 }
 
-/// The number and the offset of the fault of the bytes. They are 0 if there is none.
-fn fault(alloc: Global, bytes: &str) -> Result<(u8, usize), Fail> {
-    let bytes = hex::decode(alloc, bytes)?;
+fn expect_der<R: Abort>(rt: &R, alloc: Global, rows: &[(&str, &str)]) {
+    for (bytes, der) in rows {
+        assert!(rt; becomes(alloc, bytes, der));
+    }
+}
+
+/// Whether this is the number and the offset of the fault of the bytes.
+fn is_fault(alloc: Global, bytes: &str, number: u8, offset: usize) -> bool {
+    let Ok(bytes) = hex::decode(alloc, bytes) else {
+        return false;
+    };
     match to_der(alloc, bytes.as_slice()) {
-        Ok(_) => Ok((0, 0)),
-        Err(ObjectFault::At(fault)) => Ok((fault.kind.number(), fault.offset)),
-        Err(ObjectFault::Memory) => Err(Fail::from("out of memory")),
+        Err(ObjectFault::At(fault)) => fault.kind.number() == number && fault.offset == offset,
+        _ => false,
+    }
+}
+
+fn expect_faults<R: Abort>(rt: &R, alloc: Global, rows: &[(&str, u8, usize)]) {
+    for (bytes, number, offset) in rows {
+        assert!(rt; is_fault(alloc, bytes, *number, *offset));
     }
 }
 
 #[test]
-fn lengths_become_short(rt: HostRuntime) -> Result<(), Fail> {
-    for (bytes, der) in LENGTHS.iter() {
-        assert!(rt; becomes(rt.alloc(), bytes, der)?);
-    }
-    Ok(())
+fn elements_become_der(rt: HostRuntime) {
+    expect_der(&rt, rt.alloc(), LENGTHS);
+    expect_der(&rt, rt.alloc(), STRINGS);
 }
 
 #[test]
-fn pieces_are_joined(rt: HostRuntime) -> Result<(), Fail> {
-    for (bytes, der) in STRINGS.iter() {
-        assert!(rt; becomes(rt.alloc(), bytes, der)?);
+fn elements_are_refused(rt: HostRuntime) {
+    expect_faults(&rt, rt.alloc(), FAULTS);
+    expect_faults(&rt, rt.alloc(), MORE_FAULTS);
+}
+
+/// The object with its outermost length left out, and the end of its contents behind it.
+fn in_ber(alloc: Global, der: &[u8]) -> Option<Vec<u8>> {
+    let Ok(mut bytes) = Vec::from_slice(alloc, &[0x30u8, 0x80]) else {
+        return None;
+    };
+    let content = der.get(4..).unwrap_or(&[]);
+    if bytes.extend_from_slice(content).is_err() || bytes.extend_from_slice(&[0, 0]).is_err() {
+        return None;
     }
-    Ok(())
+    Some(bytes)
+}
+
+/// Whether an object is read of these bytes in BER as of those in DER.
+fn is_read(alloc: Global, bytes: &[u8], der: &[u8]) -> bool {
+    match (
+        read_signed_object(alloc, bytes),
+        read_signed_object(alloc, der),
+    ) {
+        (Ok(object), Ok(in_der)) => {
+            in_der.is_der
+                && !object.is_der
+                && object.content == in_der.content
+                && object.as_object().certificate.len() == 698
+        }
+        _ => false,
+    }
+}
+
+/// Whether that is so of an object in DER, and of the same in BER.
+fn is_read_in_both(alloc: Global, der: &[u8]) -> bool {
+    match in_ber(alloc, der) {
+        Some(bytes) => is_read(alloc, bytes.as_slice(), der),
+        None => false,
+    }
 }
 
 #[test]
-fn elements_are_refused(rt: HostRuntime) -> Result<(), Fail> {
-    for (bytes, number, offset) in FAULTS.iter() {
-        assert!(rt; fault(rt.alloc(), bytes)? == (*number, *offset));
+fn an_object_in_ber_is_read(rt: HostRuntime) {
+    match hex::decode(rt.alloc(), ROA) {
+        Ok(der) => assert!(rt; is_read_in_both(rt.alloc(), der.as_slice())),
+        Err(_) => assert!(rt; false),
     }
-    Ok(())
-}
-
-#[test]
-fn lengths_and_levels_are_refused(rt: HostRuntime) -> Result<(), Fail> {
-    for (bytes, number, offset) in MORE_FAULTS.iter() {
-        assert!(rt; fault(rt.alloc(), bytes)? == (*number, *offset));
-    }
-    Ok(())
-}
-
-#[test]
-fn an_object_in_ber_is_read(rt: HostRuntime) -> Result<(), Fail> {
-    let der = hex::decode(rt.alloc(), ROA)?;
-    let in_der = read_signed_object(rt.alloc(), der.as_slice())?;
-    assert!(rt; in_der.is_der);
-    let mut bytes = vec![in rt.alloc(); 0x30u8, 0x80]?;
-    if let Some(content) = der.get(4..) {
-        bytes.extend_from_slice(content)?;
-    }
-    bytes.extend_from_slice(&[0, 0])?;
-    let object = read_signed_object(rt.alloc(), bytes.as_slice())?;
-    assert!(rt; !object.is_der);
-    assert!(rt; object.content == in_der.content);
-    assert!(rt; object.as_object().certificate.len() == 698);
-    Ok(())
 }

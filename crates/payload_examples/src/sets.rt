@@ -1,8 +1,8 @@
-use example_values::sets::{Row, Rows, V, W, payload, record, set_in, set_of};
+//! Sets of records, and changes between them.
+use example_values::sets::{Row, Rows, V, W, record, set_in};
 use prefixes::Vrp;
 use std::alloc::Global;
 use std::process::Abort;
-use std::test::Fail;
 use vrps::{
     Change, Gathered, PathFault, Segment, SegmentKind, Serial, SetFault, VrpSet, origin_of_path,
 };
@@ -27,14 +27,16 @@ pub(crate) fn is_change(alloc: Global, change: &Change, withdraw: Rows, announce
 }
 
 /// Whether a set has these records in this order.
-fn ascends(set: &VrpSet, rows: &[Row]) -> Result<bool, Fail> {
+fn ascends(set: &VrpSet, rows: &[Row]) -> bool {
     for (vrp, &(text, max_len, asn)) in set.iter().zip(rows) {
-        if *vrp != payload(text, max_len, asn)? || !set.contains(vrp) {
-            return Ok(false);
+        if record(text, max_len, asn) != Some(*vrp) || !set.contains(vrp) {
+            return false;
         }
     }
-    let other = payload("10.0.0.0/8", 9, 1)?;
-    Ok(set.len() == rows.len() && !set.is_empty() && !set.contains(&other))
+    match record("10.0.0.0/8", 9, 1) {
+        Some(other) => set.len() == rows.len() && !set.is_empty() && !set.contains(&other),
+        None => false,
+    }
 }
 
 /// Whether a `for` over a set yields the members in their order.
@@ -61,33 +63,44 @@ fn is_duplicated(set: &VrpSet) -> bool {
         && VrpSet::try_from(second.into_list()).is_ok_and(|it| it.is_same(set))
 }
 
-#[test]
-fn sets_ascend(rt: HostRuntime) -> Result<(), Fail> {
-    let rows = [
-        ("2001:db8::/32", 48, 1),
-        ("10.0.0.0/8", 8, 2),
-        ("192.0.2.0/24", 24, 1),
-        ("10.0.0.0/8", 8, 1),
-        ("10.0.0.0/8", 8, 2),
-        ("10.0.0.0/9", 9, 1),
-        ("2001:db8::/32", 48, 1),
-    ];
-    let ascending = [
-        ("10.0.0.0/8", 8, 1),
-        ("10.0.0.0/8", 8, 2),
-        ("10.0.0.0/9", 9, 1),
-        ("192.0.2.0/24", 24, 1),
-        ("2001:db8::/32", 48, 1),
-    ];
-    let set = set_of(rt.alloc(), &rows)?;
-    assert!(rt; ascends(&set, &ascending)?);
-    assert!(rt; is_walked(&set) && is_duplicated(&set));
-    assert!(rt; VrpSet::empty(rt.alloc()).is_empty());
-    Ok(())
+/// Records as they come, and the set of them.
+const COME: Rows = &[
+    ("2001:db8::/32", 48, 1),
+    ("10.0.0.0/8", 8, 2),
+    ("192.0.2.0/24", 24, 1),
+    ("10.0.0.0/8", 8, 1),
+    ("10.0.0.0/8", 8, 2),
+    ("10.0.0.0/9", 9, 1),
+    ("2001:db8::/32", 48, 1),
+];
+
+const ASCENDING: Rows = &[
+    ("10.0.0.0/8", 8, 1),
+    ("10.0.0.0/8", 8, 2),
+    ("10.0.0.0/9", 9, 1),
+    ("192.0.2.0/24", 24, 1),
+    ("2001:db8::/32", 48, 1),
+];
+
+/// Whether rows make the set of these.
+fn are_sorted(alloc: Global, rows: &[Row], ascending: &[Row]) -> bool {
+    match set_in(alloc, rows) {
+        Some(set) => ascends(&set, ascending) && is_walked(&set) && is_duplicated(&set),
+        None => false,
+    }
 }
 
+#[test]
+fn sets_ascend(rt: HostRuntime) {
+    assert!(rt; are_sorted(rt.alloc(), COME, ASCENDING));
+    assert!(rt; VrpSet::empty(rt.alloc()).is_empty());
+}
+
+/// Four lists of rows.
+type Four = (Rows, Rows, Rows, Rows);
+
 /// A set, another one, and what is withdrawn and announced between them.
-const BETWEEN: &[(Rows, Rows, Rows, Rows)] = &[
+const BETWEEN: &[Four] = &[
     (&[], &[], &[], &[]),
     (&[], &[V, W], &[], &[V, W]),
     (&[V, W], &[], &[V, W], &[]),
@@ -119,7 +132,7 @@ fn leads(alloc: Global, change: &Change, old: Rows, new: Rows) -> bool {
 }
 
 /// Whether the change between two sets is this, and leads from the one to the other.
-fn is_between(alloc: Global, &(old, new, withdraw, announce): &(Rows, Rows, Rows, Rows)) -> bool {
+fn is_between(alloc: Global, &(old, new, withdraw, announce): &Four) -> bool {
     match between(alloc, old, new) {
         Some(change) => {
             is_change(alloc, &change, withdraw, announce) && leads(alloc, &change, old, new)
@@ -128,15 +141,19 @@ fn is_between(alloc: Global, &(old, new, withdraw, announce): &(Rows, Rows, Rows
     }
 }
 
-#[test]
-fn changes_lead_from_set_to_set(rt: HostRuntime) {
-    for row in BETWEEN {
-        assert!(rt; is_between(rt.alloc(), row));
+fn expect_between<R: Abort>(rt: &R, alloc: Global, rows: &[Four]) {
+    for row in rows {
+        assert!(rt; is_between(alloc, row));
     }
 }
 
+#[test]
+fn changes_lead_from_set_to_set(rt: HostRuntime) {
+    expect_between(&rt, rt.alloc(), BETWEEN);
+}
+
 /// A set, what is withdrawn and announced, and the set to which that leads.
-const APPLIED: &[(Rows, Rows, Rows, Rows)] = &[
+const APPLIED: &[Four] = &[
     (&[], &[V], &[W], &[W]),
     (&[V, W], &[X], &[Y], &[V, W, Y]),
     (&[W], &[], &[W], &[W]),
@@ -146,18 +163,22 @@ const APPLIED: &[(Rows, Rows, Rows, Rows)] = &[
 ];
 
 /// Whether a change of these sets leads from this set to that.
-fn applies(alloc: Global, &(old, withdraw, announce, new): &(Rows, Rows, Rows, Rows)) -> bool {
+fn applies(alloc: Global, &(old, withdraw, announce, new): &Four) -> bool {
     let (Some(withdraw), Some(announce)) = (set_in(alloc, withdraw), set_in(alloc, announce)) else {
         return false;
     };
     leads(alloc, &Change { withdraw, announce }, old, new)
 }
 
+fn expect_applied<R: Abort>(rt: &R, alloc: Global, rows: &[Four]) {
+    for row in rows {
+        assert!(rt; applies(alloc, row));
+    }
+}
+
 #[test]
 fn changes_apply_to_any_set(rt: HostRuntime) {
-    for row in APPLIED {
-        assert!(rt; applies(rt.alloc(), row));
-    }
+    expect_applied(&rt, rt.alloc(), APPLIED);
 }
 
 #[test]
@@ -169,60 +190,83 @@ fn faults_are_numbered(rt: HostRuntime) {
 
 #[test]
 fn serials_go_round(rt: HostRuntime) {
-    for (earlier, later, want) in [
-        (5, 2147483652, true),
-        (5, 2147483653, false),
-        (5, 5, false),
-        (4294967295, 0, true),
-    ] {
-        assert!(rt; Serial(earlier).is_before(Serial(later)) == want);
+    assert!(rt; Serial(5).is_before(Serial(2147483652)));
+    assert!(rt; !Serial(5).is_before(Serial(2147483653)));
+    assert!(rt; !Serial(5).is_before(Serial(5)));
+    assert!(rt; Serial(4294967295).is_before(Serial(0)));
+}
+
+/// The segments of a path, and the origin that it has at a router of AS 64500.
+type Path = (
+    &'static [(SegmentKind, &'static [u32])],
+    Result<Option<u32>, PathFault>,
+);
+
+const PATHS: &[Path] = &[
+    (&[], Ok(Some(64500))),
+    (&[(SegmentKind::Sequence, &[1, 2, 3])], Ok(Some(3))),
+    (
+        &[(SegmentKind::Sequence, &[1]), (SegmentKind::Set, &[2, 3])],
+        Ok(None),
+    ),
+    (
+        &[(SegmentKind::Set, &[2]), (SegmentKind::Sequence, &[])],
+        Err(PathFault::EmptySequence),
+    ),
+    (
+        &[(SegmentKind::Sequence, &[]), (SegmentKind::ConfedSet, &[7])],
+        Ok(Some(64500)),
+    ),
+    (
+        &[
+            (SegmentKind::Sequence, &[1]),
+            (SegmentKind::ConfedSequence, &[65001, 65002]),
+        ],
+        Ok(Some(64500)),
+    ),
+    (
+        &[
+            (SegmentKind::ConfedSequence, &[65001]),
+            (SegmentKind::Sequence, &[1, 2]),
+        ],
+        Ok(Some(2)),
+    ),
+    (&[(SegmentKind::Set, &[2])], Ok(None)),
+    (&[(SegmentKind::Set, &[])], Ok(None)),
+    (&[(SegmentKind::Sequence, &[0])], Ok(Some(0))),
+];
+
+/// The segments of a path.
+fn segments_of(alloc: Global, path: &[(SegmentKind, &[u32])]) -> Option<Vec<Segment>> {
+    let mut segments = Vec::new(alloc);
+    for &(kind, numbers) in path {
+        let Ok(numbers) = numbers.to_vec(alloc) else {
+            return None;
+        };
+        if segments.push(Segment { kind, numbers }).is_err() {
+            return None;
+        }
+    }
+    Some(segments)
+}
+
+/// Whether a path has its origin.
+fn is_origin(alloc: Global, (path, want): &Path) -> bool {
+    match segments_of(alloc, path) {
+        Some(segments) => origin_of_path(segments.as_slice(), 64500) == *want,
+        None => false,
+    }
+}
+
+fn expect_origins<R: Abort>(rt: &R, alloc: Global, paths: &[Path]) {
+    for path in paths {
+        assert!(rt; is_origin(alloc, path));
     }
 }
 
 #[test]
-fn the_final_segment_tells_the_origin(rt: HostRuntime) -> Result<(), Fail> {
-    let cases: [(&[(SegmentKind, &[u32])], Result<Option<u32>, PathFault>); 10] = [
-        (&[], Ok(Some(64500))),
-        (&[(SegmentKind::Sequence, &[1, 2, 3])], Ok(Some(3))),
-        (
-            &[(SegmentKind::Sequence, &[1]), (SegmentKind::Set, &[2, 3])],
-            Ok(None),
-        ),
-        (
-            &[(SegmentKind::Set, &[2]), (SegmentKind::Sequence, &[])],
-            Err(PathFault::EmptySequence),
-        ),
-        (
-            &[(SegmentKind::Sequence, &[]), (SegmentKind::ConfedSet, &[7])],
-            Ok(Some(64500)),
-        ),
-        (
-            &[
-                (SegmentKind::Sequence, &[1]),
-                (SegmentKind::ConfedSequence, &[65001, 65002]),
-            ],
-            Ok(Some(64500)),
-        ),
-        (
-            &[
-                (SegmentKind::ConfedSequence, &[65001]),
-                (SegmentKind::Sequence, &[1, 2]),
-            ],
-            Ok(Some(2)),
-        ),
-        (&[(SegmentKind::Set, &[2])], Ok(None)),
-        (&[(SegmentKind::Set, &[])], Ok(None)),
-        (&[(SegmentKind::Sequence, &[0])], Ok(Some(0))),
-    ];
-    for (index, (path, want)) in cases.iter().enumerate() {
-        let mut segments = Vec::new(rt.alloc());
-        for &(kind, numbers) in *path {
-            let numbers = numbers.to_vec(rt.alloc())?;
-            segments.push(Segment { kind, numbers })?;
-        }
-        assert!(rt; origin_of_path(segments.as_slice(), 64500) == *want);
-    }
-    Ok(())
+fn the_final_segment_tells_the_origin(rt: HostRuntime) {
+    expect_origins(&rt, rt.alloc(), PATHS);
 }
 
 /// Two lists of rows, and whether they make the same set.
@@ -249,11 +293,15 @@ fn is_empty_set(alloc: Global) -> bool {
     }
 }
 
+fn expect_same<R: Abort>(rt: &R, alloc: Global, lists: &[(Rows, Rows, bool)]) {
+    for &(rows, others, want) in lists {
+        assert!(rt; is_same(alloc, rows, others) == Some(want));
+    }
+}
+
 #[test]
 fn equal_sets_are_same(rt: HostRuntime) {
-    for &(rows, others, want) in SAME {
-        assert!(rt; is_same(rt.alloc(), rows, others) == Some(want));
-    }
+    expect_same(&rt, rt.alloc(), SAME);
     assert!(rt; is_empty_set(rt.alloc()));
 }
 
@@ -312,9 +360,13 @@ fn gathers(alloc: Global, rows: &[(Row, bool)]) -> bool {
     all_come(&mut gathered, &mut list, rows) && is_same_set(alloc, gathered, list)
 }
 
+fn expect_gathered<R: Abort>(rt: &R, alloc: Global, lists: &[&[(Row, bool)]]) {
+    for rows in lists {
+        assert!(rt; gathers(alloc, rows));
+    }
+}
+
 #[test]
 fn gathered_records_make_a_set(rt: HostRuntime) {
-    for rows in GATHERED {
-        assert!(rt; gathers(rt.alloc(), rows));
-    }
+    expect_gathered(&rt, rt.alloc(), GATHERED);
 }
