@@ -1,91 +1,71 @@
+//! PDUs that are cut, faulty, or read and written call by call. What a file of PDUs says is a row of the command `units`.
 use arrayvec::ArrayVec;
 use example_values::hex::bytes;
 use example_values::sets::payload;
 use example_values::units as wire;
 use rtr_pdu::{
-    Counted, Next, ReadFault, Unit, UnitFault, UnitReader, Version, encode, encode_as, read_all,
-    read_unit, write_unit,
+    Counted, Next, ReadFault, Unit, UnitFault, UnitReader, Version, encode_as, read_all, read_unit,
+    write_unit,
 };
-use std::alloc::{AllocError, Global};
+use std::alloc::Global;
 use std::io;
 use std::io::{Read, Write};
 use std::process::Abort;
 use std::test::Fail;
 
-const SERIAL_NOTIFY: [u8; 12] = [
-    0x01, 0x00, 0x12, 0x34, 0x00, 0x00, 0x00, 0x0c, 0x00, 0x00, 0x00, 0x05,
-];
-
-/// A Cache Response, an announcement of 192.0.2.0/24 up to 24 of AS 64496, and End of Data.
-const ANSWER: [u8; 52] = [
-    0x01, 0x03, 0x12, 0x34, 0x00, 0x00, 0x00, 0x08, 0x01, 0x04, 0x00, 0x00, 0x00, 0x00, 0x00, 0x14,
-    0x01, 0x18, 0x18, 0x00, 0xc0, 0x00, 0x02, 0x00, 0x00, 0x00, 0xfb, 0xf0, 0x01, 0x07, 0x12, 0x34,
-    0x00, 0x00, 0x00, 0x18, 0x00, 0x00, 0x00, 0x05, 0x00, 0x00, 0x0e, 0x10, 0x00, 0x00, 0x02, 0x58,
-    0x00, 0x00, 0x1c, 0x20,
-];
-
-/// An announcement of 2001:db8::/32 up to 48 of AS 64496.
-const ANNOUNCEMENT: [u8; 32] = [
-    0x01, 0x06, 0x00, 0x00, 0x00, 0x00, 0x00, 0x20, 0x01, 0x20, 0x30, 0x00, 0x20, 0x01, 0x0d, 0xb8,
-    0x00, 0x00, 0x00, 0x00, 0x00, 0x00, 0x00, 0x00, 0x00, 0x00, 0x00, 0x00, 0x00, 0x00, 0xfb, 0xf0,
-];
-
-/// The bytes of those of these PDUs that there are in this version.
-fn written(alloc: Global, version: Version, units: &[Unit]) -> Result<Vec<u8>, AllocError> {
-    let mut bytes = Vec::new(alloc);
+/// Whether these PDUs of this version are written as these bytes.
+fn are_written(version: Version, units: &[Unit], bytes: &[u8]) -> bool {
     let mut buffer = ArrayVec::new();
+    let mut rest = bytes;
     for unit in units {
-        if unit.fits(version) {
-            encode_as(version, unit, &mut buffer);
-            bytes.extend_from_slice(buffer.as_slice())?;
+        if !unit.fits(version) {
+            return false;
+        }
+        encode_as(version, unit, &mut buffer);
+        if !rest.starts_with(buffer.as_slice()) {
+            return false;
+        }
+        let Some(left) = rest.get(buffer.len()..) else {
+            return false;
+        };
+        rest = left;
+    }
+    rest.is_empty()
+}
+
+/// Bytes in pieces of this many.
+fn pieces_of(alloc: Global, bytes: &[u8], size: usize) -> Option<Vec<Vec<u8>>> {
+    let mut pieces = Vec::new(alloc);
+    for part in bytes.chunks(size.max(1)) {
+        let Ok(piece) = part.to_vec(alloc) else {
+            return None;
+        };
+        if pieces.push(piece).is_err() {
+            return None;
         }
     }
-    Ok(bytes)
+    Some(pieces)
 }
 
 /// Whether PDUs of this version are read from these pieces that are written as these bytes.
-fn are_read(
-    alloc: Global,
-    version: Version,
-    pieces: &[Vec<u8>],
-    bytes: &[u8],
-) -> Result<bool, AllocError> {
-    let (units, fault) = read_all(alloc, None, pieces)?;
-    let again = written(alloc, version, units.as_slice())?;
-    Ok(fault.is_none() && again.as_slice() == bytes)
+fn are_read(alloc: Global, version: Version, pieces: &[Vec<u8>], bytes: &[u8]) -> bool {
+    let Ok((units, fault)) = read_all(alloc, None, pieces) else {
+        return false;
+    };
+    fault.is_none() && are_written(version, units.as_slice(), bytes)
 }
 
-/// Whether they come back from these bytes, cut at this place.
-fn comes_back(
-    alloc: Global,
-    version: Version,
-    bytes: &[u8],
-    cut: usize,
-) -> Result<bool, AllocError> {
-    let (first, second) = bytes.split_at(cut.min(bytes.len()));
-    let mut pieces = Vec::new(alloc);
-    pieces.push(first.to_vec(alloc)?)?;
-    pieces.push(second.to_vec(alloc)?)?;
-    are_read(alloc, version, pieces.as_slice(), bytes)
-}
-
-/// The same for the bytes one by one.
-fn comes_back_by_bytes(alloc: Global, version: Version, bytes: &[u8]) -> Result<bool, AllocError> {
-    let mut pieces = Vec::new(alloc);
-    for byte in bytes {
-        pieces.push([*byte].to_vec(alloc)?)?;
-    }
-    are_read(alloc, version, pieces.as_slice(), bytes)
-}
-
-/// Whether they come back in every cutting into two pieces, and byte by byte.
-fn always_comes_back(alloc: Global, version: Version, bytes: &[u8]) -> Result<bool, AllocError> {
-    for cut in 0..bytes.len() {
-        if !comes_back(alloc, version, bytes, cut)? {
-            return Ok(false);
+/// Whether PDUs of this version come back from these bytes in pieces of every size.
+fn come_back(alloc: Global, version: Version, bytes: &[u8]) -> bool {
+    for size in 1..=bytes.len() {
+        let Some(pieces) = pieces_of(alloc, bytes, size) else {
+            return false;
+        };
+        if !are_read(alloc, version, pieces.as_slice(), bytes) {
+            return false;
         }
     }
-    comes_back_by_bytes(alloc, version, bytes)
+    true
 }
 
 /// The fault of the first PDU, how many bytes are held then, and how many are left: at a router of this version, or at the cache.
@@ -114,6 +94,11 @@ const CUT: &[(Version, &str)] = &[
         "01 06 0000 00000020 01 20 30 00 20010db8 00000000 00000000 00000000 0000fbf0",
     ),
     (Version::V1, wire::CACHE_RESET),
+    // A Router Key with four bytes of its key.
+    (
+        Version::V1,
+        "01 09 0100 00000024 0102030405060708090a0b0c0d0e0f1011121314 0000fbf0 01020304",
+    ),
     // No Data Available, with the Reset Query that it answers.
     (
         Version::V1,
@@ -138,45 +123,15 @@ const CUT: &[(Version, &str)] = &[
     ),
 ];
 
-fn expect_cut<R: Abort>(rt: &R, alloc: Global, rows: &[(Version, &str)]) -> Result<(), AllocError> {
+fn expect_cut<R: Abort>(rt: &R, alloc: Global, rows: &[(Version, &str)]) {
     for &(version, text) in rows {
-        assert!(rt; always_comes_back(alloc, version, bytes(text).as_slice())?);
+        assert!(rt; come_back(alloc, version, bytes(text).as_slice()));
     }
-    Ok(())
 }
 
 #[test]
-fn units_in_every_cutting(rt: HostRuntime) -> Result<(), Fail> {
-    Ok(expect_cut(&rt, rt.alloc(), CUT)?)
-}
-
-/// A PDU of 4,096 bytes with this head, and sevens after it.
-fn longest(alloc: Global, head: &str) -> Result<Vec<u8>, AllocError> {
-    let mut unit = bytes(head).as_slice().to_vec(alloc)?;
-    for _seven in 16..4096u32 {
-        unit.push(7)?;
-    }
-    Ok(unit)
-}
-
-/// Whether it comes back, cut at its ends and around its header.
-fn longest_comes_back(alloc: Global, head: &str) -> Result<bool, AllocError> {
-    let unit = longest(alloc, head)?;
-    for cut in [0, 7, 8, 9, 4095, 4096usize] {
-        if !comes_back(alloc, Version::V1, unit.as_slice(), cut)? {
-            return Ok(false);
-        }
-    }
-    Ok(true)
-}
-
-#[test]
-fn longest_units(rt: HostRuntime) -> Result<(), Fail> {
-    let key = "01 09 0100 00001000 0707070707070707";
-    assert!(rt; longest_comes_back(rt.alloc(), key)?);
-    let report = "01 0a 0000 00001000 00000000 00000ff0";
-    assert!(rt; longest_comes_back(rt.alloc(), report)?);
-    Ok(())
+fn units_in_every_cutting(rt: HostRuntime) {
+    expect_cut(&rt, rt.alloc(), CUT);
 }
 
 /// A router's version, or none for a cache. What comes, the fault of its first PDU, how many bytes are held then, and how many are left.
@@ -258,19 +213,6 @@ fn faults(rt: HostRuntime) {
 }
 
 #[test]
-fn reserved_bits(rt: HostRuntime) -> Result<(), Fail> {
-    let mut unit = ANNOUNCEMENT;
-    unit[2] = 0xff;
-    unit[8] = 0x81;
-    unit[11] = 0xff;
-    let mut pieces = Vec::new(rt.alloc());
-    pieces.push(unit.as_slice().to_vec(rt.alloc())?)?;
-    let is_same = are_read(rt.alloc(), Version::V1, pieces.as_slice(), &ANNOUNCEMENT)?;
-    assert!(rt; is_same);
-    Ok(())
-}
-
-#[test]
 fn a_fault_is_answered_again(rt: HostRuntime) {
     let mut reader = UnitReader::for_cache();
     let bytes = [0x02, 0x00, 0x12, 0x34, 0x00, 0x00, 0x00, 0x0c, 0x00];
@@ -282,48 +224,43 @@ fn a_fault_is_answered_again(rt: HostRuntime) {
     assert!(rt; reader.end_of_input() == Some(UnitFault::Version));
 }
 
-#[test]
-fn agreement_within_a_unit(rt: HostRuntime) {
-    let mut notify = SERIAL_NOTIFY;
-    notify[0] = 2;
-    let mut reader = UnitReader::for_router(Version::V1);
-    let (mut front, mut back) = notify.as_slice().split_at(9);
-    assert!(rt; matches!(reader.next(&mut front), Next::NeedMore));
-    reader.agreed();
-    let read = reader.next(&mut back);
-    let is_notify = matches!(
-        read,
+/// Whether this is a Serial Notify of session 0x1234, serial 5.
+fn is_notify(next: Next) -> bool {
+    matches!(
+        next,
         Next::Unit(Unit::SerialNotify {
             session: 0x1234,
             serial: 5
         })
-    );
-    assert!(rt; is_notify);
-    let mut again = notify.as_slice();
-    assert!(rt; matches!(reader.next(&mut again), Next::Fault(UnitFault::Version)));
+    )
 }
 
-/// Agreement is notified when this many bytes of a notify of another version have come. It counts for this PDU if its header has not come
-/// whole, and for the PDUs after it in every case.
+/// Whether the version of this PDU is refused.
+fn is_refused(reader: &mut UnitReader, unit: &[u8]) -> bool {
+    let mut piece = unit;
+    matches!(reader.next(&mut piece), Next::Fault(UnitFault::Version))
+}
+
+/// Whether agreement counts for a notify of another version if its header has not come whole, and for the PDUs after it in every case. It
+/// is notified when this many bytes of the notify have come.
+fn agrees_at(notify: &[u8], cut: usize) -> bool {
+    let mut reader = UnitReader::for_router(Version::V1);
+    let (mut front, mut back) = notify.split_at(cut.min(notify.len()));
+    if !matches!(reader.next(&mut front), Next::NeedMore) || reader.held().len() != cut {
+        return false;
+    }
+    reader.agreed();
+    if cut < 8 {
+        return is_refused(&mut reader, back) && reader.held().len() == 8;
+    }
+    is_notify(reader.next(&mut back)) && is_refused(&mut reader, notify)
+}
+
 #[test]
 fn agreement_at_each_byte(rt: HostRuntime) {
-    let mut notify = SERIAL_NOTIFY;
-    notify[0] = 2;
+    let notify = bytes("02 00 1234 0000000c 00000005");
     for cut in 0..12usize {
-        let mut reader = UnitReader::for_router(Version::V1);
-        let (mut front, mut back) = notify.as_slice().split_at(cut);
-        assert!(rt; matches!(reader.next(&mut front), Next::NeedMore));
-        assert!(rt; reader.held().len() == cut);
-        reader.agreed();
-        let read = reader.next(&mut back);
-        if cut < 8 {
-            assert!(rt; matches!(read, Next::Fault(UnitFault::Version)));
-            assert!(rt; reader.held().len() == 8);
-        } else {
-            assert!(rt; matches!(read, Next::Unit(Unit::SerialNotify { .. })));
-            let mut again = notify.as_slice();
-            assert!(rt; matches!(reader.next(&mut again), Next::Fault(UnitFault::Version)));
-        }
+        assert!(rt; agrees_at(notify.as_slice(), cut));
     }
 }
 
@@ -332,7 +269,6 @@ fn agreement_at_each_byte(rt: HostRuntime) {
 struct Narrow {
     taken: Vec<u8>,
     calls: u8,
-    is_flushed: bool,
 }
 
 impl Write for Narrow {
@@ -351,7 +287,6 @@ impl Write for Narrow {
     }
 
     fn flush(&mut self) -> io::Result<()> {
-        self.is_flushed = true;
         Ok(())
     }
 }
@@ -366,51 +301,17 @@ impl Read for Broken {
     }
 }
 
-/// The PDUs of a reader in memory, as bytes, to its end or to a fault.
-fn read_apart<R: Abort>(
-    rt: &R,
-    alloc: Global,
-    bytes: &[u8],
-) -> Result<(Vec<u8>, Option<ReadFault>), AllocError> {
-    let mut input = Counted::new(bytes);
-    let mut again = Vec::new(alloc);
-    let mut buffer = ArrayVec::new();
-    for _ in 0..9 {
-        match read_unit(&mut input) {
-            Ok(Some(unit)) => {
-                assert!(rt; unit.fits(Version::V1));
-                encode(&unit, &mut buffer);
-                again.extend_from_slice(buffer.as_slice())?;
-            }
-            Ok(None) => return Ok((again, None)),
-            Err(fault) => return Ok((again, Some(fault))),
-        }
-    }
-    Ok((again, None))
-}
-
-#[test]
-fn units_from_a_reader(rt: HostRuntime) -> Result<(), Fail> {
-    let (again, fault) = read_apart(&rt, rt.alloc(), &ANSWER)?;
-    assert!(rt; again.as_slice() == ANSWER.as_slice());
-    assert!(rt; fault == None);
-    let (front, fault) = read_apart(&rt, rt.alloc(), &ANSWER[..51])?;
-    assert!(rt; front.as_slice() == &ANSWER[..28]);
-    assert!(rt; fault == Some(ReadFault::Fault(UnitFault::Truncated)));
-    assert!(rt; ReadFault::Fault(UnitFault::Truncated).number() == 7);
-    Ok(())
-}
-
 #[test]
 fn one_unit_and_no_more(rt: HostRuntime) {
-    let mut input = Counted::new(ANSWER.as_slice());
+    let answer = bytes(wire::ANSWER);
+    let mut input = Counted::new(answer.as_slice());
     let first = read_unit(&mut input);
     assert!(rt; matches!(first, Ok(Some(Unit::CacheResponse { session: 0x1234 }))));
-    assert!(rt; *input.device() == &ANSWER[8..]);
+    assert!(rt; answer.as_slice().get(8..) == Some(*input.device()));
     assert!(rt; (input.calls(), input.failures()) == (1, 0));
     let second = read_unit(&mut input);
     assert!(rt; matches!(second, Ok(Some(Unit::Prefix { .. }))));
-    assert!(rt; *input.device() == &ANSWER[28..]);
+    assert!(rt; answer.as_slice().get(28..) == Some(*input.device()));
     assert!(rt; (input.calls(), input.failures()) == (3, 0));
 }
 
@@ -447,7 +348,6 @@ fn is_written(alloc: Global, unit: &Unit, calls: u8) -> bool {
     let mut out = Counted::new(Narrow {
         taken: Vec::new(alloc),
         calls,
-        is_flushed: false,
     });
     let written = write_unit(unit, &mut out);
     let all = bytes(wire::V);
@@ -477,16 +377,4 @@ fn a_writer_that_takes_nothing(rt: HostRuntime) {
     let mut full = Counted::new(ArrayVec::<u8, 0>::new());
     assert!(rt; write_unit(&Unit::ResetQuery, &mut full).is_err());
     assert!(rt; (full.calls(), full.failures()) == (1, 1));
-}
-
-#[test]
-fn a_flush_is_handed_on(rt: HostRuntime) {
-    let mut out = Counted::new(Narrow {
-        taken: Vec::new(rt.alloc()),
-        calls: 1,
-        is_flushed: false,
-    });
-    assert!(rt; out.flush().is_ok());
-    assert!(rt; out.device().is_flushed);
-    assert!(rt; out.failures() == 0);
 }

@@ -1,11 +1,12 @@
+//! The versions of PDUs. What a file of PDUs says is a row of the command `units`, and what is answered is one of `answer`.
 use arrayvec::ArrayVec;
 use example_values::hex::bytes;
 use example_values::sets::payload;
 use example_values::units as wire;
 use prefixes::Vrp;
 use rtr_pdu::{
-    Counted, ErrorReport, Kind, Next, ReadFault, RouterKey, Unit, UnitFault, UnitReader, Version,
-    encode_as, encode_prefix, read_all, read_unit_of,
+    Counted, Kind, Next, ReadFault, RouterKey, Unit, UnitFault, UnitReader, Version, encode_prefix,
+    read_all, read_unit_of,
 };
 use std::alloc::Global;
 use std::process::Abort;
@@ -18,29 +19,12 @@ const NOTIFY_1: &str = "01 00 0777 0000000c 00000005";
 
 const NOTIFY_2: &str = "02 00 0777 0000000c 00000005";
 
-const QUERY: &str = "00 01 0777 0000000c 00000005";
-
-const RESET_QUERY: &str = "00 02 0000 00000008";
-
 const RESPONSE: &str = "00 03 0777 00000008";
 
 /// 192.0.2.0/24 up to 24 of AS 64496, announced.
 const V: &str = "00 04 0000 00000014 01 18 18 00 c0000200 0000fbf0";
 
-/// 2001:db8::/32 up to 48 of AS 64496, withdrawn.
-const V6_WITHDRAWN: &str =
-    "00 06 0000 00000020 00 20 30 00 20010db8 00000000 00000000 00000000 0000fbf0";
-
 const END: &str = "00 07 0777 0000000c 00000005";
-
-const CACHE_RESET: &str = "00 08 0000 00000008";
-
-/// Code 0, Corrupt Data, to the Serial Query of another session.
-const REPORT: &str = "00 0a 0000 0000001c 0000000c 00 01 1234 0000000c 00000005 00000000";
-
-/// The PDUs of an answer.
-const ANSWER: &str =
-    "00 03 0777 00000008 | 00 04 0000 00000014 01 18 18 00 c0000200 0000fbf0 | 00 07 0777 0000000c 00000005";
 
 /// An End of Data of version 1.
 fn end_of_version_1() -> Unit {
@@ -57,89 +41,37 @@ fn router_key() -> Unit {
     Unit::RouterKey(RouterKey::new(true, [7; 20], 64496, &[1, 2]))
 }
 
-/// Whether a PDU of version 0 is written as these bytes.
-fn is_written(unit: &Unit, text: &str) -> bool {
-    let mut buffer = ArrayVec::new();
-    if !unit.fits(Version::V0) {
-        return false;
-    }
-    encode_as(Version::V0, unit, &mut buffer);
-    buffer.as_slice() == bytes(text).as_slice()
-}
-
-/// Whether an announcement of a payload, and a Reset Query, are written in each version.
-fn are_written_in_both(vrp: &Vrp) -> bool {
+/// Whether an announcement of a payload is written in each version.
+fn is_written_in_both(vrp: &Vrp) -> bool {
     let mut buffer = ArrayVec::new();
     encode_prefix(Version::V0, true, vrp, &mut buffer);
     let is_old = buffer.as_slice() == bytes(V).as_slice();
     encode_prefix(Version::V1, true, vrp, &mut buffer);
-    let is_new = buffer.as_slice() == bytes(wire::V).as_slice();
-    encode_as(Version::V1, &Unit::ResetQuery, &mut buffer);
-    is_old && is_new && buffer.as_slice() == bytes(wire::RESET_QUERY).as_slice()
-}
-
-/// Whether PDUs with a session or a serial are written.
-fn are_named() -> bool {
-    let (session, serial) = (0x777, 5);
-    is_written(&Unit::SerialNotify { session, serial }, NOTIFY)
-        && is_written(&Unit::SerialQuery { session, serial }, QUERY)
-        && is_written(&Unit::CacheResponse { session }, RESPONSE)
-        && is_written(&Unit::EndOfData0 { session, serial }, END)
-}
-
-/// Whether a record is written as these bytes.
-fn is_record(announce: bool, vrp: Vrp, text: &str) -> bool {
-    is_written(&Unit::Prefix { announce, vrp }, text)
+    is_old && buffer.as_slice() == bytes(wire::V).as_slice()
 }
 
 #[test]
-fn each_unit_is_written(rt: HostRuntime) -> Result<(), Fail> {
+fn records_are_written_in_both_versions(rt: HostRuntime) -> Result<(), Fail> {
     let v = payload("192.0.2.0/24", 24, 64496)?;
-    let v6 = payload("2001:db8::/32", 48, 64496)?;
-    let query = bytes("00 01 1234 0000000c 00000005");
-    assert!(rt; query.len() < 20);
-    assert!(rt; are_named());
-    assert!(rt; is_record(true, v, V) && is_record(false, v6, V6_WITHDRAWN));
-    assert!(rt; is_written(&Unit::ResetQuery, RESET_QUERY));
-    assert!(rt; is_written(&Unit::CacheReset, CACHE_RESET));
-    let report = Unit::ErrorReport(ErrorReport::new(0, query.as_slice(), ""));
-    assert!(rt; is_written(&report, REPORT));
-    assert!(rt; are_written_in_both(&v));
+    assert!(rt; is_written_in_both(&v));
     Ok(())
 }
 
+/// Whether a PDU is one of this version, and not of the other.
+fn is_of(version: Version, unit: &Unit) -> bool {
+    unit.fits(Version::V0) == (version == Version::V0)
+        && unit.fits(Version::V1) == (version == Version::V1)
+}
+
 #[test]
-fn units_that_fit_a_version(rt: HostRuntime) -> Result<(), Fail> {
-    let v = payload("192.0.2.0/24", 24, 64496)?;
-    for unit in [
-        Unit::SerialNotify {
-            session: 0,
-            serial: 0,
-        },
-        Unit::SerialQuery {
-            session: 0,
-            serial: 0,
-        },
-        Unit::ResetQuery,
-        Unit::CacheResponse { session: 0 },
-        Unit::Prefix {
-            announce: true,
-            vrp: v,
-        },
-        Unit::CacheReset,
-        Unit::ErrorReport(ErrorReport::new(0, &[], "")),
-    ] {
-        assert!(rt; unit.fits(Version::V0) && unit.fits(Version::V1));
-    }
-    for unit in [end_of_version_1(), router_key()] {
-        assert!(rt; !unit.fits(Version::V0) && unit.fits(Version::V1));
-    }
+fn units_of_one_version(rt: HostRuntime) {
     let end = Unit::EndOfData0 {
         session: 0,
         serial: 0,
     };
-    assert!(rt; end.fits(Version::V0) && !end.fits(Version::V1));
-    Ok(())
+    assert!(rt; is_of(Version::V0, &end));
+    assert!(rt; is_of(Version::V1, &end_of_version_1()));
+    assert!(rt; is_of(Version::V1, &router_key()));
 }
 
 #[test]
@@ -155,73 +87,34 @@ fn types_of_a_version(rt: HostRuntime) {
     assert!(rt; Version::first(&[2]) == new && Version::first(&[]) == new);
 }
 
-/// Checks how many PDUs a cache reads of these, which fault follows them, and the version that is reported then.
-fn expect_read<R: Abort>(
-    rt: &R,
-    text: &str,
-    units: usize,
-    fault: Option<UnitFault>,
-    version: Version,
-) {
-    let all = bytes(text);
-    let mut reader = UnitReader::for_cache();
-    let mut piece = all.as_slice();
-    for _ in 0..units {
-        assert!(rt; matches!(reader.next(&mut piece), Next::Unit(_)));
-    }
-    let found = match reader.next(&mut piece) {
-        Next::Fault(fault) => Some(fault),
-        _ => None,
-    };
-    assert!(rt; found == fault && piece.is_empty());
-    assert!(rt; reader.version() == Some(version));
+/// Whether a reader that has this many bytes of a PDU knows its version if its header has come. It then reads the next byte, which ends the
+/// PDU or does not.
+fn tells(reader: &mut UnitReader, at: usize, version: Version, byte: u8, ends: bool) -> bool {
+    let told = if at < 8 { None } else { Some(version) };
+    let one = [byte];
+    let mut piece = one.as_slice();
+    reader.held().len() == at
+        && reader.version() == told
+        && matches!(reader.next(&mut piece), Next::Unit(_)) == ends
 }
 
-#[test]
-fn the_first_header_tells_the_version_of_all(rt: HostRuntime) {
-    let fault = Some(UnitFault::Version);
-    let (old, new) = (Version::V0, Version::V1);
-    expect_read(&rt, ANSWER, 3, None, old);
-    expect_read(&rt, wire::ANSWER, 3, None, new);
-    expect_read(
-        &rt,
-        "00 02 0000 00000008 | 01 02 0000 00000008",
-        1,
-        fault,
-        old,
-    );
-    expect_read(
-        &rt,
-        "01 02 0000 00000008 | 00 02 0000 00000008",
-        1,
-        fault,
-        new,
-    );
-    expect_read(
-        &rt,
-        "00 02 0000 00000008 | 02 02 0000 00000008",
-        1,
-        fault,
-        old,
-    );
-    expect_read(&rt, "02 02 0000 00000008", 0, fault, new);
+/// Whether a cache's reader does so at each byte of a PDU, and knows the version after it.
+fn tells_once(text: &str, version: Version) -> bool {
+    let all = bytes(text);
+    let mut reader = UnitReader::for_cache();
+    for (at, byte) in all.as_slice().iter().enumerate() {
+        let ends = at.saturating_add(1) == all.len();
+        if !tells(&mut reader, at, version, *byte, ends) {
+            return false;
+        }
+    }
+    reader.held().is_empty() && reader.version() == Some(version)
 }
 
 #[test]
 fn a_version_is_told_once_a_header_has_come(rt: HostRuntime) {
-    for (text, version) in [(NOTIFY, Version::V0), (wire::END_5, Version::V1)] {
-        let all = bytes(text);
-        let mut reader = UnitReader::for_cache();
-        for (at, byte) in all.as_slice().iter().enumerate() {
-            let told = if at < 8 { None } else { Some(version) };
-            assert!(rt; reader.held().len() == at && reader.version() == told);
-            let one = [*byte];
-            let mut piece = one.as_slice();
-            let is_unit = matches!(reader.next(&mut piece), Next::Unit(_));
-            assert!(rt; is_unit == (at + 1 == all.len()));
-        }
-        assert!(rt; reader.held().is_empty() && reader.version() == Some(version));
-    }
+    assert!(rt; tells_once(NOTIFY, Version::V0));
+    assert!(rt; tells_once(wire::END_5, Version::V1));
     // Each other reader knows its version from the start.
     assert!(rt; UnitReader::of_version(Version::V0).version() == Some(Version::V0));
     assert!(rt; UnitReader::for_router(Version::V0).version() == Some(Version::V0));
@@ -248,50 +141,79 @@ fn is_refused(reader: &mut UnitReader, text: &str) -> bool {
     matches!(reader.next(&mut piece), Next::Fault(UnitFault::Version))
 }
 
+/// Whether a router of this version reads a notify, and keeps its version.
+fn is_read(reader: &mut UnitReader, version: Version, text: &str) -> bool {
+    is_notify(reader, text) && reader.version() == Some(version)
+}
+
+/// Whether a router of this version reads notifies of all versions before agreement, and then of its own alone.
+fn agrees(version: Version, same: &str, other: &str) -> bool {
+    let mut reader = UnitReader::for_router(version);
+    if !is_read(&mut reader, version, NOTIFY)
+        || !is_read(&mut reader, version, NOTIFY_1)
+        || !is_read(&mut reader, version, NOTIFY_2)
+    {
+        return false;
+    }
+    reader.agreed();
+    is_notify(&mut reader, same) && is_refused(&mut reader, other)
+}
+
 #[test]
 fn notifies_before_agreement(rt: HostRuntime) {
-    for (version, same, other) in [
-        (Version::V0, NOTIFY, NOTIFY_1),
-        (Version::V1, NOTIFY_1, NOTIFY),
-    ] {
-        let mut reader = UnitReader::for_router(version);
-        for text in [NOTIFY, NOTIFY_1, NOTIFY_2] {
-            assert!(rt; is_notify(&mut reader, text));
-            assert!(rt; reader.version() == Some(version));
-        }
-        reader.agreed();
-        assert!(rt; is_notify(&mut reader, same));
-        assert!(rt; is_refused(&mut reader, other));
-    }
+    assert!(rt; agrees(Version::V0, NOTIFY, NOTIFY_1));
+    assert!(rt; agrees(Version::V1, NOTIFY_1, NOTIFY));
 }
 
-/// How many PDUs a router of version 0 reads of these, and the fault behind them.
-fn read_by_router(alloc: Global, units: &[&str]) -> Result<(usize, Option<UnitFault>), Fail> {
+/// The list of these bytes.
+fn one_piece(alloc: Global, units: &[&str]) -> Option<Vec<Vec<u8>>> {
+    let Ok(piece) = wire::all_of(units).as_slice().to_vec(alloc) else {
+        return None;
+    };
     let mut pieces = Vec::new(alloc);
-    pieces.push(wire::all_of(units).as_slice().to_vec(alloc)?)?;
-    let (read, fault) = read_all(alloc, Some(Version::V0), pieces.as_slice())?;
-    Ok((read.len(), fault))
+    match pieces.push(piece) {
+        Ok(()) => Some(pieces),
+        Err(_) => None,
+    }
 }
 
-/// A router agrees at the first PDU that is no Serial Notify.
-#[test]
-fn a_router_agrees_at_the_first_other_unit(rt: HostRuntime) -> Result<(), Fail> {
-    for (units, count, fault) in [
-        ([NOTIFY_1, NOTIFY_2, NOTIFY, RESPONSE, NOTIFY], 5, None),
-        (
-            [NOTIFY_1, RESPONSE, NOTIFY, NOTIFY_1, END],
-            3,
-            Some(UnitFault::Version),
-        ),
-        (
-            [RESPONSE, V, NOTIFY_2, END, END],
-            2,
-            Some(UnitFault::Version),
-        ),
-    ] {
-        assert!(rt; read_by_router(rt.alloc(), &units)? == (count, fault));
+/// Whether a router of version 0 reads this many PDUs of these, and this fault follows them.
+fn reads(alloc: Global, units: &[&str], count: usize, fault: Option<UnitFault>) -> bool {
+    let Some(pieces) = one_piece(alloc, units) else {
+        return false;
+    };
+    match read_all(alloc, Some(Version::V0), pieces.as_slice()) {
+        Ok((read, found)) => read.len() == count && found == fault,
+        Err(_) => false,
     }
-    Ok(())
+}
+
+/// PDUs, how many a router of version 0 reads of them, and the fault after them. It agrees at the first PDU that is no Serial Notify.
+type Agreed = (&'static [&'static str], usize, Option<UnitFault>);
+
+const AGREED: &[Agreed] = &[
+    (&[NOTIFY_1, NOTIFY_2, NOTIFY, RESPONSE, NOTIFY], 5, None),
+    (
+        &[NOTIFY_1, RESPONSE, NOTIFY, NOTIFY_1, END],
+        3,
+        Some(UnitFault::Version),
+    ),
+    (
+        &[RESPONSE, V, NOTIFY_2, END, END],
+        2,
+        Some(UnitFault::Version),
+    ),
+];
+
+fn expect_agreed<R: Abort>(rt: &R, alloc: Global, rows: &[Agreed]) {
+    for &(units, count, fault) in rows {
+        assert!(rt; reads(alloc, units, count, fault));
+    }
+}
+
+#[test]
+fn a_router_agrees_at_the_first_other_unit(rt: HostRuntime) {
+    expect_agreed(&rt, rt.alloc(), AGREED);
 }
 
 #[test]
