@@ -3,13 +3,12 @@ ghost use Rattle.std.specs.Prelude.{◌∷◌, []};
 ghost use Rattle.rtr_server.specs.Streams.{Logged};
 ghost use Rattle.server_examples.specs.Told.{told};
 
-use crate::lines::{Line, Manner, PLAIN, cache_of, line, shared};
+use crate::lines::{Line, Manner, PLAIN, Shared, cache_of, line, shared};
 use example_values::hex::bytes;
 use example_values::sets::V;
 use example_values::units::RESET_QUERY;
 use rtr_server::{Call, Client, Progress, Server, Stream, Turn};
 use std::alloc::Global;
-use std::test::Fail;
 use vrps::VersionLog;
 
 /// A stream, its calls, and what they answered.
@@ -74,30 +73,52 @@ fn turns_well(server: &mut Watched, client: Client, budget: u32) -> bool {
 }
 
 /// A query on a line that accepts seven bytes at a call.
-fn slow_line(alloc: Global) -> Result<Kept<Line>, Fail> {
-    let out = shared(alloc, &[])?;
+fn slow_line(alloc: Global, out: &Shared) -> Option<Kept<Line>> {
     let slow = Manner { size: 7, ..PLAIN };
-    Ok(Kept {
-        stream: line(alloc, bytes(RESET_QUERY).as_slice(), slow, &out)?,
-        answers: Vec::new(alloc),
-        is_lost: false,
-    })
+    match line(alloc, bytes(RESET_QUERY).as_slice(), slow, out) {
+        Some(stream) => Some(Kept {
+            stream,
+            answers: Vec::new(alloc),
+            is_lost: false,
+        }),
+        None => None,
+    }
+}
+
+/// Whether the first turn of a client on this line goes well.
+fn is_turned(alloc: Global, stream: Kept<Line>, budget: u32) -> bool {
+    let Some(cache) = cache_of(alloc, &[V]) else {
+        return false;
+    };
+    let mut server = Server::new(alloc, cache, 1);
+    match server.admit(stream) {
+        Ok(client) => turns_well(&mut server, client, budget),
+        Err(_) => false,
+    }
 }
 
 /// Whether the first turn of a client goes well.
-fn is_bounded(alloc: Global, budget: u32) -> Result<bool, Fail> {
-    let stream = slow_line(alloc)?;
-    let mut server = Server::new(alloc, cache_of(alloc, &[V])?, 1);
-    match server.admit(stream) {
-        Err(_) => Err(Fail::from("not admitted")),
-        Ok(client) => Ok(turns_well(&mut server, client, budget)),
+fn is_bounded(alloc: Global, out: &Shared, budget: u32) -> bool {
+    match slow_line(alloc, out) {
+        Some(stream) => is_turned(alloc, stream, budget),
+        None => false,
     }
 }
 
-#[test]
-fn a_turn_makes_as_many_calls_as_it_may(rt: HostRuntime) -> Result<(), Fail> {
+/// Whether it does so with each number of calls.
+fn are_bounded(alloc: Global) -> bool {
+    let Some(out) = shared(alloc, &[]) else {
+        return false;
+    };
     for budget in 0..16 {
-        assert!(rt; is_bounded(rt.alloc(), budget)?);
+        if !is_bounded(alloc, &out, budget) {
+            return false;
+        }
     }
-    Ok(())
+    true
+}
+
+#[test]
+fn a_turn_makes_as_many_calls_as_it_may(rt: HostRuntime) {
+    assert!(rt; are_bounded(rt.alloc()));
 }

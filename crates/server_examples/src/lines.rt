@@ -1,14 +1,13 @@
 //! Lines over memory: what comes from a router, and what went to it.
-use example_values::sets::set_of;
+use example_values::sets::{Row, set_in};
 use rtr_ends::{Cache, Timing};
-use rtr_server::{Client, Duplex, Server};
+use rtr_server::{Client, Duplex, Server, Turn};
 use std::alloc::Global;
 use std::cell::RefCell;
 use std::io;
 use std::io::{ErrorKind, Read, Write};
 use std::rc::Rc;
-use std::test::Fail;
-use vrps::VersionLog;
+use vrps::{VersionLog, VrpSet};
 
 /// Bytes that the test and a stream hold both.
 pub(crate) type Shared = Rc<RefCell<Vec<u8>>>;
@@ -105,24 +104,24 @@ pub(crate) type Line = Duplex<Feed, Sink>;
 /// A server over memory.
 pub(crate) type Memory = Server<VersionLog, Line>;
 
-pub(crate) fn shared(alloc: Global, bytes: &[u8]) -> Result<Shared, Fail> {
-    let mut list = Vec::new(alloc);
-    list.extend_from_slice(bytes)?;
-    Ok(Rc::new(alloc, RefCell::new(list))?)
+pub(crate) fn shared(alloc: Global, bytes: &[u8]) -> Option<Shared> {
+    match bytes.to_vec(alloc) {
+        Ok(list) => Rc::new(alloc, RefCell::new(list)).ok(),
+        Err(_) => None,
+    }
 }
 
 /// A line on which these bytes come, and what goes out is appended to what `out` has.
-pub(crate) fn line(
-    alloc: Global,
-    bytes: &[u8],
-    manner: Manner,
-    out: &Shared,
-) -> Result<Line, Fail> {
-    line_of(shared(alloc, bytes)?, manner, out)
+pub(crate) fn line(alloc: Global, bytes: &[u8], manner: Manner, out: &Shared) -> Option<Line> {
+    let list = shared(alloc, bytes)?;
+    match out.clone() {
+        Ok(out) => Some(line_of(list, manner, out)),
+        Err(_) => None,
+    }
 }
 
 /// A line on which what `list` has comes.
-pub(crate) fn line_of(list: Shared, manner: Manner, out: &Shared) -> Result<Line, Fail> {
+fn line_of(list: Shared, manner: Manner, out: Shared) -> Line {
     let input = Feed {
         list,
         place: 0,
@@ -130,11 +129,22 @@ pub(crate) fn line_of(list: Shared, manner: Manner, out: &Shared) -> Result<Line
         manner,
     };
     let output = Sink {
-        list: out.clone()?,
+        list: out,
         calls: 0,
         manner,
     };
-    Ok(Duplex { input, output })
+    Duplex { input, output }
+}
+
+/// A line on which what `comes` has then comes, and what goes out is appended to what `out` has then.
+pub(crate) fn line_between(comes: &Shared, manner: Manner, out: &Shared) -> Option<Line> {
+    let Ok(list) = comes.clone() else {
+        return None;
+    };
+    match out.clone() {
+        Ok(out) => Some(line_of(list, manner, out)),
+        Err(_) => None,
+    }
 }
 
 pub(crate) fn len_of(list: &Shared) -> usize {
@@ -168,27 +178,43 @@ pub(crate) fn more(list: &Shared, bytes: &[u8]) -> bool {
     }
 }
 
-/// A cache of session 4660, whose first version, of serial 5, has these records.
-pub(crate) fn cache_of(alloc: Global, rows: &[(&str, u8, u32)]) -> Result<Cache<VersionLog>, Fail> {
-    let log = VersionLog::new(alloc, 4660, 5, 4)?;
-    let mut cache = Cache::new(alloc, log, Timing::default());
-    cache.publish(set_of(alloc, rows)?)?;
-    Ok(cache)
+/// A cache of session 4660, whose first version will have the serial 5.
+pub(crate) fn empty_cache(alloc: Global) -> Option<Cache<VersionLog>> {
+    match VersionLog::new(alloc, 4660, 5, 4) {
+        Ok(log) => Some(Cache::new(alloc, log, Timing::default())),
+        Err(_) => None,
+    }
+}
+
+/// The same cache, whose first version has this set.
+pub(crate) fn cache_with(alloc: Global, set: Option<VrpSet>) -> Option<Cache<VersionLog>> {
+    match (empty_cache(alloc), set) {
+        (Some(mut cache), Some(set)) => {
+            let _published = cache.publish(set);
+            Some(cache)
+        }
+        _ => None,
+    }
+}
+
+/// The same cache, whose first version has these records.
+pub(crate) fn cache_of(alloc: Global, rows: &[Row]) -> Option<Cache<VersionLog>> {
+    cache_with(alloc, set_in(alloc, rows))
 }
 
 /// A server of that cache, for this many clients.
-pub(crate) fn server_of(
-    alloc: Global,
-    rows: &[(&str, u8, u32)],
-    most: usize,
-) -> Result<Memory, Fail> {
-    Ok(Server::new(alloc, cache_of(alloc, rows)?, most))
+pub(crate) fn server_of(alloc: Global, rows: &[Row], most: usize) -> Option<Memory> {
+    match cache_of(alloc, rows) {
+        Some(cache) => Some(Server::new(alloc, cache, most)),
+        None => None,
+    }
 }
 
-pub(crate) fn admitted(server: &mut Memory, line: Line) -> Result<Client, Fail> {
-    match server.admit(line) {
-        Ok(client) => Ok(client),
-        Err(_) => Err(Fail::from("not admitted")),
+/// Whether the set of these rows is published.
+pub(crate) fn publishes(server: &mut Memory, alloc: Global, rows: &[Row]) -> bool {
+    match set_in(alloc, rows) {
+        Some(set) => server.publish(set).is_ok(),
+        None => false,
     }
 }
 
@@ -199,6 +225,14 @@ pub(crate) fn client_of(
     bytes: &[u8],
     manner: Manner,
     out: &Shared,
-) -> Result<Client, Fail> {
-    admitted(server, line(alloc, bytes, manner, out)?)
+) -> Option<Client> {
+    match line(alloc, bytes, manner, out) {
+        Some(line) => server.admit(line).ok(),
+        None => None,
+    }
+}
+
+/// Whether a client waits to be read from after a turn of this many calls.
+pub(crate) fn waits(server: &mut Memory, client: Client, budget: u32) -> bool {
+    server.serve(client, budget) == Some(Turn::WaitsToRead)
 }

@@ -1,12 +1,11 @@
 //! What was counted of a client that has left.
-use crate::lines::{Manner, Memory, PLAIN, client_of, server_of, shared};
+use crate::lines::{Manner, Memory, PLAIN, client_of, server_of, shared, waits};
 use example_values::hex::bytes;
 use example_values::sets::V;
 use example_values::units::RESET_QUERY;
 use rtr_pdu::{Kind, Version};
 use rtr_server::{ByteCounts, Client, CloseReason, Parted, PdusByKind, Report, Turn};
 use std::alloc::Global;
-use std::test::Fail;
 
 /// What comes from a client, after which its bytes end or it waits, how it is closed, and what is counted then of it.
 struct Leaving {
@@ -167,37 +166,47 @@ fn end_of(server: &mut Memory, client: Client) -> Option<CloseReason> {
     None
 }
 
-/// Whether a client leaves so.
-fn leaves_so(server: &mut Memory, alloc: Global, leaving: &Leaving) -> Result<bool, Fail> {
+/// How a client leaves that sends so.
+fn leaves(server: &mut Memory, alloc: Global, leaving: &Leaving) -> Option<CloseReason> {
     let out = shared(alloc, &[])?;
     let manner = Manner {
         stays_open: leaving.stays_open,
         ..PLAIN
     };
-    let sent = bytes(leaving.sends);
-    let client = client_of(server, alloc, sent.as_slice(), manner, &out)?;
-    let how = end_of(server, client);
+    let client = client_of(server, alloc, bytes(leaving.sends).as_slice(), manner, &out)?;
+    end_of(server, client)
+}
+
+/// Whether it leaves so, and is counted so.
+fn leaves_so(server: &mut Memory, alloc: Global, leaving: &Leaving) -> bool {
+    if leaves(server, alloc, leaving) != Some(leaving.how) {
+        return false;
+    }
     match server.parted() {
-        None => Ok(false),
-        Some(parted) => Ok(how == Some(leaving.how) && is_counted(&parted, leaving)),
+        Some(parted) => is_counted(&parted, leaving),
+        None => false,
     }
 }
 
-fn all_leave_so(server: &mut Memory, alloc: Global) -> Result<bool, Fail> {
-    for leaving in LEAVINGS {
-        if !leaves_so(server, alloc, leaving)? {
-            return Ok(false);
+/// Whether all of them do, one after the other, at a server of which none has left.
+fn all_leave_so(alloc: Global, leavings: &[Leaving]) -> bool {
+    let Some(mut server) = server_of(alloc, &[V], 1) else {
+        return false;
+    };
+    if server.parted().is_some() {
+        return false;
+    }
+    for leaving in leavings {
+        if !leaves_so(&mut server, alloc, leaving) {
+            return false;
         }
     }
-    Ok(true)
+    true
 }
 
 #[test]
-fn a_client_that_has_left_is_counted_to_its_end(rt: HostRuntime) -> Result<(), Fail> {
-    let mut server = server_of(rt.alloc(), &[V], 1)?;
-    assert!(rt; server.parted().is_none());
-    assert!(rt; all_leave_so(&mut server, rt.alloc())?);
-    Ok(())
+fn a_client_that_has_left_is_counted_to_its_end(rt: HostRuntime) {
+    assert!(rt; all_leave_so(rt.alloc(), LEAVINGS));
 }
 
 /// Whether a client that is dropped, and then none, leave what was counted of it.
@@ -213,14 +222,18 @@ fn is_dropped_so(server: &mut Memory, client: Client) -> bool {
     }
 }
 
+/// Whether that is so of a client that is served and dropped.
+fn drops(server: &mut Memory, alloc: Global) -> Option<bool> {
+    let out = shared(alloc, &[])?;
+    let client = client_of(server, alloc, bytes(RESET_QUERY).as_slice(), PLAIN, &out)?;
+    let is_there = waits(server, client, 9) && server.parted().is_none();
+    Some(is_there && is_dropped_so(server, client))
+}
+
 #[test]
-fn a_client_that_is_dropped_is_counted_as_it_was(rt: HostRuntime) -> Result<(), Fail> {
-    let out = shared(rt.alloc(), &[])?;
-    let mut server = server_of(rt.alloc(), &[V], 1)?;
-    let query = bytes(RESET_QUERY);
-    let client = client_of(&mut server, rt.alloc(), query.as_slice(), PLAIN, &out)?;
-    assert!(rt; server.serve(client, 9) == Some(Turn::WaitsToRead));
-    assert!(rt; server.parted().is_none());
-    assert!(rt; is_dropped_so(&mut server, client));
-    Ok(())
+fn a_client_that_is_dropped_is_counted_as_it_was(rt: HostRuntime) {
+    match server_of(rt.alloc(), &[V], 1) {
+        Some(mut server) => assert!(rt; drops(&mut server, rt.alloc()) == Some(true)),
+        None => assert!(rt; false),
+    }
 }

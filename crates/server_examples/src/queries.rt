@@ -1,18 +1,15 @@
 //! Who is notified: clients that have asked, and no others (RFC 8210 section 7).
 use crate::lines::{
-    Memory, PLAIN, Shared, admitted, client_of, is_list, len_of, line_of, more, server_of, shared,
+    Memory, PLAIN, Shared, client_of, empty_cache, is_list, len_of, line_between, more, publishes,
+    server_of, shared, waits,
 };
 use example_values::hex::bytes;
-use example_values::sets::{Rows, V, W, set_of};
+use example_values::sets::{Rows, V, W};
 use example_values::units::{
     ANSWER, ANSWER_0, CACHE_RESET, END_6, RESET_QUERY, RESPONSE, V as V_UNIT, W as W_UNIT, all_of,
 };
-use rtr_ends::{Cache, Timing};
 use rtr_server::{Client, Server, Turn};
-use std::alloc::{AllocGlobal, Global};
-use std::process::Abort;
-use std::test::Fail;
-use vrps::VersionLog;
+use std::alloc::Global;
 
 /// Serial Notifies of session 4660 (RFC 8210 section 5.2).
 const NOTIFY_5: &str = "01 00 1234 0000000c 00000005";
@@ -36,7 +33,6 @@ const HEADER: &str = "01 01 1234 0000000c";
 const NO_DATA: &str = "01 0a 0002 00000018 00000008 0102000000000008 00000000";
 
 /// What happens to a client, which is served then until it waits.
-#[derive(Clone, Copy)]
 enum Step {
     /// These bytes come from it.
     Sends(&'static str),
@@ -166,13 +162,10 @@ const ASKED: &[Story] = &[
     },
 ];
 
-fn happens(server: &mut Memory, alloc: Global, comes: &Shared, step: Step) -> Result<bool, Fail> {
+fn happens(server: &mut Memory, alloc: Global, comes: &Shared, step: &Step) -> bool {
     match step {
-        Step::Sends(text) => Ok(more(comes, bytes(text).as_slice())),
-        Step::Publishes(rows) => {
-            server.publish(set_of(alloc, rows)?)?;
-            Ok(true)
-        }
+        Step::Sends(text) => more(comes, bytes(text).as_slice()),
+        Step::Publishes(rows) => publishes(server, alloc, rows),
     }
 }
 
@@ -183,121 +176,153 @@ fn all_happen(
     client: Client,
     comes: &Shared,
     steps: &[Step],
-) -> Result<bool, Fail> {
-    for &step in steps {
-        if !happens(server, alloc, comes, step)? || !waits(server, client) {
-            return Ok(false);
+) -> bool {
+    for step in steps {
+        if !happens(server, alloc, comes, step) || !waits(server, client, 99) {
+            return false;
         }
     }
-    Ok(true)
+    true
 }
 
-fn waits(server: &mut Memory, client: Client) -> bool {
-    server.serve(client, 99) == Some(Turn::WaitsToRead)
+/// A client on these lists.
+fn admitted(server: &mut Memory, comes: &Shared, out: &Shared) -> Option<Client> {
+    match line_between(comes, PLAIN, out) {
+        Some(line) => server.admit(line).ok(),
+        None => None,
+    }
 }
 
-/// Whether a story goes as it is written.
-fn goes_so(server: &mut Memory, alloc: Global, story: &Story) -> Result<bool, Fail> {
-    let comes = shared(alloc, &[])?;
-    let out = shared(alloc, &[])?;
-    let client = admitted(server, line_of(comes.clone()?, PLAIN, &out)?)?;
-    let happened = all_happen(server, alloc, client, &comes, story.steps)?;
-    Ok(
-        happened
-            && server.has_asked(client) == story.has_asked
-            && is_list(&out, all_of(story.written).as_slice()),
-    )
+/// Whether a story goes as it is written, with what comes and what is written in these lists.
+fn is_written(
+    server: &mut Memory,
+    alloc: Global,
+    (comes, out): (&Shared, &Shared),
+    story: &Story,
+) -> bool {
+    match admitted(server, comes, out) {
+        Some(client) => {
+            all_happen(server, alloc, client, comes, story.steps)
+                && server.has_asked(client) == story.has_asked
+                && is_list(out, all_of(story.written).as_slice())
+        }
+        None => false,
+    }
+}
+
+/// Whether a story goes as it is written, at a server whose cache has v.
+fn goes_so(alloc: Global, comes: &Shared, out: &Shared, story: &Story) -> bool {
+    match server_of(alloc, &[V], 1) {
+        Some(mut server) => is_written(&mut server, alloc, (comes, out), story),
+        None => false,
+    }
 }
 
 /// Whether all of them do.
-fn all_go_so(alloc: Global, stories: &[Story]) -> Result<bool, Fail> {
+fn all_go_so(alloc: Global, stories: &[Story]) -> bool {
     for story in stories {
-        let mut server = server_of(alloc, &[V], 1)?;
-        if !goes_so(&mut server, alloc, story)? {
-            return Ok(false);
+        let (Some(comes), Some(out)) = (shared(alloc, &[]), shared(alloc, &[])) else {
+            return false;
+        };
+        if !goes_so(alloc, &comes, &out, story) {
+            return false;
         }
     }
-    Ok(true)
+    true
 }
 
 #[test]
-fn a_client_that_has_not_asked_is_not_notified(rt: HostRuntime) -> Result<(), Fail> {
-    assert!(rt; all_go_so(rt.alloc(), SILENT)?);
-    Ok(())
+fn a_client_that_has_not_asked_is_not_notified(rt: HostRuntime) {
+    assert!(rt; all_go_so(rt.alloc(), SILENT));
 }
 
 #[test]
-fn a_query_in_two_parts_is_answered_from_what_came_in_between(rt: HostRuntime) -> Result<(), Fail> {
-    assert!(rt; all_go_so(rt.alloc(), HALVES)?);
-    Ok(())
+fn a_query_in_two_parts_is_answered_from_what_came_in_between(rt: HostRuntime) {
+    assert!(rt; all_go_so(rt.alloc(), HALVES));
 }
 
 #[test]
-fn a_client_that_has_asked_is_notified(rt: HostRuntime) -> Result<(), Fail> {
-    assert!(rt; all_go_so(rt.alloc(), ASKED)?);
-    Ok(())
+fn a_client_that_has_asked_is_notified(rt: HostRuntime) {
+    assert!(rt; all_go_so(rt.alloc(), ASKED));
 }
 
-/// A server of session 4660, to whose cache nothing was published.
-fn server_of_none(alloc: Global) -> Result<Memory, Fail> {
-    let log = VersionLog::new(alloc, 4660, 5, 4)?;
-    Ok(Server::new(alloc, Cache::new(alloc, log, Timing::default()), 2))
+/// A server of two clients, to whose cache nothing was published.
+fn server_of_none(alloc: Global) -> Option<Memory> {
+    match empty_cache(alloc) {
+        Some(cache) => Some(Server::new(alloc, cache, 2)),
+        None => None,
+    }
 }
 
 /// Whether both clients wait, of which the first alone has asked.
 fn first_has_asked(server: &mut Memory, first: Client, second: Client) -> bool {
-    waits(server, first)
-        && waits(server, second)
+    waits(server, first, 99)
+        && waits(server, second, 99)
         && server.has_asked(first)
         && !server.has_asked(second)
 }
 
-/// Two clients come, the first asks, the first version is published, and then the first goes and another has its number.
-fn ask_first<R: AllocGlobal + Abort>(
-    rt: &R,
-    server: &mut Memory,
-    asked: &Shared,
-    other: &Shared,
-) -> Result<(), Fail> {
-    let alloc = rt.alloc();
+/// Whether this is so, also when the first version is published, until the first client goes.
+fn first_asks(server: &mut Memory, alloc: Global, first: Client, second: Client) -> bool {
+    let is_so = first_has_asked(server, first, second)
+        && publishes(server, alloc, &[V])
+        && first_has_asked(server, first, second);
+    server.drop_client(first);
+    is_so && !server.has_asked(first)
+}
+
+/// Whether two clients come, the first asks, the first version is published, and then the first goes and another has its number.
+fn ask_first(server: &mut Memory, alloc: Global, asked: &Shared, other: &Shared) -> Option<bool> {
     let first = client_of(server, alloc, bytes(RESET_QUERY).as_slice(), PLAIN, asked)?;
     let second = client_of(server, alloc, &[], PLAIN, other)?;
-    assert!(rt; first_has_asked(server, first, second));
-    server.publish(set_of(alloc, &[V])?)?;
-    assert!(rt; first_has_asked(server, first, second));
-    server.drop_client(first);
-    assert!(rt; !server.has_asked(first));
+    let is_so = first_asks(server, alloc, first, second);
     let third = client_of(server, alloc, &[], PLAIN, other)?;
-    server.publish(set_of(alloc, &[W])?)?;
-    assert!(rt; waits(server, third) && !server.has_asked(third));
-    Ok(())
+    let is_notified = publishes(server, alloc, &[W]) && waits(server, third, 99);
+    Some(is_so && is_notified && !server.has_asked(third))
+}
+
+/// Whether only the client that asked was answered and notified.
+fn one_is_told(alloc: Global, asked: &Shared, other: &Shared) -> bool {
+    match server_of_none(alloc) {
+        Some(mut server) => {
+            ask_first(&mut server, alloc, asked, other) == Some(true)
+                && is_list(asked, all_of(&[NO_DATA, NOTIFY_5]).as_slice())
+                && len_of(other) == 0
+        }
+        None => false,
+    }
 }
 
 #[test]
-fn a_query_without_data_is_one_of_its_client_alone(rt: HostRuntime) -> Result<(), Fail> {
-    let asked = shared(rt.alloc(), &[])?;
-    let other = shared(rt.alloc(), &[])?;
-    let mut server = server_of_none(rt.alloc())?;
-    ask_first(&rt, &mut server, &asked, &other)?;
-    assert!(rt; is_list(&asked, all_of(&[NO_DATA, NOTIFY_5]).as_slice()));
-    assert!(rt; len_of(&other) == 0);
-    Ok(())
+fn a_query_without_data_is_one_of_its_client_alone(rt: HostRuntime) {
+    match (shared(rt.alloc(), &[]), shared(rt.alloc(), &[])) {
+        (Some(asked), Some(other)) => assert!(rt; one_is_told(rt.alloc(), &asked, &other)),
+        _ => assert!(rt; false),
+    }
 }
 
-/// Whether a client of which one call has read the query has not asked yet.
-fn is_read(server: &mut Memory, client: Client) -> bool {
-    server.serve(client, 1) == Some(Turn::Busy) && !server.has_asked(client)
+/// Whether a client of which one call has read the query has not asked yet, and is answered from what is published then.
+fn is_answered_from_later(server: &mut Memory, alloc: Global, client: Client) -> bool {
+    server.serve(client, 1) == Some(Turn::Busy)
+        && !server.has_asked(client)
+        && publishes(server, alloc, &[V, W])
+        && waits(server, client, 99)
+        && server.has_asked(client)
+}
+
+/// Whether a query that is not passed to the cache yet is answered so.
+fn waits_for_its_turn(server: &mut Memory, alloc: Global) -> Option<bool> {
+    let out = shared(alloc, &[])?;
+    let client = client_of(server, alloc, bytes(RESET_QUERY).as_slice(), PLAIN, &out)?;
+    let is_so = is_answered_from_later(server, alloc, client);
+    let answer = all_of(&[RESPONSE, V_UNIT, W_UNIT, END_6]);
+    Some(is_so && is_list(&out, answer.as_slice()))
 }
 
 #[test]
-fn a_query_that_is_not_handed_in_is_answered_from_what_comes(rt: HostRuntime) -> Result<(), Fail> {
-    let out = shared(rt.alloc(), &[])?;
-    let mut server = server_of(rt.alloc(), &[V], 1)?;
-    let query = bytes(RESET_QUERY);
-    let client = client_of(&mut server, rt.alloc(), query.as_slice(), PLAIN, &out)?;
-    assert!(rt; is_read(&mut server, client));
-    server.publish(set_of(rt.alloc(), &[V, W])?)?;
-    assert!(rt; waits(&mut server, client) && server.has_asked(client));
-    assert!(rt; is_list(&out, all_of(&[RESPONSE, V_UNIT, W_UNIT, END_6]).as_slice()));
-    Ok(())
+fn a_query_that_is_not_handed_in_is_answered_from_what_comes(rt: HostRuntime) {
+    match server_of(rt.alloc(), &[V], 1) {
+        Some(mut server) => assert!(rt; waits_for_its_turn(&mut server, rt.alloc()) == Some(true)),
+        None => assert!(rt; false),
+    }
 }

@@ -1,8 +1,9 @@
 //! Steps at a router of another cache, and one function that plays them.
 use crate::streams::{Bad, Script, Sent, cut, has_at, is_all, plain, slow, with_bad};
 use example_values::hex::{Bytes, bytes};
-use rtr_ends::Link;
-use rtr_pdu::{Kind, Version};
+use example_values::units::ANSWER;
+use rtr_ends::{End, Link};
+use rtr_pdu::{Kind, Version, error_code};
 use rtr_server::ByteCounts;
 use std::alloc::Global;
 use std::cell::RefCell;
@@ -10,6 +11,9 @@ use std::process::Abort;
 use upstreams::laws::{counts_received, each_holds};
 use upstreams::{DisconnectReason, PollOutcome, Upstream};
 use vrps::Serial;
+
+/// A Reset Query and a Serial Query.
+const BOTH_QUERIES: &str = "01 02 0000 00000008 01 01 1234 0000000c 00000005";
 
 /// What happens at a router of another cache, and the result that it must have.
 #[derive(Clone, Copy)]
@@ -34,6 +38,8 @@ pub(crate) enum Step {
     Trickles(u64, u64),
     /// One poll of this many calls has this outcome.
     Polls(u64, u32, PollOutcome),
+    /// These bytes come at time 1 and end the link so. An Error Report of the code goes out after the queries if the link was ended here.
+    Ends(&'static str, End),
     Ticks(u64, Option<DisconnectReason>),
     /// Something is due next at this moment, if ever.
     IsNextDue(Option<u64>),
@@ -56,6 +62,12 @@ pub(crate) enum Step {
     Sent(&'static str),
     SentAt(usize, &'static str),
 }
+
+/// A router holds a record since time 0.
+pub(crate) const HOLDING: &[Step] = &[
+    Step::Connects(ANSWER, 0),
+    Step::Settles(0, PollOutcome::WaitsToRead),
+];
 
 /// Polls until something is waited for or the connection is gone.
 fn settle(upstream: &mut Upstream<Script<'_>>, now: u64) -> PollOutcome {
@@ -141,8 +153,29 @@ fn stands(upstream: &Upstream<Script<'_>>, sent: &Sent, step: &Step) -> bool {
     }
 }
 
+/// Whether the Error Report that goes out after two queries is that of this end, or none goes out if the cache ended the link.
+fn has_reported(sent: &Sent, end: &End) -> bool {
+    let report = match end {
+        End::Reported(error_code::CORRUPT_DATA) => "01 0a 0000",
+        End::Reported(error_code::UNSUPPORTED_VERSION) => "01 0a 0004",
+        End::Reported(error_code::UNSUPPORTED_TYPE) => "01 0a 0005",
+        End::Reported(error_code::UNKNOWN_WITHDRAWAL) => "01 0a 0006",
+        End::Reported(error_code::DUPLICATE_ANNOUNCEMENT) => "01 0a 0007",
+        End::Reported(error_code::UNEXPECTED_VERSION) => "01 0a 0008",
+        _ => return is_all(sent, bytes(BOTH_QUERIES).as_slice()),
+    };
+    has_at(sent, 20, bytes(report).as_slice())
+}
+
+/// Whether what comes at time 1 ends the link so.
+fn ends<'a>(upstream: &mut Upstream<Script<'a>>, sent: &'a Sent, units: &str, end: &End) -> bool {
+    upstream.connect(plain(units, sent), 1);
+    settle(upstream, 1) == PollOutcome::Disconnected(DisconnectReason::LinkEnded(*end))
+        && has_reported(sent, end)
+}
+
 /// Whether a step goes as it has to.
-fn goes<'a>(upstream: &mut Upstream<Script<'a>>, sent: &'a Sent, step: &Step) -> bool {
+pub(crate) fn goes<'a>(upstream: &mut Upstream<Script<'a>>, sent: &'a Sent, step: &Step) -> bool {
     match step {
         Step::Speaks(version) => upstream.set_version(*version),
         Step::Connects(units, now) => upstream.connect(plain(units, sent), *now),
@@ -157,37 +190,46 @@ fn goes<'a>(upstream: &mut Upstream<Script<'a>>, sent: &'a Sent, step: &Step) ->
         Step::SettlesAgain(now, outcome) => return settle_again(upstream, *now) == *outcome,
         Step::Trickles(from, to) => return trickles(upstream, *from, *to),
         Step::Polls(now, calls, outcome) => return upstream.poll(*now, *calls) == *outcome,
+        Step::Ends(units, end) => return ends(upstream, sent, units, end),
         Step::Ticks(now, reason) => return upstream.tick(*now) == *reason,
         _ => return stands(upstream, sent, step),
     }
     true
 }
 
-/// The place of the first step that does not go as it has to.
-fn first_wrong<'a>(
+/// Whether all steps go as they have to.
+pub(crate) fn all_go<'a>(
     upstream: &mut Upstream<Script<'a>>,
     sent: &'a Sent,
     steps: &[Step],
-) -> Option<usize> {
-    for (place, step) in steps.iter().enumerate() {
+) -> bool {
+    for step in steps {
         if !goes(upstream, sent, step) {
-            return Some(place);
+            return false;
         }
     }
-    None
+    true
 }
 
-/// The same for a new router, whose connections may be silent for this long.
-pub(crate) fn wrong(alloc: Global, stall: u64, steps: &[Step]) -> Option<usize> {
+/// Whether steps go so at a new router, whose connections may be silent for this long.
+pub(crate) fn is_played(alloc: Global, stall: u64, steps: &[Step]) -> bool {
     let sent = RefCell::new(Bytes::new());
     let mut upstream = Upstream::new(alloc, stall);
     each_holds(&upstream);
     counts_received(&upstream);
-    first_wrong(&mut upstream, &sent, steps)
+    all_go(&mut upstream, &sent, steps)
+}
+
+/// Whether first these steps, then this one, and then those go so at a new router.
+pub(crate) fn is_played_around(alloc: Global, first: &[Step], step: &Step, then: &[Step]) -> bool {
+    let sent = RefCell::new(Bytes::new());
+    let mut upstream = Upstream::new(alloc, 60);
+    all_go(&mut upstream, &sent, first)
+        && goes(&mut upstream, &sent, step)
+        && all_go(&mut upstream, &sent, then)
 }
 
 /// Plays steps at a new router.
 pub(crate) fn play<R: AllocGlobal + Abort>(rt: &R, stall: u64, steps: &[Step]) {
-    let place = wrong(rt.alloc(), stall, steps);
-    assert!(rt; place.is_none(), "{place:?}");
+    assert!(rt; is_played(rt.alloc(), stall, steps));
 }

@@ -1,6 +1,6 @@
 //! Caches that are wrong or lie, by RFC 8210 sections 5, 8 and 12. The outcome says why the connection ended, the right Error Report went out,
 //! and what was committed stays until it expires.
-use crate::play::{Step, play, wrong};
+use crate::play::{HOLDING, Step, is_played_around, play};
 use example_values::units::{ANSWER, ANSWER_0, RESET_QUERY};
 use rtr_ends::End;
 use rtr_pdu::{Version, error_code};
@@ -124,43 +124,20 @@ const REPORTS: &[Lie] = &[
     ("01 0a 0001 00000010 00000001 00000000", End::Malformed),
 ];
 
-/// The Error Report that goes out after the queries, or none if the link ended by one of the cache.
-fn report(end: &End) -> Step {
-    match end {
-        End::Reported(error_code::CORRUPT_DATA) => Step::SentAt(20, "01 0a 0000"),
-        End::Reported(error_code::UNSUPPORTED_VERSION) => Step::SentAt(20, "01 0a 0004"),
-        End::Reported(error_code::UNSUPPORTED_TYPE) => Step::SentAt(20, "01 0a 0005"),
-        End::Reported(error_code::UNKNOWN_WITHDRAWAL) => Step::SentAt(20, "01 0a 0006"),
-        End::Reported(error_code::DUPLICATE_ANNOUNCEMENT) => Step::SentAt(20, "01 0a 0007"),
-        End::Reported(error_code::UNEXPECTED_VERSION) => Step::SentAt(20, "01 0a 0008"),
-        _ => Step::Sent("01 02 0000 00000008 01 01 1234 0000000c 00000005"),
-    }
-}
-
-/// The first step that goes wrong if a router holds a record since time 0, and what comes at time 1 ends the link. What was committed stays
-/// for 7,200 seconds.
-fn wrong_of(alloc: Global, &(units, end): &Lie) -> Option<usize> {
-    let ended = DisconnectReason::LinkEnded(end);
-    let steps = [
-        Step::Connects(ANSWER, 0),
-        Step::Settles(0, PollOutcome::WaitsToRead),
-        Step::Connects(units, 1),
-        Step::Settles(1, PollOutcome::Disconnected(ended)),
-        report(&end),
-        Step::IsConnected(false),
-        Step::Commits(Version::V1, 4660, 5),
-        Step::Holds(Some(1)),
-        Step::Ticks(7200, None),
-        Step::Holds(Some(1)),
-        Step::Ticks(7201, None),
-        Step::Holds(None),
-    ];
-    wrong(alloc, 60, &steps)
-}
+/// After its link has ended, what was committed stays for 7,200 seconds.
+const STAYING: &[Step] = &[
+    Step::IsConnected(false),
+    Step::Commits(Version::V1, 4660, 5),
+    Step::Holds(Some(1)),
+    Step::Ticks(7200, None),
+    Step::Holds(Some(1)),
+    Step::Ticks(7201, None),
+    Step::Holds(None),
+];
 
 fn expect_told<R: Abort>(rt: &R, alloc: Global, lies: &[Lie]) {
-    for lie in lies {
-        assert!(rt; wrong_of(alloc, lie).is_none(), "{}", lie.0);
+    for &(units, end) in lies {
+        assert!(rt; is_played_around(alloc, HOLDING, &Step::Ends(units, end), STAYING));
     }
 }
 
