@@ -1,16 +1,16 @@
 #!/usr/bin/env python3
-"""Writes the example with which a library's first page begins: the body of the one test of crates/doc_examples/src/NAME_example.rt, with what
+"""Writes the example with which a library's first page begins: the body of the one test of NAME_example.rt in a crate of examples, with what
 it uses. So what the page shows is what the gate proves and runs.
 
 usage: tools/examples.py [--check]
 
 With --check nothing is written: the status is 1 where a page would change, or a library has no example."""
+import glob
 import os
 import re
 import sys
 
 TOP = os.path.realpath(f"{os.path.dirname(os.path.abspath(__file__))}/..")
-TESTS = f"{TOP}/crates/doc_examples/src"
 
 # The line above an example, and an example as it stands in a page.
 LEAD = "//! For example, where `rt` is the runtime that `main` is handed:"
@@ -30,9 +30,15 @@ def libraries():
     return [it for it in names if "example" not in it and it != "frames" and os.path.isfile(f"{TOP}/crates/{it}/src/lib.rt")]
 
 
-def example_of(name):
-    """The lines of a library's example."""
-    text = read(f"{TESTS}/{name}_example.rt")
+def file_of(name):
+    """The file of a library's example, in the one crate of examples that has it."""
+    found = glob.glob(f"{TOP}/crates/*_examples/src/{name}_example.rt")
+    return found[0] if len(found) == 1 else None
+
+
+def example_of(file):
+    """The lines of an example."""
+    text = read(file)
     used = re.search(r"\Ause std::test::Fail;\n\n|^use std::test::Fail;\n", text, re.M)
     head, body = re.fullmatch(r"(.*?)\n#\[test\]\nfn \w+\(rt: HostRuntime\) -> Result<\(\), Fail> \{\n(.*)    Ok\(\(\)\)\n\}\n", text.replace(used[0], "", 1), re.S).groups()
     return [*head.strip().splitlines(), "", *(line.removeprefix("    ") for line in body.splitlines())]
@@ -50,11 +56,12 @@ def main(check):
     wrong = []
     for name in libraries():
         path = f"{TOP}/crates/{name}/src/lib.rt"
-        if not os.path.isfile(f"{TESTS}/{name}_example.rt"):
-            wrong.append(f"{name} has no example: crates/doc_examples/src/{name}_example.rt is not there")
+        file = file_of(name)
+        if file is None:
+            wrong.append(f"{name} has no example: no crate of examples, or more than one, has {name}_example.rt")
             continue
         page = read(path)
-        made = with_example(page, example_of(name))
+        made = with_example(page, example_of(file))
         if made != page and check:
             wrong.append(f"crates/{name}/src/lib.rt does not show its example: run tools/examples.py")
         elif made != page:

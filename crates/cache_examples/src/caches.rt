@@ -32,7 +32,7 @@ fn many(alloc: Global, count: u32) -> Option<VrpSet> {
     VrpSet::from_list(list).ok()
 }
 
-/// What is left of an answer behind a piece of at most this many bytes, if that is the front of it.
+/// What is left of an answer after a piece of at most this many bytes, if that is the front of it.
 fn left<'a, S: VersionStore>(
     cache: &mut Cache<S>,
     conn: Conn,

@@ -7,6 +7,8 @@ mod caches;
 #[cfg(test)]
 mod play;
 #[cfg(test)]
+mod rtr_ends_example;
+#[cfg(test)]
 mod scripts;
 #[cfg(test)]
 mod streams;

@@ -267,7 +267,7 @@ fn a_router_fetches(rt: HostRuntime) {
     assert!(rt; has_committed(&router));
 }
 
-/// Whether a link that ends by a report is told so, and the report goes out behind the question.
+/// Whether a fetch says that a link ended by a report, and the report follows the question.
 fn tells_an_end(router: &mut Router, alloc: Global) -> bool {
     let mut input = stepwise(TWO_QUERIES, 4096, 9);
     let mut output = list(alloc);

@@ -1,4 +1,4 @@
-//! The intervals that a cache tells.
+//! The intervals of an End of Data.
 use rtr_ends::{Timing, TimingFault};
 use std::process::Abort;
 

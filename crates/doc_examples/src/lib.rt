@@ -1,10 +1,9 @@
-//! The examples with which the libraries' first pages begin, as tests: `tools/examples.py` writes them there.
+//! The examples with which the first pages of those libraries begin that no other crate of examples is about, as tests: `tools/examples.py`
+//! writes them there.
 #![tactic(auto)]
 
 #[cfg(test)]
 mod command_parts_example;
-#[cfg(test)]
-mod der_lite_example;
 #[cfg(test)]
 mod event_log_example;
 #[cfg(test)]
@@ -20,13 +19,7 @@ mod payload_commands_example;
 #[cfg(test)]
 mod payload_lists_example;
 #[cfg(test)]
-mod payloads_example;
-#[cfg(test)]
-mod points_example;
-#[cfg(test)]
 mod prefix_texts_example;
-#[cfg(test)]
-mod prefixes_example;
 #[cfg(test)]
 mod relays_example;
 #[cfg(test)]
@@ -34,25 +27,15 @@ mod rpkirtr_cli_example;
 #[cfg(test)]
 mod rpkirtrd_cli_example;
 #[cfg(test)]
-mod rsa_sha256_example;
-#[cfg(test)]
 mod rtr_commands_example;
 #[cfg(test)]
 mod rtr_daemon_example;
-#[cfg(test)]
-mod rtr_ends_example;
-#[cfg(test)]
-mod rtr_pdu_example;
-#[cfg(test)]
-mod rtr_server_example;
 #[cfg(test)]
 mod rtr_world_example;
 #[cfg(test)]
 mod sd_notify_example;
 #[cfg(test)]
 mod session_names_example;
-#[cfg(test)]
-mod signed_objects_example;
 #[cfg(test)]
 mod slurm_example;
 #[cfg(test)]
@@ -62,10 +45,6 @@ mod status_pages_example;
 #[cfg(test)]
 mod status_server_example;
 #[cfg(test)]
-mod upstreams_example;
-#[cfg(test)]
 mod values;
-#[cfg(test)]
-mod vrps_example;
 #[cfg(test)]
 mod world_scripts_example;

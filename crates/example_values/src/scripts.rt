@@ -13,7 +13,7 @@ pub struct Words<'a> {
 }
 
 impl<'a> Words<'a> {
-    /// The next word, which is empty behind the last.
+    /// The next word, which is empty after the last.
     pub fn next(&mut self) -> &'a str {
         let rest = self.rest;
         match rest.split_once(' ') {

@@ -147,7 +147,7 @@ fn elements_are_refused(rt: HostRuntime) {
     expect_faults(&rt, rt.alloc(), MORE_FAULTS);
 }
 
-/// The object with its outermost length left out, and the end of its contents behind it.
+/// The object with its outermost length left out, and the end of its contents after it.
 fn in_ber(alloc: Global, der: &[u8]) -> Option<Vec<u8>> {
     let Ok(mut bytes) = Vec::from_slice(alloc, &[0x30u8, 0x80]) else {
         return None;

@@ -6,6 +6,8 @@
 #[cfg(test)]
 mod ber;
 #[cfg(test)]
+mod der_lite_example;
+#[cfg(test)]
 mod elements;
 #[cfg(test)]
 mod keys;
@@ -22,11 +24,19 @@ mod objects;
 #[cfg(test)]
 mod offers;
 #[cfg(test)]
+mod payloads_example;
+#[cfg(test)]
+mod points_example;
+#[cfg(test)]
 mod prefix_texts;
+#[cfg(test)]
+mod prefixes_example;
 #[cfg(test)]
 mod probes;
 #[cfg(test)]
 mod roas;
+#[cfg(test)]
+mod rsa_sha256_example;
 #[cfg(test)]
 mod sets;
 #[cfg(test)]
@@ -34,4 +44,8 @@ mod signature_vectors;
 #[cfg(test)]
 mod signatures;
 #[cfg(test)]
+mod signed_objects_example;
+#[cfg(test)]
 mod states;
+#[cfg(test)]
+mod vrps_example;

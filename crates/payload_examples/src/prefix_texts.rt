@@ -1,4 +1,4 @@
-//! Prefixes, AS numbers and payloads by hand. How prefixes are spelled is told by rows of the commands `answer`, `route` and `units`.
+//! Prefixes, AS numbers and payloads by hand. How prefixes are spelled is in rows of the commands `answer`, `route` and `units`.
 use prefixes::{Asn, Family, IpPrefix, PrefixFault, V4, V6, Vrp};
 use std::alloc::Global;
 use std::process::Abort;

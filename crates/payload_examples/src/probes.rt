@@ -71,7 +71,7 @@ const PROBED: &[(Rows, &[Case])] = &[
     ),
 ];
 
-/// Whether a route has this state, and so many groups are read for it.
+/// Whether a route has this state, and this many groups are read for it.
 fn is_probed(index: &OriginIndex, &(text, asn, state, probes): &Case) -> bool {
     match IpPrefix::parse(text) {
         Ok(prefix) => {

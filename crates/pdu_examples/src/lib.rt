@@ -5,6 +5,8 @@
 #[cfg(test)]
 mod counted;
 #[cfg(test)]
+mod rtr_pdu_example;
+#[cfg(test)]
 mod units;
 #[cfg(test)]
 mod units_v0;

@@ -25,7 +25,7 @@ fn with_intervals(intervals: Timing, keeps: bool) -> RouterConfig {
     }
 }
 
-/// Whether kept intervals stand against those of an End of Data.
+/// Whether an End of Data leaves kept intervals as they are.
 fn keeps(router: &mut Router, config: RouterConfig) -> bool {
     let is_default = *router.config() == RouterConfig::default();
     router.configure(config);
@@ -72,11 +72,11 @@ fn a_configuration_has_the_intervals_of_version_0(rt: HostRuntime) {
 const AT_MOST_ONE: &str = "\
     connects 0
     sends RESET_QUERY
-    takes 0 RESPONSE | V | END_5
+    receives 0 RESPONSE | V | END_5
     holds 1 1 4660 5
     connects 0
     sends SERIAL_QUERY
-    takes 0 RESPONSE | W
+    receives 0 RESPONSE | W
     link too-many
     holds 1 1 4660 5
     leaves 0 V";

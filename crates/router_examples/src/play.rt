@@ -1,16 +1,16 @@
 //! Scripts of what happens at a router, and one function that plays them. Each line is a step: a word, and what belongs to it.
 //!
 //! - `speaks VERSION`, `connects NOW`, `ticks NOW`, `closes NOW`: this is called.
-//! - `takes NOW PDUS`: these PDUs come, one after the other, and all of each is consumed.
+//! - `receives NOW PDUS`: these PDUs come, one after the other, and all of each is consumed.
 //! - `leaves NOW PDUS`: nothing of these PDUs is consumed.
-//! - `takes-part COUNT NOW PDUS`: of these PDUs, in one piece, this many bytes are consumed.
+//! - `receives-part COUNT NOW PDUS`: of these PDUs, in one piece, this many bytes are consumed.
 //! - `begins BYTES`: these bytes are pulled, in one piece.
 //! - `sends PDUS`: these PDUs are pending, and nothing else.
 //! - `asks`, `asks busy`, `asks not-connected`: it is asked to put its question, and answers so.
 //! - `due MOMENT`: it wants to be called again at this moment.
 //! - `wakes MOMENT`, `wakes never`: it has nothing to do before this moment, or at all.
 //! - `pending yes`, `pending no`: it has bytes to send, or none.
-//! - `link STATE`: the state of its link; `reported` and `told` have the code of the Error Report.
+//! - `link STATE`: the state of its link, with the code of the Error Report that ended it.
 //! - `holds RECORDS VERSION SESSION SERIAL`, `holds nothing`: what is committed.
 //! - `judges PREFIX AS STATE`: a route has this state.
 //!
@@ -42,13 +42,13 @@ fn receives(
     word: &str,
     words: &mut Words<'_>,
 ) -> Option<bool> {
-    let count = if word == "takes-part" {
+    let count = if word == "receives-part" {
         words.number()?
     } else {
         0
     };
     let now = words.number()?;
-    if word == "takes" {
+    if word == "receives" {
         return Some(takes(router, version, words.rest, now));
     }
     let piece = units_in(version.number(), words.rest);
@@ -178,7 +178,7 @@ fn goes(router: &mut Router, version: Version, line: &str) -> bool {
             Some(now) => calls(router, word, now),
             None => false,
         },
-        "takes" | "leaves" | "takes-part" => {
+        "receives" | "leaves" | "receives-part" => {
             receives(router, version, word, &mut words) == Some(true)
         }
         "begins" => begins(router, &units_in(version.number(), words.rest)),

@@ -23,15 +23,15 @@ const LINKS: &[(&str, usize)] = &[
 const SINCE_ANSWERING: &str = "\
     connects 0
     sends RESET_QUERY
-    takes 0 RESPONSE | V | END_5
+    receives 0 RESPONSE | V | END_5
     asks
     sends SERIAL_QUERY
-    takes 0 RESPONSE";
+    receives 0 RESPONSE";
 
 const FIRST_ANSWERING: &str = "\
     connects 0
     sends RESET_QUERY
-    takes 0 RESPONSE";
+    receives 0 RESPONSE";
 
 /// A Router Key, which version 1 alone has.
 const ROUTER_KEY: &str = "01 09 0100 00000020 0102030405060708090a0b0c0d0e0f1011121314 0000fbf0";

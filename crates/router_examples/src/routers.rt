@@ -82,7 +82,7 @@ fn has(router: &Router, records: Option<usize>) -> bool {
     }
 }
 
-/// Whether an answer that is cut behind this many bytes is consumed, and this is committed once the connection is closed.
+/// Whether an answer that is cut after this many bytes is consumed, and this is committed once the connection is closed.
 fn commits(router: &mut Router, front: &[u8], records: Option<usize>) -> bool {
     let count = router.receive(front, 0);
     router.closed(0);
@@ -125,7 +125,7 @@ fn changes(router: &mut Router, front: &[u8]) -> bool {
         })
 }
 
-/// Whether a change that is cut behind this many bytes does so.
+/// Whether a change that is cut after this many bytes does so.
 fn changes_at_last(alloc: Global, change: &[u8], cut: usize) -> bool {
     let (front, _) = change.split_at(cut.min(change.len()));
     match played(alloc, Version::V1, ASKED_SINCE) {

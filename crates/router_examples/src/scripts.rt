@@ -12,21 +12,21 @@ pub(crate) const ASKED: &str = "\
 pub(crate) const HOLDING: &str = "\
     connects 0
     sends RESET_QUERY
-    takes 0 RESPONSE | V | END_5
+    receives 0 RESPONSE | V | END_5
     link idle";
 
 /// The same since moment 100.
 pub(crate) const HOLDING_SINCE_100: &str = "\
     connects 100
     sends RESET_QUERY
-    takes 100 RESPONSE | V | END_5
+    receives 100 RESPONSE | V | END_5
     holds 1 1 4660 5";
 
 /// v is held since moment 0, and it is asked what changed since.
 pub(crate) const ASKED_SINCE: &str = "\
     connects 0
     sends RESET_QUERY
-    takes 0 RESPONSE | V | END_5
+    receives 0 RESPONSE | V | END_5
     asks
     sends SERIAL_QUERY";
 
@@ -35,7 +35,7 @@ pub(crate) const HOLDING_0: &str = "\
     speaks 0
     connects 0
     sends 00 02 0000 00000008
-    takes 0 00 03 0777 00000008 | V_0 | 00 07 0777 0000000c 00000005
+    receives 0 00 03 0777 00000008 | V_0 | 00 07 0777 0000000c 00000005
     holds 1 0 1911 5";
 
 /// The first question has been put at moment 100.
@@ -47,14 +47,14 @@ pub(crate) const ASKED_AT_100: &str = "\
 pub(crate) const SLOW: &str = "\
     connects 100
     sends RESET_QUERY
-    takes 100 RESPONSE | V | 01 07 1234 00000018 00000005 00001c20 00000384 00015180
+    receives 100 RESPONSE | V | 01 07 1234 00000018 00000005 00001c20 00000384 00015180
     due 7300";
 
 /// The same, and it is asked what changed since.
 pub(crate) const SLOW_SINCE: &str = "\
     connects 100
     sends RESET_QUERY
-    takes 100 RESPONSE | V | 01 07 1234 00000018 00000005 00001c20 00000384 00015180
+    receives 100 RESPONSE | V | 01 07 1234 00000018 00000005 00001c20 00000384 00015180
     asks
     sends SERIAL_QUERY";
 
@@ -62,14 +62,14 @@ pub(crate) const SLOW_SINCE: &str = "\
 pub(crate) const HOLDING_LAST: &str = "\
     connects 0
     sends RESET_QUERY
-    takes 0 RESPONSE | V | 01 07 1234 00000018 ffffffff 00000e10 00000258 00001c20";
+    receives 0 RESPONSE | V | 01 07 1234 00000018 ffffffff 00000e10 00000258 00001c20";
 
 /// v is held since moment 0, and all is asked for.
 pub(crate) const ASKED_ANEW: &str = "\
     connects 0
     sends RESET_QUERY
-    takes 0 RESPONSE | V | END_5
+    receives 0 RESPONSE | V | END_5
     asks
     sends SERIAL_QUERY
-    takes 0 CACHE_RESET
+    receives 0 CACHE_RESET
     sends RESET_QUERY";

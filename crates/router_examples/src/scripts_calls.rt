@@ -7,11 +7,11 @@ pub(crate) const AT_CALLS: &[Script] = &[
     (
         "connects in an answer",
         SLOW_SINCE,
-        "takes 100 RESPONSE | V_WITHDRAWN | 01 04 0000 00000014 01 18 18 00 c63364
+        "receives 100 RESPONSE | V_WITHDRAWN | 01 04 0000 00000014 01 18 18 00 c63364
         connects 1000
         due 1900
         sends SERIAL_QUERY
-        takes 1000 RESPONSE | END_6
+        receives 1000 RESPONSE | END_6
         holds 1 1 4660 6",
     ),
     (
@@ -63,7 +63,7 @@ pub(crate) const AT_CALLS: &[Script] = &[
     (
         "closes a link that has ended",
         SLOW_SINCE,
-        "takes 100 RESPONSE | V
+        "receives 100 RESPONSE | V
         pending yes
         closes 1000
         pending no
@@ -76,7 +76,7 @@ pub(crate) const AT_CALLS: &[Script] = &[
         "begins 01 02 00
         leaves 0 RESPONSE
         sends 00 00000008
-        takes 0 RESPONSE
+        receives 0 RESPONSE
         link answering",
     ),
     (
@@ -90,21 +90,21 @@ pub(crate) const AT_CALLS: &[Script] = &[
     (
         "what follows a PDU at which it asks is left",
         HOLDING,
-        "takes-part 12 0 01 00 1234 0000000c 00000006 | 01 03 1234 00000008
+        "receives-part 12 0 01 00 1234 0000000c 00000006 | 01 03 1234 00000008
         sends SERIAL_QUERY",
     ),
     (
         "so is what follows one that ends the link",
         ASKED_SINCE,
-        "takes-part 16 0 01 03 1234 00000008 | 01 08 0000 00000008 | 01 03 1234 00000008
+        "receives-part 16 0 01 03 1234 00000008 | 01 08 0000 00000008 | 01 03 1234 00000008
         link reported 0",
     ),
     (
         "other PDUs are taken, and the beginning of the next one",
         HOLDING,
-        "takes-part 27 0 01 00 1234 0000000c 00000005 | 01 00 1234 0000000c 00000005 | 01 03 12
+        "receives-part 27 0 01 00 1234 0000000c 00000005 | 01 00 1234 0000000c 00000005 | 01 03 12
         link idle
-        takes 0 34 00000008
+        receives 0 34 00000008
         sends 01 0a 0000 00000018 00000008 0103123400000008 00000000",
     ),
 ];

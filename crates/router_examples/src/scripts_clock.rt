@@ -26,7 +26,7 @@ pub(crate) const AT_MOMENTS: &[Script] = &[
         holds nothing
         connects 0
         sends RESET_QUERY
-        takes 0 RESPONSE | V | END_5
+        receives 0 RESPONSE | V | END_5
         due 10901",
     ),
     // Sums stop at the greatest moment.
@@ -51,7 +51,7 @@ pub(crate) const AT_MOMENTS: &[Script] = &[
     (
         "a commit at the last moment",
         ASKED_AT_100,
-        "takes 18446744073709551615 RESPONSE | V | END_5
+        "receives 18446744073709551615 RESPONSE | V | END_5
         due 18446744073709551615
         closes 0
         due 18446744073709551615
@@ -72,7 +72,7 @@ pub(crate) const AT_MOMENTS: &[Script] = &[
     (
         "a change expires",
         ASKED_SINCE,
-        "takes 7200 RESPONSE | V_WITHDRAWN
+        "receives 7200 RESPONSE | V_WITHDRAWN
         link answering
         leaves 7201 END_6
         link expired
@@ -81,7 +81,7 @@ pub(crate) const AT_MOMENTS: &[Script] = &[
     (
         "a question for all stays",
         ASKED_SINCE,
-        "takes 0 CACHE_RESET
+        "receives 0 CACHE_RESET
         ticks 7201
         holds nothing
         link asked
@@ -90,18 +90,18 @@ pub(crate) const AT_MOMENTS: &[Script] = &[
     (
         "its answer goes on",
         ASKED_ANEW,
-        "takes 0 RESPONSE | V
-        takes 7201
+        "receives 0 RESPONSE | V
+        receives 7201
         holds nothing
         link answering
-        takes 7201 END_5
+        receives 7201 END_5
         holds 1 1 4660 5
         due 10801",
     ),
     (
         "an idle router asks for all when it is called",
         HOLDING,
-        "takes 7201
+        "receives 7201
         holds nothing
         link idle
         pending no
@@ -111,7 +111,7 @@ pub(crate) const AT_MOMENTS: &[Script] = &[
     (
         "a link that has ended keeps its report",
         ASKED_SINCE,
-        "takes 0 RESPONSE | V
+        "receives 0 RESPONSE | V
         ticks 7201
         holds nothing
         link reported 7

@@ -53,7 +53,7 @@ pub(crate) const WAKING: &[Script] = &[
     (
         "a query that was due before the expiry",
         HOLDING,
-        "takes 7201
+        "receives 7201
         holds nothing
         wakes 3600
         ticks 0
@@ -63,7 +63,7 @@ pub(crate) const WAKING: &[Script] = &[
     (
         "no data",
         ASKED_AT_100,
-        "takes 100 01 0a 0002 00000010 00000000 00000000
+        "receives 100 01 0a 0002 00000010 00000000 00000000
         wakes 700
         ticks 699
         pending no
@@ -75,7 +75,7 @@ pub(crate) const WAKING: &[Script] = &[
     (
         "an expiry at the last moment",
         ASKED_AT_100,
-        "takes 18446744073709544414 RESPONSE | V | END_5
+        "receives 18446744073709544414 RESPONSE | V | END_5
         wakes 18446744073709548014
         closes 0
         wakes 18446744073709551615
@@ -87,7 +87,7 @@ pub(crate) const WAKING: &[Script] = &[
     (
         "an expiry that would be one too late",
         ASKED_AT_100,
-        "takes 18446744073709544415 RESPONSE | V | END_5
+        "receives 18446744073709544415 RESPONSE | V | END_5
         wakes 18446744073709548015
         closes 0
         wakes never
