@@ -14,7 +14,7 @@ import sys
 import tempfile
 
 BEGIN = 1_234_567
-V, W, IPV6 = "192.0.2.0/24 24 64496\n", "198.51.100.0/24 24 64497\n", "2001:db8::/32 48 64496\n"
+V, W = "192.0.2.0/24 24 64496\n", "198.51.100.0/24 24 64497\n"
 ASSERTED, ASSERTED_BEFORE = "203.0.113.0/24 24 64498\n", "192.0.2.0/24 24 64499\n"
 MANIFEST = "20250101000000Z 20250102000000Z\na.crl\n"
 WANT = "memory\n"
@@ -47,11 +47,6 @@ def anywhere(*parts):
     return "".join(parts), ["".join([*parts[:at], WANT, *parts[at:]]) for at in range(len(parts))]
 
 
-def told_before(*cases, answer):
-    """The answer, or the want of memory and what stood then, and the answer."""
-    return answer, [WANT + it + answer for it in cases]
-
-
 def offered(before, parts):
     """The answer to an offer and what is in use: at a want of memory there is what was in use before."""
     answer, others = anywhere(*parts)
@@ -70,11 +65,8 @@ CHANGES = [units(RESPONSE, V_UNIT[:4]) + OPENED, units(ANSWER[20:]) + OPENED] + 
 SERVED = units(RESPONSE, W_UNIT, end(6)) + "WaitsToRead\n"
 REPORTED = units("010a0001000000100000000000000000") + "Gone(CacheEnded)\n"
 RUNS = {
-    "payload_runs::decode_one_prefix": once(V),
-    "payload_runs::decode_ipv6": once(IPV6),
     "payload_runs::encode_one_prefix": once("same\n"),
     "payload_runs::encode_ipv6": once("same\n"),
-    "payload_runs::decode_a_manifest": once(MANIFEST),
     "payload_runs::make_a_manifest": once(MANIFEST),
     "payload_runs::encode_a_manifest": once("same\n"),
     "payload_runs::offer_the_first": offered("", ["new\n", "in use:\n" + V]),
@@ -118,12 +110,6 @@ RUNS = {
     "server_runs::serve_serial_queries": (2 * SERVED, [WANT + 2 * SERVED, REPORTED + SERVED, SERVED + REPORTED]),
     "server_runs::serve_a_long_answer": ("1232\n", []),
     "feed_runs::judge_a_route": once("valid\n" + units("0103000100000008", V_UNIT, "010700010000001800000000", end(5)[24:])),
-    "world_runs::catch_up": told_before("empty\n", answer="caught up\n4660 5 1\n"),
-    "world_runs::catch_up_after_a_restart": told_before("4660 5 1\n", "empty\n", answer="caught up\n8738 9 0\n"),
-    "world_runs::step_by_step": (
-        "empty\ncaught up\n8738 9 1\n",
-        [f"{WANT}{it}empty\ncaught up\n8738 9 1\n" for it in ("empty\n", "4660 5 1\n", "4660 6 2\n")] + [f"empty\n{WANT}empty\ncaught up\n8738 9 1\n"],
-    ),
 }
 YES = "yes\n"
 # What the program of tests prints behind a run.
@@ -143,7 +129,33 @@ OF_A_ROA = (
     "305e020101180f32303235303130313030303030305a180f32303235303130323030303030305a060960864801650304020130"
     "2c302a1605612e726f61032100da32bfbe0d8eea0f5d3b56023c55d1c23aa91df50233f89c325086b2b206d5a2"
 )
-SCRIPT = "world 1 4660 5 2\npublish 192.0.2.0/24,24,64496\nconnect 0\nrouter-sends 0 8\ncache-gets 0 8\ncache-sends 0 52\nrouter-gets 0 52\nshow 0\ncatch-up 0\nshow 0\n"
+
+
+def script(*events):
+    return "".join(f"{it}\n" for event in events for it in event.split("; "))
+
+
+# Worlds of one router. An event that is refused is there once more, and a router that was refused memory catches up in the end.
+PUBLISH_V, PUBLISH_BOTH = 2 * ["publish 192.0.2.0/24,24,64496"], 2 * ["publish 192.0.2.0/24,24,64496 198.51.100.0/24,24,64497"]
+RESTART, CATCH_UP = 2 * ["restart 8738 9"], 2 * ["catch-up 0; show 0"]
+FIRST_ANSWER = "connect 0; router-sends 0 8; cache-gets 0 8; cache-sends 0 52; router-gets 0 52; show 0"
+SECOND_ANSWER = "ask 0; router-sends 0 12; cache-gets 0 12; cache-sends 0 52; router-gets 0 52; show 0"
+SCRIPTS = {
+    "answered": script("world 1 4660 5 2", *PUBLISH_V, FIRST_ANSWER, *CATCH_UP),
+    "restarted": script("world 1 4660 5 2", *PUBLISH_V, *CATCH_UP, *RESTART, "publish; publish; show 0", *CATCH_UP),
+    "stepped": script(
+        *("world 1 4660 5 2", *PUBLISH_V, FIRST_ANSWER, *PUBLISH_BOTH, SECOND_ANSWER, "cut 0 0; router-restart 0; show 0", *RESTART),
+        *(2 * ["publish 198.51.100.0/24,24,64497"]), "show 0", *CATCH_UP,
+    ),
+}
+
+
+def shown(state):
+    """What a world prints in which a request is refused: in the end the router holds this, also if the last request is refused."""
+    seen = rf"(line \d+ refused [14]\n|0 (empty|memory|no-data|caught-up|4660 5 1|4660 6 2|{state})\n)*"
+    return rf"{seen}0 caught-up\n0 {state}\n(0 memory\n0 {state}\n)?"
+
+
 OUT_OF_MEMORY = "rpkirtr: out of memory\n"
 failed = 0
 
@@ -205,7 +217,9 @@ def commands(watch, program):
         (f"answer --session 4660 --serial 5 --vrps list {RESET}", None),
         (f"answer --session 4660 --serial 5 --vrps list {QUERY}", REPORT_OF_MEMORY),
         ("loop --session 4660 --start 5 --vrps list 192.0.2.0/24 64496", r"ended 4\n"),
-        ("world script", r"(line \d+ refused 4\n)?(0 (empty|memory|no-data|caught-up|4660 5 1)\n)*"),
+        ("world answered", shown("4660 5 1")),
+        ("world restarted", shown("8738 9 0")),
+        ("world stepped", shown("8738 9 1")),
         ("serve --port 0 --session 4660 --start 5 --vrps list --connections 0", None),
         ("world", None),
     ):
@@ -237,7 +251,7 @@ def files():
     roa = bytes.fromhex(ONE_PREFIX)
     for name, content in (
         *(("payload", roa), ("point/objects/a.roa", roa), ("point/contents/a.roa", roa), ("point/manifest.der", bytes.fromhex(OF_A_ROA))),
-        *(("list", LIST.encode()), ("units", bytes.fromhex(ANSWER)), ("script", SCRIPT.encode())),
+        *(("list", LIST.encode()), ("units", bytes.fromhex(ANSWER)), *((name, text.encode()) for name, text in SCRIPTS.items())),
     ):
         with open(name, "wb") as it:
             it.write(content)

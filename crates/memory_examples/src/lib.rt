@@ -21,5 +21,3 @@ mod set_runs;
 mod slurm_runs;
 #[cfg(test)]
 mod telling;
-#[cfg(test)]
-mod world_runs;

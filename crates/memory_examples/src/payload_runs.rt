@@ -38,6 +38,17 @@ pub(crate) const FIRST: &[u8] = b"\
     \x30\x2c\x30\x2a\x16\x05\x61\x2e\x72\x6f\x61\
     \x03\x21\x00\xda\x32\xbf\xbe\x0d\x8e\xea\x0f\x5d\x3b\x56\x02\x3c\x55\xd1\xc2\x3a\xa9\x1d\xf5\x02\x33\xf8\x9c\x32\x50\x86\xb2\xb2\x06\xd5\xa2";
 
+/// A manifest of number 2, 20250101120000Z to 20250103000000Z, with `a.roa` and `b.roa`, both with the hash of that ROA.
+const SECOND: &[u8] = b"\
+    \x30\x81\x8a\x02\x01\x02\
+    \x18\x0f20250101120000Z\
+    \x18\x0f20250103000000Z\
+    \x06\x09\x60\x86\x48\x01\x65\x03\x04\x02\x01\
+    \x30\x58\x30\x2a\x16\x05a.roa\
+    \x03\x21\x00\xda\x32\xbf\xbe\x0d\x8e\xea\x0f\x5d\x3b\x56\x02\x3c\x55\xd1\xc2\x3a\xa9\x1d\xf5\x02\x33\xf8\x9c\x32\x50\x86\xb2\xb2\x06\xd5\xa2\
+    \x30\x2a\x16\x05b.roa\
+    \x03\x21\x00\xda\x32\xbf\xbe\x0d\x8e\xea\x0f\x5d\x3b\x56\x02\x3c\x55\xd1\xc2\x3a\xa9\x1d\xf5\x02\x33\xf8\x9c\x32\x50\x86\xb2\xb2\x06\xd5\xa2";
+
 /// Prints the entries of a ROA.
 fn tell_roa(rt: &HostRuntime, roa: &Roa) {
     for it in roa.entries() {
@@ -60,18 +71,6 @@ fn is_decoded(rt: &HostRuntime, payload: &[u8]) -> bool {
 /// Decodes a ROA, and once more if memory ran out.
 pub(crate) fn tell_decoded(rt: &HostRuntime, payload: &[u8]) {
     let _done = is_decoded(rt, payload) || is_decoded(rt, payload);
-}
-
-#[test]
-fn decode_one_prefix(rt: HostRuntime) {
-    begin(rt.alloc());
-    tell_decoded(&rt, ONE_PREFIX);
-}
-
-#[test]
-fn decode_ipv6(rt: HostRuntime) {
-    begin(rt.alloc());
-    tell_decoded(&rt, IPV6);
 }
 
 /// Prints whether what is written is the payload, or that memory ran out.
@@ -113,22 +112,6 @@ fn tell_manifest(rt: &HostRuntime, manifest: &Manifest) {
     for it in manifest.files() {
         tell(rt, it.name());
     }
-}
-
-/// Decodes the manifest and prints what it says, or that memory ran out.
-fn is_manifest(rt: &HostRuntime) -> bool {
-    match decode_manifest(rt.alloc(), OF_A_LIST) {
-        Ok(manifest) => tell_manifest(rt, &manifest),
-        Err(PayloadFault::Memory) => return no_memory(rt),
-        Err(PayloadFault::At(_)) => tell(rt, "refused"),
-    }
-    true
-}
-
-#[test]
-fn decode_a_manifest(rt: HostRuntime) {
-    begin(rt.alloc());
-    let _done = is_manifest(&rt) || is_manifest(&rt);
 }
 
 /// Lists a file of this name and this hash.
@@ -264,7 +247,7 @@ fn tell_offered(
         || is_judged(rt, repository, manifest, files, now);
 }
 
-/// The moments of the manifests: both thisUpdates, the first nextUpdate, a second later, and the second nextUpdate.
+/// The moments of the manifests: both thisUpdates, the first nextUpdate, and a second later.
 pub(crate) const START: &str = "20250101000000Z";
 
 const NOON: &str = "20250101120000Z";
@@ -272,8 +255,6 @@ const NOON: &str = "20250101120000Z";
 const END: &str = "20250102000000Z";
 
 const LATE: &str = "20250102000001Z";
-
-const NEXT_END: &str = "20250103000000Z";
 
 #[test]
 fn offer_the_first(rt: HostRuntime) {
@@ -285,50 +266,8 @@ fn offer_the_first(rt: HostRuntime) {
     }
 }
 
-/// Lists `a.roa` and `b.roa`, both with the hash of the object of the first manifest's file.
-fn list_both(
-    files: &mut Vec<ListedFile>,
-    alloc: Global,
-    first: &Manifest,
-) -> Result<(), AllocError> {
-    for it in first.files() {
-        list(files, alloc, "a.roa", it.hash())?;
-        list(files, alloc, "b.roa", it.hash())?;
-    }
-    Ok(())
-}
-
-/// Both files of the second manifest.
-fn both_of(alloc: Global, first: &Manifest) -> Result<Vec<ListedFile>, AllocError> {
-    let mut files = Vec::new(alloc);
-    list_both(&mut files, alloc, first)?;
-    Ok(files)
-}
-
-/// The manifest of number 2 that lists `a.roa` and `b.roa`, whose object is not the one that is hashed.
-fn second_of(alloc: Global, first: &Manifest) -> Option<Manifest> {
-    let (this_update, next_update) = (Moment::parse(NOON)?, Moment::parse(NEXT_END)?);
-    match ([2].to_vec(alloc), both_of(alloc, first)) {
-        (Ok(number), Ok(files)) => {
-            Manifest::new(alloc, number, this_update, next_update, files).ok()
-        }
-        _ => None,
-    }
-}
-
-/// Its payload.
-fn second(alloc: Global) -> Option<Vec<u8>> {
-    match decode_manifest(alloc, FIRST) {
-        Ok(first) => match second_of(alloc, &first) {
-            Some(manifest) => encode_manifest(alloc, &manifest).ok(),
-            None => None,
-        },
-        Err(_) => None,
-    }
-}
-
 /// Offers the second manifest with another object at noon, and prints what is in use at the end of the first and after it.
-fn tell_another(rt: &HostRuntime, repository: &mut Repository, manifest: &[u8]) {
+fn tell_another(rt: &HostRuntime, repository: &mut Repository) {
     let files = [
         file("a.roa", ONE_PREFIX, ONE_PREFIX),
         file("b.roa", IPV6, ONE_PREFIX),
@@ -339,7 +278,7 @@ fn tell_another(rt: &HostRuntime, repository: &mut Repository, manifest: &[u8]) 
         Moment::parse(LATE),
     ) {
         begin(rt.alloc());
-        tell_offered(rt, repository, manifest, &files, noon);
+        tell_offered(rt, repository, SECOND, &files, noon);
         tell_in_use(rt, repository, end);
         tell_in_use(rt, repository, late);
     }
@@ -349,8 +288,8 @@ fn tell_another(rt: &HostRuntime, repository: &mut Repository, manifest: &[u8]) 
 fn offer_another_object(rt: HostRuntime) {
     let mut repository = Repository::new(rt.alloc());
     let files = [file("a.roa", ONE_PREFIX, ONE_PREFIX)];
-    if let (Some(start), Some(manifest)) = (Moment::parse(START), second(rt.alloc())) {
+    if let Some(start) = Moment::parse(START) {
         let _new = repository.offer("point", FIRST, &files, start);
-        tell_another(&rt, &mut repository, manifest.as_slice());
+        tell_another(&rt, &mut repository);
     }
 }
