@@ -5,8 +5,6 @@ use feed::{Fed, FeedFault, Offer, route_from_payloads};
 use points::{FileIn, PointFault};
 use prefixes::{IpPrefix, Route};
 use std::alloc::Global;
-use std::process::Abort;
-use std::test::Fail;
 use vrps::OriginState;
 
 /// The payload of a ROA: AS64496 and 192.0.2.0/24.
@@ -53,121 +51,70 @@ fn offer<'a>(name: &'a str, files: &'a [FileIn<'a>]) -> Offer<'a> {
 }
 
 /// The result of these offers at a moment for a route of AS 64496.
-fn fed(
-    alloc: Global,
-    offers: &[Offer],
-    now: &str,
-    prefix: &str,
-) -> Result<Result<Fed, FeedFault>, Fail> {
-    let Some(now) = Moment::parse(now) else {
-        return Err(Fail::from("moment"));
-    };
-    let route = Route {
-        prefix: IpPrefix::parse(prefix)?,
-        origin: Some(64496),
-    };
-    Ok(route_from_payloads(alloc, offers, now, &route))
+fn fed(alloc: Global, offers: &[Offer], now: &str, prefix: &str) -> Option<Result<Fed, FeedFault>> {
+    match (Moment::parse(now), IpPrefix::parse(prefix)) {
+        (Some(now), Ok(prefix)) => {
+            let route = Route {
+                prefix,
+                origin: Some(64496),
+            };
+            Some(route_from_payloads(alloc, offers, now, &route))
+        }
+        _ => None,
+    }
 }
 
-/// Checks the state, and what was sent.
-fn expect_fed<R: Abort>(
-    rt: &R,
-    alloc: Global,
-    offers: &[Offer],
-    prefix: &str,
-    state: OriginState,
-    wire: &[u8],
-) -> Result<(), Fail> {
-    let Ok(fed) = fed(alloc, offers, BEGUN, prefix)? else {
-        return Err(Fail::from("refused"));
-    };
-    assert!(rt; fed.state == state);
-    assert!(rt; fed.wire.as_slice() == wire);
-    Ok(())
+/// Whether this is the state, and that was sent.
+fn is_fed(alloc: Global, offers: &[Offer], prefix: &str, state: OriginState, wire: &[u8]) -> bool {
+    match fed(alloc, offers, BEGUN, prefix) {
+        Some(Ok(fed)) => fed.state == state && fed.wire.as_slice() == wire,
+        _ => false,
+    }
 }
 
-/// Checks the fault, and its number.
-fn expect_refused<R: Abort>(
-    rt: &R,
-    alloc: Global,
-    offers: &[Offer],
-    now: &str,
-    fault: FeedFault,
-    number: u8,
-) -> Result<(), Fail> {
-    let Err(refused) = fed(alloc, offers, now, "192.0.2.0/24")? else {
-        return Err(Fail::from("fed"));
-    };
-    assert!(rt; refused == fault);
-    assert!(rt; refused.number() == number);
-    Ok(())
+/// Whether this is the fault, whose number is 1.
+fn is_refused(alloc: Global, offers: &[Offer], now: &str, fault: FeedFault) -> bool {
+    match fed(alloc, offers, now, "192.0.2.0/24") {
+        Some(Err(refused)) => refused == fault && refused.number() == 1,
+        _ => false,
+    }
 }
 
 #[test]
-fn a_route_has_its_state(rt: HostRuntime) -> Result<(), Fail> {
+fn a_route_has_its_state(rt: HostRuntime) {
     let alloc = rt.alloc();
-    let one = offer("one", FILES);
-    expect_fed(
-        &rt,
-        alloc,
-        &[one],
-        "192.0.2.0/24",
-        OriginState::Valid,
-        ANSWER,
-    )?;
-    expect_fed(
-        &rt,
-        alloc,
-        &[one],
-        "192.0.2.0/25",
-        OriginState::Invalid,
-        ANSWER,
-    )?;
-    expect_fed(
-        &rt,
-        alloc,
-        &[],
-        "192.0.2.0/24",
-        OriginState::NotFound,
-        EMPTY,
-    )?;
-    Ok(())
+    let one = [offer("one", FILES)];
+    assert!(rt; is_fed(alloc, &one, "192.0.2.0/24", OriginState::Valid, ANSWER));
+    assert!(rt; is_fed(alloc, &one, "192.0.2.0/25", OriginState::Invalid, ANSWER));
+    assert!(rt; is_fed(alloc, &[], "192.0.2.0/24", OriginState::NotFound, EMPTY));
 }
 
 #[test]
-fn the_same_offer_again_is_no_fault(rt: HostRuntime) -> Result<(), Fail> {
+fn the_same_offer_again_is_no_fault(rt: HostRuntime) {
     let alloc = rt.alloc();
     let again = [offer("one", FILES), offer("one", &[])];
-    expect_fed(
-        &rt,
-        alloc,
-        &again,
-        "192.0.2.0/24",
-        OriginState::Valid,
-        ANSWER,
-    )?;
+    assert!(rt; is_fed(alloc, &again, "192.0.2.0/24", OriginState::Valid, ANSWER));
     let elsewhere = [offer("one", FILES), offer("two", FILES)];
-    expect_fed(
-        &rt,
-        alloc,
-        &elsewhere,
-        "192.0.2.0/24",
-        OriginState::Valid,
-        ANSWER,
-    )?;
-    Ok(())
+    assert!(rt;
+        is_fed(
+            alloc,
+            &elsewhere,
+            "192.0.2.0/24",
+            OriginState::Valid,
+            ANSWER
+        )
+    );
 }
 
 #[test]
-fn the_first_refused_offer_is_told(rt: HostRuntime) -> Result<(), Fail> {
+fn the_first_refused_offer_is_told(rt: HostRuntime) {
     let alloc = rt.alloc();
-    let one = offer("one", FILES);
+    let one = [offer("one", FILES)];
     let stale = FeedFault::Point(0, PointFault::Stale);
-    expect_refused(&rt, alloc, &[one], "20250102000001Z", stale, 1)?;
+    assert!(rt; is_refused(alloc, &one, "20250102000001Z", stale));
     let missing = FeedFault::Point(1, PointFault::Missing(0));
-    let none = offer("two", &[]);
-    expect_refused(&rt, alloc, &[one, none, none], BEGUN, missing, 1)?;
-    Ok(())
+    let none = [offer("one", FILES), offer("two", &[]), offer("two", &[])];
+    assert!(rt; is_refused(alloc, &none, BEGUN, missing));
 }
 
 #[test]
