@@ -9,11 +9,15 @@ if [ -n "${QUICK:-}" ] || ! command -v rt >/dev/null 2>&1; then
 fi
 room=$(mktemp -d) || exit 1
 trap 'rm -rf "$room"' EXIT
-failed=0
 
+mkdir "$room/tree" || exit 1
 cd "$top" || exit 1
-tar -c --exclude=out --exclude=.git . | tar -x -C "$room" || exit 1
-cd "$room" && git init -q . || exit 1
+tar -c --exclude=out --exclude=.git . | tar -x -C "$room/tree" || exit 1
+cd "$room/tree" && git init -q . || exit 1
+
+fail() {
+    echo "$*" | tee -a "$room/failed"
+}
 
 listed() {
     python3 tests/gate/wrong_bodies.py --list "$@"
@@ -27,22 +31,22 @@ to_be_tried() {
 expect() { # expect WHAT CRATES
     local found
     found=$(to_be_tried)
-    if [ "$found" != "$2" ]; then
-        echo "$1: edits of '$found' are to be tried, in place of '$2'"
-        failed=1
-    fi
+    [ "$found" = "$2" ] || fail "$1: edits of '$found' are to be tried, in place of '$2'"
 }
 
-# Makes a change in a file, asks what is to be tried then, and takes the change back.
+# Makes a change in a file of a tree of its own, whose other files are those of the first tree, and asks what is to be tried then.
 changed() { # changed FILE SED CRATES
-    cp "$1" saved
-    sed -i "$2" "$1"
-    if cmp -s saved "$1"; then
-        echo "$1: nothing was changed by $2"
-        failed=1
-    fi
-    expect "$1 $2" "$3"
-    mv saved "$1"
+    local copy
+    while [ "$(jobs -rp | wc -l)" -ge "$(nproc)" ]; do
+        wait -n
+    done
+    copy=$(mktemp -d "$room/copy.XXXXXX") && cp -al . "$copy/tree" || exit 1
+    (
+        cd "$copy/tree" || exit 1
+        sed -i "$2" "$1"
+        ! cmp -s "$1" "$room/tree/$1" || fail "$1: nothing was changed by $2"
+        expect "$1 $2" "$3"
+    ) &
 }
 
 : >tests/gate/refused.txt
@@ -66,11 +70,10 @@ changed crates/rtr_ends/proofs/LinkCells.antt '$s|$| |' 'rtr_ends '
 changed crates/vrps/src/log.rt 's|^    /// How many versions before|    /// One.\n    pub fn one_alone(\&self) -> u8 {\n        1\n    }\n\n&|' 'vrps '
 # the libraries of a crate
 changed crates.txt 's|^vrps: .*|& arrayvec|' 'command_parts event_log exports feed log_output payload_commands payload_lists rpkiobject rpkirtr rpkirtr_c rpkirtrd_cli rpkirtrd_start rtr_commands rtr_daemon rtr_ends rtr_server rtr_world session_names slurm sources status_pages status_server upstreams vrps world_scripts '
-# an edit, which alone is tried
+# an edit
 changed crates/vrps/wrong/a_group_has_no_records.edit '$s|$| |' 'vrps '
+wait
+# it alone is tried
 echo ' ' >>crates/vrps/wrong/a_group_has_no_records.edit
-if [ "$(listed | sed 's/^[^ ]* //')" != vrps/a_group_has_no_records ]; then
-    echo 'not the changed edit alone is to be tried'
-    failed=1
-fi
-[ "$failed" -eq 0 ]
+[ "$(listed | sed 's/^[^ ]* //')" = vrps/a_group_has_no_records ] || fail 'not the changed edit alone is to be tried'
+[ ! -e "$room/failed" ]
