@@ -1,4 +1,4 @@
-//! Examples of a daemon, which are the tests of `session_names`, `event_log`, `log_output`, `sd_notify` and `rtr_daemon`. They are of its
+//! Examples of a daemon, which are the tests of `session_names`, `event_log`, `log_output`, `sd_notify`, `rtr_daemon` and `rpkirtrd_start`. They are of its
 //! sessions and serials, their pace, its clock, the levels and the output of its log, and its turns. Sockets, files, clocks and log are in
 //! memory. `page_texts` prints the lines of the log and the command line. They are a crate of their own, as a crate with tests is proved
 //! twice.
@@ -16,6 +16,8 @@ mod moments;
 mod names;
 #[cfg(test)]
 mod outputs;
+#[cfg(test)]
+mod runs;
 #[cfg(test)]
 mod stage;
 #[cfg(test)]

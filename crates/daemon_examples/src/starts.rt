@@ -65,9 +65,9 @@ fn tokens_files_and_waits_are_judged(rt: HostRuntime) {
 
 /// A host in memory.
 #[derive(Drop)]
-struct Known {
-    alloc: Global,
-    machine_id: &'static str,
+pub(crate) struct Known {
+    pub(crate) alloc: Global,
+    pub(crate) machine_id: &'static str,
 }
 
 impl HostFacts for Known {

@@ -19,4 +19,6 @@ mod stage;
 #[cfg(test)]
 mod validities;
 #[cfg(test)]
+mod versions;
+#[cfg(test)]
 mod wires;

@@ -60,7 +60,7 @@ const NONE: TotalTraffic = TotalTraffic {
 };
 
 /// The status of a cache that has published an empty set.
-fn status(alloc: Global) -> Status {
+pub(crate) fn status(alloc: Global) -> Status {
     Status {
         version: "0.1.0",
         host: None,
