@@ -1,4 +1,5 @@
-//! Parts of a JSON text, as messages show them: a value or a name in at most 80 bytes, and the line and column of a byte.
+//! Parts of a JSON text, as messages show them: a value or a name in at most 80 bytes, and the line and column of a byte. Also the reasons why
+//! a value or a file is refused.
 //!
 //! For example, where `rt` is the runtime that `main` is handed:
 //!
@@ -12,8 +13,13 @@
 //! ```
 #![tactic(auto)]
 
+mod encoding;
+pub mod laws;
 mod position;
+mod reasons;
 mod shown;
 
+pub use encoding::{begins_with_zero, encoding_reason};
 pub use position::Position;
-pub use shown::{NO_ASN, NO_MAX_LENGTH, NO_PREFIX, cut_text, name_text, value_text};
+pub use reasons::{NO_ASN, NO_MAX_LENGTH, NO_NUMBER, NO_PREFIX, STRING_FOR_NUMBER, prefix_reason};
+pub use shown::{cut_text, name_text, value_text};

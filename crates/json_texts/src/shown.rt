@@ -7,15 +7,6 @@ ghost use Rattle.json_texts.specs.Shown.{IsCut, Shows};
 use serde_json::Value;
 use std::alloc::{AllocError, Global};
 
-/// What a message says of a value that should be an AS number.
-pub const NO_ASN: &str = "is no AS number";
-
-/// What a message says of a value that should be a prefix.
-pub const NO_PREFIX: &str = "is no prefix";
-
-/// What a message says of a maximum length that does not suit its prefix.
-pub const NO_MAX_LENGTH: &str = "is not from the prefix length to 32 (IPv4) or 128 (IPv6)";
-
 /// How many bytes of a text a message has at most.
 const LIMIT: usize = 80;
 
