@@ -4,8 +4,8 @@ use Rattle.std.specs.Prelude.{◌⊎◌}
 use Rattle.std.proofs.lemmas.Slice.Eq.{bytes_eq-Decides}
 use Rattle.json.specs.Json.{Json, null, boolean, number, string, array, object, Items, no_items, item, Members, no_members, member}
 use Rattle.payload_lists.proofs.Entries.{one_some}
-use Rattle.exports.specs.Repeating.{entry_repeats, export_repeats, export_twice, items_repeat, member_repeats, members_repeat, metadata_repeat, roas_repeat, stands, twice}
-use Rattle.exports.specs.Repeats.{EntryRepeats, ExportRepeats, ItemsRepeat, MembersRepeat, MetadataRepeat, Repeats, RoasRepeat, Stands, StandsTwice, tree}
+use Rattle.exports.specs.Repeating.{entry_repeats, export_repeats, export_twice, items_repeat, member_repeats, members_repeat, metadata_repeat, roas_repeat, root_twice, stands, twice, two_twice}
+use Rattle.exports.specs.Repeats.{EntryRepeats, ExportRepeats, ItemsRepeat, MembersRepeat, MetadataRepeat, Repeats, RoasRepeat, RootRepeats, Stands, StandsTwice, tree}
 
 abbrev pub Says : Bool → Type 0 → Type 0
 Says b P = MatchBool b P (¬ P)
@@ -151,10 +151,23 @@ members_say (member k j ms) =
     regrouped ((k ≡ codes "roas") × RoasRepeat j) ((k ≡ codes "metadata") × MetadataRepeat j) (MembersRepeat ms) (member_repeats k j || members_repeat ms)
     (one_of (((k ≡ codes "roas") × RoasRepeat j) ⊎ ((k ≡ codes "metadata") × MetadataRepeat j)) (MembersRepeat ms) (member_repeats k j) (members_repeat ms) (held_says k j) (members_say ms))
 
+two_say : (k l : List ℕ) (ms : Members) → Says (two_twice k l ms) (StandsTwice k ms ⊎ StandsTwice l ms)
+two_say k l ms = one_of (StandsTwice k ms) (StandsTwice l ms) (twice k ms) (twice l ms) (twice_says k ms) (twice_says l ms)
+
+-- the arrays that are counted
+arrays_say : (ms : Members) → Says (twice (codes "aspas") ms || two_twice (codes "bgpsec_keys") (codes "routerKeys") ms) (StandsTwice (codes "aspas") ms ⊎ StandsTwice (codes "bgpsec_keys") ms ⊎ StandsTwice (codes "routerKeys") ms)
+arrays_say ms =
+    one_of (StandsTwice (codes "aspas") ms) (StandsTwice (codes "bgpsec_keys") ms ⊎ StandsTwice (codes "routerKeys") ms) (twice (codes "aspas") ms) (two_twice (codes "bgpsec_keys") (codes "routerKeys") ms)
+    (twice_says (codes "aspas") ms) (two_say (codes "bgpsec_keys") (codes "routerKeys") ms)
+
+root_says : (ms : Members) → Says (root_twice ms) (RootRepeats ms)
+root_says ms =
+    regrouped (StandsTwice (codes "roas") ms) (StandsTwice (codes "metadata") ms) (StandsTwice (codes "aspas") ms ⊎ StandsTwice (codes "bgpsec_keys") ms ⊎ StandsTwice (codes "routerKeys") ms) (root_twice ms)
+    (one_of (StandsTwice (codes "roas") ms ⊎ StandsTwice (codes "metadata") ms) (StandsTwice (codes "aspas") ms ⊎ StandsTwice (codes "bgpsec_keys") ms ⊎ StandsTwice (codes "routerKeys") ms) (two_twice (codes "roas") (codes "metadata") ms)
+    (twice (codes "aspas") ms || two_twice (codes "bgpsec_keys") (codes "routerKeys") ms) (two_say (codes "roas") (codes "metadata") ms) (arrays_say ms))
+
 export_says : (ms : Members) → Says (export_twice ms) (ExportRepeats (object ms))
-export_says ms =
-    regrouped (StandsTwice (codes "roas") ms) (StandsTwice (codes "metadata") ms) (MembersRepeat ms) (export_twice ms)
-    (one_of (StandsTwice (codes "roas") ms ⊎ StandsTwice (codes "metadata") ms) (MembersRepeat ms) (twice (codes "roas") ms || twice (codes "metadata") ms) (members_repeat ms) (one_of (StandsTwice (codes "roas") ms) (StandsTwice (codes "metadata") ms) (twice (codes "roas") ms) (twice (codes "metadata") ms) (twice_says (codes "roas") ms) (twice_says (codes "metadata") ms)) (members_say ms))
+export_says ms = one_of (RootRepeats ms) (MembersRepeat ms) (root_twice ms) (members_repeat ms) (root_says ms) (members_say ms)
 
 -- ---- texts
 

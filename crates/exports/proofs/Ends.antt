@@ -1,6 +1,6 @@
 -- The first second at which an entry that counts ends, and that nothing changes before it.
 use Rattle.std.proofs.Common.{◌≡◌, ℕ, ◌+◌, ◌<◌, ◌≤◌, ◌++◌, cond, Bool, true, false, nat_lt, List, [], ◌∷◌, Option, Some, None, Result, Ok, Err, refl, sym, ap, ap₂, subst, ◌∙◌, arith}
-use Rattle.std.specs.Prelude.{All, IfErr, IfOk, MatchBool, ◌^◌, filter, filter_map, map, min, not}
+use Rattle.std.specs.Prelude.{All, IfOk, MatchBool, ◌^◌, filter, filter_map, map, min, not}
 use Rattle.std.specs.List.{cons_option}
 use Rattle.std.proofs.lemmas.Bool.Decides.{nat_tests}
 use Rattle.std.proofs.lemmas.List.Elements.{All-append, All-cons, All-nil, All-tail, All-weaker, Contains-append_left, Contains-append_right}
@@ -9,7 +9,8 @@ use Rattle.prefixes.proofs.Basics.{lt_true}
 use Rattle.serde_json.specs.Data.{Data, null, boolean, number, string, array, object, Items}
 use Rattle.serde_json.specs.Find.{as_array}
 use Rattle.std.specs.Str.{IsUtf8}
-use Rattle.exports.specs.PlainForm.{ReadsParts, TellsEntries}
+use Rattle.exports.specs.Ignored.{IsExportCounted}
+use Rattle.exports.specs.PlainForm.{HasElements, ReadsParts, TellsEntries}
 use Rattle.exports.specs.declared.fault.ExportFault.TheVariants.{NotJson, NoRoas, Entry, TooMany, Memory, Repeated}
 use Rattle.exports.specs.declared.streaming.Entries.{Entries}
 use Rattle.exports.specs.declared.streaming.ExportMembers.{ExportMembers}
@@ -22,10 +23,13 @@ use Rattle.exports.specs.Gathering.{Gathers, SetFails}
 use Rattle.exports.specs.Lasting.{AreLasts, IsExportLasting, counting}
 use Rattle.exports.specs.Until.{IsBefore, IsExportUntil, IsFirst, endings}
 use Rattle.exports.specs.declared.entry.ExportEntry.{ExportEntry}
+use Rattle.exports.specs.declared.export.ExportCounted.{ExportCounted}
 use Rattle.exports.specs.declared.export.ExportLasting.{ExportLasting}
+use Rattle.exports.specs.declared.ignored.Elements.{Elements}
 use Rattle.exports.specs.declared.export.TimedExport.{TimedExport}
 use Rattle.exports.specs.declared.fault.ExportFault.{ExportFault}
 use Rattle.exports.specs.declared.gathered.EntryRecords.{EntryRecords}
+use Rattle.exports.proofs.Elements.{ignored_of}
 use Rattle.exports.proofs.Lasts.{counting_current}
 
 -- ---- the first of two lists of seconds
@@ -146,23 +150,21 @@ set_fails bytes now d g Memory reads found fails = tt
 set_fails bytes now d g Repeated reads found fails = absurd fails
 
 -- What was read of a text in its plain form, and what is wrong with it
-pub entries_of : (text : List ℕ) (now : ℕ) (p : ExportMembers) (e : Option Entries) → IsUtf8 text → ReadsParts now text p → p.repeats ≡ false → p.entries ≡ e → (d : Data) × ReadsOnce text d × TellsEntries now d e × IsBuilt (generated d) (buildtime d) p.built
+pub entries_of : (text : List ℕ) (now : ℕ) (p : ExportMembers) (e : Option Entries) → IsUtf8 text → ReadsParts now text p → p.repeats ≡ false → p.entries ≡ e
+    → (d : Data) × ReadsOnce text d × TellsEntries now d e × IsBuilt (generated d) (buildtime d) p.built × HasElements d p.elements
 entries_of text now p e utf8 told once has = (
   told.value,
   ((utf8, told.reads), subst (λ b. MatchBool b (Repeats text) (¬ (Repeats text))) once told.repeats),
   subst (λ x. TellsEntries now told.value x) has told.parts.entries,
   told.parts.built,
+  told.parts.elements,
 )
 
-pub if_made : (bytes : List ℕ) (now : ℕ) (d : Data) (g : EntryRecords) (built : Option ℕ) (r : Result ExportLasting ExportFault) → ReadsOnce bytes d → (es : List ExportEntry) × Lists d es × Gathers now es g → IsBuilt (generated d) (buildtime d) built
-    → IfOk r (λ x. (x.export.set ≡ set_of g.records.items) × (size x.export.set ≤ 16777215)) → IfOk r (λ x. AreLasts g.records.items g.lasts.items x.export.set x.lasts.items)
-    → IfOk r (λ x. (x.export.expired ≡ g.expired) × (x.export.built ≡ built) × (x.until ≡ g.until)) → IfOk r (λ x. IsExportLasting bytes now x)
-if_made bytes now d g built (Ok x) reads found is set lasts rest = is_made bytes now d g built x reads found is (record { set = set; lasts = lasts; rest = rest })
-if_made bytes now d g built (Err e) reads found is set lasts rest = tt
-
-pub if_fails : (bytes : List ℕ) (now : ℕ) (d : Data) (g : EntryRecords) (r : Result ExportLasting ExportFault) → ReadsOnce bytes d → (es : List ExportEntry) × Lists d es × Gathers now es g → IfErr r (λ f. SetFails g.records.items f) → IfErr r (λ f. HasFault bytes now f)
-if_fails bytes now d g (Ok x) reads found fails = tt
-if_fails bytes now d g (Err f) reads found fails = set_fails bytes now d g f reads found fails
+-- With what is not served of them
+pub is_counted : (bytes : List ℕ) (now : ℕ) (d : Data) (e : Elements) (g : EntryRecords) (built : Option ℕ) (x : ExportCounted) → ReadsOnce bytes d → (es : List ExportEntry) × Lists d es × Gathers now es g → IsBuilt (generated d) (buildtime d) built
+    → HasElements d e → Made g built x.lasting → x.ignored.aspas ≡ e.aspas → x.ignored.router_keys ≡ e.bgpsec_keys + e.router_keys → IsExportCounted bytes now x
+is_counted bytes now d e g built x reads found is has made aspas keys =
+    record { lasting = is_made bytes now d g built x.lasting reads found is made; value = d; reads = reads.0; ignored = ignored_of d e x.ignored has aspas keys }
 
 -- With its last seconds forgotten
 pub forgotten : (bytes : List ℕ) (now : ℕ) (x : ExportLasting) → IsExportLasting bytes now x → IsExportUntil bytes now (record { export = x.export; until = x.until })

@@ -4,6 +4,7 @@ pub mod Ends
 pub mod Times
 pub mod PlainSteps
 pub mod PlainParts
+pub mod Elements
 pub mod Deciding
 pub mod ListParts
 pub mod PlainWhole

@@ -16,22 +16,25 @@ use Rattle.exports.specs.Built.{IsBuilt, buildtime, generated}
 use Rattle.exports.specs.Export.{roas}
 use Rattle.exports.specs.Gathering.{IsLasting}
 use Rattle.exports.specs.ListForm.{ReadsRecords, Records}
-use Rattle.exports.specs.PlainForm.{HasEntries, HasParts, IsScalar, ReadsBuilt, ReadsForm, ReadsListParts, ReadsMembers, ReadsNoItems, ReadsNoMembers, ReadsNone, ReadsPart, ReadsParts, ReadsRoas, ReadsSome, TellsBuilt, TellsEntries, TellsParts, TellsRoas, before}
-use Rattle.exports.specs.Repeating.{AreMet, export_repeats, export_twice, member_repeats, members_repeat, metadata_repeat, roas_repeat}
+use Rattle.exports.specs.Ignored.{element_count}
+use Rattle.exports.specs.PlainForm.{HasElements, HasEntries, HasParts, IsScalar, ReadsBuilt, ReadsCounted, ReadsForm, ReadsListParts, ReadsMembers, ReadsNoItems, ReadsNoMembers, ReadsNone, ReadsPart, ReadsParts, ReadsRoas, ReadsSome, TellsBuilt, TellsEntries, TellsParts, TellsRoas, before}
+use Rattle.exports.specs.Repeating.{ExportMet, export_repeats, export_twice, member_repeats, members_repeat, metadata_repeat, roas_repeat}
 use Rattle.exports.specs.Repeats.{tree}
 use Rattle.exports.specs.declared.gathered.EntryRecords.{EntryRecords}
-use Rattle.exports.specs.declared.names.Names.{Names}
+use Rattle.exports.specs.declared.ignored.Elements.{Elements}
+use Rattle.exports.specs.declared.names.ExportNames.{ExportNames}
 use Rattle.exports.specs.declared.streaming.Entries.{Entries}
 use Rattle.exports.specs.declared.streaming.Entries.TheVariants.{Whole, Broken}
 use Rattle.exports.specs.declared.streaming.ExportMembers.{ExportMembers}
 use Rattle.exports.specs.declared.streaming.Scalar.{Scalar}
 use Rattle.exports.proofs.Deciding.{names_differ, of_tree}
+use Rattle.exports.proofs.Elements as counts
 use Rattle.exports.proofs.Items.{gather_list}
 use Rattle.exports.proofs.PlainParts.{no_array_here, no_object_here, object_first, or_false, or_more}
 use Rattle.exports.proofs.PlainSteps.{Unread, array_read, no_array, no_object, object_read, other, unread}
 
-pub has_none : (now : ℕ) → HasParts now no_members (record { entries = None; built = None; repeats = false })
-has_none now = record { entries = refl; built = λ t e m says. absurd (cc) }
+pub has_none : (now : ℕ) → HasParts now no_members (record { entries = None; built = None; elements = counts.none; repeats = false })
+has_none now = record { entries = refl; built = λ t e m says. absurd (cc); elements = counts.none_at_first }
 
 entries_kept : (now : ℕ) (d e : Data) (o : Option Entries) → roas e ≡ roas d → HasEntries now d o → HasEntries now e o
 entries_kept now d e None same h = same ∙ h
@@ -48,29 +51,31 @@ built_kept : (d e : Data) (b : Option ℕ) → get (codes "metadata") e ≡ get 
 built_kept d e b same h = subst (λ o. IsBuilt (option_and_then (whole_at (codes "generated")) o) (option_and_then (text_at (codes "buildtime")) o) b) (sym same) h
 
 -- The members so far were read, and how often the names that are read stand among them.
-abbrev pub PartsSoFar : ℕ → ExportMembers → Names → (json.Members → json.Members) → Members → Type 0
-PartsSoFar now p names f ms = HasParts now ms p × AreMet (codes "roas") (codes "metadata") f names × ((rest : json.Members) → members_repeat (f rest) ≡ (p.repeats || members_repeat rest))
+abbrev pub PartsSoFar : ℕ → ExportMembers → ExportNames → (json.Members → json.Members) → Members → Type 0
+PartsSoFar now p names f ms = HasParts now ms p × ExportMet f names × ((rest : json.Members) → members_repeat (f rest) ≡ (p.repeats || members_repeat rest))
 
-pub part_roas : (now : ℕ) (p : ExportMembers) (r : Option Entries × Bool) (old new : List Token) → ReadsRoas now old new r → ReadsPart now (codes "roas") p (record { entries = r.0; built = p.built; repeats = p.repeats || r.1 }) old new
+pub part_roas : (now : ℕ) (p : ExportMembers) (r : Option Entries × Bool) (old new : List Token) → ReadsRoas now old new r → ReadsPart now (codes "roas") p (record { entries = r.0; built = p.built; elements = p.elements; repeats = p.repeats || r.1 }) old new
 part_roas now p r old new read =
     other 126 (λ j d. TellsRoas now d r.0 × (r.1 ≡ roas_repeat j))
-    (λ j d. ((ms : Members) → HasParts now ms p → HasParts now (put (codes "roas") d ms) (record { entries = r.0; built = p.built; repeats = p.repeats || r.1 })) × ((p.repeats || r.1) ≡ (p.repeats || member_repeats (codes "roas") j))) old new
+    (λ j d. ((ms : Members) → HasParts now ms p → HasParts now (put (codes "roas") d ms) (record { entries = r.0; built = p.built; elements = p.elements; repeats = p.repeats || r.1 })) × ((p.repeats || r.1) ≡ (p.repeats || member_repeats (codes "roas") j))) old new
     (λ j d made at is. (
       λ ms h. record {
         entries = entries_put now d ms r.0 is.0;
         built = built_kept (object ms) (object (put (codes "roas") d ms)) p.built (get_member-put_other (codes "metadata") (codes "roas") d ms (λ e. cc)) h.built;
+        elements = counts.with_roas ms d p.elements h.elements;
       },
       ap (λ b. p.repeats || b) is.1,
     )) read
 
-pub part_metadata : (now : ℕ) (p : ExportMembers) (r : Option ℕ × Bool) (old new : List Token) → ReadsBuilt old new r → ReadsPart now (codes "metadata") p (record { entries = p.entries; built = r.0; repeats = p.repeats || r.1 }) old new
+pub part_metadata : (now : ℕ) (p : ExportMembers) (r : Option ℕ × Bool) (old new : List Token) → ReadsBuilt old new r → ReadsPart now (codes "metadata") p (record { entries = p.entries; built = r.0; elements = p.elements; repeats = p.repeats || r.1 }) old new
 part_metadata now p r old new read =
     other 126 (λ j d. TellsBuilt d r.0 × (r.1 ≡ metadata_repeat j))
-    (λ j d. ((ms : Members) → HasParts now ms p → HasParts now (put (codes "metadata") d ms) (record { entries = p.entries; built = r.0; repeats = p.repeats || r.1 })) × ((p.repeats || r.1) ≡ (p.repeats || member_repeats (codes "metadata") j))) old new
+    (λ j d. ((ms : Members) → HasParts now ms p → HasParts now (put (codes "metadata") d ms) (record { entries = p.entries; built = r.0; elements = p.elements; repeats = p.repeats || r.1 })) × ((p.repeats || r.1) ≡ (p.repeats || member_repeats (codes "metadata") j))) old new
     (λ j d made at is. (
       λ ms h. record {
         entries = entries_kept now (object ms) (object (put (codes "metadata") d ms)) p.entries (ap (option_and_then as_array) (get_member-put_other (codes "roas") (codes "metadata") d ms (λ e. cc))) h.entries;
         built = subst (λ o. IsBuilt (option_and_then (whole_at (codes "generated")) o) (option_and_then (text_at (codes "buildtime")) o) r.0) (sym (get_member-put (codes "metadata") d ms)) is.0;
+        elements = counts.with_metadata ms d p.elements h.elements;
       },
       ap (λ b. p.repeats || b) is.1,
     )) read
@@ -79,13 +84,16 @@ none_repeats : (k : List ℕ) (j : json.Json) → (k ≡ codes "roas" → ⊥) �
 none_repeats k j no_roas no_metadata =
     ap (λ b. cond b (roas_repeat j) (cond (bytes_eq k (codes "metadata")) (metadata_repeat j) false)) (names_differ k (codes "roas") no_roas) ∙ ap (λ b. cond b (metadata_repeat j) false) (names_differ k (codes "metadata") no_metadata)
 
-pub part_other : (now : ℕ) (k : List ℕ) (p : ExportMembers) (s : Scalar) (old new : List Token) → (k ≡ codes "roas" → ⊥) → (k ≡ codes "metadata" → ⊥) → ReadsSome 126 (λ j d. IsScalar d s) old new → ReadsPart now k p p old new
-part_other now k p s old new no_roas no_metadata read =
-    other 126 (λ j d. IsScalar d s) (λ j d. ((ms : Members) → HasParts now ms p → HasParts now (put k d ms) p) × (p.repeats ≡ (p.repeats || member_repeats k j))) old new
+pub part_other : (now : ℕ) (k : List ℕ) (p : ExportMembers) (n : ℕ) (e : Elements) (old new : List Token) → (k ≡ codes "roas" → ⊥) → (k ≡ codes "metadata" → ⊥) → ReadsCounted old new n
+    → ((ms : Members) (d : Data) → HasElements (object ms) p.elements → n ≡ element_count d → HasElements (object (put k d ms)) e) → ReadsPart now k p (record { entries = p.entries; built = p.built; elements = e; repeats = p.repeats }) old new
+part_other now k p n e old new no_roas no_metadata read counted =
+    other 126 (λ j d. n ≡ element_count d)
+    (λ j d. ((ms : Members) → HasParts now ms p → HasParts now (put k d ms) (record { entries = p.entries; built = p.built; elements = e; repeats = p.repeats })) × (p.repeats ≡ (p.repeats || member_repeats k j))) old new
     (λ j d made at is. (
       λ ms h. record {
         entries = entries_kept now (object ms) (object (put k d ms)) p.entries (ap (option_and_then as_array) (get_member-put_other (codes "roas") k d ms (λ e. no_roas (sym e)))) h.entries;
         built = built_kept (object ms) (object (put k d ms)) p.built (get_member-put_other (codes "metadata") k d ms (λ e. no_metadata (sym e))) h.built;
+        elements = counted ms d h.elements is;
       },
       sym (ap (λ b. p.repeats || b) (none_repeats k j no_roas no_metadata) ∙ or_false p.repeats),
     )) read
@@ -136,7 +144,7 @@ object_form now old ts new (Err e) first h = tt
 object_form now old ts new (Ok None) first h = no_object 126 old ts first h
 object_form now old ts new (Ok (Some p)) first h =
     object_read 126 (λ js ms. HasParts now ms p × (p.repeats ≡ export_twice js)) (λ j d. TellsParts now d p × (p.repeats ≡ export_repeats j)) old ts new first h
-    (λ js ms is. (record { entries = told_some now ms p.entries is.0.entries; built = is.0.built }, is.1))
+    (λ js ms is. (record { entries = told_some now ms p.entries is.0.entries; built = is.0.built; elements = is.0.elements }, is.1))
 
 pub list_form : {E : Type 0} (now : ℕ) (old ts new : List Token) (r : Result (Option ExportMembers) E) → old ≡ Token.begin_array ∷ ts
     → IfOk r (λ found. MatchOption found (ReadsNoItems 126 ts) (λ p. ReadsListParts now ts new p)) → IfOk r (λ found. MatchOption found (ReadsNone 127 old) (λ p. ReadsForm now old new p))
@@ -147,13 +155,13 @@ list_form now old ts new (Ok (Some p)) first h =
 
 -- What was read of a value that is neither an array nor an object
 abbrev pub no_parts : ExportMembers
-no_parts = record { entries = None; built = None; repeats = false }
+no_parts = record { entries = None; built = None; elements = counts.none; repeats = false }
 
 of_neither : (now : ℕ) (d : Data) → is_some (as_object d) ≡ false → as_array d ≡ None → TellsParts now d no_parts
-of_neither now null no_object no_array = record { entries = (refl, λ es l. let no : None ≡ Some l.items = l.is_array in absurd (cc)); built = λ t f m says. absurd (cc) }
-of_neither now (boolean b) no_object no_array = record { entries = (refl, λ es l. let no : None ≡ Some l.items = l.is_array in absurd (cc)); built = λ t f m says. absurd (cc) }
-of_neither now (number n) no_object no_array = record { entries = (refl, λ es l. let no : None ≡ Some l.items = l.is_array in absurd (cc)); built = λ t f m says. absurd (cc) }
-of_neither now (string s) no_object no_array = record { entries = (refl, λ es l. let no : None ≡ Some l.items = l.is_array in absurd (cc)); built = λ t f m says. absurd (cc) }
+of_neither now null no_object no_array = record { entries = (refl, λ es l. let no : None ≡ Some l.items = l.is_array in absurd (cc)); built = λ t f m says. absurd (cc); elements = (refl, refl, refl) }
+of_neither now (boolean b) no_object no_array = record { entries = (refl, λ es l. let no : None ≡ Some l.items = l.is_array in absurd (cc)); built = λ t f m says. absurd (cc); elements = (refl, refl, refl) }
+of_neither now (number n) no_object no_array = record { entries = (refl, λ es l. let no : None ≡ Some l.items = l.is_array in absurd (cc)); built = λ t f m says. absurd (cc); elements = (refl, refl, refl) }
+of_neither now (string s) no_object no_array = record { entries = (refl, λ es l. let no : None ≡ Some l.items = l.is_array in absurd (cc)); built = λ t f m says. absurd (cc); elements = (refl, refl, refl) }
 of_neither now (array ds) no_object no_array = absurd (cc)
 of_neither now (object ms) no_object no_array = absurd (let no : true ≡ false = no_object in cc)
 
@@ -178,13 +186,14 @@ same_items : (ds es : Items) → Some ds ≡ Some es → ds ≡ es
 same_items ds es e = cc
 
 -- An array whose items have these payloads, or are not all entries
-pub list_of : (now : ℕ) (ds : Items) (g : EntryRecords) → IsLasting g → lists.AreEntries ds g.records.items → TellsParts now (array ds) (record { entries = Some (Whole g); built = None; repeats = false })
-list_of now ds g for_ever are = record { entries = gather_list (array ds) ds now g refl are for_ever; built = λ t e m says. absurd (cc) }
+pub list_of : (now : ℕ) (ds : Items) (g : EntryRecords) → IsLasting g → lists.AreEntries ds g.records.items → TellsParts now (array ds) (record { entries = Some (Whole g); built = None; elements = counts.none; repeats = false })
+list_of now ds g for_ever are = record { entries = gather_list (array ds) ds now g refl are for_ever; built = λ t e m says. absurd (cc); elements = counts.none_of_an_array ds }
 
 pub no_list_of : (now : ℕ) (ds : Items) → ((vs : List Payload) → ¬ (lists.AreEntries ds vs)) → TellsParts now (array ds) no_parts
 no_list_of now ds none = record {
   entries = (refl, λ es l. none l.payloads (subst (λ xs. lists.AreEntries xs l.payloads) (sym (same_items ds l.items l.is_array)) l.listed));
   built = λ t e m says. absurd (cc);
+  elements = counts.none_of_an_array ds;
 }
 
 pub list_parts_read : (old new : List Token) (o : Option (Vec Payload Global)) (p : ExportMembers) → ReadsRecords old new o → ((now : ℕ) (ds : Items) → Records ds o → TellsParts now (array ds) p) → p.repeats ≡ false → (now : ℕ) → ReadsListParts now old new p

@@ -193,14 +193,14 @@ no_roas = tree.array tree.no_items
 
 twice_roas : Repeats (codes "{\"roas\":[],\"ro\\u0061s\":[]}")
 unfolding json_on_literals
-twice_roas = (tree.object (tree.member (codes "roas") no_roas (tree.member (codes "roas") no_roas tree.no_members)), refl, inl (inl (refl, inl refl)))
+twice_roas = (tree.object (tree.member (codes "roas") no_roas (tree.member (codes "roas") no_roas tree.no_members)), refl, inl (inl (inl (refl, inl refl))))
 
 twice_metadata : Repeats (codes "{\"metadata\":{},\"roas\":[],\"metadata\":7}")
 unfolding json_on_literals
 twice_metadata = (
   tree.object (tree.member (codes "metadata") (tree.object tree.no_members) (tree.member (codes "roas") no_roas (tree.member (codes "metadata") (tree.number (codes "7")) tree.no_members))),
   refl,
-  inr (inl (inl (refl, inr (inl refl)))),
+  inl (inr (inl (inl (refl, inr (inl refl))))),
 )
 
 -- a member that has this name twice, of the value 1
@@ -213,11 +213,11 @@ with_metadata j = tree.object (tree.member (codes "metadata") j tree.no_members)
 
 twice_generated : Repeats (codes "{\"metadata\":{\"generated\":1,\"generated\":1}}")
 unfolding json_on_literals
-twice_generated = (with_metadata (tree.object (both (codes "generated"))), refl, inr (inr (inr (inl (refl, inl (inl (refl, inl refl)))))))
+twice_generated = (with_metadata (tree.object (both (codes "generated"))), refl, inr (inr (inl (refl, inl (inl (refl, inl refl))))))
 
 twice_buildtime : Repeats (codes "{\"metadata\":{\"buildtime\":1,\"buildtime\":1}}")
 unfolding json_on_literals
-twice_buildtime = (with_metadata (tree.object (both (codes "buildtime"))), refl, inr (inr (inr (inl (refl, inr (inl (refl, inl refl)))))))
+twice_buildtime = (with_metadata (tree.object (both (codes "buildtime"))), refl, inr (inr (inl (refl, inr (inl (refl, inl refl))))))
 
 -- in an entry: `asn`, `prefix`, `maxLength` and `expires`
 abbrev with_second : tree.Json → tree.Json
@@ -225,16 +225,32 @@ with_second j = tree.object (tree.member (codes "roas") (tree.array (tree.item (
 
 twice_asn : Repeats (codes "{\"roas\":[{},{\"asn\":1,\"asn\":1}]}")
 unfolding json_on_literals
-twice_asn = (with_second (tree.object (both (codes "asn"))), refl, inr (inr (inl (refl, inr (inl (inl (inl (refl, inl refl))))))))
+twice_asn = (with_second (tree.object (both (codes "asn"))), refl, inr (inl (refl, inr (inl (inl (inl (refl, inl refl)))))))
 
 twice_prefix : Repeats (codes "{\"roas\":[{},{\"prefix\":1,\"prefix\":1}]}")
 unfolding json_on_literals
-twice_prefix = (with_second (tree.object (both (codes "prefix"))), refl, inr (inr (inl (refl, inr (inl (inr (inl (inl (refl, inl refl)))))))))
+twice_prefix = (with_second (tree.object (both (codes "prefix"))), refl, inr (inl (refl, inr (inl (inr (inl (inl (refl, inl refl))))))))
 
 twice_max_length : Repeats (codes "{\"roas\":[{},{\"maxLength\":1,\"maxLength\":1}]}")
 unfolding json_on_literals
-twice_max_length = (with_second (tree.object (both (codes "maxLength"))), refl, inr (inr (inl (refl, inr (inl (inr (inr (inl (inl (refl, inl refl))))))))))
+twice_max_length = (with_second (tree.object (both (codes "maxLength"))), refl, inr (inl (refl, inr (inl (inr (inr (inl (inl (refl, inl refl)))))))))
 
 twice_expires : Repeats (codes "{\"roas\":[{},{\"expires\":1,\"expires\":1}]}")
 unfolding json_on_literals
-twice_expires = (with_second (tree.object (both (codes "expires"))), refl, inr (inr (inl (refl, inr (inl (inr (inr (inr (inl (refl, inl refl))))))))))
+twice_expires = (with_second (tree.object (both (codes "expires"))), refl, inr (inl (refl, inr (inl (inr (inr (inr (inl (refl, inl refl)))))))))
+
+-- in the export: the arrays that are counted
+abbrev both_arrays : List ℕ → tree.Json
+both_arrays name = tree.object (tree.member name no_roas (tree.member name no_roas tree.no_members))
+
+twice_aspas : Repeats (codes "{\"aspas\":[],\"aspas\":[]}")
+unfolding json_on_literals
+twice_aspas = (both_arrays (codes "aspas"), refl, inl (inr (inr (inl (inl (refl, inl refl))))))
+
+twice_bgpsec_keys : Repeats (codes "{\"bgpsec_keys\":[],\"bgpsec_keys\":[]}")
+unfolding json_on_literals
+twice_bgpsec_keys = (both_arrays (codes "bgpsec_keys"), refl, inl (inr (inr (inr (inl (inl (refl, inl refl)))))))
+
+twice_router_keys : Repeats (codes "{\"routerKeys\":[],\"routerKeys\":[]}")
+unfolding json_on_literals
+twice_router_keys = (both_arrays (codes "routerKeys"), refl, inl (inr (inr (inr (inr (inl (refl, inl refl)))))))

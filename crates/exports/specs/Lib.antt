@@ -6,10 +6,12 @@ pub mod Repeats
 pub mod Export
 pub mod Until
 pub mod Lasting
+pub mod Ignored
 pub mod Gathering
 pub mod Repeating
 pub mod PlainForm
 pub mod ListForm
 pub mod ExportRows
 pub mod LastingRows
+pub mod IgnoredRows
 pub mod ExportLaws

@@ -12,12 +12,14 @@ use Rattle.exports.specs.Built.{IsBuilt, buildtime, generated}
 use Rattle.exports.specs.Entry.{AreEntries, FailsAt, IsEntry, IsNoEntry, said, whole}
 use Rattle.exports.specs.Export.{IsList, Lists, roas}
 use Rattle.exports.specs.Gathering.{Gathers, said_by}
+use Rattle.exports.specs.Ignored.{element_count, elements_at}
 use Rattle.exports.specs.Repeating.{entry_repeats, export_repeats, items_repeat, member_repeats, metadata_repeat, roas_repeat}
 use Rattle.exports.specs.Repeats.{Repeats}
 use Rattle.exports.specs.declared.entry.RawEntry.{RawEntry}
 use Rattle.exports.specs.declared.entry.ExportEntry.{ExportEntry}
 use Rattle.exports.specs.declared.fault.EntryFault.{EntryFault}
 use Rattle.exports.specs.declared.fault.ExportFault.{ExportFault}
+use Rattle.exports.specs.declared.ignored.Elements.{Elements}
 use Rattle.exports.specs.declared.fault.ExportFault.TheVariants.{NotJson, NoRoas, Entry, TooMany, Memory, Repeated}
 use Rattle.exports.specs.declared.streaming.Entries.{Entries}
 use Rattle.exports.specs.declared.streaming.Entries.TheVariants.{Whole, Broken}
@@ -132,10 +134,19 @@ abbrev pub HasEntries : ℕ → Data → Option Entries → Type 0
 HasEntries now d None = roas d ≡ None
 HasEntries now d (Some entries) = (ds : Items) × (roas d ≡ Some ds) × TellsItems now ds entries
 
+-- A value was read, and it has this many elements.
+abbrev pub ReadsCounted : List Token → List Token → ℕ → Type 0
+ReadsCounted old new n = ReadsSome 126 (λ j d. n ≡ element_count d) old new
+
+-- The arrays of a value that are counted have this many elements.
+abbrev pub HasElements : Data → Elements → Type 0
+HasElements d e = (e.aspas ≡ elements_at (codes "aspas") d) × (e.bgpsec_keys ≡ elements_at (codes "bgpsec_keys") d) × (e.router_keys ≡ elements_at (codes "routerKeys") d)
+
 -- What was read of an export of these members
 pub record HasParts (now : ℕ) (ms : Members) (p : ExportMembers) : Type 0 where
   pub entries : HasEntries now (object ms) p.entries
   pub built : IsBuilt (generated (object ms)) (buildtime (object ms)) p.built
+  pub elements : HasElements (object ms) p.elements
 
 -- The value of a member of this name was read.
 abbrev pub ReadsPart : ℕ → List ℕ → ExportMembers → ExportMembers → List Token → List Token → Type 0
@@ -152,6 +163,7 @@ TellsEntries now d (Some (Broken i w)) = (ds : Items) × (roas d ≡ Some ds) ×
 pub record TellsParts (now : ℕ) (d : Data) (p : ExportMembers) : Type 0 where
   pub entries : TellsEntries now d p.entries
   pub built : IsBuilt (generated d) (buildtime d) p.built
+  pub elements : HasElements d p.elements
 
 -- What was read of a text in either form
 pub record ReadsParts (now : ℕ) (text : List ℕ) (p : ExportMembers) : Type 0 where

@@ -2,6 +2,7 @@
 use Rattle.std.specs.Prelude.{◌≡◌, ℕ, Bool, true, false, cond, ◌||◌, List, bytes_eq, codes}
 use Rattle.json.specs.Json.{Json, null, boolean, number, string, array, object, Items, no_items, item, Members, no_members, member}
 use Rattle.exports.specs.declared.names.EntryNames.{EntryNames}
+use Rattle.exports.specs.declared.names.ExportNames.{ExportNames}
 use Rattle.exports.specs.declared.names.Met.{Met}
 use Rattle.exports.specs.declared.names.Met.TheVariants.{Never, Once, Twice}
 use Rattle.exports.specs.declared.names.Names.{Names}
@@ -58,8 +59,11 @@ abbrev pub members_repeat : Members → Bool
 members_repeat no_members = false
 members_repeat (member k j ms) = member_repeats k j || members_repeat ms
 
+abbrev pub root_twice : Members → Bool
+root_twice ms = two_twice (codes "roas") (codes "metadata") ms || (twice (codes "aspas") ms || two_twice (codes "bgpsec_keys") (codes "routerKeys") ms)
+
 abbrev pub export_twice : Members → Bool
-export_twice ms = two_twice (codes "roas") (codes "metadata") ms || members_repeat ms
+export_twice ms = root_twice ms || members_repeat ms
 
 abbrev pub export_repeats : Json → Bool
 export_repeats null = false
@@ -86,3 +90,7 @@ AreMet one other so_far names = IsMet one so_far names.one × IsMet other so_far
 
 abbrev pub EntryMet : (Members → Members) → EntryNames → Type 0
 EntryMet so_far names = AreMet (codes "asn") (codes "prefix") so_far names.origin × AreMet (codes "maxLength") (codes "expires") so_far names.rest
+
+abbrev pub ExportMet : (Members → Members) → ExportNames → Type 0
+ExportMet so_far names =
+    AreMet (codes "roas") (codes "metadata") so_far names.parts × IsMet (codes "aspas") so_far names.aspas × AreMet (codes "bgpsec_keys") (codes "routerKeys") so_far names.keys

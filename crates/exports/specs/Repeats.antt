@@ -42,9 +42,12 @@ abbrev pub MembersRepeat : Members → Type 0
 MembersRepeat no_members = ⊥
 MembersRepeat (member k j ms) = ((k ≡ codes "roas") × RoasRepeat j) ⊎ ((k ≡ codes "metadata") × MetadataRepeat j) ⊎ MembersRepeat ms
 
--- or in the export itself, which is an object.
+-- or in the export itself, which is an object. The names of the arrays that are counted are read too.
+abbrev pub RootRepeats : Members → Type 0
+RootRepeats ms = StandsTwice (codes "roas") ms ⊎ StandsTwice (codes "metadata") ms ⊎ StandsTwice (codes "aspas") ms ⊎ StandsTwice (codes "bgpsec_keys") ms ⊎ StandsTwice (codes "routerKeys") ms
+
 abbrev pub ExportRepeats : Json → Type 0
-ExportRepeats (object ms) = StandsTwice (codes "roas") ms ⊎ StandsTwice (codes "metadata") ms ⊎ MembersRepeat ms
+ExportRepeats (object ms) = RootRepeats ms ⊎ MembersRepeat ms
 ExportRepeats j = ⊥
 
 -- In the text of an object a name that is read is repeated in its object.

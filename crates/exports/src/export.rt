@@ -3,11 +3,13 @@ ghost use Rattle.std.specs.Prelude.{◌≡◌, ◌≤◌, ℕ, IfOk, IfErr};
 ghost use Rattle.vrps.specs.VrpSet.{set_of, size};
 ghost use Rattle.exports.specs.Export.{HasFault, IsExport};
 ghost use Rattle.exports.specs.Gathering.{SetFails};
+ghost use Rattle.exports.specs.Ignored.{IsExportCounted};
 ghost use Rattle.exports.specs.Lasting.{AreLasts, IsExportLasting};
 ghost use Rattle.exports.specs.Until.{IsBefore, IsExportUntil};
 
 use crate::fault::ExportFault;
 use crate::gathered::EntryRecords;
+use crate::ignored::Ignored;
 use crate::lasting::set_lasting;
 use crate::streaming::{Entries, ExportMembers};
 use crate::text::parts_of_text;
@@ -48,6 +50,15 @@ pub struct ExportLasting {
     pub lasts: Vec<u64>,
 }
 
+/// What a validator exported, with how long each record counts, and how much of it is not served.
+#[derive(Debug, Drop)]
+pub struct ExportCounted {
+    /// The export at the moment, and how long its records count.
+    pub lasting: ExportLasting,
+    /// How many of its elements are not served, whatever the moment.
+    pub ignored: Ignored,
+}
+
 /// The export of what was gathered.
 fn export_of(
     alloc: Global,
@@ -79,13 +90,14 @@ fn export_of(
 }
 
 /// The export of a text.
-fn read_text(alloc: Global, text: &str, now: u64) -> Result<ExportLasting, ExportFault>
-    ensures ok { IfOk result (λ x. IsExportLasting text.now now x) }
+fn read_text(alloc: Global, text: &str, now: u64) -> Result<ExportCounted, ExportFault>
+    ensures ok { IfOk result (λ x. IsExportCounted text.now now x) }
     ensures fault { IfErr result (λ fault. HasFault text.now now fault) }
 {
     let ExportMembers {
         entries,
         built,
+        elements,
         repeats,
     } = parts_of_text(alloc, text, now)?;
     if repeats {
@@ -96,7 +108,11 @@ fn read_text(alloc: Global, text: &str, now: u64) -> Result<ExportLasting, Expor
         Some(Entries::Broken(index, what)) => return Err(ExportFault::Entry(index, what)),
         None => return Err(ExportFault::NoRoas),
     };
-    export_of(alloc, gathered, built)
+    let Some(ignored) = elements.ignored() else {
+        return Err(ExportFault::Memory);
+    };
+    let lasting = export_of(alloc, gathered, built)?;
+    Ok(ExportCounted { lasting, ignored })
 }
 
 /// The export that these bytes are, at a moment in seconds since 1970: a payload list, or an object whose member `roas` is an array of
@@ -140,6 +156,28 @@ pub fn read_export_lasting(
     now: u64,
 ) -> Result<ExportLasting, ExportFault>
     ensures ok { IfOk result (λ x. IsExportLasting bytes.now now x) }
+    ensures fault { IfErr result (λ fault. HasFault bytes.now now fault) }
+{
+    match read_export_counted(alloc, bytes, now) {
+        Ok(
+            ExportCounted {
+                lasting,
+                ignored: _,
+            },
+        ) => Ok(lasting),
+        Err(fault) => Err(fault),
+    }
+}
+
+/// The export that these bytes are at a moment, as [`read_export_lasting`] reads it, and how many elements of it are not served: those of the
+/// arrays `aspas`, `bgpsec_keys` and `routerKeys` in the root. A member of such a name that is not an array has none, and a payload list has
+/// none. None of these names must be repeated in the root. The elements are skipped one by one, so they cost no memory.
+pub fn read_export_counted(
+    alloc: Global,
+    bytes: &[u8],
+    now: u64,
+) -> Result<ExportCounted, ExportFault>
+    ensures ok { IfOk result (λ x. IsExportCounted bytes.now now x) }
     ensures fault { IfErr result (λ fault. HasFault bytes.now now fault) }
 {
     match str::from_utf8(bytes) {

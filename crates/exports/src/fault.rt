@@ -7,20 +7,20 @@ use thiserror::Error;
 /// What of an entry cannot be read: the first fault in this order.
 #[derive(Clone, Copy, Debug, Drop, PartialEq, Eq, Error)]
 pub enum EntryFault {
-    /// The entry is no object.
-    #[error("it is no object")]
+    /// The entry is not an object.
+    #[error("it is not an object")]
     NoObject,
-    /// `asn` is no whole number below 2^32, nor the text of one.
-    #[error("asn is no AS number")]
+    /// `asn` is neither a whole number below 2^32 nor the text of one.
+    #[error("asn is not an AS number")]
     Asn,
-    /// `prefix` is no prefix.
-    #[error("prefix is no prefix")]
+    /// `prefix` is not the text of a prefix.
+    #[error("prefix is not a prefix")]
     Prefix,
-    /// `maxLength` is no whole number from the prefix's length to its family's width.
+    /// `maxLength` is not a whole number from the prefix's length to its family's width.
     #[error("maxLength is not from the prefix length to 32 (IPv4) or 128 (IPv6)")]
     MaxLength,
-    /// `expires` is there and is no whole number.
-    #[error("expires is no whole number")]
+    /// `expires` is there, and not a whole number.
+    #[error("expires is not a whole number of seconds")]
     Expires,
 }
 
@@ -42,8 +42,9 @@ pub enum ExportFault {
     /// Out of memory.
     #[error("out of memory (fault 5)")]
     Memory,
-    /// A name that is read is repeated in its object: `roas` or `metadata` in the export, `generated` or `buildtime` in the metadata,
-    /// `asn`, `prefix`, `maxLength` or `expires` in an entry. It is reported before all other faults but `NotJson`.
+    /// A name that is read is repeated in its object: `roas`, `metadata`, `aspas`, `bgpsec_keys` or `routerKeys` in the export, `generated`
+    /// or `buildtime` in the metadata, `asn`, `prefix`, `maxLength` or `expires` in an entry. It is reported before all other faults but
+    /// `NotJson`.
     #[error("a name that is read is repeated in an object (fault 6)")]
     Repeated,
 }

@@ -2,10 +2,10 @@
 use crate::lists::list_entry;
 use crate::streaming::NESTING;
 use crate::walk::find_member;
-use crate::words::{member_text, shown, shown_token};
+use crate::words::{member_text, number_reason, shown, shown_token};
 use json::{Error, Reader, Scratch, Token, Value as Tree};
-use json_texts::{NO_ASN, NO_MAX_LENGTH, NO_PREFIX, name_text};
-use prefixes::{Asn, IpPrefix, Vrp};
+use json_texts::{NO_ASN, NO_MAX_LENGTH, name_text, prefix_reason};
+use prefixes::{Asn, IpPrefix, PrefixFault, Vrp};
 use std::alloc::{AllocError, Global};
 
 /// The members of an entry of a payload list.
@@ -27,10 +27,17 @@ fn asn_of(entry: &Tree<'_>) -> Option<u32> {
     u32::try_from(number).ok()
 }
 
+/// The text of the prefix of an entry.
+fn prefix_text<'a>(entry: &Tree<'a>) -> Option<&'a str> {
+    entry.get("prefix")?.as_str()
+}
+
 /// The prefix of an entry.
-fn prefix_of(entry: &Tree<'_>) -> Option<IpPrefix> {
-    let text = entry.get("prefix")?.as_str()?;
-    IpPrefix::parse(text).ok()
+fn prefix_of(entry: &Tree<'_>) -> Result<IpPrefix, PrefixFault> {
+    match prefix_text(entry) {
+        Some(text) => IpPrefix::parse(text),
+        None => Err(PrefixFault::BadText),
+    }
 }
 
 /// The payload of an entry with this prefix.
@@ -40,25 +47,45 @@ fn payload_of(entry: &Tree<'_>, prefix: IpPrefix) -> Option<Vrp> {
     Vrp::new(prefix, max_len, Asn(0)).ok()
 }
 
-/// What is wrong with the values of an entry of a payload list, if something is.
-fn values_text(alloc: Global, entry: &Tree<'_>) -> Result<Option<String>, AllocError> {
+/// The name of the member of an entry of a payload list that is missing or wrong, if one is, and the reason for its value.
+fn wrong_member(entry: &Tree<'_>) -> Option<(&'static str, &'static str)> {
     if asn_of(entry).is_none() {
-        return Ok(Some(member_text(alloc, entry, "asn", NO_ASN)?));
+        return Some(("asn", reason_at(entry, "asn", NO_ASN)));
     }
-    let Some(prefix) = prefix_of(entry) else {
-        return Ok(Some(member_text(alloc, entry, "prefix", NO_PREFIX)?));
+    let prefix = match prefix_of(entry) {
+        Ok(prefix) => prefix,
+        Err(fault) => return Some(("prefix", prefix_reason(fault))),
     };
     if payload_of(entry, prefix).is_none() {
-        return Ok(Some(member_text(alloc, entry, "maxLength", NO_MAX_LENGTH)?));
+        return Some(("maxLength", reason_at(entry, "maxLength", NO_MAX_LENGTH)));
     }
-    Ok(None)
+    None
+}
+
+/// The reason for the member of this name, which should be a number.
+fn reason_at(entry: &Tree<'_>, name: &str, wrong: &'static str) -> &'static str {
+    match entry.get(name) {
+        Some(value) => number_reason(value, wrong),
+        None => wrong,
+    }
+}
+
+/// What is wrong with the values of an entry of a payload list, if something is.
+fn values_text(alloc: Global, entry: &Tree<'_>) -> Result<Option<String>, AllocError> {
+    let Some((name, reason)) = wrong_member(entry) else {
+        return Ok(None);
+    };
+    match entry.get(name) {
+        Some(value) => Ok(Some(member_text(alloc, name, value, reason)?)),
+        None => Ok(Some(format!(in alloc; "{name} is missing")?)),
+    }
 }
 
 /// What is wrong with an item of a payload list, if something is.
 fn item_text(alloc: Global, item: &Tree<'_>) -> Result<Option<String>, AllocError> {
     let Tree::Object(members) = item else {
         let shown = shown(alloc, item)?;
-        return Ok(Some(format!(in alloc; "{shown} is no object")?));
+        return Ok(Some(format!(in alloc; "{shown} is not an object")?));
     };
     match other_member(members.as_slice()) {
         Some(name) => {

@@ -1,6 +1,7 @@
 //! Exports: the JSON in which validators write what they validated. [`read_export`] reads a payload list, or an object with an array
-//! `roas`, as rpki-client, Routinator, FORT, StayRTR and rtrdump write it; [`read_export_until`] says besides until when it is the same
-//! export, and [`read_export_lasting`] how long each record counts.
+//! `roas`, as rpki-client, Routinator, FORT, StayRTR and rtrdump write it. [`read_export_until`] says besides until when it is the same
+//! export, and [`read_export_lasting`] how long each record counts. [`read_export_counted`] adds how many ASPAs and router keys it has, which
+//! are not served.
 //!
 //! For example, where `rt` is the runtime that `main` is handed:
 //!
@@ -18,11 +19,13 @@
 #![tactic(auto)]
 
 mod built;
+mod counting;
 mod entry;
 mod export;
 mod fault;
 mod forms;
 mod gathered;
+mod ignored;
 mod json_fault;
 mod lasting;
 pub mod laws;
@@ -36,7 +39,9 @@ mod walk;
 mod words;
 
 pub use export::{
-    Export, ExportLasting, TimedExport, read_export, read_export_lasting, read_export_until,
+    Export, ExportCounted, ExportLasting, TimedExport, read_export, read_export_counted,
+    read_export_lasting, read_export_until,
 };
 pub use fault::{EntryFault, ExportFault};
+pub use ignored::Ignored;
 pub use words::fault_text;

@@ -1,7 +1,7 @@
 //! Names of members that are repeated in an object, noted while it is read.
 ghost use Rattle.std.specs.Prelude.{◌≡◌, List, ℕ};
 ghost use Rattle.json.specs.Json.{Json, Members, member, no_members};
-ghost use Rattle.exports.specs.Repeating.{AreMet, EntryMet, IsMet, entry_twice, twice, two_twice};
+ghost use Rattle.exports.specs.Repeating.{AreMet, EntryMet, ExportMet, IsMet, entry_twice, root_twice, twice, two_twice};
 
 /// How often a name was met in an object.
 #[derive(Clone, Copy, Debug, Drop)]
@@ -99,5 +99,40 @@ impl EntryNames {
         ensures { (so_far : Members → Members) → EntryMet so_far self → result ≡ entry_twice (so_far no_members) }
     {
         self.origin.repeat() || self.rest.repeat()
+    }
+}
+
+/// How often the names that are read were met in an export: `roas` and `metadata`, and those of the arrays that are counted.
+#[derive(Clone, Copy, Debug, Drop)]
+pub struct ExportNames {
+    parts: Names,
+    aspas: Met,
+    keys: Names,
+}
+
+impl ExportNames {
+    /// None was met.
+    pub(crate) const NONE: ExportNames = ExportNames {
+        parts: Names::NONE,
+        aspas: Met::Never,
+        keys: Names::NONE,
+    };
+
+    /// The same with a member of this name more.
+    pub(crate) fn with(self, more: &str) -> ExportNames
+        ensures { (so_far : Members → Members) (j : Json) → ExportMet so_far self → ExportMet (λ rest. so_far (member more.now j rest)) result }
+    {
+        ExportNames {
+            parts: self.parts.with("roas", "metadata", more),
+            aspas: self.aspas.with("aspas", more),
+            keys: self.keys.with("bgpsec_keys", "routerKeys", more),
+        }
+    }
+
+    /// Whether one of them was met twice.
+    pub(crate) fn repeat(self) -> bool
+        ensures { (so_far : Members → Members) → ExportMet so_far self → result ≡ root_twice (so_far no_members) }
+    {
+        self.parts.repeat() || (self.aspas.is_twice() || self.keys.repeat())
     }
 }

@@ -1,7 +1,7 @@
 //! The name that is repeated in an export, and its object.
 ghost use Rattle.std.specs.Prelude.{◌<◌, length, IfOk, IfNone, IfSome};
 
-use crate::names::{EntryNames, Names};
+use crate::names::{EntryNames, ExportNames, Names};
 use crate::streaming::{NESTING, begins_array, begins_object, next_name, read_rest};
 use crate::walk::skip_value;
 use json::{Reader, Scratch};
@@ -114,9 +114,9 @@ fn in_value(
 
 /// Which name is repeated in an export whose members come next, and its object.
 fn in_export(alloc: Global, reader: &mut Reader<'_>) -> Result<Option<String>, AllocError> {
-    let mut names = Names::NONE;
+    let mut names = ExportNames::NONE;
     while let Some(Some(name)) = next_name(reader) {
-        names = names.with("roas", "metadata", name);
+        names = names.with(name);
         if names.repeat() {
             return Ok(Some(format!(in alloc; "{name} is repeated in the file")?));
         }

@@ -8,10 +8,12 @@ ghost use Rattle.exports.specs.Repeating.{entry_twice, export_twice, two_twice};
 ghost use Rattle.exports.specs.PlainForm.{HasParts, IsRawEntry, IsJudged, IsMetadata, IsScalar, PassesItems, PassesMembers, ReadsBuilt, ReadsEntries, ReadsEntry, ReadsMembers, ReadsNoItems, ReadsNoMembers, ReadsNone, ReadsPart, ReadsRoas, ReadsSome, TellsListed};
 
 use crate::built::built;
+use crate::counting::count_elements;
 use crate::entry::{ExportEntry, RawEntry, judged};
 use crate::fault::EntryFault;
 use crate::gathered::EntryRecords;
-use crate::names::{EntryNames, Names};
+use crate::ignored::Elements;
+use crate::names::{EntryNames, ExportNames, Names};
 use crate::numbers::scalar_number;
 use json::{Reader, Token};
 use std::alloc::{AllocError, Global};
@@ -377,12 +379,13 @@ fn plain_roas(
     Ok(Some((Some(entries), repeat)))
 }
 
-/// What was read of an export: its entries, if it has the form of one, when it was made, and whether a name that is read is repeated in its
-/// object.
+/// What was read of an export: its entries, if it has the form of one, when it was made, and how much of it is not served. Also whether a
+/// name that is read is repeated in its object.
 #[derive(Debug, Drop)]
 pub struct ExportMembers {
     pub(crate) entries: Option<Entries>,
     pub(crate) built: Option<u64>,
+    pub(crate) elements: Elements,
     pub(crate) repeats: bool,
 }
 
@@ -401,6 +404,7 @@ fn with_part(
             Some((entries, repeat)) => Ok(Some(ExportMembers {
                 entries,
                 built: parts.built,
+                elements: parts.elements,
                 repeats: parts.repeats | repeat,
             })),
             None => Ok(None),
@@ -409,12 +413,18 @@ fn with_part(
             Some((built, repeat)) => Ok(Some(ExportMembers {
                 entries: parts.entries,
                 built,
+                elements: parts.elements,
                 repeats: parts.repeats | repeat,
             })),
             None => Ok(None),
         },
-        _ => match read_value(reader, NESTING - 1) {
-            Some(_passed) => Ok(Some(parts)),
+        _ => match count_elements(reader)? {
+            Some(count) => Ok(Some(ExportMembers {
+                entries: parts.entries,
+                built: parts.built,
+                elements: parts.elements.with(name, count),
+                repeats: parts.repeats,
+            })),
             None => Ok(None),
         },
     }
@@ -431,9 +441,10 @@ pub(crate) fn plain_parts(
     let mut parts = ExportMembers {
         entries: None,
         built: None,
+        elements: Elements::NONE,
         repeats: false,
     };
-    let mut names = Names::NONE;
+    let mut names = ExportNames::NONE;
     loop {
         let Some(key) = next_name(reader) else {
             return Ok(None);
@@ -446,6 +457,6 @@ pub(crate) fn plain_parts(
             return Ok(None);
         };
         parts = more;
-        names = names.with("roas", "metadata", name);
+        names = names.with(name);
     }
 }

@@ -6,11 +6,13 @@ ghost use Rattle.exports.specs.PlainForm.{ReadsForm, ReadsListParts, ReadsNoItem
 
 use crate::fault::ExportFault;
 use crate::gathered::EntryRecords;
+use crate::ignored::Elements;
 use crate::lists::list_records;
 use crate::streaming::{
     Entries, ExportMembers, NESTING, begins_array, begins_object, plain_parts, read_rest,
 };
 use json::{Reader, Scratch};
+use json_texts::begins_with_zero;
 use prefixes::Vrp;
 use std::alloc::{AllocError, Global};
 
@@ -26,6 +28,7 @@ fn parts_of_list(alloc: Global, records: Option<Vec<Vrp>>) -> Result<ExportMembe
     Ok(ExportMembers {
         entries,
         built: None,
+        elements: Elements::NONE,
         repeats: false,
     })
 }
@@ -63,11 +66,13 @@ fn value_parts(
     Ok(Some(ExportMembers {
         entries: None,
         built: None,
+        elements: Elements::NONE,
         repeats: false,
     }))
 }
 
-/// Reads a text of either form token by token.
+/// Reads a text of either form token by token. Only if it does not begin with a zero byte the reader's buffer is allocated, which is as long
+/// as the text.
 pub(crate) fn parts_of_text(
     alloc: Global,
     text: &str,
@@ -76,6 +81,9 @@ pub(crate) fn parts_of_text(
     ensures ok { IfOk result (λ parts. ReadsParts now text.now parts) }
     ensures fault { IfErr result (λ fault. TextFails text.now fault) }
 {
+    if begins_with_zero(text.as_bytes()) {
+        return Err(ExportFault::NotJson);
+    }
     let mut scratch = Scratch::new(alloc);
     let mut reader = Reader::new(text, &mut scratch)?;
     let Some(parts) = value_parts(alloc, &mut reader, now)? else {

@@ -9,7 +9,11 @@ use crate::repeated::repeated_text;
 use crate::streaming::NESTING;
 use crate::walk::{begins_array, begins_object, find_item, find_member};
 use json::{Error, Reader, Scratch, Token, Value as Tree};
-use json_texts::{NO_ASN, NO_MAX_LENGTH, NO_PREFIX, Position, cut_text, name_text};
+use json_texts::{
+    NO_ASN, NO_MAX_LENGTH, NO_NUMBER, NO_PREFIX, Position, STRING_FOR_NUMBER, cut_text,
+    encoding_reason, name_text, prefix_reason,
+};
+use prefix_texts::parse_prefix;
 use std::alloc::{AllocError, Global};
 use std::str;
 
@@ -53,41 +57,68 @@ pub(crate) fn shown(alloc: Global, value: &Tree<'_>) -> Result<String, AllocErro
     shown_token(alloc, &token)
 }
 
-/// The name of the faulty member, and the message for it. `None` if the entry is not an object.
-fn member_of(what: EntryFault) -> Option<(&'static str, &'static str)> {
+/// The name of the faulty member. `None` if the entry is not an object.
+fn member_of(what: EntryFault) -> Option<&'static str> {
     match what {
         EntryFault::NoObject => None,
-        EntryFault::Asn => Some(("asn", NO_ASN)),
-        EntryFault::Prefix => Some(("prefix", NO_PREFIX)),
-        EntryFault::MaxLength => Some(("maxLength", NO_MAX_LENGTH)),
-        EntryFault::Expires => Some(("expires", "is no whole number of seconds")),
+        EntryFault::Asn => Some("asn"),
+        EntryFault::Prefix => Some("prefix"),
+        EntryFault::MaxLength => Some("maxLength"),
+        EntryFault::Expires => Some("expires"),
     }
 }
 
-/// The message for a faulty member: its name, its value and the reason, or that it is missing.
+/// The reason for a value that should be a number: that it is not one, or `wrong`.
+pub(crate) fn number_reason(value: &Tree<'_>, wrong: &'static str) -> &'static str {
+    match value {
+        Tree::Number(_) => wrong,
+        Tree::String(_) => STRING_FOR_NUMBER,
+        _ => NO_NUMBER,
+    }
+}
+
+/// The reason for a value that should be the text of a prefix.
+fn prefix_wrong(value: &Tree<'_>) -> &'static str {
+    let Some(text) = value.as_str() else {
+        return NO_PREFIX;
+    };
+    match parse_prefix(text) {
+        Ok(_) => NO_PREFIX,
+        Err(fault) => prefix_reason(fault),
+    }
+}
+
+/// The reason for the value of the faulty member.
+fn reason(value: &Tree<'_>, what: EntryFault) -> &'static str {
+    match what {
+        EntryFault::NoObject => "is not an object",
+        EntryFault::Asn => NO_ASN,
+        EntryFault::Prefix => prefix_wrong(value),
+        EntryFault::MaxLength => number_reason(value, NO_MAX_LENGTH),
+        EntryFault::Expires => "is not a whole number of seconds",
+    }
+}
+
+/// The message for a member that has this value: its name, the value and the reason.
 pub(crate) fn member_text(
     alloc: Global,
-    entry: &Tree<'_>,
     name: &str,
-    wrong: &str,
+    value: &Tree<'_>,
+    reason: &str,
 ) -> Result<String, AllocError> {
-    match entry.get(name) {
-        Some(value) => {
-            let shown = shown(alloc, value)?;
-            format!(in alloc; "{name} {shown} {wrong}")
-        }
-        None => format!(in alloc; "{name} is missing"),
-    }
+    let shown = shown(alloc, value)?;
+    format!(in alloc; "{name} {shown} {reason}")
 }
 
 /// What is wrong with an entry.
 fn entry_text(alloc: Global, entry: &Tree<'_>, what: EntryFault) -> Result<String, AllocError> {
-    match member_of(what) {
-        Some((name, wrong)) => member_text(alloc, entry, name, wrong),
-        None => {
-            let shown = shown(alloc, entry)?;
-            format!(in alloc; "{shown} is no object")
-        }
+    let Some(name) = member_of(what) else {
+        let shown = shown(alloc, entry)?;
+        return format!(in alloc; "{shown} is not an object");
+    };
+    match entry.get(name) {
+        Some(value) => member_text(alloc, name, value, reason(value, what)),
+        None => format!(in alloc; "{name} is missing"),
     }
 }
 
@@ -132,6 +163,9 @@ fn text_why(alloc: Global, text: &str, fault: ExportFault) -> Result<String, All
 
 /// What is wrong with bytes that have this fault.
 fn why(alloc: Global, bytes: &[u8], fault: ExportFault) -> Result<String, AllocError> {
+    if let Some(reason) = encoding_reason(bytes) {
+        return format!(in alloc; "not JSON: {reason}");
+    }
     match str::from_utf8(bytes) {
         Ok(text) => text_why(alloc, text, fault),
         Err(error) => {
@@ -148,9 +182,9 @@ fn joined(alloc: Global, place: &str, why: &str, fault: ExportFault) -> Result<S
     format!(in alloc; "{place}{why} (fault {})", fault.number())
 }
 
-/// A fault of these bytes in words. It names the entry, counted from 0, the member and its value; or the name that is repeated; or, if the bytes
-/// are not JSON, the line and the column. A value is shown as JSON; if that has over 80 bytes, only its first 80. The bytes are read again,
-/// token by token; a tree is built of one entry at most.
+/// A fault of these bytes in words. It names the entry, counted from 0, the member and its value; or the name that is repeated. If the bytes
+/// are not JSON, it gives the line and the column, or says that they are compressed or begin with a byte order mark. A value is shown as JSON;
+/// if that has over 80 bytes, only its first 80. The bytes are read again, token by token; a tree is built of one entry at most.
 pub fn fault_text(alloc: Global, bytes: &[u8], fault: ExportFault) -> Result<String, AllocError>
     ensures { IfOk result (λ text. (why : List ℕ) × (string_bytes text ≡ place fault ++ why ++ number_text fault)) }
 {

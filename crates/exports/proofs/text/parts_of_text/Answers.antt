@@ -1,12 +1,17 @@
-use Rattle.std.proofs.Common.{◌≡◌, sym, subst}
+use Rattle.std.proofs.Common.{◌≡◌, ◌∙◌, ap, sym, subst}
 use Rattle.std.specs.Prelude.{MatchOption}
 use Rattle.json.specs.Reads.{token_of}
+use Rattle.json_texts.specs.Encoding.{begins_with_zero}
+use Rattle.json_texts.proofs.Zero.{zero_is_no_json}
 use Rattle.payload_lists.proofs.PlainMembers.{if_none}
 use Rattle.exports.specs.PlainForm.{ReadsForm, ReadsNone, TellsParts}
 use Rattle.exports.specs.Repeating.{export_repeats}
 use Rattle.exports.proofs.PlainParts.{there_is}
 use Rattle.exports.proofs.PlainWhole.{more_than_json, no_json, whole_form}
 use Rattle.exports.proofs.text.parts_of_text.Goals as goal
+
+pub returns-then-begins_with_zero-clause-fault : goal.returns-then-begins_with_zero-clause-fault
+returns-then-begins_with_zero-clause-fault c = zero_is_no_json c.args.text.now (ap begins_with_zero (sym c.as_bytes.ensures.value) ∙ sym c.begins_with_zero.ensures ∙ c.if-begins_with_zero.true)
 
 pub returns-in_default-clause-fault : goal.returns-in_default-clause-fault
 returns-in_default-clause-fault c =
