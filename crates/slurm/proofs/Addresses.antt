@@ -1,5 +1,5 @@
 -- Two prefixes share an address exactly if one covers the other.
-use Rattle.std.proofs.Common.{◌≡◌, ◌⊎◌, inl, inr, ℕ, ◌<◌, ◌≤◌, ◌-◌, ◌/◌, ◌^◌, Bool, true, false, refl, sym, ap, ◌∙◌, arith}
+use Rattle.std.proofs.Common.{◌≡◌, ◌⊎◌, inl, inr, ℕ, ◌<◌, ◌≤◌, ◌-◌, ◌/◌, ◌^◌, true, false, refl, sym, ap, ◌∙◌, arith}
 use Rattle.std.specs.Prelude.{◌||◌}
 use Rattle.std.proofs.Math.Bool.{or-true}
 use Rattle.std.proofs.lemmas.Bool.{and_parts, cases_lt}
@@ -10,7 +10,7 @@ use Rattle.prefixes.specs.declared.prefix.IpPrefix.TheVariants.{V4, V6}
 use Rattle.prefixes.proofs.Basics.{eq_of, eq_true}
 use Rattle.slurm.specs.Uniting.{HasCommonAddress, IsAddress, SharesAddress, shares_address}
 use Rattle.slurm.proofs.Chained.{either_true, true_both}
-use Rattle.slurm.proofs.Sweeping.{covers_onward, fewer_bits, le_of, le_true}
+use Rattle.slurm.proofs.Sweeping.{covers_onward, fewer_bits, le_true}
 
 -- the first address of a prefix
 abbrev first_address : IpPrefix → IpPrefix

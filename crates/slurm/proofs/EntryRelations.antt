@@ -1,18 +1,18 @@
 -- An entry is read exactly where it is a filter or an assertion.
-use Rattle.std.proofs.Common.{◌≡◌, ℕ, ◌+◌, ◌<◌, ◌≤◌, ◌^◌, ◌==◌, ◌||◌, ◌⊎◌, Bool, true, false, nat_lt, if◌then◌else◌, List, [], ◌∷◌, Option, Some, None, is_none, is_some, option_and_then, Result, Ok, Err, IsOk, IsSome, codes, inl, inr, refl, sym, ap, ◌∙◌, subst, arith}
+use Rattle.std.proofs.Common.{◌≡◌, ℕ, ◌+◌, ◌<◌, ◌^◌, ◌==◌, ◌||◌, ◌⊎◌, Bool, true, false, nat_lt, if◌then◌else◌, List, [], ◌∷◌, Option, Some, None, is_none, is_some, option_and_then, Result, Ok, Err, IsOk, codes, inl, inr, refl, sym, ap, ◌∙◌, subst, arith}
 use Rattle.std.specs.Prelude.{⊤}
 use Rattle.std.specs.List.{AllByRecursion}
 use Rattle.std.proofs.lemmas.Bool.Decides.{nat_tests}
 use Rattle.serde_json.specs.Data.{Data, object, Members}
 use Rattle.serde_json.specs.Find.{get, as_number, as_u64}
-use Rattle.prefixes.specs.Payload.{Payload, block_of, width_of}
+use Rattle.prefixes.specs.Payload.{Payload, block_of}
 use Rattle.prefixes.specs.declared.asn.Asn.{Asn}
 use Rattle.prefixes.specs.declared.prefix.IpPrefix.{IpPrefix}
 use Rattle.payload_lists.specs.PayloadList.{member_count, text_at, whole_at}
 use Rattle.slurm.specs.Chains.{◌>>=◌, given, unless}
-use Rattle.slurm.specs.Entries.{AreRead, ReadsAssertion, ReadsAssertionOf, ReadsFilter, ReadsFilterOf, ReadsKeyAssertion, ReadsKeyFilter, ReadsPrefix, asn_if_any, asn_of, assertion_asn, comment_of, filter_asn, key_assertion, key_filter, max_len_of, members_known, text_if_any, text_of}
+use Rattle.slurm.specs.Entries.{AreRead, ReadsAssertion, ReadsAssertionOf, ReadsFilter, ReadsFilterOf, ReadsKeyAssertion, ReadsKeyFilter, ReadsPrefix, asn_if_any, asn_of, assertion_asn, comment_of, filter_asn, max_len_of, members_known, text_if_any, text_of}
 use Rattle.slurm.specs.Members.{one_for, total}
-use Rattle.slurm.specs.Relations.{Each, Has, HasOnly, HasText, HasTextIfAny, IsAssertion, IsFilter, IsKeyAssertion, IsKeyFilter, SaysAsn, SaysMaximum, SaysPrefix}
+use Rattle.slurm.specs.Relations.{Each, HasOnly, HasTextIfAny, IsAssertion, IsFilter, IsKeyAssertion, IsKeyFilter, SaysAsn, SaysMaximum, SaysPrefix}
 use Rattle.slurm.specs.declared.fault.SlurmEntryFault.{SlurmEntryFault}
 use Rattle.slurm.specs.declared.fault.SlurmEntryFault.TheVariants as why
 use Rattle.slurm.specs.declared.filter.PrefixFilter.{PrefixFilter}

@@ -17,4 +17,5 @@ pub mod Sweeping
 pub mod Gathering
 pub mod Overlapping
 pub mod United
+pub mod Ignoring
 pub mod Addresses

@@ -4,6 +4,7 @@ pub mod Claims
 pub mod Entries
 pub mod Exceptions
 pub mod Faults
+pub mod Ignored
 pub mod Members
 pub mod Relations
 pub mod Scoped

@@ -1,8 +1,6 @@
 -- A fault in words, without the values in the file
-use Rattle.std.specs.Prelude.{◌≡◌, ◌⊎◌, ℕ, ◌≤◌, false, List, [], ◌++◌, length, take, codes}
+use Rattle.std.specs.Prelude.{ℕ, List, [], ◌++◌, codes}
 use Rattle.std.specs.Fmt.{decimal}
-use Rattle.serde_json.specs.Data.{Data}
-use Rattle.serde_json.specs.Written.{compact_text, has_float}
 use Rattle.slurm.specs.Faults.{slurm_fault_number}
 use Rattle.slurm.specs.declared.fault.SlurmArray.{SlurmArray}
 use Rattle.slurm.specs.declared.fault.SlurmArray.TheVariants.{PrefixFilters, BgpsecFilters, PrefixAssertions, BgpsecAssertions}

@@ -87,8 +87,8 @@ impl Display for SlurmObject {
 /// Why an entry of an array cannot be read. If there are several reasons, the first of these is reported.
 #[derive(Clone, Copy, Debug, PartialEq, Eq, Error)]
 pub enum SlurmEntryFault {
-    /// It is no object.
-    #[error("no object")]
+    /// It is not an object.
+    #[error("not an object")]
     NoObject,
     /// It has a key that no such entry has.
     #[error("a key that is not known")]
@@ -99,40 +99,40 @@ pub enum SlurmEntryFault {
     /// A filter on BGPsec has neither an SKI nor an AS.
     #[error("neither SKI nor asn")]
     NeitherSki,
-    /// `asn` is no whole number below 2^32, or an assertion has none.
-    #[error("asn is no AS number")]
+    /// `asn` is not a whole number below 2^32, or an assertion has none.
+    #[error("asn is not an AS number")]
     Asn,
-    /// `comment` is no text.
-    #[error("comment is no text")]
+    /// `comment` is not a string.
+    #[error("comment is not a string")]
     Comment,
-    /// `SKI` is no text, or an assertion on BGPsec has none.
-    #[error("SKI is no text")]
+    /// `SKI` is not a string, or an assertion on BGPsec has none.
+    #[error("SKI is not a string")]
     Ski,
-    /// `routerPublicKey` is no text, or an assertion on BGPsec has none.
-    #[error("routerPublicKey is no text")]
+    /// `routerPublicKey` is not a string, or an assertion on BGPsec has none.
+    #[error("routerPublicKey is not a string")]
     RouterPublicKey,
-    /// `prefix` is no text of a prefix, or an assertion has none.
-    #[error("prefix is no prefix")]
+    /// `prefix` is not the text of a prefix, or an assertion has none.
+    #[error("prefix is not a prefix")]
     Prefix,
-    /// `maxPrefixLength` is no whole number from the prefix's length up to the width of its family.
-    #[error("maxPrefixLength is no maximum length of the prefix")]
+    /// `maxPrefixLength` is not a whole number from the prefix's length up to the width of its family.
+    #[error("maxPrefixLength is not a maximum length of the prefix")]
     MaxLength,
 }
 
 /// Why bytes give no exceptions. The numbers are fixed.
 #[derive(Clone, Copy, Debug, PartialEq, Eq, Error)]
 pub enum SlurmFault {
-    /// The bytes are no JSON text.
+    /// The bytes are not a JSON text.
     #[error("not JSON (fault 1)")]
     NotJson,
-    /// This is no JSON object, or its members are not exactly the required ones.
-    #[error("{0} is no object of exactly its members (fault 2)")]
+    /// This is not a JSON object, or its members are not exactly the required ones.
+    #[error("{0} is not an object of exactly its members (fault 2)")]
     Members(SlurmObject),
     /// `slurmVersion` is not 1.
     #[error("slurmVersion is not 1 (fault 3)")]
     Version,
-    /// This member is no array.
-    #[error("{0} is no array (fault 4)")]
+    /// This member is not an array.
+    #[error("{0} is not an array (fault 4)")]
     NoArray(SlurmArray),
     /// The entry of this index, from 0 on, cannot be read; it is the first one.
     #[error("{0}[{1}]: {2} (fault 5)")]

@@ -1,5 +1,6 @@
 //! Laws of local exceptions. The functions do nothing: each states a law, which is proved.
 ghost use Rattle.slurm.specs.Exceptions.{AppliedTwice, AssertionsStay};
+ghost use Rattle.slurm.specs.Ignored.{ScopesCount};
 ghost use Rattle.slurm.specs.Relations.{ReadsExactly};
 ghost use Rattle.slurm.specs.Scoped.{OneScopedReading, ReadsScopedExactly, ScopesAreKept};
 ghost use Rattle.slurm.specs.SlurmFile.{OneReading};
@@ -38,6 +39,11 @@ pub fn one_scoped_reading()
 /// The readings with the scope and without it say the same, faults included.
 pub fn scopes_are_kept()
     ensures { ScopesAreKept }
+{}
+
+/// The scope of a file counts the entries that are not applied, as the arrays of the file have them.
+pub fn scopes_count()
+    ensures { ScopesCount }
 {}
 
 /// United files leave out of a set what a filter of any file matches, and add what any file asserts.

@@ -37,7 +37,7 @@ pub use applying::apply;
 pub use fault::{SlurmArray, SlurmEntryFault, SlurmFault, SlurmObject};
 pub use filter::{PrefixFilter, Slurm};
 pub use reading::{read_slurm, read_slurm_scoped};
-pub use scoped::ScopedSlurm;
+pub use scoped::{Ignored, ScopedSlurm};
 pub use telling::fault_text;
 pub use unite_fault::{Overlap, UniteFault};
 pub use uniting::unite;

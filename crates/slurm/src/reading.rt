@@ -17,6 +17,7 @@ use crate::fault::{SlurmArray, SlurmFault};
 use crate::filter::{PrefixFilter, Slurm};
 use crate::scoped::ScopedSlurm;
 use json::{Error, Scratch, Value as Tree};
+use json_texts::begins_with_zero;
 use prefixes::{Asn, Vrp};
 use serde_json::Value;
 use std::alloc::Global;
@@ -103,6 +104,9 @@ fn said(alloc: Global, value: &Value) -> Result<ScopedSlurm, SlurmFault>
 fn read_text(alloc: Global, text: &str) -> Result<ScopedSlurm, SlurmFault>
     ensures { UnlessMemory (ReadsScoped text.now) (seen scoped_of result) }
 {
+    if begins_with_zero(text.as_bytes()) {
+        return Err(SlurmFault::NotJson);
+    }
     let names_once = has_names_once(alloc, text)?;
     let value = value_of(alloc, text)?;
     if !names_once {

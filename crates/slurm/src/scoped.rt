@@ -16,8 +16,19 @@ pub struct ScopedSlurm {
     pub bgpsec_assertions: Vec<Asn>,
 }
 
+/// How many entries of a SLURM file are not applied, as router keys are not served.
+#[derive(Clone, Copy, Debug, Drop, PartialEq, Eq)]
+pub struct Ignored {
+    /// The elements of the array `bgpsecFilters` (RFC 8416 section 3.3.2).
+    pub bgpsec_filters: u64,
+    /// The elements of the array `bgpsecAssertions` (section 3.4.2).
+    pub bgpsec_assertions: u64,
+}
+
 impl ScopedSlurm {
     ghost use Rattle.slurm.specs.Exceptions.{exceptions_of};
+    ghost use Rattle.slurm.specs.Ignored.{ignored_of};
+    ghost use Rattle.slurm.specs.Scoped.{scoped_of};
 
     /// The exceptions alone. It allocates no memory.
     pub fn into_exceptions(self) -> Slurm
@@ -25,5 +36,15 @@ impl ScopedSlurm {
     {
         let ScopedSlurm { slurm, .. } = self;
         slurm
+    }
+
+    /// How many entries of the file are not applied. It allocates no memory.
+    pub fn ignored(&self) -> Ignored
+        ensures { result ≡ ignored_of (scoped_of self.now) }
+    {
+        Ignored {
+            bgpsec_filters: self.bgpsec_filters.len() as u64,
+            bgpsec_assertions: self.bgpsec_assertions.len() as u64,
+        }
     }
 }

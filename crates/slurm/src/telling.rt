@@ -5,7 +5,12 @@ ghost use Rattle.slurm.specs.Telling.{number_text, place};
 
 use crate::fault::{SlurmArray, SlurmEntryFault, SlurmFault, SlurmObject};
 use crate::repeated::repeated_text;
-use json_texts::{NO_ASN, NO_MAX_LENGTH, NO_PREFIX, name_text, value_text};
+use json_texts::{
+    NO_ASN, NO_MAX_LENGTH, NO_NUMBER, NO_PREFIX, STRING_FOR_NUMBER, encoding_reason, name_text,
+    prefix_reason, value_text,
+};
+use payload_lists::parts::whole;
+use prefix_texts::parse_prefix;
 use serde_json::Value;
 use std::alloc::{AllocError, Global};
 
@@ -107,7 +112,7 @@ fn unknown_text(alloc: Global, entry: &Value, names: &[&str]) -> Result<String, 
 fn members_text(alloc: Global, value: &Value, names: &[&str]) -> Result<String, AllocError> {
     if value.as_object().is_none() {
         let shown = value_text(alloc, value)?;
-        return format!(in alloc; "is {shown}, and no object");
+        return format!(in alloc; "is {shown}, must be an object");
     }
     if let Some(name) = unknown(value, names) {
         let shown = name_text(alloc, name)?;
@@ -119,16 +124,45 @@ fn members_text(alloc: Global, value: &Value, names: &[&str]) -> Result<String, 
     }
 }
 
-/// The name of the faulty member, and the message for it. `None` if the fault is of the whole entry.
-fn member_of(why: SlurmEntryFault) -> Option<(&'static str, &'static str)> {
+/// The name of the faulty member. `None` if the fault is of the whole entry.
+fn member_of(why: SlurmEntryFault) -> Option<&'static str> {
     match why {
-        SlurmEntryFault::Asn => Some(("asn", NO_ASN)),
-        SlurmEntryFault::Comment => Some(("comment", "is no text")),
-        SlurmEntryFault::Ski => Some(("SKI", "is no text")),
-        SlurmEntryFault::RouterPublicKey => Some(("routerPublicKey", "is no text")),
-        SlurmEntryFault::Prefix => Some(("prefix", NO_PREFIX)),
-        SlurmEntryFault::MaxLength => Some(("maxPrefixLength", NO_MAX_LENGTH)),
+        SlurmEntryFault::Asn => Some("asn"),
+        SlurmEntryFault::Comment => Some("comment"),
+        SlurmEntryFault::Ski => Some("SKI"),
+        SlurmEntryFault::RouterPublicKey => Some("routerPublicKey"),
+        SlurmEntryFault::Prefix => Some("prefix"),
+        SlurmEntryFault::MaxLength => Some("maxPrefixLength"),
         _ => None,
+    }
+}
+
+/// The reason for a value that should be a number: that it is not one, or `wrong`.
+fn number_reason(value: &Value, wrong: &'static str) -> &'static str {
+    if value.is_string() {
+        return STRING_FOR_NUMBER;
+    }
+    if value.is_number() { wrong } else { NO_NUMBER }
+}
+
+/// The reason for a value that should be the text of a prefix.
+fn prefix_wrong(value: &Value) -> &'static str {
+    let Some(text) = value.as_str() else {
+        return NO_PREFIX;
+    };
+    match parse_prefix(text) {
+        Ok(_) => NO_PREFIX,
+        Err(fault) => prefix_reason(fault),
+    }
+}
+
+/// The reason for the value of the faulty member.
+fn reason(value: &Value, why: SlurmEntryFault) -> &'static str {
+    match why {
+        SlurmEntryFault::Asn => number_reason(value, NO_ASN),
+        SlurmEntryFault::Prefix => prefix_wrong(value),
+        SlurmEntryFault::MaxLength => number_reason(value, NO_MAX_LENGTH),
+        _ => "is not a string",
     }
 }
 
@@ -137,11 +171,12 @@ fn member_text(
     alloc: Global,
     entry: &Value,
     name: &str,
-    wrong: &str,
+    why: SlurmEntryFault,
 ) -> Result<String, AllocError> {
     match entry.get(name) {
         Some(value) => {
             let shown = value_text(alloc, value)?;
+            let wrong = reason(value, why);
             format!(in alloc; "{name} {shown} {wrong}")
         }
         None => format!(in alloc; "{name} is missing"),
@@ -158,7 +193,7 @@ fn whole_text(
     match why {
         SlurmEntryFault::NoObject => {
             let shown = value_text(alloc, entry)?;
-            format!(in alloc; "{shown} is no object")
+            format!(in alloc; "{shown} is not an object")
         }
         SlurmEntryFault::OtherKey => unknown_text(alloc, entry, entry_members(array)),
         SlurmEntryFault::NeitherSki => String::from_str(alloc, "neither SKI nor asn"),
@@ -174,7 +209,7 @@ fn entry_text(
     why: SlurmEntryFault,
 ) -> Result<String, AllocError> {
     match member_of(why) {
-        Some((name, wrong)) => member_text(alloc, entry, name, wrong),
+        Some(name) => member_text(alloc, entry, name, why),
         None => whole_text(alloc, entry, array, why),
     }
 }
@@ -199,14 +234,22 @@ fn entry_in(file: &Value, array: SlurmArray, index: usize) -> Option<&Value> {
     array.get(index)
 }
 
-/// What is wrong with a value, if it is there.
-fn wrong_value(alloc: Global, value: Option<&Value>, wrong: &str) -> Result<String, AllocError> {
+/// What is wrong with a value, if it is there: it must be something else.
+fn wrong_value(alloc: Global, value: Option<&Value>, must: &str) -> Result<String, AllocError> {
     match value {
         Some(value) => {
             let shown = value_text(alloc, value)?;
-            format!(in alloc; "is {shown}, {wrong}")
+            format!(in alloc; "is {shown}, must be {must}")
         }
         None => String::from_str(alloc, "is missing"),
+    }
+}
+
+/// The version that a file must have. Version 2 has assertions on ASPA besides (draft-ietf-sidrops-aspa-slurm).
+fn version_wanted(file: &Value) -> &'static str {
+    match whole(file, "slurmVersion") {
+        Some(2) => "1: version 2 (ASPA) is not served",
+        _ => "1",
     }
 }
 
@@ -231,8 +274,10 @@ fn at_file(alloc: Global, file: &Value, fault: SlurmFault) -> Result<String, All
             Some(value) => members_text(alloc, value, object_members(object)),
             None => String::from_str(alloc, "is missing"),
         },
-        SlurmFault::Version => wrong_value(alloc, file.get("slurmVersion"), "and not 1"),
-        SlurmFault::NoArray(array) => wrong_value(alloc, array_in(file, array), "and no array"),
+        SlurmFault::Version => {
+            wrong_value(alloc, file.get("slurmVersion"), version_wanted(file))
+        }
+        SlurmFault::NoArray(array) => wrong_value(alloc, array_in(file, array), "an array"),
         SlurmFault::TooMany => String::from_str(alloc, "more than 16777215 different assertions"),
         _ => String::from_str(alloc, "out of memory"),
     }
@@ -263,6 +308,9 @@ fn json_why(alloc: Global, bytes: &[u8], fault: SlurmFault) -> Result<String, Al
 
 /// What is wrong with bytes that have this fault.
 fn why(alloc: Global, bytes: &[u8], fault: SlurmFault) -> Result<String, AllocError> {
+    if let Some(reason) = encoding_reason(bytes) {
+        return format!(in alloc; "not JSON: {reason}");
+    }
     match fault {
         SlurmFault::Repeated => repeated_text(alloc, bytes),
         _ => json_why(alloc, bytes, fault),
@@ -278,7 +326,7 @@ fn joined(alloc: Global, place: &str, why: &str, fault: SlurmFault) -> Result<St
 
 /// A fault of these bytes in words. It names the member that is missing, unknown or repeated, or else the array, the index from 0, the member
 /// and its value. The value is shown as JSON; if that has over 80 bytes, only its first 80. If the bytes are not JSON, it gives the line and the
-/// column.
+/// column, or says that they are compressed or begin with a byte order mark.
 pub fn fault_text(alloc: Global, bytes: &[u8], fault: SlurmFault) -> Result<String, AllocError>
     ensures { IfOk result (λ text. (why : List ℕ) × (string_bytes text ≡ place fault ++ why ++ number_text fault)) }
 {
