@@ -1,5 +1,5 @@
 -- A line of the log has one newline, at its end: no text of an event breaks it.
-use Rattle.std.proofs.Common.{◌≡◌, ℕ, zero, suc, ◌+◌, ◌/◌, ◌%◌, ◌<◌, ◌==◌, ◌&&◌, ◌||◌, nat_lt, Bool, true, false, cond, if◌then◌else◌, not, bytes_eq, length, List, [], ◌∷◌, ◌++◌, drop, take, flat_map, codes, refl, ap, ◌∙◌, arith}
+use Rattle.std.proofs.Common.{◌≡◌, ℕ, zero, suc, ◌+◌, ◌/◌, ◌%◌, ◌<◌, ◌==◌, ◌&&◌, ◌||◌, nat_lt, Bool, true, false, cond, if◌then◌else◌, not, bytes_eq, length, List, [], ◌∷◌, ◌++◌, drop, take, flat_map, codes, refl, sym, ap, ◌∙◌, arith, append_assoc}
 use Rattle.std.proofs.lemmas.Bool.{and_parts}
 use Rattle.std.proofs.lemmas.Bool.Decides.{nat_tests}
 use Rattle.std.proofs.lemmas.List.Sums.{sum_by-append, sum_by-cons, sum_by-take-drop}
@@ -16,6 +16,9 @@ use Rattle.event_log.specs.Lines.{end_text, entry_text, escaped, head_text, is_p
 use Rattle.event_log.specs.Clock.{time_text}
 use Rattle.event_log.specs.declared.event.LogEvent.{LogEvent}
 use Rattle.event_log.specs.declared.event.LogEvent.TheVariants as event
+use Rattle.event_log.specs.Levels.{level_of, level_word}
+use Rattle.event_log.specs.declared.level.LogLevel.{LogLevel}
+use Rattle.event_log.specs.declared.level.LogLevel.TheVariants as level
 use Rattle.event_log.specs.declared.line.LogFormat.{LogFormat}
 use Rattle.event_log.specs.declared.line.LogFormat.TheVariants as form
 use Rattle.der_lite.specs.Moments.{CivilMoment, decimals}
@@ -222,18 +225,27 @@ AreKeyed (e ∷ es) = Unbroken e.key × AreKeyed es
 entry_line : (form : LogFormat) (e : Entry) → Unbroken e.key → Unbroken (entry_text form e)
 entry_line form.Text e key = search (joined, plain_value_line, key)
 entry_line form.Json e key = search (joined, json_value_line, key)
+entry_line form.Systemd e key = search (joined, plain_value_line, key)
 
 entries_line : (form : LogFormat) (es : List Entry) → AreKeyed es → Unbroken (flat_map (entry_text form) es)
 entries_line form [] keys = refl
 entries_line form (e ∷ es) keys = joined (entry_text form e) _ (entry_line form e keys.0) (entries_line form es keys.1)
 
-head_line : (form : LogFormat) (time word : List ℕ) → Unbroken time → Unbroken word → Unbroken (head_text form time word)
-head_line form.Text time word t w = search (joined, t, w)
-head_line form.Json time word t w = search (joined, t, w)
+level_line : (level : LogLevel) → Unbroken (level_word level)
+level_line level.Error = refl
+level_line level.Warning = refl
+level_line level.Notice = refl
+level_line level.Info = refl
+
+head_line : (form : LogFormat) (time : List ℕ) (level : LogLevel) (word : List ℕ) → Unbroken time → Unbroken word → Unbroken (head_text form time level word)
+head_line form.Text time level word t w = search (joined, t, w)
+head_line form.Json time level word t w = search (joined, t, w, level_line) depth 8
+head_line form.Systemd time level word t w = search (joined, t, w, number_line) depth 8
 
 ended : (form : LogFormat) (xs ys : List ℕ) → Unbroken xs → Unbroken ys → lines_in (xs ++ ys ++ end_text form) ≡ 1
 ended form.Text xs ys p q = omega (arith, lines-append (xs ++ ys) (codes "\n"), joined xs ys p q)
 ended form.Json xs ys p q = omega (arith, lines-append (xs ++ ys) (codes "}\n"), joined xs ys p q)
+ended form.Systemd xs ys p q = omega (arith, lines-append (xs ++ ys) (codes "\n"), joined xs ys p q)
 
 digits_line : (count n : ℕ) → Unbroken (decimals count n)
 digits_line zero n = refl
@@ -265,6 +277,10 @@ word_line (event.Old file age) = refl
 word_line (event.Fresh file age) = refl
 word_line (event.Expired file entries) = refl
 word_line (event.Clock behind) = refl
+word_line (event.Unwell reason) = refl
+word_line (event.FileUnwell reason file) = refl
+word_line (event.Well reason) = refl
+word_line (event.FileWell reason file) = refl
 word_line (event.Warning reason) = refl
 word_line (event.Memory what) = refl
 word_line (event.Failed what reason) = refl
@@ -294,6 +310,10 @@ keys_of (event.Old file age) = (refl, (refl, tt))
 keys_of (event.Fresh file age) = (refl, (refl, tt))
 keys_of (event.Expired file entries) = (refl, (refl, tt))
 keys_of (event.Clock behind) = (refl, tt)
+keys_of (event.Unwell reason) = (refl, tt)
+keys_of (event.FileUnwell reason file) = (refl, (refl, tt))
+keys_of (event.Well reason) = (refl, tt)
+keys_of (event.FileWell reason file) = (refl, (refl, tt))
 keys_of (event.Warning reason) = (refl, tt)
 keys_of (event.Memory what) = (refl, tt)
 keys_of (event.Failed what reason) = (refl, (refl, tt))
@@ -304,4 +324,24 @@ keys_of (event.Stopped reason) = (refl, tt)
 pub one_line : (format : LogFormat) (seconds : ℕ) (event : LogEvent) (line : List ℕ) → IsLine format seconds event line → lines_in line ≡ 1
 one_line format seconds event line is =
     ap lines_in is.2
-    ∙ ended format (head_text format (time_text is.0) (word_of event)) (flat_map (entry_text format) (entries_of event)) (head_line format (time_text is.0) (word_of event) (time_line is.0) (word_line event)) (entries_line format (entries_of event) (keys_of event))
+    ∙ ended format (head_text format (time_text is.0) (level_of event) (word_of event)) (flat_map (entry_text format) (entries_of event)) (head_line format (time_text is.0) (level_of event) (word_of event) (time_line is.0) (word_line event)) (entries_line format (entries_of event) (keys_of event))
+
+-- ---- its newline is at its end
+
+closing : (form : LogFormat) (xs ys : List ℕ) → Unbroken xs → Unbroken ys → (body : List ℕ) × Unbroken body × (xs ++ ys ++ end_text form ≡ body ++ 10 ∷ [])
+closing form.Text xs ys p q = (xs ++ ys, joined xs ys p q, refl)
+closing form.Systemd xs ys p q = (xs ++ ys, joined xs ys p q, refl)
+closing form.Json xs ys p q =
+    (xs ++ ys ++ codes "}", joined (xs ++ ys) (codes "}") (joined xs ys p q) refl, sym (append_assoc (xs ++ ys) (codes "}") (10 ∷ [])))
+
+-- a line without its newline
+pub record Ended (line : List ℕ) : Type 0 where
+  pub body : List ℕ
+  pub unbroken : Unbroken body
+  pub ends : line ≡ body ++ 10 ∷ []
+
+pub ended_line : (format : LogFormat) (seconds : ℕ) (event : LogEvent) (line : List ℕ) → IsLine format seconds event line → Ended line
+ended_line format seconds event line is =
+    let parts =
+    closing format (head_text format (time_text is.0) (level_of event) (word_of event)) (flat_map (entry_text format) (entries_of event)) (head_line format (time_text is.0) (level_of event) (word_of event) (time_line is.0) (word_line event)) (entries_line format (entries_of event) (keys_of event)) in
+    record { body = parts.0; unbroken = parts.1; ends = is.2 ∙ parts.2 }

@@ -1,11 +1,11 @@
 -- A sink of the log, and what the calls of a sink answer.
-use Rattle.std.specs.Prelude.{◌≡◌, ℕ, ◌+◌, ◌≤◌, ◌⊎◌, Bool, true, false, List, [], ◌++◌, length, Option, Some, None, Result, Ok, Err, ⊤}
+use Rattle.std.specs.Prelude.{◌≡◌, ℕ, zero, suc, ◌≤◌, ◌⊎◌, Bool, true, false, List, [], length, take, Option, Some, None, Result, Ok, Err, ⊤}
 use Rattle.std.specs.Io.KnownBytes.{Appends}
 use Rattle.std.specs.IoError.{error_kind}
 use Rattle.std.specs.declared.io.Error.{Error}
 use Rattle.std.specs.declared.io.ErrorKind.{ErrorKind}
 use Rattle.std.specs.declared.io.ErrorKind.TheVariants.{WouldBlock, Interrupted}
-use Rattle.log_output.specs.Buffers.{Buffered, buffered, lines_in, saturated}
+use Rattle.log_output.specs.Buffers.{Buffered, after_loss, after_written}
 
 -- what a call of a sink answered: that it has room or none, that it accepted bytes, that the write can be made again, or that it failed
 pub data SinkAnswer : Type 0 where
@@ -15,9 +15,10 @@ pub data SinkAnswer : Type 0 where
   Paused : SinkAnswer
   Failed : SinkAnswer
 
-abbrev pub answer_of_room : Bool → SinkAnswer
-answer_of_room true = Room
-answer_of_room false = NoRoom
+-- It has room for at least one byte, or for none.
+abbrev pub answer_of_room : ℕ → SinkAnswer
+answer_of_room zero = NoRoom
+answer_of_room (suc n) = Room
 
 -- An error of one of these kinds passes.
 abbrev pub is_pause : ErrorKind → Bool
@@ -40,23 +41,22 @@ Answered (Some last) answer = last ≡ answer
 
 -- The sink accepted the first bytes that waited. The others still wait.
 pub record Moves (old new : Buffered) (had has : Option (List ℕ)) : Type 0 where
-  pub written : List ℕ
-  pub order : old.bytes ≡ written ++ new.bytes
-  pub takes : Appends had has written
-  pub keeps : new.dropped ≡ old.dropped
+  pub count : ℕ
+  pub within : count ≤ length old.bytes
+  pub takes : Appends had has (take count old.bytes)
+  pub moves : new ≡ after_written count old
 
--- The sink accepted the first bytes that waited, and failed. The others are given up.
+-- The sink accepted the first bytes that waited, and failed. Of the others only the rest of a torn line still waits.
 pub record GivesUp (old new : Buffered) (had has : Option (List ℕ)) (last : Option SinkAnswer) : Type 0 where
-  pub written : List ℕ
-  pub rest : List ℕ
-  pub order : old.bytes ≡ written ++ rest
-  pub takes : Appends had has written
-  pub loses : new ≡ buffered [] (saturated (old.dropped + lines_in rest))
+  pub count : ℕ
+  pub within : count ≤ length old.bytes
+  pub takes : Appends had has (take count old.bytes)
+  pub loses : new ≡ after_loss (after_written count old)
   pub failed : Answered last Failed
 
 -- The sink accepted at least this number of bytes.
 abbrev pub WritesSome : ℕ → Buffered → Buffered → Option (List ℕ) → Option (List ℕ) → Type 0
-WritesSome count old new had has = (moved : Moves old new had has) × (count ≤ length moved.written)
+WritesSome count old new had has = (moved : Moves old new had has) × (count ≤ moved.count)
 
 -- a call that a sink ended: it has no room, accepts nothing, or lets no write be made now
 abbrev pub IsStop : Option SinkAnswer → Type 0

@@ -1,7 +1,10 @@
 //! Lines that wait for room.
-ghost use Rattle.std.specs.Prelude.{◌≡◌, ◌+◌, ◌-◌, ◌<◌, ◌≤◌, ◌==◌, List, [], ◌++◌, length, take, drop, IfOk};
-ghost use Rattle.log_output.specs.Buffers.{IsChunk, after_line, after_loss, after_report, buffered, fits, is_accepted, lines_in, saturated};
+ghost use Rattle.std.specs.Prelude.{◌≡◌, ◌+◌, ◌-◌, ◌<◌, ◌≤◌, ◌==◌, [], ◌++◌, length, take, drop, slice_get, IfOk};
+ghost use Rattle.log_output.specs.Buffers.{IsChunk, after_line, after_loss, after_report, after_written, and_lost, first_bytes, fits, is_accepted, is_newline, is_report_due, is_torn_after, kept_bytes, line_length, lines_behind, lines_in, lines_reported, no_lines, takes_report};
 
+use crate::report::{
+    WaitingReport, lines_reported, report_behind, report_within, reported_within, reports_behind,
+};
 use circular_buffer::HeapCircularBuffer;
 use std::alloc::{AllocError, Global};
 use std::fmt::{self, Debug};
@@ -13,12 +16,15 @@ pub const BUFFER_BYTES: usize = 65_536;
 /// The most bytes of one write.
 pub const CHUNK_BYTES: usize = 4096;
 
-/// Whole lines that wait to be written, in order, and how many were dropped since the last report of drops. A line ends in a newline, so its
-/// newlines are its lines. The memory is allocated once.
+/// Lines that wait to be written, in order, and counts of those that were lost. A line ends in a newline, so its newlines are its lines. The rest
+/// of a line whose head was written waits in front. The memory is allocated once.
 #[derive(Drop)]
 pub struct LogBuffer {
     ring: HeapCircularBuffer<u8>,
+    lost: u64,
     dropped: u64,
+    report: Option<WaitingReport>,
+    torn: bool,
 }
 
 impl Model for LogBuffer {
@@ -27,7 +33,7 @@ impl Model for LogBuffer {
 
     ghost Value = { Buffered };
 
-    ghost view = { λ b. buffered b.ring.items b.dropped };
+    ghost view = { λ b. buffered b.ring.items b.lost b.dropped b.report b.torn };
 
     ghost invariant = { λ b. b.ring.capacity ≡ buffer_bytes };
 }
@@ -39,20 +45,37 @@ fn line_count(bytes: &[u8]) -> usize
     bytes.iter().filter(|&&byte| byte == b'\n').count()
 }
 
-/// The first bytes of a slice.
-fn first_chunk(bytes: &[u8]) -> &[u8]
-    ensures { IsChunk bytes.now result.now }
+/// How many newlines there are after the first bytes of two parts.
+fn line_count_behind(count: usize, front: &[u8], back: &[u8]) -> usize
+    requires { count ≤ length front.now + length back.now }
+    ensures { result ≡ lines_in (drop count (front.now ++ back.now)) }
 {
-    &bytes[..bytes.len().min(CHUNK_BYTES)]
+    if count <= front.len() {
+        return line_count(&front[count..]) + line_count(back);
+    }
+    line_count(&back[count - front.len()..])
+}
+
+/// The first bytes of a slice, at most this number.
+fn first_chunk(bytes: &[u8], most: usize) -> &[u8]
+    ensures { IsChunk most bytes.now result.now }
+{
+    &bytes[..bytes.len().min(most)]
 }
 
 impl LogBuffer {
     /// The empty buffer, with room for [`BUFFER_BYTES`].
     pub fn new(alloc: Global) -> Result<LogBuffer, AllocError>
-        ensures { IfOk result (λ b. b ≡ buffered [] 0) }
+        ensures { IfOk result (λ b. b ≡ no_lines) }
     {
         let ring = HeapCircularBuffer::with_capacity(alloc, BUFFER_BYTES)?;
-        Ok(LogBuffer { ring, dropped: 0 })
+        Ok(LogBuffer {
+            ring,
+            lost: 0,
+            dropped: 0,
+            report: None,
+            torn: false,
+        })
     }
 
     /// How many bytes wait.
@@ -69,11 +92,25 @@ impl LogBuffer {
         self.ring.is_empty()
     }
 
-    /// How many lines were dropped since the last report.
+    /// How many lines were lost since the start. It stays at the largest number.
+    pub fn lost(&self) -> u64
+        ensures { result ≡ self.now.lost }
+    {
+        self.lost
+    }
+
+    /// How many lines were lost since the last report that was written whole.
     pub fn dropped(&self) -> u64
         ensures { result ≡ self.now.dropped }
     {
         self.dropped
+    }
+
+    /// Whether dropped lines are not yet reported, and no report waits.
+    pub fn is_report_due(&self) -> bool
+        ensures { result ≡ is_report_due self.now }
+    {
+        self.dropped != 0 && self.report.is_none()
     }
 
     /// Whether there is room for a line.
@@ -83,67 +120,146 @@ impl LogBuffer {
         line.len() <= self.ring.capacity() - self.ring.len()
     }
 
-    /// Adds a line if it fits and no line before it was dropped. If not, the line is dropped whole. Answers whether it was added.
+    /// Counts lines as lost.
+    fn lose(&mut self, lines: u64)
+        ensures { self.new ≡ and_lost lines self.old }
+    {
+        self.lost = self.lost.saturating_add(lines);
+        self.dropped = self.dropped.saturating_add(lines);
+    }
+
+    /// Adds a line if it fits and the report that waits reports each line that is missing before it. If not, the line is lost whole. Answers
+    /// whether it was added.
     pub fn add_line(&mut self, line: &[u8]) -> bool
         ensures added { result ≡ is_accepted line.now self.old }
         ensures line { self.new ≡ after_line line.now self.old }
     {
-        if self.dropped > 0 || !self.has_room_for(line) {
-            self.dropped = self.dropped.saturating_add(line_count(line) as u64);
+        if self.dropped != lines_reported(self.report) || !self.has_room_for(line) {
+            self.lose(line_count(line) as u64);
             return false;
         }
         self.ring.fill_from_slice(line);
         true
     }
 
-    /// Adds the line that reports the dropped lines, in their place, if it fits. Then none is dropped since. If it does not
-    /// fit, the buffer stays as it is. Answers whether it was added.
+    /// Adds the line that reports the dropped lines, in their place, if no other report waits and it fits. If not, the buffer stays as it is.
+    /// The lines count as reported when the last byte of the report was written. Answers whether it was added.
     pub fn add_report(&mut self, line: &[u8]) -> bool
-        ensures added { result ≡ fits line.now self.old }
+        ensures added { result ≡ takes_report line.now self.old }
         ensures line { self.new ≡ after_report line.now self.old }
     {
-        if !self.has_room_for(line) {
+        if self.report.is_some() || !self.has_room_for(line) {
             return false;
         }
+        self.report = Some(WaitingReport {
+            lines: self.dropped,
+            last: (self.ring.len() + line.len()).saturating_sub(1),
+        });
         self.ring.fill_from_slice(line);
-        self.dropped = 0;
         true
     }
 
-    /// Counts a line that could not be formatted as dropped.
+    /// Counts a line that could not be formatted as lost.
     pub fn lose_line(&mut self)
-        ensures { self.new ≡ buffered self.old.bytes (saturated (self.old.dropped + 1)) }
+        ensures { self.new ≡ and_lost 1 self.old }
     {
-        self.dropped = self.dropped.saturating_add(1);
+        self.lose(1);
     }
 
-    /// The first bytes: at least one if any waits, and at most [`CHUNK_BYTES`].
-    pub fn chunk(&self) -> &[u8]
-        ensures { IsChunk self.now.bytes result.now }
+    /// The first bytes, at most this number: at least one if any waits and one is allowed.
+    pub fn chunk(&self, most: usize) -> &[u8]
+        ensures { IsChunk most self.now.bytes result.now }
     {
         let (front, back) = self.ring.as_slices();
         if front.is_empty() {
-            return first_chunk(back);
+            return first_chunk(back, most);
         }
-        first_chunk(front)
+        first_chunk(front, most)
     }
 
-    /// The first bytes were written.
+    /// Whether this byte that waits is a newline.
+    fn is_newline(&self, at: usize) -> bool
+        ensures { result ≡ is_newline (slice_get self.now.bytes at) }
+    {
+        match self.ring.get(at) {
+            Some(&byte) => byte == b'\n',
+            None => false,
+        }
+    }
+
+    /// Whether the output is torn after the first bytes.
+    fn is_torn_after(&self, count: usize) -> bool
+        requires { count ≤ length self.now.bytes }
+        ensures { result ≡ is_torn_after self.now.torn (take count self.now.bytes) }
+    {
+        if count == 0 {
+            return self.torn;
+        }
+        !self.is_newline(count - 1)
+    }
+
+    /// The first bytes were written. If a report ends with them, its lines are reported.
     pub fn consume(&mut self, count: usize)
         requires { count ≤ length self.old.bytes }
-        ensures { self.new ≡ buffered (drop count self.old.bytes) self.old.dropped }
+        ensures { self.new ≡ after_written count self.old }
     {
+        self.torn = self.is_torn_after(count);
+        let reported = reported_within(count, self.report);
+        self.dropped = self.dropped.saturating_sub(reported);
+        self.report = report_behind(count, self.report);
         self.ring.truncate_front(self.ring.len() - count);
     }
 
-    /// Gives up all bytes that wait, and counts their lines as dropped. The rest of a line that was written in part is a line.
+    /// The length of the first line that waits, with its newline.
+    fn line_length(&self) -> usize
+        ensures { result ≡ line_length self.now.bytes }
+    {
+        for at in 0..self.len() {
+            if self.is_newline(at) {
+                return at + 1;
+            }
+        }
+        self.len()
+    }
+
+    /// How many bytes wait of a line whose head was written.
+    fn kept_bytes(&self) -> usize
+        ensures value { result ≡ kept_bytes self.now }
+        ensures within { result ≤ length self.now.bytes }
+    {
+        if self.torn {
+            return self.line_length();
+        }
+        0
+    }
+
+    /// How many lines there are after the first bytes, without the report.
+    fn lines_behind(&self, count: usize) -> usize
+        requires { count ≤ length self.now.bytes }
+        ensures { result ≡ lines_behind count self.now }
+    {
+        let (front, back) = self.ring.as_slices();
+        let lines = line_count_behind(count, front, back);
+        lines.saturating_sub(reports_behind(count, self.report))
+    }
+
+    /// Keeps the first bytes alone.
+    fn keep_first(&mut self, count: usize)
+        ensures { self.new ≡ first_bytes count self.old }
+    {
+        self.report = report_within(count, self.report);
+        self.ring.truncate_back(count);
+    }
+
+    /// Gives up the lines that wait, and counts them as lost. The rest of a line whose head was written is kept. A report that is given up is no
+    /// lost line, and what it reports is not yet reported.
     pub fn give_up(&mut self)
         ensures { self.new ≡ after_loss self.old }
     {
-        let (front, back) = self.ring.as_slices();
-        let lines = line_count(front) + line_count(back);
-        self.ring.clear();
-        self.dropped = self.dropped.saturating_add(lines as u64);
+        let kept = self.kept_bytes();
+        let lines = self.lines_behind(kept);
+        self.keep_first(kept);
+        self.lose(lines as u64);
     }
 }
 

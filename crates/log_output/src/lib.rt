@@ -1,6 +1,7 @@
 //! The output of a log of events. [`Log`] leaves out what is less severe than its level, limits the lines about clients
-//! ([`ClientLineLimit`]), and keeps the other lines ([`LogBuffer`]) until its sink has room for them ([`LogSink`]). A line that does not fit is
-//! dropped whole, and reported in its place. So a log never blocks, and its memory is bounded.
+//! ([`ClientLineLimit`]), and keeps the other lines ([`LogBuffer`]) until its sink has room for them ([`LogSink`]). A line that does not fit, or
+//! that a sink fails to write, is lost whole, counted, and reported in its place. So a log never blocks and tears no line, and its memory is
+//! bounded.
 //!
 //! For example, where `rt` is the runtime that `main` is handed:
 //!
@@ -23,11 +24,11 @@ mod buffer;
 pub mod laws;
 mod limit;
 mod output;
-mod room;
+mod report;
 mod sink;
 
 pub use buffer::{BUFFER_BYTES, CHUNK_BYTES, LogBuffer};
 pub use limit::{ClientLineLimit, LIMIT_LINES, LIMIT_MILLIS};
 pub use output::Log;
-pub use room::{Room, RoomSink};
+pub use report::WaitingReport;
 pub use sink::LogSink;

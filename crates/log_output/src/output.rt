@@ -1,9 +1,9 @@
 //! The log: levels, the limit of lines about clients, and lines that wait for room.
-ghost use Rattle.std.specs.Prelude.{◌≡◌, ◌+◌, ◌≤◌, ◌<◌, ◌==◌, ◌&&◌, [], true, None, IfOk, if◌then◌else◌, length};
+ghost use Rattle.std.specs.Prelude.{◌≡◌, ◌+◌, ◌≤◌, ◌<◌, ◌==◌, [], true, None, IfOk, if◌then◌else◌, length};
 ghost use Rattle.event_log.specs.Levels.{level_of, severity};
-ghost use Rattle.log_output.specs.Buffers.{buffered, saturated};
+ghost use Rattle.log_output.specs.Buffers.{no_lines, saturated};
 ghost use Rattle.log_output.specs.Limits.{limited};
-ghost use Rattle.log_output.specs.Logs.{AddsEvent, AddsOwn, CountsLines, Grows, IsLine, OffersEvent, ReportsDrops, ReportsDue, ReportsSuppressed, WritesCounted, is_empty, log_state, with_buffer};
+ghost use Rattle.log_output.specs.Logs.{AddsEvent, AddsOwn, CountsLines, Grows, IsLine, IsWhole, OffersEvent, ReportsDrops, ReportsDue, ReportsSuppressed, StaysWhole, WritesCounted, is_empty, log_state, with_buffer};
 ghost use Rattle.log_output.specs.Sinks.{WritesOut};
 
 use crate::buffer::LogBuffer;
@@ -26,7 +26,6 @@ pub struct Log {
     limit: ClientLineLimit,
     buffer: LogBuffer,
     line: Vec<u8>,
-    reported_drops: u64,
     reported_suppressed: u64,
     memory_failures: u64,
 }
@@ -36,7 +35,7 @@ impl Model for Log {
 
     ghost Value = { LogState };
 
-    ghost view = { λ l. log_state l.format l.level l.limit l.buffer l.reported_drops l.reported_suppressed l.memory_failures };
+    ghost view = { λ l. log_state l.format l.level l.limit l.buffer l.reported_suppressed l.memory_failures };
 }
 
 /// Formats the line of an event. Answers whether there was memory for it.
@@ -50,7 +49,8 @@ fn format_line(line: &mut Vec<u8>, format: LogFormat, seconds: u64, event: &LogE
 impl Log {
     /// A log in this format, of the events that are at least as severe as the level.
     pub fn new(alloc: Global, format: LogFormat, level: LogLevel) -> Result<Log, AllocError>
-        ensures { IfOk result (λ l. l ≡ log_state format level (limited None 0 0) (buffered [] 0) 0 0 0) }
+        ensures empty { IfOk result (λ l. l ≡ log_state format level (limited None 0 0) no_lines 0 0) }
+        ensures whole { IfOk result (λ l. IsWhole format [] l.buffer) }
     {
         Ok(Log {
             format,
@@ -58,7 +58,6 @@ impl Log {
             limit: ClientLineLimit::new(),
             buffer: LogBuffer::new(alloc)?,
             line: Vec::with_capacity(alloc, LINE_BYTES)?,
-            reported_drops: 0,
             reported_suppressed: 0,
             memory_failures: 0,
         })
@@ -76,22 +75,20 @@ impl Log {
         }
     }
 
-    /// Reports the dropped lines, if any was dropped and there is room.
+    /// Reports the dropped lines, if there are any, no report waits and there is room.
     fn report_drops(&mut self, seconds: u64)
         ensures { ReportsDrops self.old self.new seconds }
     {
-        let lines = self.buffer.dropped();
-        if lines == 0 {
+        if !self.buffer.is_report_due() {
             return;
         }
+        let lines = self.buffer.dropped();
         let event = LogEvent::Dropped { lines };
         if !format_line(&mut self.line, self.format, seconds, &event) {
             self.memory_failures = self.memory_failures.saturating_add(1);
             return;
         }
-        if self.buffer.add_report(self.line.as_slice()) {
-            self.reported_drops = self.reported_drops.saturating_add(lines);
-        }
+        self.buffer.add_report(self.line.as_slice());
     }
 
     /// Reports the suppressed lines, if there are any and their window has ended.
@@ -114,6 +111,7 @@ impl Log {
         ensures reports { ReportsDue self.old self.new seconds millis }
         ensures counts { CountsLines 0 self.old self.new }
         ensures grows { Grows self.old self.new }
+        ensures whole { StaysWhole self.old self.new }
     {
         self.report_drops(seconds);
         self.report_suppressed(seconds, millis);
@@ -136,6 +134,7 @@ impl Log {
         ensures adds { severity (level_of event.now) ≤ severity self.old.level → AddsEvent self.old self.new seconds millis event.now }
         ensures counts { severity (level_of event.now) ≤ severity self.old.level → CountsLines 1 self.old self.new }
         ensures grows { Grows self.old self.new }
+        ensures whole { StaysWhole self.old self.new }
     {
         if !event.is_logged_at(self.level) {
             return;
@@ -144,11 +143,11 @@ impl Log {
         self.add_own(seconds, millis, event);
     }
 
-    /// Writes the lines that wait, as long as the sink has room: at most 4,096 bytes a write, and at most 64 writes. A write that would block or
-    /// is interrupted, or that accepts nothing, ends the call, and the bytes still wait. If a write fails otherwise, all bytes that wait are given
-    /// up, and their lines are counted as dropped.
+    /// Writes the lines that wait, as long as the sink has room: as many bytes a write as it has room for, and at most 4,096 writes. A write that
+    /// would block or is interrupted, or that accepts nothing, ends the call, and the bytes still wait. If a write fails otherwise, the lines that
+    /// wait are given up and counted as lost. The rest of a line whose head was written still waits, so no line is torn.
     pub fn write_to<S: LogSink>(&mut self, sink: &mut S)
-        ensures writes { WritesOut 64 self.old.buffer self.new.buffer (S.contents sink.old) (S.contents sink.new) (S.last_answer sink.new) }
+        ensures writes { WritesOut 4096 self.old.buffer self.new.buffer (S.contents sink.old) (S.contents sink.new) (S.last_answer sink.new) }
         ensures keeps { self.new ≡ with_buffer self.new.buffer self.old }
         ensures counts { WritesCounted self.old self.new (S.contents sink.old) (S.contents sink.new) }
     {
@@ -179,11 +178,11 @@ impl Log {
         1000
     }
 
-    /// How many lines were dropped since the start. It stays at the largest number.
+    /// How many lines were lost since the start: each line that came and is neither written nor waits. It stays at the largest number.
     pub fn dropped_lines(&self) -> u64
-        ensures { result ≡ saturated (self.now.reported_drops + self.now.buffer.dropped) }
+        ensures { result ≡ self.now.buffer.lost }
     {
-        self.reported_drops.saturating_add(self.buffer.dropped())
+        self.buffer.lost()
     }
 
     /// How many lines about clients were suppressed since the start. It stays at the largest number.

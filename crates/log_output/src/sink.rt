@@ -1,5 +1,5 @@
 //! What the log is written to, and how.
-ghost use Rattle.std.specs.Prelude.{◌≡◌, ℕ, Bool, ◌<◌, ◌≤◌, List, Option, true, length};
+ghost use Rattle.std.specs.Prelude.{◌≡◌, ℕ, ◌<◌, ◌≤◌, List, Option, length};
 ghost use Rattle.std.specs.Io.{WritesAtMost};
 ghost use Rattle.std.specs.Io.KnownBytes.{Keeps, WriteAppends};
 ghost use Rattle.std.specs.IoError.{error_kind};
@@ -9,10 +9,11 @@ ghost use Rattle.log_output.specs.Buffers.{chunk_bytes};
 use crate::buffer::LogBuffer;
 use std::io::{self, ErrorKind};
 
-/// The most writes of one call.
-const MAX_WRITES: u32 = 64;
+/// The most writes of one call. A sink that accepts single bytes is so given as many as one write may have.
+const MAX_WRITES: u32 = 4096;
 
-/// What a log is written to, such as standard error. A write is made only after the sink has answered that there is room for it.
+/// What a log is written to, such as standard error. Before each write the sink is asked how many bytes that may have. A sink that answers rightly
+/// never blocks the log.
 pub trait LogSink {
     /// What it accepted, if that is known.
     ghost contents: { Self → Option (List ℕ) };
@@ -20,18 +21,19 @@ pub trait LogSink {
     /// What its last call answered, if that is known.
     ghost last_answer: { Self → Option SinkAnswer };
 
-    /// Whether a write may be made.
-    ghost is_ready: { Self → Bool };
+    /// How many bytes a write may have.
+    ghost allowed: { Self → ℕ };
 
-    /// Whether a write of 4,096 bytes does not block.
-    fn has_room(&mut self) -> bool
-        ensures ready { result ≡ true → is_ready self.new ≡ true }
+    /// How many bytes a write may have now, so that it does not block: at most [`CHUNK_BYTES`](crate::CHUNK_BYTES), and 0 if the sink has no room.
+    fn room(&mut self) -> usize
+        ensures short { result ≤ chunk_bytes }
+        ensures allows { result ≤ allowed self.new }
         ensures keeps { Keeps (contents self.old) (contents self.new) }
         ensures answers { Answered (last_answer self.new) (answer_of_room result) };
 
     /// Writes from the front of the bytes, as many as it answers.
     fn write(&mut self, bytes: &[u8]) -> io::Result<usize>
-        requires ready { is_ready self.old ≡ true }
+        requires allowed { length bytes.now ≤ allowed self.old }
         requires some { 0 < length bytes.now }
         requires short { length bytes.now ≤ chunk_bytes }
         ensures within { WritesAtMost result bytes.now }
@@ -49,14 +51,19 @@ fn is_pause(error: &io::Error) -> bool
     }
 }
 
-/// Writes the first bytes once, if any waits and the sink has room. Answers whether it accepted any. If the sink fails, all bytes are given up.
+/// Writes the first bytes once, if any waits and the sink has room. Answers whether it accepted any. If the sink fails, the lines that wait are
+/// given up.
 fn write_chunk<S: LogSink>(buffer: &mut LogBuffer, sink: &mut S) -> bool
     ensures { WritesChunk result buffer.old buffer.new (S.contents sink.old) (S.contents sink.new) (S.last_answer sink.new) }
 {
-    if buffer.is_empty() || !sink.has_room() {
+    if buffer.is_empty() {
         return false;
     }
-    match sink.write(buffer.chunk()) {
+    let room = sink.room();
+    if room == 0 {
+        return false;
+    }
+    match sink.write(buffer.chunk(room)) {
         Ok(count) => {
             buffer.consume(count);
             count > 0
@@ -71,11 +78,11 @@ fn write_chunk<S: LogSink>(buffer: &mut LogBuffer, sink: &mut S) -> bool
 }
 
 impl LogBuffer {
-    /// Writes what waits, as long as the sink has room: at most 4,096 bytes a write, and at most 64 writes. A write that would block or is
-    /// interrupted, or that accepts nothing, ends the call, and the bytes still wait. If a write fails otherwise, all bytes that wait are given up,
-    /// and their lines are counted as dropped.
+    /// Writes what waits, as long as the sink has room: as many bytes a write as it has room for, and at most 4,096 writes. A write that would
+    /// block or is interrupted, or that accepts nothing, ends the call, and the bytes still wait. If a write fails otherwise, the lines that wait
+    /// are given up and counted as lost. The rest of a line whose head was written still waits.
     pub fn write_to<S: LogSink>(&mut self, sink: &mut S)
-        ensures { WritesOut 64 self.old self.new (S.contents sink.old) (S.contents sink.new) (S.last_answer sink.new) }
+        ensures { WritesOut 4096 self.old self.new (S.contents sink.old) (S.contents sink.new) (S.last_answer sink.new) }
     {
         for _turn in 0..MAX_WRITES {
             if !write_chunk(self, sink) {

@@ -9,4 +9,4 @@ pub returns-clause-counts : goal.returns-clause-counts
 returns-clause-counts g c =
     let l = c.self.inside in
     rw (← c.self.view_is)
-    (writes_counted (log_state l.format l.level l.limit l.buffer l.reported_drops l.reported_suppressed l.memory_failures) c.write_to.new.self _ _ _ c.write_to.ensures)
+    (writes_counted (log_state l.format l.level l.limit l.buffer l.reported_suppressed l.memory_failures) c.write_to.new.self _ _ _ c.write_to.ensures)
