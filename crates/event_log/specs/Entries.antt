@@ -104,6 +104,10 @@ word_of (event.Taken file) = codes "taken"
 word_of (event.Old file age) = codes "old"
 word_of (event.Fresh file age) = codes "fresh"
 word_of (event.Expired file entries) = codes "expired"
+word_of (event.Unwell reason) = codes "unwell"
+word_of (event.FileUnwell reason file) = codes "unwell"
+word_of (event.Well reason) = codes "well"
+word_of (event.FileWell reason file) = codes "well"
 word_of (event.Clock behind) = codes "clock"
 word_of (event.Warning reason) = codes "warning"
 word_of (event.Memory what) = codes "memory"
@@ -126,12 +130,16 @@ daemon_entries (event.Memory what) = of_text (codes "what") what.now ∷ []
 daemon_entries (event.Failed what reason) = of_text (codes "what") what.now ∷ of_text (codes "reason") reason.now ∷ []
 daemon_entries (event.Warning reason) = of_text (codes "reason") reason.now ∷ []
 daemon_entries (event.Stopped reason) = of_text (codes "reason") reason.now ∷ []
+daemon_entries (event.Unwell reason) = of_text (codes "reason") reason.now ∷ []
+daemon_entries (event.Well reason) = of_text (codes "reason") reason.now ∷ []
 daemon_entries e = []
 
 -- of an event about files. Of another event these are those about the daemon.
 abbrev pub file_entries : LogEvent → List Entry
 file_entries (event.Taken file) = of_text (codes "file") file.now ∷ []
 file_entries (event.Refused file reason) = of_text (codes "file") file.now ∷ of_text (codes "reason") reason.now ∷ []
+file_entries (event.FileUnwell reason file) = of_text (codes "reason") reason.now ∷ of_text (codes "file") file.now ∷ []
+file_entries (event.FileWell reason file) = of_text (codes "reason") reason.now ∷ of_text (codes "file") file.now ∷ []
 file_entries (event.Old file age) = of_text (codes "file") file.now ∷ of_number (codes "age") age ∷ []
 file_entries (event.Fresh file age) = of_text (codes "file") file.now ∷ of_number (codes "age") age ∷ []
 file_entries (event.Expired file entries) = of_text (codes "file") file.now ∷ of_number (codes "entries") entries ∷ []

@@ -4,6 +4,7 @@ use Rattle.std.specs.Char.{encode_utf8}
 use Rattle.std.specs.Fmt.{digits}
 use Rattle.std.specs.Str.{chars}
 use Rattle.event_log.specs.declared.line.LogFormat.TheVariants as form
+use Rattle.event_log.specs.declared.level.LogLevel.TheVariants as level
 use Rattle.event_log.specs.Entries.{Nothing, of_number, of_text, entry}
 use Rattle.event_log.specs.Lines.{escaped, log_char, quoted, is_plain, line_text}
 use Rattle.event_log.specs.ReportNames.{report_name}
@@ -55,19 +56,65 @@ last_visible = refl
 behind_visible : is_plain (127 ∷ []) ≡ false
 behind_visible = refl
 
--- a line in both forms
-plain_line : line_text form.Text (codes "T") (codes "client-gone") (of_text (codes "why") (codes "a b") ∷ entry (codes "version") Nothing ∷ of_number (codes "read") 12 ∷ [])
+-- a line in each form
+plain_line : line_text form.Text (codes "T") level.Info (codes "client-gone") (of_text (codes "why") (codes "a b") ∷ entry (codes "version") Nothing ∷ of_number (codes "read") 12 ∷ [])
     ≡ codes "T client-gone why=\"a b\" version=none read=12\n"
 unfolding quoted escaped log_char chars digits encode_utf8
 plain_line = refl
 
-json_line : line_text form.Json (codes "T") (codes "client-gone") (of_text (codes "why") (codes "a b") ∷ entry (codes "version") Nothing ∷ of_number (codes "read") 12 ∷ [])
-    ≡ codes "{\"time\":\"T\",\"event\":\"client-gone\",\"why\":\"a b\",\"version\":null,\"read\":12}\n"
+json_line : line_text form.Json (codes "T") level.Info (codes "client-gone") (of_text (codes "why") (codes "a b") ∷ entry (codes "version") Nothing ∷ of_number (codes "read") 12 ∷ [])
+    ≡ codes "{\"time\":\"T\",\"level\":\"info\",\"event\":\"client-gone\",\"why\":\"a b\",\"version\":null,\"read\":12}\n"
 unfolding quoted escaped log_char chars digits encode_utf8
 json_line = refl
 
-without_values : line_text form.Text (codes "T") (codes "ready") [] ≡ codes "T ready\n"
+systemd_line : line_text form.Systemd (codes "T") level.Info (codes "client-gone") (of_text (codes "why") (codes "a b") ∷ entry (codes "version") Nothing ∷ of_number (codes "read") 12 ∷ [])
+    ≡ codes "<6>T client-gone why=\"a b\" version=none read=12\n"
+unfolding quoted escaped log_char chars digits encode_utf8
+systemd_line = refl
+
+without_values : line_text form.Text (codes "T") level.Notice (codes "ready") [] ≡ codes "T ready\n"
 without_values = refl
+
+-- each level, with the numbers of sd-daemon(3): SD_ERR, SD_WARNING, SD_NOTICE and SD_INFO
+systemd_error : line_text form.Systemd (codes "T") level.Error (codes "failed") [] ≡ codes "<3>T failed\n"
+unfolding digits
+systemd_error = refl
+
+json_error : line_text form.Json (codes "T") level.Error (codes "failed") [] ≡ codes "{\"time\":\"T\",\"level\":\"error\",\"event\":\"failed\"}\n"
+json_error = refl
+
+text_error : line_text form.Text (codes "T") level.Error (codes "failed") [] ≡ codes "T failed\n"
+text_error = refl
+
+systemd_warning : line_text form.Systemd (codes "T") level.Warning (codes "warning") [] ≡ codes "<4>T warning\n"
+unfolding digits
+systemd_warning = refl
+
+json_warning : line_text form.Json (codes "T") level.Warning (codes "warning") [] ≡ codes "{\"time\":\"T\",\"level\":\"warning\",\"event\":\"warning\"}\n"
+json_warning = refl
+
+text_warning : line_text form.Text (codes "T") level.Warning (codes "warning") [] ≡ codes "T warning\n"
+text_warning = refl
+
+systemd_notice : line_text form.Systemd (codes "T") level.Notice (codes "ready") [] ≡ codes "<5>T ready\n"
+unfolding digits
+systemd_notice = refl
+
+json_notice : line_text form.Json (codes "T") level.Notice (codes "ready") [] ≡ codes "{\"time\":\"T\",\"level\":\"notice\",\"event\":\"ready\"}\n"
+json_notice = refl
+
+text_notice : line_text form.Text (codes "T") level.Notice (codes "ready") [] ≡ codes "T ready\n"
+text_notice = refl
+
+systemd_info : line_text form.Systemd (codes "T") level.Info (codes "client-came") [] ≡ codes "<6>T client-came\n"
+unfolding digits
+systemd_info = refl
+
+json_info : line_text form.Json (codes "T") level.Info (codes "client-came") [] ≡ codes "{\"time\":\"T\",\"level\":\"info\",\"event\":\"client-came\"}\n"
+json_info = refl
+
+text_info : line_text form.Text (codes "T") level.Info (codes "client-came") [] ≡ codes "T client-came\n"
+text_info = refl
 
 -- the ends of the codes of Error Reports that have a name
 first_code : report_name 0 ≡ codes "Corrupt Data"

@@ -1,4 +1,4 @@
--- The lines of the event log, in both formats.
+-- The lines of the event log, in each format.
 use Rattle.std.specs.Prelude.{ℕ, ◌/◌, ◌%◌, Bool, not, ◌&&◌, ◌||◌, ◌==◌, if◌then◌else◌, List, [], ◌∷◌, ◌++◌, length, codes, Option, encode_utf8}
 use Rattle.std.specs.Char.{digit_char, is_control}
 use Rattle.std.specs.Fmt.{decimal}
@@ -10,8 +10,10 @@ use Rattle.der_lite.specs.Moments.{CivilMoment, is_between}
 use Rattle.event_log.specs.declared.line.LogFormat.{LogFormat}
 use Rattle.event_log.specs.declared.line.LogFormat.TheVariants as form
 use Rattle.event_log.specs.declared.event.LogEvent.{LogEvent}
+use Rattle.event_log.specs.declared.level.LogLevel.{LogLevel}
 use Rattle.event_log.specs.Clock.{IsAt, time_text}
 use Rattle.event_log.specs.Entries.{Entry, LogValue, Nothing, Number, Address, Text, word_of, entries_of}
+use Rattle.event_log.specs.Levels.{level_of, level_word, severity}
 
 -- A character of a quoted text (RFC 8259 section 7): a control character is escaped by its number, so that no line is broken.
 unfoldable pub log_char : ℕ → List ℕ
@@ -56,20 +58,28 @@ json_entry e = codes ",\"" ++ e.key ++ codes "\":" ++ json_value e.value
 abbrev pub entry_text : LogFormat → Entry → List ℕ
 entry_text form.Text e = plain_entry e
 entry_text form.Json e = json_entry e
+entry_text form.Systemd e = plain_entry e
 
-abbrev pub head_text : LogFormat → List ℕ → List ℕ → List ℕ
-head_text form.Text time word = time ++ codes " " ++ word
-head_text form.Json time word = codes "{\"time\":\"" ++ time ++ (codes "\",\"event\":\"" ++ word ++ codes "\"")
+abbrev pub plain_head : List ℕ → List ℕ → List ℕ
+plain_head time word = time ++ codes " " ++ word
+
+-- For systemd the severity comes first, as `<N>` (sd-daemon(3)).
+abbrev pub head_text : LogFormat → List ℕ → LogLevel → List ℕ → List ℕ
+head_text form.Text time level word = plain_head time word
+head_text form.Json time level word =
+    codes "{\"time\":\"" ++ time ++ (codes "\",\"level\":\"" ++ level_word level) ++ (codes "\",\"event\":\"" ++ word ++ codes "\"")
+head_text form.Systemd time level word = codes "<" ++ decimal (severity level) ++ codes ">" ++ plain_head time word
 
 abbrev pub end_text : LogFormat → List ℕ
 end_text form.Text = codes "\n"
 end_text form.Json = codes "}\n"
+end_text form.Systemd = codes "\n"
 
--- a word with its values, at a time
-abbrev pub line_text : LogFormat → List ℕ → List ℕ → List Entry → List ℕ
-line_text form time word entries = head_text form time word ++ flat_map (entry_text form) entries ++ end_text form
+-- a word with its values, at a time and a level
+abbrev pub line_text : LogFormat → List ℕ → LogLevel → List ℕ → List Entry → List ℕ
+line_text form time level word entries = head_text form time level word ++ flat_map (entry_text form) entries ++ end_text form
 
 -- One line is appended: that of an event at this second.
 abbrev pub LogsEvent : Option (List ℕ) → Option (List ℕ) → LogFormat → ℕ → LogEvent → Type 0
 LogsEvent old new form seconds event =
-    (m : CivilMoment) × IsAt m seconds × Appends old new (line_text form (time_text m) (word_of event) (entries_of event))
+    (m : CivilMoment) × IsAt m seconds × Appends old new (line_text form (time_text m) (level_of event) (word_of event) (entries_of event))

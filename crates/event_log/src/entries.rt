@@ -160,6 +160,8 @@ pub(crate) fn word_of(event: &LogEvent<'_>) -> &'static str
         LogEvent::Old { .. } => "old",
         LogEvent::Fresh { .. } => "fresh",
         LogEvent::Expired { .. } => "expired",
+        LogEvent::Unwell { .. } | LogEvent::FileUnwell { .. } => "unwell",
+        LogEvent::Well { .. } | LogEvent::FileWell { .. } => "well",
         LogEvent::Clock { .. } => "clock",
         LogEvent::Warning { .. } => "warning",
         LogEvent::Memory { .. } => "memory",

@@ -148,6 +148,30 @@ pub enum LogEvent<'a> {
         /// How many. For a publication point, this is the number of objects that its manifest lists.
         entries: u64,
     },
+    /// `unwell`: a reason has begun why the daemon is not well.
+    Unwell {
+        /// The word of the reason.
+        reason: &'a str,
+    },
+    /// `unwell`: a source has become a reason why the daemon is not well.
+    FileUnwell {
+        /// The word of the reason.
+        reason: &'a str,
+        /// The path of the file or of the directory.
+        file: &'a str,
+    },
+    /// `well`: a reason has ended why the daemon is not well.
+    Well {
+        /// The word of the reason.
+        reason: &'a str,
+    },
+    /// `well`: a source is no longer such a reason.
+    FileWell {
+        /// The word of the reason.
+        reason: &'a str,
+        /// The path of the file or of the directory.
+        file: &'a str,
+    },
     /// `clock`: the clock was set back.
     Clock {
         /// How many seconds it is behind the start plus the seconds since.

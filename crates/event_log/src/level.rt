@@ -72,6 +72,8 @@ impl LogEvent<'_> {
             | LogEvent::Dropped { .. } => LogLevel::Error,
             LogEvent::Warning { .. }
             | LogEvent::Clock { .. }
+            | LogEvent::Unwell { .. }
+            | LogEvent::FileUnwell { .. }
             | LogEvent::Old { .. }
             | LogEvent::Expired { .. }
             | LogEvent::Limited { .. }
@@ -88,6 +90,8 @@ impl LogEvent<'_> {
             | LogEvent::LeftOut { .. }
             | LogEvent::Taken { .. }
             | LogEvent::Fresh { .. }
+            | LogEvent::Well { .. }
+            | LogEvent::FileWell { .. }
             | LogEvent::Checked { .. }
             | LogEvent::Stopped { .. } => LogLevel::Notice,
             LogEvent::ClientCame { .. } | LogEvent::ClientGone(_) => LogLevel::Info,

@@ -1,4 +1,4 @@
-//! The event log of the daemon `rpkirtrd`: an event ([`LogEvent`]) is one line, as text or as JSON ([`write_event`]). The times of its
+//! The event log of the daemon `rpkirtrd`: an event ([`LogEvent`]) is one line, as text, as JSON or for systemd ([`write_event`]). The times of its
 //! lines are those of a clock that counts seconds ([`moment_at`], [`time_at`]). [`LogEvent::level`] is how severe an event is.
 //!
 //! For example, where `rt` is the runtime that `main` is handed:

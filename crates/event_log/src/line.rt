@@ -5,7 +5,8 @@ ghost use Rattle.std.specs.Io.KnownBytes.{Appends};
 ghost use Rattle.std.specs.List.{flat_map, list_all};
 ghost use Rattle.std.specs.Str.{chars};
 ghost use Rattle.event_log.specs.Entries.{Text, daemon_entries, entries_of, file_entries, log_pair, log_value, word_of};
-ghost use Rattle.event_log.specs.Lines.{LogsEvent, end_text, entry_text, escaped, head_text, log_char, is_plain, is_plain_byte, json_entry, json_value, line_text, plain_entry, plain_value, quoted};
+ghost use Rattle.event_log.specs.Lines.{LogsEvent, end_text, entry_text, escaped, head_text, log_char, is_plain, is_plain_byte, json_entry, json_value, line_text, plain_entry, plain_head, plain_value, quoted};
+ghost use Rattle.event_log.specs.Levels.{level_of};
 
 use crate::clock::{civil_at, time_text};
 use crate::entries::{
@@ -13,6 +14,7 @@ use crate::entries::{
     report_pairs, session_pairs, text, word_of,
 };
 use crate::event::LogEvent;
+use crate::level::LogLevel;
 use std::io::{self, Write};
 
 /// The format of the log.
@@ -20,8 +22,10 @@ use std::io::{self, Write};
 pub enum LogFormat {
     /// The time, the event's word, and `key=value` for each value, separated by blanks.
     Text,
-    /// An object with `time`, `event` and the values.
+    /// An object with `time`, `level`, `event` and the values.
     Json,
+    /// A line of `Text` behind its severity as `<N>` (sd-daemon(3)), by which the journal of systemd has the priority of a line.
+    Systemd,
 }
 
 /// The hexadecimal digit of a number below 16.
@@ -163,7 +167,7 @@ fn write_pair<W: Write>(out: &mut W, form: LogFormat, pair: &Pair<'_>) -> io::Re
     ensures { OnOk result (Appends (W.contents out.old) (W.contents out.new) (entry_text form (log_pair pair.now))) }
 {
     match form {
-        LogFormat::Text => write_plain_pair(out, pair),
+        LogFormat::Text | LogFormat::Systemd => write_plain_pair(out, pair),
         LogFormat::Json => write_json_pair(out, pair),
     }
 }
@@ -178,27 +182,53 @@ fn write_pairs<W: Write>(out: &mut W, form: LogFormat, pairs: &[Pair<'_>]) -> io
 }
 
 fn write_plain_head<W: Write>(out: &mut W, time: &[u8], word: &str) -> io::Result<()>
-    ensures { OnOk result (Appends (W.contents out.old) (W.contents out.new) (head_text LogFormat.Text time.now word.now)) }
+    ensures { OnOk result (Appends (W.contents out.old) (W.contents out.new) (plain_head time.now word.now)) }
 {
     out.write_all(time)?;
     write!(out, " {word}")
 }
 
-fn write_json_head<W: Write>(out: &mut W, time: &[u8], word: &str) -> io::Result<()>
-    ensures { OnOk result (Appends (W.contents out.old) (W.contents out.new) (head_text LogFormat.Json time.now word.now)) }
+fn write_json_head<W: Write>(
+    out: &mut W,
+    time: &[u8],
+    level: LogLevel,
+    word: &str,
+) -> io::Result<()>
+    ensures { OnOk result (Appends (W.contents out.old) (W.contents out.new) (head_text LogFormat.Json time.now level word.now)) }
 {
     out.write_all(b"{\"time\":\"")?;
     out.write_all(time)?;
+    write!(out, "\",\"level\":\"{level}")?;
     write!(out, "\",\"event\":\"{word}\"")
 }
 
+/// Writes the severity, and then the start of a line of text.
+fn write_systemd_head<W: Write>(
+    out: &mut W,
+    time: &[u8],
+    level: LogLevel,
+    word: &str,
+) -> io::Result<()>
+    ensures { OnOk result (Appends (W.contents out.old) (W.contents out.new) (head_text LogFormat.Systemd time.now level word.now)) }
+{
+    write!(out, "<{}>", level.severity())?;
+    write_plain_head(out, time, word)
+}
+
 /// Writes the start of a line.
-fn write_head<W: Write>(out: &mut W, form: LogFormat, time: &[u8], word: &str) -> io::Result<()>
-    ensures { OnOk result (Appends (W.contents out.old) (W.contents out.new) (head_text form time.now word.now)) }
+fn write_head<W: Write>(
+    out: &mut W,
+    form: LogFormat,
+    time: &[u8],
+    level: LogLevel,
+    word: &str,
+) -> io::Result<()>
+    ensures { OnOk result (Appends (W.contents out.old) (W.contents out.new) (head_text form time.now level word.now)) }
 {
     match form {
         LogFormat::Text => write_plain_head(out, time, word),
-        LogFormat::Json => write_json_head(out, time, word),
+        LogFormat::Json => write_json_head(out, time, level, word),
+        LogFormat::Systemd => write_systemd_head(out, time, level, word),
     }
 }
 
@@ -207,7 +237,7 @@ fn write_end<W: Write>(out: &mut W, form: LogFormat) -> io::Result<()>
     ensures { OnOk result (Appends (W.contents out.old) (W.contents out.new) (end_text form)) }
 {
     match form {
-        LogFormat::Text => out.write_all(b"\n"),
+        LogFormat::Text | LogFormat::Systemd => out.write_all(b"\n"),
         LogFormat::Json => out.write_all(b"}\n"),
     }
 }
@@ -246,6 +276,9 @@ fn write_file_values<W: Write>(out: &mut W, form: LogFormat, event: &LogEvent<'_
         LogEvent::Taken { file } => write_pairs(out, form, &[text("file", file)]),
         LogEvent::Refused { file, reason } => {
             write_pairs(out, form, &[text("file", file), text("reason", reason)])
+        }
+        LogEvent::FileUnwell { reason, file } | LogEvent::FileWell { reason, file } => {
+            write_pairs(out, form, &[text("reason", reason), text("file", file)])
         }
         LogEvent::Old { file, age } | LogEvent::Fresh { file, age } => {
             write_pairs(out, form, &[text("file", file), number("age", *age)])
@@ -286,9 +319,10 @@ fn write_daemon_values<W: Write>(
         LogEvent::Failed { what, reason } => {
             write_pairs(out, form, &[text("what", what), text("reason", reason)])
         }
-        LogEvent::Warning { reason } | LogEvent::Stopped { reason } => {
-            write_pairs(out, form, &[text("reason", reason)])
-        }
+        LogEvent::Warning { reason }
+        | LogEvent::Stopped { reason }
+        | LogEvent::Unwell { reason }
+        | LogEvent::Well { reason } => write_pairs(out, form, &[text("reason", reason)]),
         _ => Ok(()),
     }
 }
@@ -300,9 +334,9 @@ fn write_event_at<W: Write>(
     time: &[u8],
     event: &LogEvent<'_>,
 ) -> io::Result<()>
-    ensures { OnOk result (Appends (W.contents out.old) (W.contents out.new) (line_text form time.now (word_of event.now) (entries_of event.now))) }
+    ensures { OnOk result (Appends (W.contents out.old) (W.contents out.new) (line_text form time.now (level_of event.now) (word_of event.now) (entries_of event.now))) }
 {
-    write_head(out, form, time, word_of(event))?;
+    write_head(out, form, time, event.level(), word_of(event))?;
     write_values(out, form, event)?;
     write_end(out, form)
 }
