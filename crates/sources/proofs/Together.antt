@@ -18,7 +18,7 @@ use Rattle.slurm.specs.Exceptions.{exceptions_of}
 use Rattle.slurm.specs.SlurmFile.{ReadsSlurm}
 use Rattle.slurm.specs.declared.filter.Slurm.{Slurm}
 use Rattle.slurm.proofs.ExceptionLaws.{is_excepted}
-use Rattle.sources.specs.Served.{HasServed, IsServed, LeavesOut, counting_at, excepted_by, has_length_0, is_asserted, is_left_out, is_listed, left_out_of, narrowed, with_lists}
+use Rattle.sources.specs.Served.{Gives, HasServed, IsServed, LeavesOut, counting_at, excepted_by, has_length_0, is_asserted, is_left_out, is_listed, left_out_of, narrowed, with_lists}
 use Rattle.sources.specs.declared.listed.Listed.{Listed}
 use Rattle.sources.specs.declared.sources.ServedSet.{ServedSet}
 
@@ -201,6 +201,12 @@ pub is_counted : (points : Points) (lists : List Listed) (e : Option Slurm) (lea
     → IfOk r (λ t. LeavesOut points lists e leaves now t.left_out)
 is_counted points lists e leaves now used left (Ok t) in_use is h = record { used = used; in_use = in_use; is = h.1 ∙ ap (λ s. length (left_out_of leaves s)) is }
 is_counted points lists e leaves now used left (Err f) in_use is h = tt
+
+-- How many payloads all give together
+pub is_given : (points : Points) (lists : List Listed) (now : CivilMoment) (used : List Payload) (given : ℕ) (r : Result ServedSet SetFault) → Lists used points now
+    → given ≡ size (with_lists (seconds_of now) (set_of used) lists) → IfOk r (λ t. t.given ≡ given) → IfOk r (λ t. Gives points lists now t.given)
+is_given points lists now used given (Ok t) in_use is h = record { used = used; in_use = in_use; is = h ∙ is }
+is_given points lists now used given (Err f) in_use is h = tt
 
 -- What a joining of sets gives, where it gives the same
 pub same_joined : (r : Result VrpSet SetFault) (t u : VrpSet) → IfOk r (λ x. (x ≡ t) × (size x ≤ 16777215)) → t ≡ u → IfOk r (λ x. x ≡ u)

@@ -87,6 +87,12 @@ pub record LeavesOut (points : Points) (lists : List Listed) (exceptions : Optio
   pub in_use : Lists used points now
   pub is : n ≡ length (left_out_of leaves (excepted_by exceptions (with_lists (seconds_of now) (set_of used) lists)))
 
+-- The files and publication points give this number of payloads together, before local exceptions are applied.
+pub record Gives (points : Points) (lists : List Listed) (now : CivilMoment) (n : ℕ) : Type 0 where
+  pub used : List Payload
+  pub in_use : Lists used points now
+  pub is : n ≡ size (with_lists (seconds_of now) (set_of used) lists)
+
 -- A payload is in use at a publication point or counts in a file, and local exceptions do not leave it out; or they say it.
 abbrev pub is_wanted : ℕ → List Payload → List Listed → Option Slurm → Payload → Bool
 is_wanted at used lists exceptions v = ((has (set_of used) v || is_listed at lists v) && not (is_left_out exceptions v)) || is_asserted exceptions v
@@ -169,6 +175,11 @@ NoneTaken n lists = (length lists ≡ n) × All IsNothing lists
 abbrev pub expired_of : ℕ → Option Listed → ℕ
 expired_of now None = 0
 expired_of now (Some l) = count_by (λ last. nat_lt last now) l.lasts.items
+
+-- how many payloads of a file counted when it was read
+abbrev pub records_of : Option Listed → ℕ
+records_of None = 0
+records_of (Some l) = size l.set
 
 -- A record of a file has its last second at the first of these seconds or later, and before the second one.
 abbrev pub ends_between : ℕ → ℕ → Option Listed → Bool

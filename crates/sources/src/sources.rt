@@ -4,7 +4,8 @@ ghost use Rattle.vrps.specs.VrpSet.{empty, size, union};
 ghost use Rattle.points.specs.Answers.{told_by, NewExactly, BecomesAt};
 ghost use Rattle.points.specs.InUse.{accepted_at, no_points};
 ghost use Rattle.points.specs.Offers.{Acceptable, Judged};
-ghost use Rattle.sources.specs.Served.{HasServed, IsServed, DropsSet, LeavesOut, NoneTaken, PassesLimit, TakesExport, TakesSet, TakesSlurm, TakesSlurms, built_at, ends_between, excepted_by, expired_of, has_length_0, left_out_of, narrowed, with_lists};
+ghost use Rattle.sources.specs.Served.{DropsSet, Gives, HasServed, IsServed, LeavesOut, NoneTaken, PassesLimit, TakesExport, TakesSet, TakesSlurm, TakesSlurms};
+ghost use Rattle.sources.specs.Served.{built_at, ends_between, excepted_by, expired_of, has_length_0, left_out_of, narrowed, records_of, with_lists};
 
 use crate::fault::{SlurmSetFault, TakeFault, TakeSetFault};
 use crate::listed::Listed;
@@ -28,11 +29,13 @@ pub struct Sources {
     leaves_out: bool,
 }
 
-/// What is served, and how many payloads of length 0 were left out.
+/// What is served, and what it was made of.
 #[derive(Debug, Drop)]
 pub struct ServedSet {
     /// The set.
     pub set: VrpSet,
+    /// How many payloads the files and publication points give together, before local exceptions are applied.
+    pub given: u64,
     /// How many payloads of length 0 are not in it, as they are left out.
     pub left_out: u64,
 }
@@ -87,6 +90,16 @@ impl Sources {
         match self.lists.get(file) {
             Some(list) => list.ends_between(from, to),
             None => false,
+        }
+    }
+
+    /// How many records of a file counted when it was read. It includes those that have expired since.
+    pub fn records(&self, file: usize) -> u64
+        ensures { result ≡ records_of (slice_get self.now.lists.items file) }
+    {
+        match self.lists.get(file) {
+            Some(list) => list.set.len() as u64,
+            None => 0,
         }
     }
 
@@ -193,13 +206,15 @@ impl Sources {
     pub fn served(&self, now: Moment) -> Result<ServedSet, SetFault>
         ensures is { IfOk result (λ t. IsServed self.now.repository self.now.lists.items self.now.exceptions self.now.leaves_out now t.set) }
         ensures those { IfOk result (λ t. HasServed self.now.repository self.now.lists.items self.now.exceptions self.now.leaves_out now t.set) }
+        ensures gives { IfOk result (λ t. Gives self.now.repository self.now.lists.items now t.given) }
         ensures left_out { IfOk result (λ t. LeavesOut self.now.repository self.now.lists.items self.now.exceptions self.now.leaves_out now t.left_out) }
         ensures too_many { IsErrOf result SetFault.TooMany → PassesLimit self.now.repository self.now.lists.items self.now.exceptions now }
     {
         let used = VrpSet::from_list(self.repository.payloads(now)?)?;
         let all = all_of(self.alloc, used, self.lists.as_slice(), now.seconds())?;
+        let given = all.len() as u64;
         let left = excepted(self.alloc, &self.exceptions, all)?;
-        narrowed(self.alloc, self.leaves_out, left)
+        narrowed(self.alloc, self.leaves_out, given, left)
     }
 }
 
@@ -244,22 +259,31 @@ fn left_out_of(alloc: Global, leaves: bool, set: &VrpSet) -> Result<Vec<Vrp>, Al
         .collect(alloc)
 }
 
-/// A set without the payloads that are left out.
-fn narrowed(alloc: Global, leaves: bool, set: VrpSet) -> Result<ServedSet, SetFault>
+/// A set without the payloads that are left out, and how many payloads it was made of.
+fn narrowed(alloc: Global, leaves: bool, given: u64, set: VrpSet) -> Result<ServedSet, SetFault>
+    ensures given { IfOk result (λ t. t.given ≡ given) }
     ensures ok { IfOk result (λ t. (t.set ≡ narrowed leaves set) × (t.left_out ≡ length (left_out_of leaves set))) }
     ensures too_many { IsErrOf result SetFault.TooMany → 16777215 < size set }
 {
     let found = left_out_of(alloc, leaves, &set)?;
     let left_out = found.as_slice().len() as u64;
     if left_out == 0 {
-        return Ok(ServedSet { set, left_out });
+        return Ok(ServedSet {
+            set,
+            given,
+            left_out,
+        });
     }
     let change = Change {
         withdraw: VrpSet::from_list(found)?,
         announce: VrpSet::empty(alloc),
     };
     let set = change.apply(alloc, &set)?;
-    Ok(ServedSet { set, left_out })
+    Ok(ServedSet {
+        set,
+        given,
+        left_out,
+    })
 }
 
 /// What is kept of an export, and how many of its entries did not count.

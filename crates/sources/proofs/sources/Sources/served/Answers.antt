@@ -1,10 +1,10 @@
 use Rattle.std.proofs.Common.{◌∙◌, ap, inl, inr, refl}
 use Rattle.std.proofs.lemmas.Result.{err_from_is_err_and}
 use Rattle.der_lite.specs.Seconds.{seconds_of}
-use Rattle.vrps.specs.VrpSet.{set_of}
+use Rattle.vrps.specs.VrpSet.{set_of, size}
 use Rattle.vrps.specs.declared.set.SetFault.TheVariants.{TooMany}
 use Rattle.sources.specs.Served.{excepted_by, with_lists}
-use Rattle.sources.proofs.Together.{all_served, beyond, is_counted, is_made, over_so, same_fault}
+use Rattle.sources.proofs.Together.{all_served, beyond, is_counted, is_given, is_made, over_so, same_fault}
 use Rattle.sources.proofs.sources.Sources.served.Goals as goal
 
 pub returns-in_err-used-clause-too_many : goal.returns-in_err-used-clause-too_many
@@ -44,6 +44,13 @@ returns-clause-is c =
 
 pub returns-clause-those : goal.returns-clause-those
 returns-clause-those c = all_served c.args.self.now.repository c.args.self.now.lists.items c.args.self.now.exceptions c.args.self.now.leaves_out c.args.now c.narrowed.result (returns-clause-is c)
+
+pub returns-clause-gives : goal.returns-clause-gives
+returns-clause-gives c =
+    let lists = c.args.self.now.lists.items in
+    let used = c.in_ok-payloads.field-0.items in
+    is_given c.args.self.now.repository lists c.args.now used _ c.narrowed.result c.in_ok-payloads.ensures
+    (c.len-given.ensures.value ∙ ap size (c.in_ok-all.ensures.ok ∙ (λ i. with_lists (c.seconds.ensures i) (c.in_ok-used.ensures.ok i) (c.as_slice.ensures.value i)))) c.narrowed.ensures.given
 
 pub returns-clause-left_out : goal.returns-clause-left_out
 returns-clause-left_out c =
