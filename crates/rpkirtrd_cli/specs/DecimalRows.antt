@@ -1,5 +1,5 @@
 -- Numbers on a command line, worked out.
-use Rattle.std.specs.Prelude.{◌≡◌, codes, [], None, Some}
+use Rattle.std.specs.Prelude.{codes, [], None, Some}
 use Rattle.std.proofs.Common.{lit<, refl, arith}
 use Rattle.rpkirtrd_cli.specs.Decimals.{ReadsNumber}
 

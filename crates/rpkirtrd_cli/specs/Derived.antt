@@ -5,6 +5,7 @@ use Rattle.std.specs.String.{string_bytes}
 use Rattle.std.specs.declared.string.String.{String}
 use Rattle.std.specs.Net.Text.{socket_text}
 use Rattle.std.specs.declared.net.SocketAddr.{SocketAddr}
+use Rattle.rpkirtrd_cli.specs.declared.settings.Settings.{Settings}
 
 -- a number of seconds in milliseconds
 abbrev pub millis_of : ℕ → ℕ
@@ -21,9 +22,13 @@ path_line option path = option ++ codes " " ++ path ++ codes "\n"
 abbrev pub path_lines : {Y : Type 0} → List ℕ → List (String Y) → List ℕ
 path_lines option paths = flat_map (λ p. path_line option (string_bytes p)) paths
 
+-- the options of all sources, each with its path on a line
+abbrev pub sources_text : Settings → List ℕ
+sources_text s = path_lines (codes "--vrps") s.vrps.items ++ path_lines (codes "--points") s.points.items ++ path_lines (codes "--slurm") s.slurm.items
+
 -- Without a machine id the session is random.
 abbrev pub session_warning : Bool → Option (List ℕ)
-session_warning true = Some (codes "/etc/machine-id names no machine: the session is random at each start; --session sets it")
+session_warning true = Some (codes "/etc/machine-id has no machine ID: the session ID is random at each start (set --session)")
 session_warning false = None
 
 -- A cache notifies once a minute at most (RFC 8210 section 8.2).

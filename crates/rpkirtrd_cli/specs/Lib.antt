@@ -2,3 +2,4 @@ pub mod Decimals
 pub mod DecimalRows
 pub mod Bounds
 pub mod Derived
+pub mod Urls

@@ -1,8 +1,8 @@
 //! What follows from settings.
-ghost use Rattle.std.specs.Prelude.{◌≡◌, ◌++◌, IfOk, OnOk, codes, option_copied};
+ghost use Rattle.std.specs.Prelude.{◌≡◌, ◌++◌, IfOk, OnOk, option_copied};
 ghost use Rattle.std.specs.List.{flat_map};
 ghost use Rattle.std.specs.String.{string_bytes};
-ghost use Rattle.rpkirtrd_cli.specs.Derived.{address_line, millis_of, notify_warning, path_line, path_lines, session_warning};
+ghost use Rattle.rpkirtrd_cli.specs.Derived.{address_line, millis_of, notify_warning, path_line, path_lines, session_warning, sources_text};
 
 use crate::settings::Settings;
 use std::alloc::{AllocError, Global};
@@ -18,7 +18,9 @@ pub fn session_warning(is_random: bool) -> Option<&'static str>
     if !is_random {
         return None;
     }
-    Some("/etc/machine-id names no machine: the session is random at each start; --session sets it")
+    Some(
+        "/etc/machine-id has no machine ID: the session ID is random at each start (set --session)",
+    )
 }
 
 impl Settings {
@@ -59,7 +61,7 @@ impl Settings {
 
     /// The options of all sources, each with its path on a line.
     pub fn sources_text(&self, alloc: Global) -> Result<String, AllocError>
-        ensures { IfOk result (λ text. string_bytes text ≡ path_lines (codes "--vrps") self.now.vrps.items ++ path_lines (codes "--points") self.now.points.items ++ path_lines (codes "--slurm") self.now.slurm.items) }
+        ensures { IfOk result (λ text. string_bytes text ≡ sources_text self.now) }
     {
         let mut text = String::new(alloc);
         add_paths(&mut text, "--vrps", self.vrps.as_slice())?;

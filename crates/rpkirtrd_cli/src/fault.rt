@@ -19,8 +19,11 @@ pub enum Wanted {
     /// The path of a file or of a directory, which is not empty.
     #[error("a path")]
     Path,
+    /// The same in place of a URL, which is not fetched.
+    #[error("a path, not a URL (see \"A list from another machine, over HTTPS\" in OPERATING.md),")]
+    PathNotUrl,
     /// A format of the log.
-    #[error("text or json")]
+    #[error("text, json or systemd")]
     LogFormat,
     /// A level of the log.
     #[error("error, warning, notice or info")]
@@ -47,7 +50,7 @@ pub enum OptionFault {
         wanted: Wanted,
     },
     /// The expire interval is not longer than both others (RFC 8210 section 6).
-    #[error("--expire {expire}: a number above --refresh ({refresh}) and --retry ({retry}) is required")]
+    #[error("--expire {expire} must be greater than --refresh ({refresh}) and --retry ({retry})")]
     Expire {
         /// The expire interval in seconds.
         expire: u32,
@@ -57,13 +60,13 @@ pub enum OptionFault {
         retry: u32,
     },
     /// There is neither `--vrps` nor `--points`.
-    #[error("at least one of --vrps and --points is required, for something to serve")]
+    #[error("nothing to serve: give --vrps or --points")]
     NoSource,
     /// There is `--stop-when-old` without `--max-age`.
-    #[error("--max-age is required beside --stop-when-old, as nothing is old without it")]
+    #[error("--stop-when-old needs --max-age")]
     NoAge,
     /// There is `--status-name` without `--status`.
-    #[error("--status is required beside --status-name, as there are no pages without it")]
+    #[error("--status-name needs --status")]
     NoStatus,
     /// Out of memory.
     #[error("out of memory")]

@@ -101,7 +101,7 @@ pub(crate) static GROUPS: [OptionGroup; 7] = [
                 help: &[
                     "A larger file of --vrps or --slurm is refused, and so is one that is not a",
                     "regular file. The number is from 1 to 1099511627776; the default is",
-                    "2147483648.",
+                    "1073741824.",
                 ],
             },
             OptionSpec {
@@ -296,7 +296,9 @@ pub(crate) static GROUPS: [OptionGroup; 7] = [
                 kind: OptionKind::Once,
                 value: "FORM",
                 help: &[
-                    "The form of the log on standard error: text or json. The default is text.",
+                    "The form of the log on standard error: text, json, or systemd, which is",
+                    "text with the priority of each line before it, as <4>, for the journal.",
+                    "The default is text.",
                 ],
             },
             OptionSpec {

@@ -1,7 +1,8 @@
 //! The values of options.
-ghost use Rattle.std.specs.Prelude.{◌≡◌, ◌≤◌, true, IfOk, IfSome};
+ghost use Rattle.std.specs.Prelude.{◌≡◌, ◌≤◌, false, true, IfOk, IfSome, string_bytes};
 ghost use Rattle.rpkirtrd_cli.specs.Decimals.{ReadsBetween, ReadsNumber};
 ghost use Rattle.rpkirtrd_cli.specs.Bounds.{is_within};
+ghost use Rattle.rpkirtrd_cli.specs.Urls.{is_url};
 
 use crate::fault::{OptionFault, Wanted};
 use clap::ArgMatches;
@@ -116,8 +117,21 @@ pub(crate) fn number_16(
     Ok(Some(number as u16))
 }
 
+/// Whether a text is a URL of HTTPS or HTTP.
+fn is_url(text: &str) -> bool
+    ensures { result ≡ is_url text.now }
+{
+    text.as_bytes().starts_with(b"https://") || text.as_bytes().starts_with(b"http://")
+}
+
 /// The path of an option's text.
-fn path_in(alloc: Global, option: &'static str, text: &str) -> Result<String, OptionFault> {
+fn path_in(alloc: Global, option: &'static str, text: &str) -> Result<String, OptionFault>
+    ensures same { IfOk result (λ path. string_bytes path ≡ text.now) }
+    ensures not_url { IfOk result (λ path. is_url text.now ≡ false) }
+{
+    if is_url(text) {
+        return Err(wrong(alloc, option, text, Wanted::PathNotUrl));
+    }
     if text.is_empty() {
         return Err(wrong(alloc, option, text, Wanted::Path));
     }
@@ -193,6 +207,7 @@ pub(crate) fn log_format(
         None => Ok(LogFormat::Text),
         Some("text") => Ok(LogFormat::Text),
         Some("json") => Ok(LogFormat::Json),
+        Some("systemd") => Ok(LogFormat::Systemd),
         Some(text) => Err(wrong(alloc, option, text, Wanted::LogFormat)),
     }
 }

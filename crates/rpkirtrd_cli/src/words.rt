@@ -31,7 +31,7 @@ pub enum Command {
 const PORT: u16 = 3323;
 
 /// The default of the largest file size, in bytes.
-const MAX_SIZE: u64 = 2_147_483_648;
+const MAX_SIZE: u64 = 1_073_741_824;
 
 /// The message of the parser, up to its usage.
 fn before_usage(text: &str) -> &str {
