@@ -5,5 +5,6 @@ pub mod ValidityText
 pub mod Escapes
 pub mod Csv
 pub mod Export
+pub mod Reasons
 pub mod Health
 pub mod Made

@@ -1,118 +1,144 @@
-//! Whether a cache is healthy.
+//! The health of a cache as a text.
 ghost use Rattle.std.specs.Prelude.{◌≡◌, OnOk};
 ghost use Rattle.std.specs.Io.KnownBytes.{Appends};
-ghost use Rattle.std.specs.List.{list_any};
-ghost use Rattle.status_pages.specs.Health.{AppendsSome, AreSourceTexts, IsHealthText, IsRefusalText, IsSourceText, age_text, is_failing, is_healthy, is_long_refused, old_line, refusal_limit, refused_line, version_text};
+ghost use Rattle.status_pages.specs.Health.{AppendsSome, AreSourceTexts, Both, IsAwayText, IsFailureText, IsHealthText, IsPeakText, IsRefusalText, IsRestText, IsSourceText, IsTableText, TellsAway, TellsPeak};
+ghost use Rattle.status_pages.specs.Health.{age_text, away_line, expired_line, failure_line, limit_text, none_text, old_line, refused_line, shrunk_line, still_served, version_text};
 
-use crate::status::{FileStatus, Status};
+use crate::reasons::{Reason, has_all_expired, has_reason, is_healthy, served_vrps};
+use crate::status::{ClientLimit, FileStatus, PublicationFailure, Status, TurnedAway, VrpPeak};
 use crate::text::write_label;
 use event_log::time_at;
 use std::io::{self, Write};
 
-/// How long a source may be refused if there is no maximum age, in seconds.
-const REFUSAL_SECONDS: u64 = 3600;
-
-/// Whether a source has been refused for longer than this many seconds.
-fn is_long_refused(now: u64, limit: u64, since: Option<u64>) -> bool
-    ensures { result ≡ is_long_refused now limit since }
+/// Writes that no VRP is served, if so.
+fn write_none<W: Write>(out: &mut W, serves_none: bool) -> io::Result<()>
+    ensures { OnOk result (Appends (W.contents out.old) (W.contents out.new) (none_text serves_none)) }
 {
-    match since {
-        None => false,
-        Some(since) => limit < now.saturating_sub(since),
+    if serves_none {
+        return out.write_all(b"no VRPs are served\n");
     }
+    Ok(())
 }
 
-/// Whether the data of a source are too old, or the source has been refused for longer than this many seconds.
-fn is_failing(now: u64, limit: u64, file: &FileStatus) -> bool
-    ensures { result ≡ is_failing now limit file.now }
+/// Writes since when no version can be published, with that time as a text, and why.
+#[tactic(auto, unfolding(crate::specs::Health::failure_line))]
+fn write_failure_at<W: Write>(out: &mut W, time: &[u8], reason: &str) -> io::Result<()>
+    ensures { OnOk result (Appends (W.contents out.old) (W.contents out.new) (failure_line time.now reason.now)) }
 {
-    file.is_old || is_long_refused(now, limit, file.refused_at)
-}
-
-/// Whether a source fails.
-fn has_failing(now: u64, limit: u64, files: &[FileStatus]) -> bool
-    ensures { result ≡ list_any (is_failing now limit) files.now }
-{
-    files.iter().any(|file| is_failing(now, limit, file))
-}
-
-/// For how many seconds a source may be refused: the maximum age, or an hour if there is none.
-fn refusal_limit(max_age: Option<u64>) -> u64
-    ensures { result ≡ refusal_limit max_age }
-{
-    match max_age {
-        None => REFUSAL_SECONDS,
-        Some(age) => age,
-    }
-}
-
-/// Whether a cache is healthy. It is if it serves a version, the data of no source are older than the maximum age, and no source has been refused
-/// for longer than the maximum age, or an hour if there is none.
-pub fn is_healthy(status: &Status) -> bool
-    ensures { result ≡ is_healthy status.entry.now.now (refusal_limit status.entry.now.max_age) status.entry.now.serial status.entry.now.files.items }
-{
-    let limit = refusal_limit(status.max_age);
-    status.serial.is_some() && !has_failing(status.now, limit, &status.files)
-}
-
-/// Writes that the data of a source are too old, if they are.
-#[tactic(auto, unfolding(crate::specs::Health::old_line))]
-fn write_age<W: Write>(out: &mut W, file: &FileStatus) -> io::Result<()>
-    ensures { OnOk result (Appends (W.contents out.old) (W.contents out.new) (age_text file.now)) }
-{
-    if !file.is_old {
-        return Ok(());
-    }
-    write_label(out, &file.path)?;
-    out.write_all(b": its data are older than the maximum age\n")
-}
-
-/// Writes since when a source has been refused, with that time as a text, and why.
-#[tactic(auto, unfolding(crate::specs::Health::refused_line))]
-fn write_refused_at<W: Write>(out: &mut W, path: &str, time: &[u8], reason: &str) -> io::Result<()>
-    ensures { OnOk result (Appends (W.contents out.old) (W.contents out.new) (refused_line path.now time.now reason.now)) }
-{
-    write_label(out, path)?;
-    out.write_all(b": refused since ")?;
+    out.write_all(b"publication fails since ")?;
     out.write_all(time)?;
     out.write_all(b": ")?;
     write_label(out, reason)?;
     out.write_all(b"\n")
 }
 
-/// Writes since when a source has been refused, and why, if that is longer than this many seconds.
-fn write_refusal<W: Write>(out: &mut W, now: u64, limit: u64, file: &FileStatus) -> io::Result<()>
-    ensures { OnOk result (AppendsSome (W.contents out.old) (W.contents out.new) (IsRefusalText now limit file.now)) }
+/// Writes since when no version can be published, and why, if that is so.
+fn write_failure<W: Write>(out: &mut W, failure: &Option<PublicationFailure>) -> io::Result<()>
+    ensures { OnOk result (AppendsSome (W.contents out.old) (W.contents out.new) (IsFailureText failure.now)) }
+{
+    match failure {
+        None => Ok(()),
+        Some(failure) => {
+            let time = time_at(failure.since);
+            write_failure_at(out, &time, &failure.reason)
+        }
+    }
+}
+
+/// Writes that no VRP is served, and that no version can be published, if so.
+fn write_table<W: Write>(out: &mut W, status: &Status) -> io::Result<()>
+    ensures { OnOk result (AppendsSome (W.contents out.old) (W.contents out.new) (IsTableText status.entry.now)) }
+{
+    write_none(out, has_reason(status, Reason::NoVrps))?;
+    write_failure(out, &status.publication_failure)
+}
+
+/// Writes that the data of a source are too old.
+#[tactic(auto, unfolding(crate::specs::Health::old_line))]
+fn write_old<W: Write>(out: &mut W, path: &str) -> io::Result<()>
+    ensures { OnOk result (Appends (W.contents out.old) (W.contents out.new) (old_line path.now)) }
+{
+    write_label(out, path)?;
+    out.write_all(b": its data are older than the maximum age\n")
+}
+
+/// Writes that all entries of a source have expired.
+#[tactic(auto, unfolding(crate::specs::Health::expired_line))]
+fn write_expired<W: Write>(out: &mut W, path: &str) -> io::Result<()>
+    ensures { OnOk result (Appends (W.contents out.old) (W.contents out.new) (expired_line path.now)) }
+{
+    write_label(out, path)?;
+    out.write_all(b": all its entries have expired\n")
+}
+
+/// Writes that the data of a source are too old, or that all its entries have expired, if so.
+fn write_age<W: Write>(out: &mut W, file: &FileStatus) -> io::Result<()>
+    ensures { OnOk result (Appends (W.contents out.old) (W.contents out.new) (age_text file.now)) }
+{
+    if file.is_old {
+        return write_old(out, &file.path);
+    }
+    if has_all_expired(file) {
+        return write_expired(out, &file.path);
+    }
+    Ok(())
+}
+
+/// What is served of a source that is refused, and was loaded last at this time.
+fn still_served(loaded: Option<u64>) -> &'static str
+    ensures { result.now ≡ still_served loaded }
+{
+    match loaded {
+        None => "none of its data were loaded yet\n",
+        Some(_) => "its previous data are served\n",
+    }
+}
+
+/// Writes since when a source has been refused, with that time as a text, and why.
+#[tactic(auto, unfolding(crate::specs::Health::refused_line))]
+fn write_refused_at<W: Write>(
+    out: &mut W,
+    path: &str,
+    time: &[u8],
+    reason: &str,
+    loaded: Option<u64>,
+) -> io::Result<()>
+    ensures { OnOk result (Appends (W.contents out.old) (W.contents out.new) (refused_line path.now time.now reason.now loaded)) }
+{
+    write_label(out, path)?;
+    out.write_all(b": refused since ")?;
+    out.write_all(time)?;
+    out.write_all(b": ")?;
+    write_label(out, reason)?;
+    out.write_all(b"; ")?;
+    out.write_all(still_served(loaded).as_bytes())
+}
+
+/// Writes since when a source has been refused, and why, if it is.
+fn write_refusal<W: Write>(out: &mut W, file: &FileStatus) -> io::Result<()>
+    ensures { OnOk result (AppendsSome (W.contents out.old) (W.contents out.new) (IsRefusalText file.now)) }
 {
     let (Some(since), Some(reason)) = (file.refused_at, &file.refusal) else {
         return Ok(());
     };
-    if !is_long_refused(now, limit, Some(since)) {
-        return Ok(());
-    }
     let time = time_at(since);
-    write_refused_at(out, &file.path, &time, reason)
+    write_refused_at(out, &file.path, &time, reason, file.taken)
 }
 
-/// Writes why a source fails, if it does.
-fn write_source<W: Write>(out: &mut W, now: u64, limit: u64, file: &FileStatus) -> io::Result<()>
-    ensures { OnOk result (AppendsSome (W.contents out.old) (W.contents out.new) (IsSourceText now limit file.now)) }
+/// Writes why a source is a reason, if it is.
+fn write_source<W: Write>(out: &mut W, file: &FileStatus) -> io::Result<()>
+    ensures { OnOk result (AppendsSome (W.contents out.old) (W.contents out.new) (IsSourceText file.now)) }
 {
     write_age(out, file)?;
-    write_refusal(out, now, limit, file)
+    write_refusal(out, file)
 }
 
-/// Writes why sources fail.
-fn write_sources<W: Write>(
-    out: &mut W,
-    now: u64,
-    limit: u64,
-    files: &[FileStatus],
-) -> io::Result<()>
-    ensures { OnOk result (AppendsSome (W.contents out.old) (W.contents out.new) (AreSourceTexts now limit files.now)) }
+/// Writes why sources are reasons.
+fn write_sources<W: Write>(out: &mut W, files: &[FileStatus]) -> io::Result<()>
+    ensures { OnOk result (AppendsSome (W.contents out.old) (W.contents out.new) (AreSourceTexts files.now)) }
 {
     for file in files {
-        write_source(out, now, limit, file)?;
+        write_source(out, file)?;
     }
     Ok(())
 }
@@ -127,19 +153,114 @@ fn write_version<W: Write>(out: &mut W, serial: Option<u32>) -> io::Result<()>
     }
 }
 
-/// Writes the health of a cache as plain text: `ok`, or a line for each thing that is wrong. In paths and reasons a backslash, a quote and a newline
-/// are escaped by a backslash.
+/// Writes from how many VRPs to how many the table shrank, and since when, with that time as a text.
+#[tactic(auto, unfolding(crate::specs::Health::shrunk_line))]
+fn write_shrunk_at<W: Write>(out: &mut W, from: u64, to: u64, time: &[u8]) -> io::Result<()>
+    ensures { OnOk result (Appends (W.contents out.old) (W.contents out.new) (shrunk_line from to time.now)) }
+{
+    write!(out, "the table shrank: {from} to {to} VRPs at ")?;
+    out.write_all(time)?;
+    out.write_all(b"\n")
+}
+
+/// Writes that the table shrank, if so.
+fn write_peak<W: Write>(
+    out: &mut W,
+    is_shrunk: bool,
+    vrps: u64,
+    peak: Option<VrpPeak>,
+) -> io::Result<()>
+    ensures { OnOk result (AppendsSome (W.contents out.old) (W.contents out.new) (TellsPeak is_shrunk vrps peak)) }
+{
+    if !is_shrunk {
+        return Ok(());
+    }
+    match peak {
+        None => Ok(()),
+        Some(peak) => {
+            let time = time_at(peak.until);
+            write_shrunk_at(out, peak.vrps, vrps, &time)
+        }
+    }
+}
+
+/// The option that limits routers.
+fn limit_text(limit: ClientLimit) -> &'static str
+    ensures { result.now ≡ limit_text limit }
+{
+    match limit {
+        ClientLimit::All => "--clients",
+        ClientLimit::OfAddress => "--clients-per-address",
+    }
+}
+
+/// Writes how many routers were turned away by a limit, and when the last one was, with that time as a text.
+#[tactic(auto, unfolding(crate::specs::Health::away_line))]
+fn write_away_at<W: Write>(
+    out: &mut W,
+    routers: u64,
+    limit: ClientLimit,
+    time: &[u8],
+) -> io::Result<()>
+    ensures { OnOk result (Appends (W.contents out.old) (W.contents out.new) (away_line routers limit time.now)) }
+{
+    out.write_all(b"routers were turned away by ")?;
+    out.write_all(limit_text(limit).as_bytes())?;
+    write!(out, ": {routers}, the last at ")?;
+    out.write_all(time)?;
+    out.write_all(b"\n")
+}
+
+/// Writes that routers were turned away, if so.
+fn write_away<W: Write>(out: &mut W, is_recent: bool, away: Option<TurnedAway>) -> io::Result<()>
+    ensures { OnOk result (AppendsSome (W.contents out.old) (W.contents out.new) (TellsAway is_recent away)) }
+{
+    if !is_recent {
+        return Ok(());
+    }
+    match away {
+        None => Ok(()),
+        Some(away) => {
+            let time = time_at(away.last);
+            write_away_at(out, away.routers, away.limit, &time)
+        }
+    }
+}
+
+/// Writes that the table shrank, and that routers were turned away, if so.
+fn write_counts<W: Write>(out: &mut W, status: &Status) -> io::Result<()>
+    ensures { OnOk result (AppendsSome (W.contents out.old) (W.contents out.new) (Both (IsPeakText status.entry.now) (IsAwayText status.entry.now))) }
+{
+    let shrank = has_reason(status, Reason::Shrank);
+    write_peak(out, shrank, served_vrps(status), status.peak)?;
+    let is_recent = has_reason(status, Reason::TurnedAway);
+    write_away(out, is_recent, status.turned_away)
+}
+
+/// Writes what is behind the sources in the order of the reasons.
+fn write_rest<W: Write>(out: &mut W, status: &Status) -> io::Result<()>
+    ensures { OnOk result (AppendsSome (W.contents out.old) (W.contents out.new) (IsRestText status.entry.now)) }
+{
+    write_version(out, status.serial)?;
+    write_counts(out, status)
+}
+
+/// Writes the reasons of the sources, and what is behind them.
+fn write_after_table<W: Write>(out: &mut W, status: &Status) -> io::Result<()>
+    ensures { OnOk result (AppendsSome (W.contents out.old) (W.contents out.new) (Both (AreSourceTexts status.entry.now.files.items) (IsRestText status.entry.now))) }
+{
+    write_sources(out, &status.files)?;
+    write_rest(out, status)
+}
+
+/// Writes the health of a cache as plain text: `ok`, or a line for each reason why it is not well. In paths and reasons a backslash, a quote and
+/// a newline are escaped by a backslash.
 pub fn write_health<W: Write>(out: &mut W, status: &Status) -> io::Result<()>
     ensures { OnOk result (AppendsSome (W.contents out.old) (W.contents out.new) (IsHealthText status.entry.now)) }
 {
     if is_healthy(status) {
         return out.write_all(b"ok\n");
     }
-    write_version(out, status.serial)?;
-    write_sources(
-        out,
-        status.now,
-        refusal_limit(status.max_age),
-        &status.files,
-    )
+    write_table(out, status)?;
+    write_after_table(out, status)
 }

@@ -20,6 +20,7 @@
 
 mod csv;
 mod export;
+mod file_metrics;
 mod health;
 pub mod laws;
 mod made;
@@ -33,6 +34,7 @@ mod page_tables;
 mod picture;
 mod query;
 mod query_fault;
+mod reasons;
 mod router_metrics;
 mod status;
 mod text;
@@ -42,15 +44,18 @@ mod validity_text;
 
 pub use csv::write_csv;
 pub use export::write_export_head;
-pub use health::{is_healthy, write_health};
+pub use health::write_health;
 pub use made::oldest_built;
 pub use metrics::write_metrics;
 pub use page::write_page;
 pub use query::{read_path, read_query};
 pub use query_fault::QueryFault;
+pub use reasons::{
+    REASONS, Reason, has_reason, is_blamed, is_healthy, is_ready, is_well, served_vrps,
+};
 pub use status::{
-    ChangeStatus, ClientStatus, ClientTraffic, FileStatus, LostLines, PdusByType,
-    PublicationFailure, Status, TotalTraffic,
+    ChangeStatus, ClientLimit, ClientStatus, ClientTraffic, FileStatus, LostLines, PdusByType,
+    PublicationFailure, Status, TotalTraffic, TurnedAway, VrpPeak,
 };
 pub use validity::Validity;
 pub use validity_page::write_validity_page;

@@ -1,7 +1,9 @@
 //! The status of a cache, in the text format of Prometheus.
 
+use crate::file_metrics::{write_files, write_given};
+use crate::reasons::{REASONS, has_reason};
 use crate::router_metrics::write_router_metrics;
-use crate::status::{FileStatus, PdusByType, Status, TotalTraffic};
+use crate::status::{PdusByType, Status, TotalTraffic};
 use crate::text::{write_decimal, write_label, write_texts};
 use std::io::{self, Write};
 
@@ -190,89 +192,19 @@ fn write_seconds<W: Write>(out: &mut W, milliseconds: u64) -> io::Result<()> {
     writeln!(out, "{seconds}.{rest:03}")
 }
 
-/// The metrics of a file.
-#[derive(Clone, Copy, PartialEq, Eq)]
-enum FileMetric {
-    Age,
-    Taken,
-    Refused,
-    Old,
-    Expired,
-}
-
-/// The value of a metric of a file, if it has one.
-fn file_metric(file: &FileStatus, now: u64, what: FileMetric) -> Option<u64> {
-    match what {
-        FileMetric::Age => file.built.map(|built| now.saturating_sub(built)),
-        FileMetric::Taken => file.taken,
-        FileMetric::Refused => Some(u64::from(file.refusal.is_some())),
-        FileMetric::Old => Some(u64::from(file.is_old)),
-        FileMetric::Expired => Some(file.expired),
-    }
-}
-
-/// Writes the value of a metric for a file.
-fn write_of_file<W: Write>(out: &mut W, name: &str, path: &str, value: u64) -> io::Result<()> {
-    write_texts(out, &[name, "{file=\""])?;
-    write_label(out, path)?;
-    out.write_all(b"\"} ")?;
-    write_value(out, value)
-}
-
-/// Writes a metric with a value for each file that has one.
-fn write_of_files<W: Write>(
-    out: &mut W,
-    status: &Status,
-    name: &str,
-    help: &str,
-    what: FileMetric,
-) -> io::Result<()> {
-    write_head(out, name, "gauge", help)?;
-    for file in &status.files {
-        if let Some(value) = file_metric(file, status.now, what) {
-            write_of_file(out, name, &file.path, value)?;
-        }
+/// Whether each reason holds why a cache is not well.
+fn write_unwell<W: Write>(out: &mut W, status: &Status) -> io::Result<()> {
+    write_head(
+        out,
+        "rpkirtrd_unwell",
+        "gauge",
+        "Whether a reason holds why the cache is not well, 1, or not, 0.",
+    )?;
+    for reason in REASONS {
+        let value = u64::from(has_reason(status, reason));
+        write_labelled(out, "rpkirtrd_unwell", "reason", reason.word(), value)?;
     }
     Ok(())
-}
-
-/// The metrics of all files.
-fn write_files<W: Write>(out: &mut W, status: &Status) -> io::Result<()> {
-    write_of_files(
-        out,
-        status,
-        "rpkirtrd_export_age_seconds",
-        "How long ago what was taken last of a file was made.",
-        FileMetric::Age,
-    )?;
-    write_of_files(
-        out,
-        status,
-        "rpkirtrd_file_taken_timestamp_seconds",
-        "When a file was taken last, in seconds since 1970.",
-        FileMetric::Taken,
-    )?;
-    write_of_files(
-        out,
-        status,
-        "rpkirtrd_file_refused",
-        "Whether a file is refused, 1, or not, 0.",
-        FileMetric::Refused,
-    )?;
-    write_of_files(
-        out,
-        status,
-        "rpkirtrd_file_old",
-        "Whether what a file has is older than it may be, 1, or not, 0.",
-        FileMetric::Old,
-    )?;
-    write_of_files(
-        out,
-        status,
-        "rpkirtrd_file_expired_entries",
-        "Entries of a file that have expired.",
-        FileMetric::Expired,
-    )
 }
 
 /// The publications that failed.
@@ -423,8 +355,10 @@ fn write_traffic<W: Write>(out: &mut W, status: &Status) -> io::Result<()> {
 /// Writes the status of a cache in the text format of Prometheus, version 0.0.4.
 pub fn write_metrics<W: Write>(out: &mut W, status: &Status) -> io::Result<()> {
     write_program(out, status)?;
+    write_unwell(out, status)?;
     write_served(out, status)?;
     write_files(out, status)?;
+    write_given(out, status)?;
     write_reloads(out, status)?;
     write_failures(out, status)?;
     write_clients(out, status)?;

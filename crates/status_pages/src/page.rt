@@ -2,10 +2,11 @@
 
 use crate::page_figures::write_figures;
 use crate::page_routers::write_routers;
-use crate::page_state::{is_well, write_state};
+use crate::page_state::{write_state, write_title};
 use crate::page_style::STYLE;
 use crate::page_tables::{write_changes, write_files};
 use crate::picture::write_picture;
+use crate::reasons::is_well;
 use crate::status::Status;
 use crate::text::{write_html, write_span, write_texts, write_time};
 use crate::validity_page::write_form;
@@ -26,8 +27,7 @@ fn write_head<W: Write>(out: &mut W, status: &Status) -> io::Result<()> {
     out.write_all(b"<!doctype html>\n<html lang=\"en\">\n<head>\n<meta charset=\"utf-8\">\n")?;
     out.write_all(b"<meta name=\"viewport\" content=\"width=device-width, initial-scale=1\">\n")?;
     out.write_all(b"<meta http-equiv=\"refresh\" content=\"60\">\n<title>")?;
-    write_state(out, status)?;
-    out.write_all(b" ")?;
+    write_title(out, status)?;
     write_name(out, status)?;
     write_texts(
         out,
@@ -59,8 +59,9 @@ fn write_header<W: Write>(out: &mut W, status: &Status) -> io::Result<()> {
     out.write_all(b", at ")?;
     write_time(out, status.now)?;
     out.write_all(
-        b" UTC &middot; <a href=\"/metrics\">metrics</a> &middot; <a href=\"/vrps.json\">list</a> &middot; <a href=\"/vrps.csv\">csv</a></p>\n</div>\n<p class=\"state ",
+        b" UTC &middot; <a href=\"/health\">health</a> &middot; <a href=\"/metrics\">metrics</a> &middot; <a href=\"/vrps.json\">list</a>",
     )?;
+    out.write_all(b" &middot; <a href=\"/vrps.csv\">csv</a></p>\n</div>\n<p class=\"state ")?;
     out.write_all(if is_well(status) { b"ok" } else { b"bad" })?;
     out.write_all(b"\">")?;
     write_state(out, status)?;

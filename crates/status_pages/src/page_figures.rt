@@ -47,8 +47,9 @@ fn write_serial<W: Write>(out: &mut W, status: &Status) -> io::Result<()> {
     }
     out.write_all(b" <small>session ")?;
     write_decimal(out, u64::from(status.session))?;
-    out.write_all(b", in version 0 ")?;
+    out.write_all(b" (version 0: ")?;
     write_decimal(out, u64::from(status.session0))?;
+    out.write_all(b")")?;
     if let Some(change) = status.changes.last() {
         out.write_all(b"<br>published ")?;
         write_since(out, status.now, change.at)?;
@@ -66,7 +67,11 @@ fn write_clients<W: Write>(out: &mut W, status: &Status) -> io::Result<()> {
     write_grouped(out, behind_count(status))?;
     out.write_all(b" behind, ")?;
     write_grouped(out, status.clients_ever)?;
-    out.write_all(b" since the start")?;
+    out.write_all(if status.clients_ever == 1 {
+        b" connection since the start"
+    } else {
+        b" connections since the start"
+    })?;
     write_figure_end(out)
 }
 

@@ -1,8 +1,9 @@
-//! The state of a cache in a line: all is well, or what is not.
+//! The state of a cache in sentences: all is well, or each reason why not.
 
 use crate::page_routers::behind_count;
-use crate::status::Status;
-use crate::text::{write_grouped, write_html, write_texts};
+use crate::reasons::{REASONS, Reason, has_all_expired, has_reason, is_well, served_vrps};
+use crate::status::{ClientLimit, FileStatus, Status};
+use crate::text::{write_grouped, write_html, write_texts, write_time};
 use std::io::{self, Write};
 
 /// How many sources are refused.
@@ -16,69 +17,171 @@ pub(crate) fn old_count(status: &Status) -> u64 {
     status.files.iter().filter(|file| file.is_old).count() as u64
 }
 
-/// Whether all is well: a version is served, and the last publication succeeded. No source is refused or too old, no router is behind, and the
-/// clock was not set back.
-pub(crate) fn is_well(status: &Status) -> bool {
-    status.serial.is_some()
-        && status.publication_failure.is_none()
-        && refused_count(status) == 0
-        && old_count(status) == 0
-        && behind_count(status) == 0
-        && status.clock_behind == 0
-}
-
-/// Writes how many of some are in a state, if there are any.
-fn write_part_of<W: Write>(
-    out: &mut W,
-    part: u64,
-    whole: u64,
-    name: &str,
-    state: &str,
-) -> io::Result<()> {
-    if part == 0 {
-        return Ok(());
+/// A reason in a few words, for the title. A source that has been refused for long is refused, which is a reason of its own.
+fn sentence(reason: Reason) -> &'static str {
+    match reason {
+        Reason::NoVrps => "No VRPs are served. ",
+        Reason::Publication => "Publication fails. ",
+        Reason::Old => "Data are too old. ",
+        Reason::RefusedLong => "",
+        Reason::NoVersion => "No version is published yet. ",
+        Reason::Refused => "A source is refused. ",
+        Reason::Shrank => "The table shrank. ",
+        Reason::TurnedAway => "Routers were turned away. ",
+        Reason::Clock => "The clock was set back. ",
     }
-    write_grouped(out, part)?;
-    out.write_all(b" of ")?;
-    write_grouped(out, whole)?;
-    let plural = if whole == 1 { " " } else { "s " };
-    let verb = if part == 1 { "is " } else { "are " };
-    write_texts(out, &[" ", name, plural, verb, state, ". "])
 }
 
-/// Writes how far the clock was set back, if it was.
-fn write_clock<W: Write>(out: &mut W, behind: u64) -> io::Result<()> {
-    if behind == 0 {
-        return Ok(());
+/// Writes the state in a few words, each sentence with a space after it.
+pub(crate) fn write_title<W: Write>(out: &mut W, status: &Status) -> io::Result<()> {
+    if is_well(status) {
+        return out.write_all(b"All is well. ");
     }
-    out.write_all(b"The clock was set back by ")?;
-    write_grouped(out, behind)?;
-    out.write_all(b" s. ")
+    for reason in REASONS {
+        if has_reason(status, reason) {
+            out.write_all(sentence(reason).as_bytes())?;
+        }
+    }
+    Ok(())
 }
 
-/// Writes why no version can be published, if the last publication failed.
+/// Writes since when no version can be published, and why.
 fn write_failure<W: Write>(out: &mut W, status: &Status) -> io::Result<()> {
     let Some(failure) = &status.publication_failure else {
         return Ok(());
     };
-    out.write_all(b"No version can be published: ")?;
+    out.write_all(b"Publication fails since ")?;
+    write_time(out, failure.since)?;
+    out.write_all(b": ")?;
     write_html(out, &failure.reason)?;
     out.write_all(b". ")
 }
 
-/// Writes the state in sentences, each with a space after it but `All is well.`.
+/// Writes that the data of a source are too old, if so.
+fn write_old<W: Write>(out: &mut W, file: &FileStatus) -> io::Result<()> {
+    if !file.is_old && !has_all_expired(file) {
+        return Ok(());
+    }
+    write_html(out, &file.path)?;
+    out.write_all(if file.is_old {
+        b": its data are older than the maximum age. "
+    } else {
+        b": all its entries have expired. "
+    })
+}
+
+/// Writes that a source is refused, if so, and what is served of it. Its reason is in the table of the files.
+fn write_refused<W: Write>(out: &mut W, file: &FileStatus) -> io::Result<()> {
+    if file.refusal.is_none() {
+        return Ok(());
+    }
+    write_html(out, &file.path)?;
+    out.write_all(b" is refused")?;
+    if let Some(since) = file.refused_at {
+        out.write_all(b" since ")?;
+        write_time(out, since)?;
+    }
+    out.write_all(if file.taken.is_some() {
+        b"; its previous data are served. "
+    } else {
+        b"; none of its data were loaded yet. "
+    })
+}
+
+/// Writes which sources are reasons.
+fn write_sources<W: Write>(out: &mut W, status: &Status) -> io::Result<()> {
+    for file in &status.files {
+        write_old(out, file)?;
+        write_refused(out, file)?;
+    }
+    Ok(())
+}
+
+/// Writes from how many VRPs the table shrank.
+fn write_peak<W: Write>(out: &mut W, status: &Status) -> io::Result<()> {
+    let Some(peak) = status.peak else {
+        return Ok(());
+    };
+    out.write_all(b"The table shrank from ")?;
+    write_grouped(out, peak.vrps)?;
+    out.write_all(b" to ")?;
+    write_grouped(out, served_vrps(status))?;
+    out.write_all(b" VRPs at ")?;
+    write_time(out, peak.until)?;
+    out.write_all(b". ")
+}
+
+/// Writes how many routers were turned away, and by which limit.
+fn write_away<W: Write>(out: &mut W, status: &Status) -> io::Result<()> {
+    let Some(away) = status.turned_away else {
+        return Ok(());
+    };
+    out.write_all(b"Routers were turned away by ")?;
+    out.write_all(match away.limit {
+        ClientLimit::All => b"--clients: ",
+        ClientLimit::OfAddress => b"--clients-per-address: ",
+    })?;
+    write_grouped(out, away.routers)?;
+    out.write_all(b", the last at ")?;
+    write_time(out, away.last)?;
+    out.write_all(b". ")
+}
+
+/// Writes how far the clock was set back.
+fn write_clock<W: Write>(out: &mut W, status: &Status) -> io::Result<()> {
+    out.write_all(b"The clock was set back by ")?;
+    write_grouped(out, status.clock_behind)?;
+    out.write_all(b" s. ")
+}
+
+/// Writes a reason that holds. Those of sources are written together.
+fn write_reason<W: Write>(out: &mut W, status: &Status, reason: Reason) -> io::Result<()> {
+    match reason {
+        Reason::Publication => write_failure(out, status),
+        Reason::Shrank => write_peak(out, status),
+        Reason::TurnedAway => write_away(out, status),
+        Reason::Clock => write_clock(out, status),
+        Reason::Old | Reason::RefusedLong | Reason::Refused => Ok(()),
+        Reason::NoVrps | Reason::NoVersion => out.write_all(sentence(reason).as_bytes()),
+    }
+}
+
+/// Writes the reasons that hold, but for those of sources.
+fn write_reasons<W: Write>(out: &mut W, status: &Status) -> io::Result<()> {
+    for reason in REASONS {
+        if has_reason(status, reason) {
+            write_reason(out, status, reason)?;
+        }
+    }
+    Ok(())
+}
+
+/// Writes how many routers are behind, if some are: a note, and no reason.
+fn write_behind<W: Write>(out: &mut W, status: &Status) -> io::Result<()> {
+    let behind = behind_count(status);
+    if behind == 0 {
+        return Ok(());
+    }
+    write_grouped(out, behind)?;
+    out.write_all(b" of ")?;
+    let routers = status.clients.len() as u64;
+    write_grouped(out, routers)?;
+    let noun = if routers == 1 {
+        " router "
+    } else {
+        " routers "
+    };
+    let verb = if behind == 1 { "is" } else { "are" };
+    write_texts(out, &[noun, verb, " behind. "])
+}
+
+/// Writes the state in sentences, each with a space after it.
 pub(crate) fn write_state<W: Write>(out: &mut W, status: &Status) -> io::Result<()> {
     if is_well(status) {
-        return out.write_all(b"All is well.");
+        out.write_all(b"All is well. ")?;
+    } else {
+        write_reasons(out, status)?;
+        write_sources(out, status)?;
     }
-    if status.serial.is_none() {
-        out.write_all(b"No version is published yet. ")?;
-    }
-    write_failure(out, status)?;
-    let files = status.files.len() as u64;
-    write_part_of(out, refused_count(status), files, "file", "refused")?;
-    write_part_of(out, old_count(status), files, "file", "too old")?;
-    let routers = status.clients.len() as u64;
-    write_part_of(out, behind_count(status), routers, "router", "behind")?;
-    write_clock(out, status.clock_behind)
+    write_behind(out, status)
 }

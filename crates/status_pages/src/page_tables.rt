@@ -77,7 +77,7 @@ fn write_refusal<W: Write>(out: &mut W, since: Option<u64>, reason: &str) -> io:
 /// Writes the state of a file: refused and why, too old, or taken.
 fn write_how<W: Write>(out: &mut W, file: &FileStatus) -> io::Result<()> {
     if file.is_old {
-        out.write_all(b"<span class=\"warn\">too old</span> ")?;
+        out.write_all(b"<span class=\"warn\">too old</span>, ")?;
     }
     if let Some(reason) = &file.refusal {
         return write_refusal(out, file.refused_at, reason);

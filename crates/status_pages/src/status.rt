@@ -27,8 +27,12 @@ pub struct Status {
     pub ipv4: u64,
     /// How many IPv6 records are served.
     pub ipv6: u64,
+    /// How many VRPs the sources give together, before local exceptions are applied, as of the served version.
+    pub given: u64,
     /// How many records of length 0 are left out.
     pub left_out: u64,
+    /// The most VRPs that were served within the last 24 hours.
+    pub peak: Option<VrpPeak>,
     /// The last 64 versions, the oldest first.
     pub changes: Vec<ChangeStatus>,
     /// The watched files and publication points.
@@ -43,6 +47,8 @@ pub struct Status {
     pub clients_ever: u64,
     /// How many clients were disconnected on arrival since the start, as a limit was reached.
     pub clients_refused: u64,
+    /// The clients that were disconnected on arrival last.
+    pub turned_away: Option<TurnedAway>,
     /// How many clients were disconnected since the start, as they accepted no byte for too long.
     pub clients_stalled: u64,
     /// The traffic from all clients since the start.
@@ -61,6 +67,35 @@ pub struct Status {
     pub publication_failure: Option<PublicationFailure>,
     /// The lines that the log lacks.
     pub log_lines_lost: LostLines,
+}
+
+/// The most VRPs that were served at once within a time.
+#[derive(Clone, Copy, Debug, PartialEq, Eq)]
+pub struct VrpPeak {
+    /// How many.
+    pub vrps: u64,
+    /// Until when they were served.
+    pub until: u64,
+}
+
+/// What limits how many clients there may be.
+#[derive(Clone, Copy, Debug, PartialEq, Eq)]
+pub enum ClientLimit {
+    /// The limit of all clients.
+    All,
+    /// The limit of the clients of one address.
+    OfAddress,
+}
+
+/// Clients that were disconnected on arrival, with less than ten minutes between them.
+#[derive(Clone, Copy, Debug, PartialEq, Eq)]
+pub struct TurnedAway {
+    /// How many.
+    pub routers: u64,
+    /// When the last one came.
+    pub last: u64,
+    /// The limit that the last one met.
+    pub limit: ClientLimit,
 }
 
 /// A publication that failed.
@@ -113,6 +148,8 @@ pub struct FileStatus {
     pub is_old: bool,
     /// How many of its entries have expired.
     pub expired: u64,
+    /// How many VRPs it gives now, if that is known.
+    pub vrps: Option<u64>,
 }
 
 /// A connected client.

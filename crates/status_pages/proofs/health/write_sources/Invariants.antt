@@ -4,4 +4,4 @@ use Rattle.status_pages.proofs.health.write_sources.Given as goal
 
 -- the sources before this one
 abbrev pub invariant-loop-file : goal.invariant-loop-file
-invariant-loop-file g l = AppendsSome (g.W.Write.contents l.initial.out) (g.W.Write.contents l.out) (AreSourceTexts l.now l.limit (take l.file-index l.files))
+invariant-loop-file g l = AppendsSome (g.W.Write.contents l.initial.out) (g.W.Write.contents l.out) (AreSourceTexts (take l.file-index l.files))

@@ -1,0 +1,220 @@
+//! Why a cache is not well. One list decides what its page, its health, its metrics and its log say.
+ghost use Rattle.std.specs.Prelude.{◌≡◌};
+ghost use Rattle.std.specs.List.{list_any};
+ghost use Rattle.status_pages.specs.Reasons.{gives_none, has_all_expired, has_any, has_reason, is_blamed, is_healthy, is_long_refused, is_ready, is_recent, is_shrunk, is_well, reason_word};
+ghost use Rattle.status_pages.specs.Reasons.{refusal_limit, served_vrps};
+
+use crate::status::{FileStatus, Status, TurnedAway, VrpPeak};
+
+/// The longest time for which a source may be refused, in seconds.
+const REFUSAL_SECONDS: u64 = 3600;
+
+/// From how many VRPs on a shrunken table is reported.
+const LEAST_PEAK: u64 = 1000;
+
+/// For how long it is reported that routers were turned away, in seconds.
+const RECENT: u64 = 600;
+
+/// A reason why a cache is not well.
+#[derive(Clone, Copy, Debug, PartialEq, Eq)]
+pub enum Reason {
+    /// The sources give no VRP, apart from local exceptions, or none is served. Before the first version this is no reason.
+    NoVrps,
+    /// A pending version could not be published.
+    Publication,
+    /// The data of a source are older than the maximum age, or all its entries have expired.
+    Old,
+    /// A source has been refused for longer than an hour, or than the maximum age if that is less.
+    RefusedLong,
+    /// No version has been published yet.
+    NoVersion,
+    /// A source is refused.
+    Refused,
+    /// Fewer VRPs are served than four fifths of the most within the last 24 hours, which were at least 1,000.
+    Shrank,
+    /// Routers were turned away within the last ten minutes.
+    TurnedAway,
+    /// The clock was set back.
+    Clock,
+}
+
+/// All reasons, in the order in which they are listed.
+pub const REASONS: [Reason; 9] = [
+    Reason::NoVrps,
+    Reason::Publication,
+    Reason::Old,
+    Reason::RefusedLong,
+    Reason::NoVersion,
+    Reason::Refused,
+    Reason::Shrank,
+    Reason::TurnedAway,
+    Reason::Clock,
+];
+
+/// The reasons at which an operator is woken.
+const GRAVE: [Reason; 5] = [
+    Reason::NoVrps,
+    Reason::Publication,
+    Reason::Old,
+    Reason::RefusedLong,
+    Reason::NoVersion,
+];
+
+/// The reasons at which routers are better sent to another cache.
+const UNREADY: [Reason; 3] = [Reason::NoVrps, Reason::Publication, Reason::NoVersion];
+
+impl Reason {
+    /// Its word in metrics and in the log.
+    pub fn word(self) -> &'static str
+        ensures { result.now ≡ reason_word self }
+    {
+        match self {
+            Reason::NoVrps => "no_vrps",
+            Reason::Publication => "publication",
+            Reason::Old => "old",
+            Reason::RefusedLong => "refused_long",
+            Reason::NoVersion => "no_version",
+            Reason::Refused => "refused",
+            Reason::Shrank => "shrank",
+            Reason::TurnedAway => "turned_away",
+            Reason::Clock => "clock",
+        }
+    }
+}
+
+/// Whether a source is known to give no VRP.
+fn gives_none(vrps: Option<u64>) -> bool
+    ensures { result ≡ gives_none vrps }
+{
+    match vrps {
+        None => false,
+        Some(vrps) => vrps == 0,
+    }
+}
+
+/// Whether entries of a source have expired, and it gives no VRP.
+pub(crate) fn has_all_expired(file: &FileStatus) -> bool
+    ensures { result ≡ has_all_expired file.now }
+{
+    0 < file.expired && gives_none(file.vrps)
+}
+
+/// Whether a source has been refused for longer than this many seconds.
+fn is_long_refused(now: u64, limit: u64, since: Option<u64>) -> bool
+    ensures { result ≡ is_long_refused now limit since }
+{
+    match since {
+        None => false,
+        Some(since) => limit < now.saturating_sub(since),
+    }
+}
+
+/// For how many seconds a source may be refused: an hour, or the maximum age if that is less.
+fn refusal_limit(max_age: Option<u64>) -> u64
+    ensures { result ≡ refusal_limit max_age }
+{
+    match max_age {
+        None => REFUSAL_SECONDS,
+        Some(age) => age.min(REFUSAL_SECONDS),
+    }
+}
+
+/// Whether a source is a reason at a time, in seconds since 1970, with this maximum age in seconds. Only sources can be old or refused.
+pub fn is_blamed(now: u64, max_age: Option<u64>, reason: Reason, file: &FileStatus) -> bool
+    ensures { result ≡ is_blamed now max_age reason file.now }
+{
+    match reason {
+        Reason::Old => file.is_old || has_all_expired(file),
+        Reason::RefusedLong => is_long_refused(now, refusal_limit(max_age), file.refused_at),
+        Reason::Refused => file.refusal.is_some(),
+        _ => false,
+    }
+}
+
+/// Whether a source is a reason.
+fn blames_any(now: u64, max_age: Option<u64>, reason: Reason, files: &[FileStatus]) -> bool
+    ensures { result ≡ list_any (is_blamed now max_age reason) files.now }
+{
+    files
+        .iter()
+        .any(|file| is_blamed(now, max_age, reason, file))
+}
+
+/// Whether fewer VRPs are served than four fifths of the most within the last 24 hours.
+fn is_shrunk(vrps: u64, peak: Option<VrpPeak>) -> bool
+    ensures { result ≡ is_shrunk vrps peak }
+{
+    match peak {
+        None => false,
+        Some(peak) => LEAST_PEAK <= peak.vrps && vrps < peak.vrps - peak.vrps / 5,
+    }
+}
+
+/// Whether a router was turned away within the last ten minutes.
+fn is_recent(now: u64, away: Option<TurnedAway>) -> bool
+    ensures { result ≡ is_recent now away }
+{
+    match away {
+        None => false,
+        Some(away) => now.saturating_sub(away.last) <= RECENT,
+    }
+}
+
+/// How many VRPs are served, at most 2^64 - 1.
+pub fn served_vrps(status: &Status) -> u64
+    ensures { result ≡ served_vrps status.entry.now }
+{
+    status.ipv4.saturating_add(status.ipv6)
+}
+
+/// Whether no VRP is served, or the sources give none.
+fn serves_none(status: &Status) -> bool
+    ensures { result ≡ has_reason status.entry.now Reason.NoVrps }
+{
+    status.serial.is_some() && (status.given == 0 || served_vrps(status) == 0)
+}
+
+/// Whether a reason holds.
+pub fn has_reason(status: &Status, reason: Reason) -> bool
+    ensures { result ≡ has_reason status.entry.now reason }
+{
+    match reason {
+        Reason::NoVrps => serves_none(status),
+        Reason::Publication => status.publication_failure.is_some(),
+        Reason::NoVersion => status.serial.is_none(),
+        Reason::Shrank => is_shrunk(served_vrps(status), status.peak),
+        Reason::TurnedAway => is_recent(status.now, status.turned_away),
+        Reason::Clock => 0 < status.clock_behind,
+        Reason::Old | Reason::RefusedLong | Reason::Refused => {
+            blames_any(status.now, status.max_age, reason, &status.files)
+        }
+    }
+}
+
+/// Whether one of some reasons holds.
+fn has_any(status: &Status, reasons: &[Reason]) -> bool
+    ensures { result ≡ has_any status.entry.now reasons.now }
+{
+    reasons.iter().any(|reason| has_reason(status, *reason))
+}
+
+/// Whether a cache is well: no reason holds.
+pub fn is_well(status: &Status) -> bool
+    ensures { result ≡ is_well status.entry.now }
+{
+    !has_any(status, &REASONS)
+}
+
+/// Whether a cache is healthy: it serves VRPs and publishes, no source's data are too old, and none has been refused for too long.
+pub fn is_healthy(status: &Status) -> bool
+    ensures { result ≡ is_healthy status.entry.now }
+{
+    !has_any(status, &GRAVE)
+}
+
+/// Whether routers can be sent to a cache: it serves VRPs, and publishes. Data that are old but good keep it in.
+pub fn is_ready(status: &Status) -> bool
+    ensures { result ≡ is_ready status.entry.now }
+{
+    !has_any(status, &UNREADY)
+}
