@@ -1,5 +1,5 @@
 -- The answers, by what the source answers.
-use Rattle.std.specs.Prelude.{◌≡◌, ◌⊎◌, ℕ, ◌+◌, min, Bool, true, false, if◌then◌else◌, List, [], ◌∷◌, ◌++◌, codes, Option, Some, None, IfSome, Result, Ok, Err, ⊤, option_map, slice_get, length, ◌-◌, unwrap_or}
+use Rattle.std.specs.Prelude.{◌≡◌, ◌⊎◌, ℕ, Bool, true, false, if◌then◌else◌, List, [], ◌∷◌, ◌++◌, codes, Option, Some, None, IfSome, Result, Ok, Err, ⊤, option_map, slice_get, length, ◌-◌, unwrap_or}
 use Rattle.event_log.specs.Clock.{IsTimeOf}
 use Rattle.http.specs.declared.request.Parts.{Parts}
 use Rattle.http_header.specs.FieldValue.{FieldValue}
@@ -9,10 +9,11 @@ use Rattle.http_server.specs.declared.response.Response.{Response}
 use Rattle.http_uri.specs.Uri.{uri_path, uri_query}
 use Rattle.prefixes.specs.declared.route.Route.{Route}
 use Rattle.status_pages.specs.Export.{export_head}
-use Rattle.status_pages.specs.Health.{IsHealthText, is_healthy, refusal_limit}
+use Rattle.status_pages.specs.Health.{IsHealthText}
 use Rattle.status_pages.specs.Made.{oldest}
 use Rattle.status_pages.specs.Query.{Finds, FindsInPath}
 use Rattle.status_pages.specs.Validity.{IsValidity}
+use Rattle.status_pages.specs.Reasons.{is_healthy, is_ready, served_vrps}
 use Rattle.status_pages.specs.ValidityText.{validity_text}
 use Rattle.status_pages.specs.declared.query_fault.QueryFault.{QueryFault}
 use Rattle.status_pages.specs.declared.query_fault.QueryFault.TheVariants as fault
@@ -68,17 +69,13 @@ published_at s = option_map (λ c. c.at) (slice_get s.changes.items (length s.ch
 abbrev pub made_at : Status → ℕ
 made_at s = unwrap_or (oldest s.files.items) (unwrap_or (published_at s) s.now)
 
--- how many records are served, in 64 bits
-abbrev pub vrp_count : Status → ℕ
-vrp_count s = min (s.ipv4 + s.ipv6) 18446744073709551615
-
 -- The start of an export, with the time at which its data were made
 abbrev pub IsExportHead : ℕ → ℕ → List ℕ → Type 0
 IsExportHead made vrps text = (time : List ℕ) × IsTimeOf made time × (text ≡ export_head time made vrps)
 
 -- The export: the metadata, and the payload list as its records
 abbrev pub IsExport : Status → List ℕ → List ℕ → Type 0
-IsExport s list text = (head : List ℕ) × IsExportHead (made_at s) (vrp_count s) head × (text ≡ head ++ list ++ codes "}")
+IsExport s list text = (head : List ℕ) × IsExportHead (made_at s) (served_vrps s) head × (text ≡ head ++ list ++ codes "}")
 
 abbrev pub SendsExport : Entries FieldValue → Status → Option (List ℕ) → Response → Response → Type 0
 SendsExport headers s list =
@@ -88,7 +85,16 @@ SendsExport headers s list =
 abbrev pub SendsHealth : Status → Response → Response → Type 0
 SendsHealth s old new =
     (text : List ℕ) × IsHealthText s text
-    × SendsText (if is_healthy s.now (refusal_limit s.max_age) s.serial s.files.items then old.status else 503) text old new
+    × SendsText (if is_healthy s then old.status else 503) text old new
+
+-- 200 if routers can be sent to the cache, and 503 with the reasons why it is not well if they cannot
+abbrev pub IsReadyText : Bool → Status → List ℕ → Type 0
+IsReadyText true s text = text ≡ codes "ok\n"
+IsReadyText false s text = IsHealthText s text
+
+abbrev pub SendsReady : Status → Response → Response → Type 0
+SendsReady s old new =
+    (text : List ℕ) × IsReadyText (is_ready s) s text × SendsText (if is_ready s then old.status else 503) text old new
 
 -- The validity of a route as JSON, with the current time
 abbrev pub SendsValidityText : Route → Validity → Response → Response → Type 0
@@ -104,6 +110,9 @@ SendsValidity false route (Some v) old new = SendsValidityText route v old new
 -- Each of these is of what the source answers, if that is known.
 abbrev pub SendsKnownHealth : Shown → Response → Response → Type 0
 SendsKnownHealth shown old new = (s : Status) × IsShown shown.status s × SendsHealth s old new
+
+abbrev pub SendsKnownReady : Shown → Response → Response → Type 0
+SendsKnownReady shown old new = (s : Status) × IsShown shown.status s × SendsReady s old new
 
 abbrev pub SendsKnownExport : Shown → Entries FieldValue → Response → Response → Type 0
 SendsKnownExport shown headers old new =
@@ -145,6 +154,8 @@ abbrev pub CarriesOut : Shown → Parts → Plan → Response → Response → T
 CarriesOut shown p (plans.Resource resources.Status) old new = (text : List ℕ) × Sends old.status page_headers text old new
 CarriesOut shown p (plans.Resource resources.Metrics) old new = (text : List ℕ) × Sends old.status (body_headers metrics_kind) text old new
 CarriesOut shown p (plans.Resource resources.Health) old new = SendsKnownHealth shown old new
+CarriesOut shown p (plans.Resource resources.Ready) old new = SendsKnownReady shown old new
+CarriesOut shown p (plans.Resource resources.Live) old new = SendsText old.status (codes "ok\n") old new
 CarriesOut shown p (plans.Resource resources.Export) old new = SendsKnownExport shown p.headers old new
 CarriesOut shown p (plans.Resource resources.List) old new = SendsKnownList shown.status shown.list json_kind p.headers old new
 CarriesOut shown p (plans.Resource resources.Csv) old new = SendsKnownList shown.status shown.csv csv_kind p.headers old new

@@ -7,6 +7,8 @@ abbrev pub path_of : Resource → List ℕ
 path_of resource.Status = codes "/"
 path_of resource.Metrics = codes "/metrics"
 path_of resource.Health = codes "/health"
+path_of resource.Ready = codes "/ready"
+path_of resource.Live = codes "/live"
 path_of resource.Export = codes "/vrps.json"
 path_of resource.List = codes "/list.json"
 path_of resource.Csv = codes "/vrps.csv"

@@ -2,13 +2,14 @@
 ghost use Rattle.std.specs.Prelude.{◌≡◌, ℕ, List, OnOk, option_copied};
 ghost use Rattle.http.specs.Request.{head_of};
 ghost use Rattle.http_server.specs.Response.{IsBlank};
-ghost use Rattle.status_server.specs.Answers.{AnswersOn, AnswersSo, CarriesOut, IsPlanned, SendsJudged, SendsKnownExport, SendsKnownHealth, SendsKnownList, SendsKnownValidity, SendsQuery, SendsRoute};
+ghost use Rattle.status_server.specs.Answers.{AnswersOn, AnswersSo, CarriesOut, IsPlanned, SendsJudged, SendsKnownExport, SendsKnownHealth, SendsKnownList, SendsKnownReady, SendsKnownValidity, SendsQuery, SendsRoute};
 ghost use Rattle.status_server.specs.Responses.{Sends, body_headers, csv_kind, json_kind, metrics_kind, page_headers};
 
 use crate::conditions::prefers_html;
 use crate::plan::{Plan, plan_of};
 use crate::representations::{
-    send_export, send_health, send_list, send_validity, send_validity_page, shared,
+    send_export, send_health, send_list, send_ok, send_ready, send_validity, send_validity_page,
+    shared,
 };
 use crate::resources::{Resource, route_in};
 use crate::responses::{
@@ -142,6 +143,18 @@ impl<'a, S: StatusSource> Answers<'a, S> {
         send_health(self.alloc, status, response)
     }
 
+    /// Whether routers can be sent to the cache.
+    fn ready(&mut self, response: &mut Response) -> Result<(), AllocError>
+        ensures sends { OnOk result (SendsKnownReady (S.shows self.old.source) response.old response.new) }
+        ensures keeps { AnswersOn S.shows self.old self.new }
+    {
+        self.load_status()?;
+        let Some(status) = &self.status else {
+            return Err(AllocError);
+        };
+        send_ready(self.alloc, status, response)
+    }
+
     /// The export: the payload list as the records of an object with metadata.
     fn export(&mut self, headers: &HeaderMap, response: &mut Response) -> Result<(), AllocError>
         ensures sends { OnOk result (SendsKnownExport (S.shows self.old.source) headers.now response.old response.new) }
@@ -259,6 +272,8 @@ impl<'a, S: StatusSource> Answers<'a, S> {
             Resource::Status => self.page(response),
             Resource::Metrics => self.metrics(response),
             Resource::Health => self.health(response),
+            Resource::Ready => self.ready(response),
+            Resource::Live => send_ok(response),
             Resource::Export => self.export(request.headers(), response),
             Resource::List => self.payload_list(request.headers(), response),
             Resource::Csv => self.csv(request.headers(), response),

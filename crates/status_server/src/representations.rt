@@ -1,8 +1,9 @@
 //! The bodies that are made of a status, of a list, or of a validity.
-ghost use Rattle.std.specs.Prelude.{◌≡◌, ℕ, List, IsTrue, IfOk, OnOk};
+ghost use Rattle.std.specs.Prelude.{◌≡◌, ℕ, List, IsTrue, IfOk, OnOk, codes};
+ghost use Rattle.status_pages.specs.Health.{IsHealthText};
 ghost use Rattle.http_header.specs.FieldValue.{is_visible_text};
-ghost use Rattle.status_server.specs.Answers.{IsExportHead, SendsExport, SendsHealth, SendsList, SendsValidityText, made_at, vrp_count};
-ghost use Rattle.status_server.specs.Responses.{Sends, page_headers};
+ghost use Rattle.status_server.specs.Answers.{IsExportHead, SendsExport, SendsHealth, SendsList, SendsReady, SendsValidityText, made_at};
+ghost use Rattle.status_server.specs.Responses.{Sends, SendsText, page_headers};
 
 use crate::responses::{JSON, add_tag, refuse_early, send, send_page, send_text};
 use bytes::{BufMut, Bytes};
@@ -10,8 +11,8 @@ use http::{HeaderMap, StatusCode};
 use http_server::Response;
 use prefixes::Route;
 use status_pages::{
-    Status, Validity, is_healthy, oldest_built, write_export_head, write_health, write_validity,
-    write_validity_page,
+    Status, Validity, is_healthy, is_ready, oldest_built, served_vrps, write_export_head,
+    write_health, write_validity, write_validity_page,
 };
 use std::alloc::{AllocError, Global};
 
@@ -25,6 +26,17 @@ pub(crate) fn shared(text: Vec<u8>) -> Result<Bytes, AllocError>
     }
 }
 
+/// The health of a cache as a text.
+fn health_text(alloc: Global, status: &Status) -> Result<Vec<u8>, AllocError>
+    ensures { IfOk result (λ text. IsHealthText status.entry.now text.items) }
+{
+    let mut text = Vec::new(alloc);
+    if write_health(&mut text, status).is_err() {
+        return Err(AllocError);
+    }
+    Ok(text)
+}
+
 /// Sends the health of a cache: 200 if it is healthy, and otherwise 503 with the reasons.
 pub(crate) fn send_health(
     alloc: Global,
@@ -33,16 +45,36 @@ pub(crate) fn send_health(
 ) -> Result<(), AllocError>
     ensures { OnOk result (SendsHealth status.entry.now response.old response.new) }
 {
-    let mut text = Vec::new(alloc);
-    if write_health(&mut text, status).is_err() {
-        return Err(AllocError);
-    }
+    let text = health_text(alloc, status)?;
     let code = if is_healthy(status) {
         response.status
     } else {
         StatusCode::SERVICE_UNAVAILABLE
     };
     send_text(response, code, &text)
+}
+
+/// Sends `ok`.
+pub(crate) fn send_ok(response: &mut Response) -> Result<(), AllocError>
+    ensures { OnOk result (SendsText response.old.status (codes "ok\n") response.old response.new) }
+{
+    let code = response.status;
+    send_text(response, code, b"ok\n")
+}
+
+/// Sends whether routers can be sent to a cache: 200 if so, and otherwise 503 with the reasons.
+pub(crate) fn send_ready(
+    alloc: Global,
+    status: &Status,
+    response: &mut Response,
+) -> Result<(), AllocError>
+    ensures { OnOk result (SendsReady status.entry.now response.old response.new) }
+{
+    if is_ready(status) {
+        return send_ok(response);
+    }
+    let text = health_text(alloc, status)?;
+    send_text(response, StatusCode::SERVICE_UNAVAILABLE, &text)
 }
 
 /// When the served data were made: at the earliest time of a source, or when the version was published if no source has a time.
@@ -54,13 +86,6 @@ fn made_at(status: &Status) -> u64
         Some(made) => made,
         None => published.unwrap_or(status.now),
     }
-}
-
-/// How many records are served, at most 2^64 - 1.
-fn vrp_count(status: &Status) -> u64
-    ensures { result ≡ vrp_count status.entry.now }
-{
-    status.ipv4.saturating_add(status.ipv6)
 }
 
 /// The start of an export whose data were made at this time, in seconds since 1970.
@@ -92,7 +117,7 @@ pub(crate) fn send_export(
     if add_tag(headers, tag, JSON, response)? {
         return Ok(());
     }
-    let head = export_head(alloc, made, vrp_count(status))?;
+    let head = export_head(alloc, made, served_vrps(status))?;
     response.body.put_slice(&head)?;
     response.body.push(list)?;
     response.body.put_slice(b"}")

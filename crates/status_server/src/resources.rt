@@ -11,6 +11,10 @@ pub(crate) enum Resource {
     Metrics,
     /// Whether the cache is healthy.
     Health,
+    /// Whether routers can be sent to the cache.
+    Ready,
+    /// Whether the daemon's loop turns.
+    Live,
     /// The export.
     Export,
     /// The payload list.
@@ -23,7 +27,7 @@ pub(crate) enum Resource {
 
 /// The paths, for those who ask for another.
 pub(crate) const PATHS: &str =
-    "there are /, /metrics, /health, /vrps.json, /list.json, /vrps.csv, /validity and /api/v1/validity/NUMBER/PREFIX\n";
+    "there are /, /metrics, /health, /ready, /live, /vrps.json, /list.json, /vrps.csv, /validity and /api/v1/validity/NUMBER/PREFIX\n";
 
 /// The resource of a path.
 pub(crate) fn resource_at(path: &str) -> Option<Resource>
@@ -34,6 +38,8 @@ pub(crate) fn resource_at(path: &str) -> Option<Resource>
         "/" => Some(Resource::Status),
         "/metrics" => Some(Resource::Metrics),
         "/health" => Some(Resource::Health),
+        "/ready" => Some(Resource::Ready),
+        "/live" => Some(Resource::Live),
         "/vrps.json" => Some(Resource::Export),
         "/list.json" => Some(Resource::List),
         "/vrps.csv" => Some(Resource::Csv),
