@@ -7,4 +7,5 @@ pub mod QueueLaws
 pub mod Reasons
 pub mod ServiceLaws
 pub mod StallLaws
+pub mod StateLaws
 pub mod WakeLaws

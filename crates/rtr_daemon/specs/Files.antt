@@ -1,5 +1,5 @@
 -- What a poll of the files loads.
-use Rattle.std.specs.Prelude.{◌≡◌, ◌⊎◌, ℕ, All, Bool, Contains, false, List, [], ◌∷◌, map, slice_get, ⊤, Option, None, Some, Result, Ok}
+use Rattle.std.specs.Prelude.{◌≡◌, ◌⊎◌, ℕ, All, Bool, Contains, false, List, [], ◌∷◌, ◌++◌, map, slice_get, ⊤, Option, None, Some, Result, Ok}
 use Rattle.std.specs.String.{string_bytes}
 use Rattle.sources.specs.Served.{ExportTaken, SlurmsTaken}
 use Rattle.sources.specs.declared.fault.SlurmSetFault.{SlurmSetFault}
@@ -117,6 +117,10 @@ abbrev pub AreContents : {W : Type 0} → DiskAnswers W → List (List ℕ) → 
 AreContents answers [] [] = ⊤
 AreContents answers (path ∷ paths) (bytes ∷ others) = ((stamp : Stamp) × ReadsWhole answers path stamp bytes) × AreContents answers paths others
 AreContents answers paths contents = ⊥
+
+-- Bytes that were read whole of a path follow those of the files before.
+abbrev pub AddsContent : {W : Type 0} → DiskAnswers W → List ℕ → List (List ℕ) → List (List ℕ) → Type 0
+AddsContent answers path old new = (stamp : Stamp) × (read : List ℕ) × ReadsWhole answers path stamp read × (new ≡ old ++ read ∷ [])
 
 -- Bytes that were read whole of the path of each file of local exceptions are loaded together, or refused.
 abbrev pub LoadsTogether : {W : Type 0} → DiskAnswers W → List WatchedFile → Result (Unit {0}) SlurmSetFault → Sources → Sources → Type 0

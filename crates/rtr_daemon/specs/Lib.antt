@@ -1,3 +1,4 @@
+pub mod Ages
 pub mod DaemonRows
 pub mod DiskAnswers
 pub mod Due
@@ -5,6 +6,7 @@ pub mod Files
 pub mod Notes
 pub mod Opening
 pub mod Origins
+pub mod Peaks
 pub mod PointOffers
 pub mod Pacing
 pub mod Queue

@@ -48,7 +48,7 @@ abbrev pub exit_words : Result StopReason Error → List ℕ
 exit_words (Ok Once) = codes "the client has gone"
 exit_words (Ok Checked) = codes "the configuration is valid, and with --check-config nothing is served"
 exit_words (Ok Old) = codes "an export is older than --max-age"
-exit_words (Err error) = codes "the system does not say what is ready"
+exit_words (Err error) = codes "poll failed"
 
 -- Without a machine id the session is random. If it cannot be had, memory ran out, or the random source failed.
 abbrev pub refusal_of : ErrorKind → Error → Refusal

@@ -7,6 +7,7 @@ use crate::daemon::Daemon;
 use crate::environment::{AcceptResult, EventLog, Sockets, Time};
 use event_log::LogEvent;
 use rtr_server::{AdmitFault, Stream};
+use status_pages::ClientLimit;
 use std::alloc::{AllocError, Global};
 use std::io;
 use std::net::SocketAddr;
@@ -168,8 +169,9 @@ impl<S: VersionStore, T: Stream + Drop> Daemon<S, T> {
         let clients = self.clients.of_address(address);
         match self.plan.clients_per_address {
             Some(most) if clients >= most => {
-                self.statistics.count_refused_client();
                 let now = env.seconds();
+                self.statistics
+                    .count_refused_client(ClientLimit::OfAddress, now);
                 env.log(now, &LogEvent::AddressFull { address, clients });
             }
             _ => self.admit_within(stream, token, address, env),
@@ -190,7 +192,7 @@ impl<S: VersionStore, T: Stream + Drop> Daemon<S, T> {
         let now = env.seconds();
         match self.service.admit(stream) {
             Err(AdmitFault::TooManyClients) => {
-                self.statistics.count_refused_client();
+                self.statistics.count_refused_client(ClientLimit::All, now);
                 let clients = self.service.server().clients() as u64;
                 env.log(now, &LogEvent::Full { address, clients });
             }

@@ -1,5 +1,6 @@
 //! What time does to the sources: records expire, exports become old, and the clock may be set back.
 ghost use Rattle.std.specs.Prelude.{◌≡◌};
+ghost use Rattle.rtr_daemon.specs.Ages.{data_time, made_at};
 ghost use Rattle.rtr_daemon.specs.Due.{JudgesAges, JudgesExpiry, second_of_pace};
 ghost use Rattle.rtr_daemon.specs.Files.{names_of};
 ghost use Rattle.rtr_daemon.specs.Serving.{Continues, IsFresh};
@@ -136,11 +137,21 @@ fn judge_age<W: EventLog>(
     age > most
 }
 
-/// When the data of an export were made. If the export gives no time, or one too far ahead, the file's modification time counts.
-pub(crate) fn built_of(export: &WatchedExport, sources: &Sources, now: u64) -> Option<u64> {
-    match sources.built(export.number) {
-        Some(built) if built <= now.saturating_add(AHEAD) => Some(built),
-        _ => export.file.modified(),
+/// When the data of an export were made. If the export gives no time, or one too far ahead, the file's modification time counts, or the time of
+/// its load if that is no time of the past.
+pub(crate) fn built_of(export: &WatchedExport, sources: &Sources, now: u64) -> Option<u64>
+    ensures { result ≡ data_time now sources.now export.now }
+{
+    made_at(now, sources.built(export.number), export.file.made_at())
+}
+
+/// The own time of data, unless there is none or it is too far ahead: then the time that the file shows.
+fn made_at(now: u64, built: Option<u64>, file: Option<u64>) -> Option<u64>
+    ensures { result ≡ made_at now built file }
+{
+    match built {
+        Some(built) if built.saturating_sub(AHEAD) <= now => Some(built),
+        _ => file,
     }
 }
 

@@ -15,6 +15,7 @@ use crate::refusal::Refusal;
 use crate::service::Service;
 use crate::set_changes::StepStore;
 use crate::statistics::{Families, Statistics};
+use crate::unwell::UnwellReasons;
 use crate::watched_file::{WatchedExport, WatchedFile};
 use rtr_server::{Server, Stream};
 use session_names::SessionIds;
@@ -106,6 +107,8 @@ pub struct Daemon<S, T> {
     pub(crate) has_parted: bool,
     /// Whether an export is older than the maximum age.
     pub(crate) is_old: bool,
+    /// The reasons why it is not well, as they were logged last.
+    pub(crate) unwell: UnwellReasons,
     /// How many seconds the clock was set back since the start, as was reported last.
     pub(crate) clock_behind: u64,
     /// When files are polled next, in milliseconds of the monotonic clock.
@@ -224,12 +227,12 @@ impl<S: StepStore + Drop, T: Stream + Drop> Daemon<S, T> {
         self.next_round = now.saturating_add(SOON);
         self.drop_stalled(env);
         self.clients.wake_blocked();
-        self.publish_pending(env);
+        self.publish_and_judge(env);
     }
 
     /// What would be published at a time in seconds since 1970, or why nothing would be.
     pub fn check_report(&self, now: u64) -> Result<CheckReport, Refusal> {
-        let ServedSet { set, left_out } = self.service.served(now)?;
+        let ServedSet { set, left_out, .. } = self.service.served(now)?;
         let Families { ipv4, ipv6 } = Families::of(&set);
         Ok(CheckReport {
             files: self.source_count(),

@@ -31,6 +31,7 @@ mod clients;
 mod daemon;
 mod environment;
 pub mod laws;
+mod peaks;
 mod point_polling;
 mod poll_token;
 mod polling;
@@ -47,6 +48,7 @@ mod start_faults;
 mod starting;
 mod statistics;
 mod status;
+mod unwell;
 mod watched_file;
 
 pub use daemon::{CheckReport, Daemon, Paths, Plan, StopReason};
@@ -55,7 +57,8 @@ pub use poll_token::{FIRST_CONNECTION, FIRST_STATUS_CONNECTION, PollToken, STATU
 pub use readable::{FileForm, Unreadable};
 pub use refusal::{FileFault, Refusal, StartFault};
 pub use running::{
-    AfterTurn, WaitLimits, limit_clients, report_check, report_end, run, wait_for_clock,
+    AfterTurn, WaitLimits, clients_within, report_check, report_end, report_limit, run,
+    wait_for_clock,
 };
 pub use service::{PublishReport, Service};
 pub use set_changes::StepStore;

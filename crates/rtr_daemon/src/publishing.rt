@@ -16,8 +16,23 @@ use std::alloc::Global;
 use vrps::{Published, Serial};
 
 impl<S: StepStore + Drop, T: Stream + Drop> Daemon<S, T> {
+    /// Publishes a pending version, if the last version is of an earlier second. Then it logs why the daemon is not well, as far as that has changed.
+    pub(crate) fn publish_and_judge<W: Time + EventLog>(&mut self, env: &mut W)
+        ensures goes { GoesOn W.can_be S.holds T.remaining T.contents self.old.service self.new.service }
+        ensures wakes { WakesIfPublished self.old self.new }
+        ensures due { PublishesIfDue W.can_be W.can_tick self.old.held_until self.old self.new }
+        ensures fresh { IsFresh W.can_be self.old.service → IsFresh W.can_be self.new.service }
+        ensures round { self.new.next_round ≡ self.old.next_round }
+        ensures kept { KeepsFiles self.old self.new }
+        ensures clients { SameClients self.old.clients self.new.clients }
+        ensures queue { QueuesBehind self.old.clients.queue.items self.new.clients }
+    {
+        self.publish_pending(env);
+        self.judge_state(env);
+    }
+
     /// Publishes a pending version, if the last version is of an earlier second.
-    pub(crate) fn publish_pending<W: Time + EventLog>(&mut self, env: &mut W)
+    fn publish_pending<W: Time + EventLog>(&mut self, env: &mut W)
         ensures goes { GoesOn W.can_be S.holds T.remaining T.contents self.old.service self.new.service }
         ensures wakes { WakesIfPublished self.old self.new }
         ensures due { PublishesIfDue W.can_be W.can_tick self.old.held_until self.old self.new }
@@ -76,11 +91,12 @@ impl<S: StepStore + Drop, T: Stream + Drop> Daemon<S, T> {
         ensures queue { QueuesBehind self.old.clients.queue.items self.new.clients }
     {
         self.statistics.end_failure();
+        self.statistics.given = report.given;
         self.note_left_out(report.left_out, now, env);
         let Published::New(serial) = report.published else {
             return;
         };
-        self.note_version(serial, report, now);
+        self.note_version(serial, report, now, env);
         self.clients.wake_all();
         let milliseconds = env.millis().saturating_sub(began);
         env.log(
@@ -110,12 +126,25 @@ impl<S: StepStore + Drop, T: Stream + Drop> Daemon<S, T> {
     }
 
     /// Adds a version to the statistics.
-    fn note_version(&mut self, serial: Serial, report: PublishReport, now: u64)
+    fn note_version<W: EventLog>(
+        &mut self,
+        serial: Serial,
+        report: PublishReport,
+        now: u64,
+        env: &mut W,
+    )
         ensures { self.new ≡ record self.old { statistics = self.new.statistics } }
     {
         if let Some((_serial, set)) = self.service.server().current() {
             let families = Families::of(set);
-            self.statistics.add_version(serial.0, now, report, families);
+            if self
+                .statistics
+                .add_version(serial.0, now, report, families)
+                .is_err()
+            {
+                let what = "the sizes of the last versions";
+                env.log(now, &LogEvent::Memory { what });
+            }
         }
     }
 

@@ -18,10 +18,10 @@ pub struct FileForm {
 #[derive(Clone, Copy, Debug, Drop, PartialEq, Eq, Error)]
 pub enum Unreadable {
     /// It is not regular.
-    #[error("it is no regular file")]
+    #[error("not a regular file")]
     NotRegular,
     /// It is larger than the limit.
-    #[error("it has more bytes than --max-size allows")]
+    #[error("larger than --max-size allows")]
     TooLarge,
 }
 
@@ -29,13 +29,10 @@ impl From<Unreadable> for io::Error {
     fn from(fault: Unreadable) -> io::Error {
         match fault {
             Unreadable::NotRegular => {
-                io::Error::new(ErrorKind::InvalidInput, "it is no regular file")
+                io::Error::new(ErrorKind::InvalidInput, "not a regular file")
             }
             Unreadable::TooLarge => {
-                io::Error::new(
-                    ErrorKind::FileTooLarge,
-                    "it has more bytes than --max-size allows",
-                )
+                io::Error::new(ErrorKind::FileTooLarge, "larger than --max-size allows")
             }
         }
     }

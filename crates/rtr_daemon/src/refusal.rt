@@ -33,7 +33,7 @@ impl<F: fmt::Display> fmt::Display for FileFault<F> {
 #[derive(Debug, Drop, Error)]
 pub enum Refusal {
     /// It cannot be read.
-    #[error("it cannot be read: {0}")]
+    #[error("cannot be read: {0}")]
     Device(io::Error),
     /// It is not an export, or the sources have no file of this index.
     #[error("{0}")]

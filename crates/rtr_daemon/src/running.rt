@@ -68,25 +68,23 @@ pub fn wait_for_clock<L, W: Time + EventLog + Sockets<L>>(env: &mut W) -> io::Re
 }
 
 /// How many clients there may be, at least one: as many as asked for, and as this limit of descriptors allows beside the program's own and the HTTP
-/// connections. It is reported if the limit allows fewer.
-pub fn limit_clients<J: EventLog>(
-    asked: usize,
-    descriptors: usize,
-    http_connections: usize,
-    now: u64,
-    events: &mut J,
-) -> usize
+/// connections.
+pub fn clients_within(asked: usize, descriptors: usize, http_connections: usize) -> usize
     ensures { result ≡ clients_within asked descriptors http_connections }
 {
     let allowed = descriptors
         .saturating_sub(OWN_DESCRIPTORS)
         .saturating_sub(http_connections)
         .max(1);
-    if asked > allowed {
-        let clients = allowed as u64;
+    asked.min(allowed)
+}
+
+/// Reports how many clients there may be, if these are fewer than asked for.
+pub fn report_limit<J: EventLog>(asked: usize, clients: usize, now: u64, events: &mut J) {
+    if clients < asked {
+        let clients = clients as u64;
         events.log(now, &LogEvent::Limited { clients });
     }
-    asked.min(allowed)
 }
 
 /// Serves until the daemon stops, or a wait fails. Answers why it stops.
@@ -164,7 +162,7 @@ fn words_of(end: &io::Result<StopReason>) -> &'static str
         Ok(StopReason::Checked) =>
             "the configuration is valid, and with --check-config nothing is served",
         Ok(StopReason::Old) => "an export is older than --max-age",
-        Err(_) => "the system does not say what is ready",
+        Err(_) => "poll failed",
     }
 }
 

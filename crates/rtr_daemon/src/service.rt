@@ -283,7 +283,11 @@ impl<S: StepStore, T: Stream + Drop> Service<S, T> {
         ensures reason { IfErr result (λ refusal. IsReason now self.old.sources refusal) }
         ensures current { IfErr result (λ _. self.new.current_at ≡ self.old.current_at) }
     {
-        let ServedSet { set, left_out } = self.served(now)?;
+        let ServedSet {
+            set,
+            given,
+            left_out,
+        } = self.served(now)?;
         let records = set.len() as u64;
         match self.server.publish(set) {
             Err(_) => Err(Refusal::Set(SetFault::Memory)),
@@ -299,6 +303,7 @@ impl<S: StepStore, T: Stream + Drop> Service<S, T> {
                     announced,
                     withdrawn,
                     records,
+                    given,
                     left_out,
                 })
             }
@@ -375,6 +380,8 @@ pub struct PublishReport {
     pub withdrawn: u64,
     /// How many records it has.
     pub records: u64,
+    /// How many VRPs the sources give together, before local exceptions are applied.
+    pub given: u64,
     /// How many records of length 0 are left out of it.
     pub left_out: u64,
 }

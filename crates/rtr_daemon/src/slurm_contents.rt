@@ -1,8 +1,6 @@
 //! The content of the files of local exceptions, read together (RFC 8416 section 4.2).
-ghost use Rattle.std.specs.Prelude.{◌≡◌, ◌∷◌, ◌++◌, [], ℕ, IfErr, IfOk, List, OnOk, map};
-ghost use Rattle.rtr_daemon.specs.DiskAnswers.{ReadsWhole};
-ghost use Rattle.rtr_daemon.specs.Files.{AreContents, IsOneUnread, IsUnread, path_of, paths_of};
-ghost use Rattle.rtr_daemon.specs.declared.environment.Stamp.{Stamp as AStamp};
+ghost use Rattle.std.specs.Prelude.{◌≡◌, ◌∷◌, ◌++◌, [], IfErr, IfOk, OnOk, map};
+ghost use Rattle.rtr_daemon.specs.Files.{AddsContent, AreContents, IsOneUnread, IsUnread, path_of, paths_of};
 
 use crate::environment::{Disk, Stamp};
 use crate::refusal::Refusal;
@@ -97,7 +95,7 @@ fn add_content<W: Disk>(
     file: &WatchedFile,
     env: &mut W,
 ) -> Result<(), Refusal>
-    ensures reads { IfOk result (λ _. (stamp : AStamp) × (read : List ℕ) × ReadsWhole W.answers (path_of file.now) stamp read × (map (λ b. b.items) contents.new.bytes.items ≡ map (λ b. b.items) contents.old.bytes.items ++ read ∷ [])) }
+    ensures reads { IfOk result (λ _. AddsContent W.answers (path_of file.now) (map (λ b. b.items) contents.old.bytes.items) (map (λ b. b.items) contents.new.bytes.items)) }
     ensures fails { IfErr result (λ _. IsUnread W.answers (path_of file.now)) }
 {
     let (stamp, bytes) = file.content(env)?;

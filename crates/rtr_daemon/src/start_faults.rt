@@ -50,7 +50,7 @@ impl Display for SocketFault {
     fn fmt<W: fmt::Write>(&self, f: &mut fmt::Formatter<W>) -> fmt::Result {
         match &self.address {
             Some(address) => write!(f, "cannot listen at {address}: {}", self.error),
-            None => write!(f, "no sockets can be had: {}", self.error),
+            None => write!(f, "cannot create a socket: {}", self.error),
         }
     }
 }

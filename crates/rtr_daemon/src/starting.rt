@@ -19,6 +19,7 @@ use crate::refusal::{Refusal, StartFault};
 use crate::service::Service;
 use crate::slurm_polling::read_slurms;
 use crate::statistics::Statistics;
+use crate::unwell::UnwellReasons;
 use crate::watched_file::{Look, WatchedExport, WatchedFile};
 use rtr_server::{Server, Stream};
 use session_names::SessionIds;
@@ -75,6 +76,7 @@ impl<S: VersionStore + Drop, T: Stream + Drop> Daemon<S, T> {
             is_ready: false,
             has_parted: false,
             is_old: false,
+            unwell: UnwellReasons::new(alloc),
             clock_behind: 0,
             next_check: millis.saturating_add(plan.check),
             next_round: millis,

@@ -1,12 +1,15 @@
 //! The statistics of a daemon since its start.
+ghost use Rattle.std.specs.Prelude.{◌≡◌, Some};
 ghost use Rattle.rtr_daemon.specs.Due.{IsKept};
+ghost use Rattle.rtr_daemon.specs.Peaks.{turned_away_at};
 
+use crate::peaks::{Peaks, turned_away_at};
 use crate::refusal::Refusal;
 use crate::service::PublishReport;
 use prefixes::IpPrefix;
 use rtr_pdu::Kind;
 use rtr_server::{ByteCounts, PdusByKind};
-use status_pages::{ChangeStatus, PdusByType, TotalTraffic};
+use status_pages::{ChangeStatus, ClientLimit, PdusByType, TotalTraffic, TurnedAway};
 use std::alloc::{AllocError, Global};
 use std::collections::VecDeque;
 use vrps::VrpSet;
@@ -44,6 +47,11 @@ impl Families {
             ipv4: ipv4 as u64,
             ipv6: records.len().saturating_sub(ipv4) as u64,
         }
+    }
+
+    /// How many records there are of both.
+    fn total(self) -> u64 {
+        self.ipv4.saturating_add(self.ipv6)
     }
 }
 
@@ -143,6 +151,12 @@ pub(crate) struct Statistics {
     pub(crate) clients: u64,
     /// The traffic of closed connections.
     pub(crate) gone: TrafficTotals,
+    /// How many VRPs the sources give together, before local exceptions are applied, as of the newest version.
+    pub(crate) given: u64,
+    /// The sizes of the versions of the last 24 hours.
+    pub(crate) peaks: Peaks,
+    /// The clients that were disconnected on arrival last.
+    pub(crate) turned_away: Option<TurnedAway>,
     /// How many records of length 0 are left out.
     pub(crate) left_out: u64,
     /// How many times a file was loaded.
@@ -175,6 +189,9 @@ impl Statistics {
             families: Families { ipv4: 0, ipv6: 0 },
             clients: 0,
             gone: TrafficTotals::none(),
+            given: 0,
+            peaks: Peaks::new(alloc),
+            turned_away: None,
             left_out: 0,
             loaded: 0,
             refused: 0,
@@ -186,9 +203,12 @@ impl Statistics {
         })
     }
 
-    /// A client was disconnected on arrival.
-    pub(crate) fn count_refused_client(&mut self) {
+    /// A client was disconnected on arrival, by this limit.
+    pub(crate) fn count_refused_client(&mut self, limit: ClientLimit, now: u64)
+        ensures { self.new.turned_away ≡ Some (turned_away_at now limit self.old.turned_away) }
+    {
         self.clients_refused = self.clients_refused.saturating_add(1);
+        self.turned_away = Some(turned_away_at(now, limit, self.turned_away));
     }
 
     /// A client was disconnected as it accepted no byte.
@@ -236,14 +256,23 @@ impl Statistics {
         self.refused = self.refused.saturating_add(1);
     }
 
-    /// A version was published, with these counts. Only the last versions are kept.
+    /// The served version was served until now. If memory runs out, it is left out of the peaks.
+    fn end_version(&mut self, until: u64) -> Result<(), AllocError> {
+        if self.changes.is_empty() {
+            return Ok(());
+        }
+        self.peaks.add(self.families.total(), until)
+    }
+
+    /// A version was published, with these counts. Only the last versions are kept. It fails if memory runs out for the peaks.
     pub(crate) fn add_version(
         &mut self,
         serial: u32,
         at: u64,
         report: PublishReport,
         families: Families,
-    ) {
+    ) -> Result<(), AllocError> {
+        let ended = self.end_version(at);
         self.families = families;
         if self.changes.len() >= CHANGES {
             let _oldest = self.changes.pop_front();
@@ -255,6 +284,7 @@ impl Statistics {
             withdrawn: report.withdrawn,
             records: report.records,
         });
+        ended
     }
 
     /// The last versions, the oldest first.

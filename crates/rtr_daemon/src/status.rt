@@ -24,8 +24,20 @@ impl<S: VersionStore, T: Stream + Drop> Daemon<S, T> {
         millis: u64,
     ) -> Result<Status, AllocError> {
         let traffic = self.traffic();
+        let mut status = self.source_status(now)?;
+        status.version = version;
+        status.changes = self.statistics.changes(self.alloc)?;
+        status.clients = self.client_statuses(now, millis)?;
+        status.received = traffic.received.shown();
+        status.sent = traffic.sent.shown();
+        Ok(status)
+    }
+
+    /// The status without versions, clients and their traffic.
+    pub(crate) fn source_status(&self, now: u64) -> Result<Status, AllocError> {
+        let traffic = TrafficTotals::none();
         Ok(Status {
-            version,
+            version: "",
             host: None,
             addresses: Vec::new(self.alloc),
             now,
@@ -36,14 +48,17 @@ impl<S: VersionStore, T: Stream + Drop> Daemon<S, T> {
             serial: self.serial(),
             ipv4: self.statistics.families.ipv4,
             ipv6: self.statistics.families.ipv6,
+            given: self.statistics.given,
             left_out: self.statistics.left_out,
-            changes: self.statistics.changes(self.alloc)?,
+            peak: self.statistics.peaks.most(now),
+            changes: Vec::new(self.alloc),
             files: self.file_statuses(now)?,
             max_age: self.plan.max_age,
-            clients: self.client_statuses(now, millis)?,
+            clients: Vec::new(self.alloc),
             client_limit: self.plan.clients as u64,
             clients_ever: self.statistics.clients,
             clients_refused: self.statistics.clients_refused,
+            turned_away: self.statistics.turned_away,
             clients_stalled: self.statistics.clients_stalled,
             received: traffic.received.shown(),
             sent: traffic.sent.shown(),
@@ -96,7 +111,15 @@ impl<S: VersionStore, T: Stream + Drop> Daemon<S, T> {
         status.built = built_of(export, self.service.sources(), now);
         status.is_old = export.is_old;
         status.expired = export.all_expired();
+        status.vrps = self.vrps_of(export);
         Ok(status)
+    }
+
+    /// How many VRPs an export gives, as of the last poll, if it was loaded.
+    fn vrps_of(&self, export: &WatchedExport) -> Option<u64> {
+        export.file.loaded_at?;
+        let records = self.service.sources().records(export.number);
+        Some(records.saturating_sub(export.expired_since))
     }
 
     /// The status of all clients.
@@ -150,6 +173,7 @@ fn slurm_status(alloc: Global, file: &WatchedFile) -> Result<FileStatus, AllocEr
         refused_at: file.refusals.reported_at(),
         is_old: false,
         expired: 0,
+        vrps: None,
     })
 }
 
@@ -176,6 +200,7 @@ fn point_status(alloc: Global, point: &WatchedPoint) -> Result<FileStatus, Alloc
         refused_at: point.refusals.reported_at(),
         is_old: false,
         expired: point.expired,
+        vrps: if point.expired > 0 { Some(0) } else { None },
     })
 }
 

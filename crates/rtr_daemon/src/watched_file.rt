@@ -1,5 +1,6 @@
 //! Watched files.
 ghost use Rattle.std.specs.Prelude.{◌≡◌, ◌⊎◌, true, false, IfErr, IfOk};
+ghost use Rattle.rtr_daemon.specs.Ages.{file_time, modified_by};
 ghost use Rattle.rtr_daemon.specs.DiskAnswers.{HadStamp, ReadsWhole};
 ghost use Rattle.rtr_daemon.specs.Files.{ChangesWhileRead, IsKnown, IsStateNow, IsStateOf, Looks, ReadsAfter, WasLoaded, path_of};
 
@@ -158,17 +159,31 @@ impl WatchedFile {
         self.refusals.clear()
     }
 
-    /// Its modification time when it was last loaded, in seconds since 1970.
-    pub(crate) fn modified(&self) -> Option<u64> {
+    /// When its content was made, in seconds since 1970, as far as the file shows: its modification time when it was last loaded. If that is before
+    /// 1970, or ahead of the clock of the load, the load counts.
+    pub(crate) fn made_at(&self) -> Option<u64>
+        ensures { result ≡ file_time self.now.loaded self.now.loaded_at }
+    {
+        let loaded_at = self.loaded_at?;
         match self.loaded {
-            Some(stamp) => u64::try_from(stamp.modified.0).ok(),
-            None => None,
+            Some(stamp) => Some(modified_by(stamp.modified.0, loaded_at)),
+            None => Some(loaded_at),
         }
     }
 
     /// Whether it was loaded after this second since 1970: the clock was set back since.
     pub(crate) fn is_loaded_after(&self, now: u64) -> bool {
         self.loaded_at.is_some_and(|at| now < at)
+    }
+}
+
+/// A modification time, in seconds since 1970, or the time of the load if it is not between 1970 and that.
+fn modified_by(modified: i64, loaded_at: u64) -> u64
+    ensures { result ≡ modified_by modified loaded_at }
+{
+    match u64::try_from(modified) {
+        Ok(modified) => modified.min(loaded_at),
+        Err(_) => loaded_at,
     }
 }
 
