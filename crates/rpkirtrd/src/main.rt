@@ -30,7 +30,10 @@ fn main(rt: HostRuntime) -> ExitCode {
         Ok(words) => run_words(&rt, words.as_slice(), &mut out, &mut err),
         Err(e) if e.kind() == io::ErrorKind::OutOfMemory => out_of_memory(&mut err),
         Err(_) => {
-            let _ = writeln!(err, "rpkirtrd: a word is not UTF-8\nTry rpkirtrd --help.");
+            let _ = writeln!(
+                err,
+                "rpkirtrd: an argument is not valid UTF-8\nTry rpkirtrd --help."
+            );
             2
         }
     };

@@ -2,17 +2,18 @@
 use crate::connection::Connection;
 use crate::host::SystemHost;
 use crate::pages::Pages;
-use crate::system::System;
+use crate::system::{System, log_socket_fault};
+use event_log::{LogEvent, LogFormat, write_event};
 use rpkirtrd_cli::{Command, OptionFault, Settings, read_words};
 use rpkirtrd_start::{check, serve};
-use rtr_daemon::SocketFault;
+use rtr_daemon::{EventLog, SocketFault};
 use status_server::MAX_CONNECTIONS;
 use std::env::Env;
 use std::io::Write;
 use std::net::Net;
 use std::random::RandomSource;
 use std::rt::Files;
-use std::time::Clock;
+use std::time::{Clock, SystemTime, UNIX_EPOCH};
 
 /// Reports that memory ran out, and answers the exit status.
 pub fn out_of_memory<E: Write>(err: &mut E) -> u8 {
@@ -48,9 +49,35 @@ fn print<O: Write>(text: &str, out: &mut O) -> u8 {
     }
 }
 
-/// Reports which socket cannot be opened, and answers the exit status.
-pub fn refuse_socket<E: Write>(fault: &SocketFault, err: &mut E) -> u8 {
-    let _ = writeln!(err, "rpkirtrd: {fault}");
+/// Standard error, as a log without a buffer.
+#[derive(Drop)]
+struct FirstLog<'a, E> {
+    err: &'a mut E,
+    form: LogFormat,
+}
+
+impl<E: Write> EventLog for FirstLog<'_, E> {
+    fn log(&mut self, seconds: u64, event: &LogEvent<'_>) {
+        let _ = write_event(self.err, self.form, seconds, event);
+    }
+}
+
+/// Reports in the form of the log why there is no system, and answers the exit status.
+fn refuse_system<R: Clock + AllocGlobal, E: Write>(
+    rt: &R,
+    form: LogFormat,
+    fault: &SocketFault,
+    err: &mut E,
+) -> u8 {
+    if form == LogFormat::Text {
+        let _ = writeln!(err, "rpkirtrd: {fault}");
+        return fault.status();
+    }
+    let now = match SystemTime::now(rt) {
+        Ok(now) => now.duration_since(UNIX_EPOCH).unwrap_or_default().as_secs(),
+        Err(_) => 0,
+    };
+    log_socket_fault(rt.alloc(), fault, now, &mut FirstLog { err, form });
     fault.status()
 }
 
@@ -60,9 +87,9 @@ fn check_config<R: Files + Net + Clock + RandomSource + AllocGlobal + Clone + Dr
     settings: Settings,
     err: &mut E,
 ) -> u8 {
-    let mut system = match System::open(rt, err, &settings, &[]) {
+    let mut system = match System::open(rt, err, &settings) {
         Ok(system) => system,
-        Err(fault) => return refuse_socket(&fault, err),
+        Err(fault) => return refuse_system(rt, settings.log, &fault, err),
     };
     let (mut host, http) = (SystemHost { rt }, http_connections(&settings));
     let checked = check::<Connection, SystemHost<'_, R>, System<'_, R, E>>(
@@ -81,10 +108,13 @@ fn serve_routers<
     R: Files + Env + Net + Clock + RandomSource + AllocGlobal + Clone + Drop,
     E: Write,
 >(rt: &R, settings: Settings, err: &mut E) -> u8 {
-    let mut system = match System::open(rt, err, &settings, settings.listen.as_slice()) {
+    let mut system = match System::open(rt, err, &settings) {
         Ok(system) => system,
-        Err(fault) => return refuse_socket(&fault, err),
+        Err(fault) => return refuse_system(rt, settings.log, &fault, err),
     };
+    if let Err(fault) = system.listen(settings.listen.as_slice()) {
+        return system.end_without_socket(&fault);
+    }
     system.find_manager();
     let mut pages = match Pages::open(rt, &settings, &mut system) {
         Ok(pages) => pages,

@@ -1,12 +1,12 @@
 //! The system: what is open, the clocks, the log, and the service manager.
 use crate::service_manager::ManagerSocket;
-use crate::standard_error::StandardErrorRoom;
-use crate::starting::refuse_socket;
+use crate::standard_error::StandardError;
 use event_log::{LogEvent, LogFormat};
-use log_output::{Log, Room, RoomSink};
+use log_output::Log;
 use mio::net::TcpListener;
 use mio::{Events, Interest, Poll, Token};
 use rpkirtrd_cli::Settings;
+use rpkirtrd_start::Addresses;
 use rtr_daemon::{
     EventLog, FIRST_CONNECTION, FIRST_STATUS_CONNECTION, Ready, STATUS_TOKEN, SocketFault,
     StartFault, Time,
@@ -14,6 +14,7 @@ use rtr_daemon::{
 use sd_notify::{Notifier, service_manager};
 use status_pages::LostLines;
 use status_server::HttpReady;
+use std::alloc::Global;
 use std::collections::VecDeque;
 use std::env::Env;
 use std::fmt::{self, Debug};
@@ -37,6 +38,9 @@ pub struct System<'a, R, E> {
     err: &'a mut E,
     format: LogFormat,
     log: Log,
+    standard_error: StandardError,
+    /// What is reported of the start when the files are read: the addresses, and what went wrong beside.
+    opened: VecDeque<LogEvent<'static>>,
     manager: Option<Notifier<ManagerSocket>>,
     pub(crate) max_size: u64,
     pub(crate) poll: Poll,
@@ -64,19 +68,20 @@ impl<R, E> Debug for System<'_, R, E> {
 }
 
 impl<'a, R: Files + Net + Clock + AllocGlobal, E: Write> System<'a, R, E> {
-    /// The system of these settings, with a listener at each of these addresses.
+    /// The system of these settings, without a listener.
     pub fn open(
         rt: &'a R,
         err: &'a mut E,
         settings: &Settings,
-        addresses: &[SocketAddr],
     ) -> Result<System<'a, R, E>, SocketFault> {
         let poll = Poll::new(rt)?;
-        let mut system: System<'a, R, E> = System {
+        Ok(System {
             rt,
             err,
             format: settings.log,
             log: Log::new(rt.alloc(), settings.log, settings.log_level)?,
+            standard_error: StandardError::open(),
+            opened: VecDeque::new(rt.alloc()),
             manager: None,
             max_size: settings.max_size,
             poll,
@@ -91,31 +96,33 @@ impl<'a, R: Files + Net + Clock + AllocGlobal, E: Write> System<'a, R, E> {
             began: Instant::now(rt)?,
             seconds: 0,
             millis: 0,
-        };
+        })
+    }
+
+    /// Opens a listener for routers at each of these addresses.
+    pub fn listen(&mut self, addresses: &[SocketAddr]) -> Result<(), SocketFault> {
         for address in addresses {
-            if let Err(error) = system.listen(*address) {
+            if let Err(error) = self.listen_at(*address) {
                 let address = Some(*address);
                 return Err(SocketFault { address, error });
             }
         }
-        Ok(system)
-    }
-
-    /// Opens a listener for routers, and reports its address.
-    fn listen(&mut self, address: SocketAddr) -> io::Result<()> {
-        let (listener, address) = self.bind(address, Token(self.listeners.len()))?;
-        self.listeners.push(listener)?;
-        let now = self.seconds();
-        self.log(now, &LogEvent::Listening { address });
         Ok(())
     }
 
-    /// Opens the listener of the status pages, and reports its address.
+    /// Opens a listener for routers. Its address is reported when the files are read.
+    fn listen_at(&mut self, address: SocketAddr) -> io::Result<()> {
+        let (listener, address) = self.bind(address, Token(self.listeners.len()))?;
+        self.listeners.push(listener)?;
+        self.opened.push_back(LogEvent::Listening { address })?;
+        Ok(())
+    }
+
+    /// Opens the listener of the status pages. Its address is reported when the files are read.
     pub fn listen_for_http(&mut self, address: SocketAddr) -> io::Result<()> {
         let (listener, address) = self.bind(address, Token(STATUS_TOKEN))?;
         self.http_listener = Some(listener);
-        let now = self.seconds();
-        self.log(now, &LogEvent::Status { address });
+        self.opened.push_back(LogEvent::Status { address })?;
         Ok(())
     }
 
@@ -155,11 +162,26 @@ impl<'a, R: Clock + AllocGlobal, E: Write> EventLog for System<'a, R, E> {
     }
 }
 
+impl<'a, R: Clock + AllocGlobal, E: Write> Addresses for System<'a, R, E> {
+    fn log_addresses(&mut self, seconds: u64) {
+        for _event in 0..self.opened.len() {
+            if let Some(event) = self.opened.pop_front() {
+                self.log(seconds, &event);
+            }
+        }
+    }
+}
+
 impl<'a, R: Clock + AllocGlobal, E: Write> System<'a, R, E> {
-    /// Ends a run without the socket of the pages, and answers the exit status.
+    /// Ends a run without one of its sockets, and answers the exit status.
     pub fn end_without_socket(&mut self, fault: &SocketFault) -> u8 {
-        let status = refuse_socket(fault, self.err);
-        self.end(Ok(status))
+        if self.format == LogFormat::Text {
+            let _ = writeln!(self.err, "rpkirtrd: {fault}");
+        } else {
+            let now = self.seconds();
+            log_socket_fault(self.rt.alloc(), fault, now, self);
+        }
+        self.end(Ok(fault.status()))
     }
 
     /// Ends a run with its exit status, or with why the daemon did not start. The service manager is notified, and the log is written.
@@ -175,22 +197,21 @@ impl<'a, R: Clock + AllocGlobal, E: Write> System<'a, R, E> {
         status
     }
 
-    /// Reports on standard error why the daemon does not start, and answers the exit status.
+    /// Reports why the daemon does not start, and answers the exit status. In the form `Text` that is a line for people, after the log's.
     fn refuse(&mut self, fault: &StartFault) -> u8 {
-        if self.format == LogFormat::Json {
+        if self.format == LogFormat::Text {
+            self.end_log();
+            let _ = writeln!(self.err, "rpkirtrd: {fault}");
+        } else {
             let now = self.seconds();
             fault.log_to(self.rt.alloc(), now, self);
-        } else {
-            let _ = writeln!(self.err, "rpkirtrd: {fault}");
         }
         fault.refusal.status()
     }
 
     /// Writes the buffered log lines for which standard error has room.
     fn write_log(&mut self) {
-        let mut room = StandardErrorRoom;
-        self.log
-            .write_to(&mut RoomSink::new(&mut *self.err, &mut room));
+        self.log.write_to(&mut self.standard_error);
     }
 
     /// Writes the buffered log lines before the program exits, and waits a second at most for standard error.
@@ -200,7 +221,7 @@ impl<'a, R: Clock + AllocGlobal, E: Write> System<'a, R, E> {
             if self.log.is_written() {
                 return;
             }
-            let _ = StandardErrorRoom.is_ready(LAST_WAIT);
+            let _ = self.standard_error.is_ready(LAST_WAIT);
         }
     }
 
@@ -220,18 +241,18 @@ impl<'a, R: Clock + AllocGlobal, E: Write> System<'a, R, E> {
         }
     }
 
-    /// Finds the service manager that started the daemon, and reports if it cannot be notified.
+    /// Finds the service manager that started the daemon. If it cannot be notified, that is reported when the files are read.
     pub fn find_manager(&mut self)
     where
         R: Env,
     {
-        let (now, millis) = (self.seconds(), self.millis());
+        let millis = self.millis();
         let own = u64::from(libc::getpid().unsigned_abs());
         match service_manager(self.rt, own, millis) {
             Ok(manager) => self.manager = manager,
             Err(_) => {
                 let reason = "the service manager that NOTIFY_SOCKET names cannot be notified";
-                self.log(now, &LogEvent::Warning { reason });
+                let _ = self.opened.push_back(LogEvent::Warning { reason });
             }
         }
     }
@@ -256,4 +277,13 @@ impl<'a, R: Clock + AllocGlobal, E: Write> System<'a, R, E> {
             self.log(now, &LogEvent::Warning { reason });
         }
     }
+}
+
+/// Writes to the log which socket cannot be opened.
+pub fn log_socket_fault<J: EventLog>(alloc: Global, fault: &SocketFault, now: u64, events: &mut J) {
+    let Ok(reason) = fault.to_string(alloc) else {
+        return events.log(now, &LogEvent::Memory { what: "the start" });
+    };
+    let (what, reason) = ("listen", reason.as_str());
+    events.log(now, &LogEvent::Failed { what, reason })
 }

@@ -2,6 +2,7 @@
 //! the traits of `rtr_daemon` and `session_names`.
 #![tactic(auto)]
 
+mod paths;
 mod starting;
 
-pub use starting::{check, serve, start};
+pub use starting::{Addresses, check, serve, start};

@@ -6,11 +6,12 @@ ghost use Rattle.rtr_daemon.specs.Running.{clients_within, exit_status};
 ghost use Rattle.rtr_daemon.specs.declared.daemon.StopReason.{StopReason};
 ghost use Rattle.rpkirtrd_start.specs.Plans.{plan_of};
 
+use crate::paths::paths_of;
 use event_log::LogEvent;
 use rpkirtrd_cli::{Settings, session_warning};
 use rtr_daemon::{
-    AfterTurn, Daemon, Disk, EventLog, Paths, Plan, Sockets, StartFault, Time, limit_clients,
-    report_check, report_end, run, wait_for_clock,
+    AfterTurn, Daemon, Disk, EventLog, Plan, Sockets, StartFault, Time, clients_within,
+    report_check, report_end, report_limit, run, wait_for_clock,
 };
 use rtr_ends::Cache;
 use rtr_server::{Server, Stream};
@@ -19,9 +20,15 @@ use std::alloc::{AllocError, Global};
 use std::io;
 use vrps::VersionLog;
 
-/// The daemon of these settings, with its files loaded. `descriptors` is the limit of descriptors of the process, and `http` how many of them the
-/// status pages may need.
-pub fn start<T: Stream + Drop, H: HostFacts, W: Disk + Time + EventLog>(
+/// The addresses at which a program listens.
+pub trait Addresses {
+    /// Writes them to the log. It is called once, when the files of a start are read.
+    fn log_addresses(&mut self, seconds: u64);
+}
+
+/// The daemon of these settings, with its files loaded. Of a start that fails the log says nothing but why. `descriptors` is the limit of
+/// descriptors of the process, and `http` how many of them the status pages may need.
+pub fn start<T: Stream + Drop, H: HostFacts, W: Disk + Time + EventLog + Addresses>(
     alloc: Global,
     settings: Settings,
     descriptors: usize,
@@ -38,30 +45,21 @@ pub fn start<T: Stream + Drop, H: HostFacts, W: Disk + Time + EventLog>(
         Ok(choice) => choice,
         Err(error) => return Err(StartFault::of_random(alloc, error)),
     };
-    let clients = limit_clients(settings.clients, descriptors, http, begun, env);
+    let asked = settings.clients;
+    let notify_warning = settings.notify_warning();
+    let clients = clients_within(asked, descriptors, http);
     let plan = plan_of(&settings, clients);
     let Ok(server) = server_of(alloc, &settings, ids, clients) else {
         return Err(StartFault::memory());
     };
+    let paths = paths_of(alloc, settings, begun, env)?;
+    let daemon = Daemon::open(alloc, plan, ids, server, paths, env)?;
+    env.log_addresses(begun);
+    report_limit(asked, clients, begun, env);
     env.log(begun, &LogEvent::Started(ids));
     warn(session_warning(is_random), begun, env);
-    warn(settings.notify_warning(), begun, env);
-    Daemon::open(alloc, plan, ids, server, paths_of(settings), env)
-}
-
-/// The paths of the sources.
-fn paths_of(settings: Settings) -> Paths {
-    let Settings {
-        vrps,
-        points,
-        slurm,
-        ..
-    } = settings;
-    Paths {
-        files: vrps,
-        slurms: slurm,
-        points,
-    }
+    warn(notify_warning, begun, env);
+    Ok(daemon)
 }
 
 /// The sessions and the first serial of a run that starts this many seconds after 1970.
@@ -118,7 +116,7 @@ fn plan_of(settings: &Settings, clients: usize) -> Plan
 }
 
 /// Reads all files as at a start, and reports what would be served. Answers the exit status, or why the daemon would not start.
-pub fn check<T: Stream + Drop, H: HostFacts, W: Disk + Time + EventLog>(
+pub fn check<T: Stream + Drop, H: HostFacts, W: Disk + Time + EventLog + Addresses>(
     alloc: Global,
     settings: Settings,
     descriptors: usize,
@@ -137,7 +135,7 @@ pub fn check<T: Stream + Drop, H: HostFacts, W: Disk + Time + EventLog>(
 pub fn serve<
     T: Stream + Drop,
     H: HostFacts,
-    W: Sockets<T> + Disk + Time + EventLog,
+    W: Sockets<T> + Disk + Time + EventLog + Addresses,
     A: AfterTurn<VersionLog, T, W>,
 >(
     alloc: Global,
