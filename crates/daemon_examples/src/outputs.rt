@@ -20,6 +20,10 @@ enum Manner {
     IsFull,
     /// It accepts at most this number of bytes a write.
     Takes(usize),
+    /// It has room for one byte at a time.
+    IsNarrow,
+    /// It accepts this number of bytes in all, and then fails.
+    HasSpace(usize),
     /// Its writes fail.
     Fails(ErrorKind),
 }
@@ -43,16 +47,20 @@ impl Memory {
 }
 
 impl LogSink for Memory {
-    ghost use Rattle.std.specs.Prelude.{Some, None, true};
+    ghost use Rattle.std.specs.Prelude.{Some, None};
 
     ghost contents = { λ m. Some m.taken.items };
 
     ghost last_answer = { λ _. None };
 
-    ghost is_ready = { λ _. true };
+    ghost allowed = { λ _. 4096 };
 
-    fn has_room(&mut self) -> bool {
-        self.manner != Manner::IsFull
+    fn room(&mut self) -> usize {
+        match self.manner {
+            Manner::IsFull => 0,
+            Manner::IsNarrow => 1,
+            _ => 4096,
+        }
     }
 
     fn write(&mut self, bytes: &[u8]) -> io::Result<usize> {
@@ -60,6 +68,13 @@ impl LogSink for Memory {
         match self.manner {
             Manner::IsFull => Err(io::Error::from(ErrorKind::WouldBlock)),
             Manner::Takes(most) => self.taken.write(&bytes[..bytes.len().min(most)]),
+            Manner::IsNarrow => self.taken.write(bytes),
+            Manner::HasSpace(0) => Err(io::Error::from(ErrorKind::StorageFull)),
+            Manner::HasSpace(space) => {
+                let count = bytes.len().min(space);
+                self.manner = Manner::HasSpace(space - count);
+                self.taken.write(&bytes[..count])
+            }
             Manner::Fails(kind) => Err(io::Error::from(kind)),
         }
     }
@@ -178,6 +193,10 @@ const WRITTEN: &[Written] = &[
     (Manner::Takes(1), 54, 54, 0),
     (Manner::Takes(27), 54, 2, 0),
     (Manner::Takes(4096), 54, 1, 0),
+    (Manner::IsNarrow, 54, 54, 0),
+    (Manner::HasSpace(0), 0, 1, 2),
+    (Manner::HasSpace(27), 27, 2, 1),
+    (Manner::HasSpace(28), 28, 2, 0),
     (Manner::Fails(ErrorKind::WouldBlock), 0, 1, 0),
     (Manner::Fails(ErrorKind::Interrupted), 0, 1, 0),
     (Manner::Fails(ErrorKind::BrokenPipe), 0, 1, 2),
@@ -207,19 +226,65 @@ fn a_sink_is_written_to_as_it_takes(rt: HostRuntime) -> Result<(), Fail> {
     Ok(())
 }
 
-/// A call makes at most 64 writes. A line that was written in part before a failure is dropped too.
+/// How many bytes one call writes to a sink that accepts one at a time: 4,096 of 4,104.
 #[test]
-fn a_write_fails_in_a_line(rt: HostRuntime) -> Result<(), Fail> {
+fn a_call_makes_4096_writes(rt: HostRuntime) -> Result<(), Fail> {
     let mut log = open_log(rt.alloc())?;
-    let mut sink = Memory::new(rt.alloc(), Manner::Takes(1));
-    add_many(&mut log, 3, 0, &LogEvent::Ready);
+    let mut sink = Memory::new(rt.alloc(), Manner::IsNarrow);
+    add_many(&mut log, 152, 0, &LogEvent::Ready);
     log.write_to(&mut sink);
-    assert!(rt; sink.taken.len() == 64);
-    sink.manner = Manner::Fails(ErrorKind::BrokenPipe);
+    assert!(rt; sink.writes == 4096);
+    assert!(rt; !log.is_written());
+    Ok(())
+}
+
+/// A disk that is full in the third of four lines, then in the report. The rest of a line waits until there is space, and the other lines are
+/// lost.
+#[test]
+fn a_full_disk_tears_no_line(rt: HostRuntime) -> Result<(), Fail> {
+    let mut log = open_log(rt.alloc())?;
+    let mut sink = Memory::new(rt.alloc(), Manner::HasSpace(64));
+    add_many(&mut log, 4, 0, &LogEvent::Ready);
     log.write_to(&mut sink);
     assert!(rt; sink.taken.len() == 64);
     assert!(rt; log.dropped_lines() == 1);
-    assert!(rt; !log.is_empty());
+    sink.manner = Manner::HasSpace(27);
+    log.tick(MOMENT, 1000);
+    log.write_to(&mut sink);
+    assert!(rt; sink.taken.len() == 91);
+    assert!(rt; log.dropped_lines() == 1);
+    sink.manner = Manner::Takes(10_000);
+    log.add(MOMENT, 2000, &LogEvent::Ready);
+    log.write_to(&mut sink);
+    assert!(rt; lines_of(&sink) == 5);
+    assert!(rt;
+        ends_with(
+            &sink,
+            "ready\n2026-11-25T18:40:00Z ready\n2026-11-25T18:40:00Z dropped lines=1\n2026-11-25T18:40:00Z ready\n"
+        )
+    );
+    assert!(rt; log.dropped_lines() == 1);
+    assert!(rt; log.is_empty());
+    Ok(())
+}
+
+/// A report that a sink fails to write is no lost line, however often it is tried.
+#[test]
+fn lost_reports_are_not_counted(rt: HostRuntime) -> Result<(), Fail> {
+    let mut log = open_log(rt.alloc())?;
+    let mut sink = Memory::new(rt.alloc(), Manner::HasSpace(0));
+    log.add(MOMENT, 0, &LogEvent::Ready);
+    log.write_to(&mut sink);
+    for _ in 0..100u8 {
+        log.tick(MOMENT, 0);
+        log.write_to(&mut sink);
+    }
+    assert!(rt; log.dropped_lines() == 1);
+    sink.manner = Manner::Takes(10_000);
+    log.tick(MOMENT, 0);
+    log.write_to(&mut sink);
+    assert!(rt; sink.taken.as_slice() == b"2026-11-25T18:40:00Z dropped lines=1\n".as_slice());
+    assert!(rt; log.dropped_lines() == 1);
     Ok(())
 }
 
@@ -394,7 +459,7 @@ fn a_window_lets_1000_lines_through(rt: HostRuntime) -> Result<(), Fail> {
     Ok(())
 }
 
-/// A line of 65,536 bytes fits, and then not even a newline.
+/// A line of 65,536 bytes fits, and then not even a newline. What is given up after the rest of that line is a line and a report.
 #[test]
 fn a_buffer_has_room_for_65536_bytes(rt: HostRuntime) -> Result<(), Fail> {
     let mut line = Vec::new(rt.alloc());
@@ -408,16 +473,20 @@ fn a_buffer_has_room_for_65536_bytes(rt: HostRuntime) -> Result<(), Fail> {
     assert!(rt; !buffer.add_line(b"\n"));
     assert!(rt; buffer.len() == 65_536);
     assert!(rt; buffer.dropped() == 1);
+    assert!(rt; buffer.is_report_due());
     assert!(rt; !buffer.add_report(b"b\n"));
-    let count = buffer.chunk().len();
+    let count = buffer.chunk(4096).len();
     assert!(rt; count == 4096);
     buffer.consume(count);
     assert!(rt; !buffer.add_line(b"\n"));
     assert!(rt; buffer.add_report(b"b\n"));
+    assert!(rt; !buffer.is_report_due());
     assert!(rt; buffer.add_line(b"c\n"));
     buffer.lose_line();
     buffer.give_up();
-    assert!(rt; buffer.is_empty());
+    assert!(rt; buffer.len() == 61_440);
+    assert!(rt; buffer.lost() == 4);
     assert!(rt; buffer.dropped() == 4);
+    assert!(rt; buffer.is_report_due());
     Ok(())
 }

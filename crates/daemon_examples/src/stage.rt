@@ -2,6 +2,7 @@
 use crate::wires::{Router, Shared, Wire, is_list, shared, wire};
 use event_log::{LogEvent, LogFormat, write_event};
 use payload_commands::Directory;
+use rpkirtrd_start::Addresses;
 use rtr_daemon::{AcceptResult, Disk, EventLog, Ready, Sockets, Stamp, Time};
 use std::alloc::{AllocError, Global};
 use std::collections::VecDeque;
@@ -119,6 +120,10 @@ impl Time for Stage {
     fn millis(&mut self) -> u64 {
         self.millis
     }
+}
+
+impl Addresses for Stage {
+    fn log_addresses(&mut self, _seconds: u64) {}
 }
 
 impl EventLog for Stage {

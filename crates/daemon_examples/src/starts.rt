@@ -4,7 +4,7 @@ use crate::wires::Wire;
 use rpkirtrd_cli::{Command, read_words, session_warning};
 use rtr_daemon::{
     AcceptResult, FileForm, PollToken, SocketFault, StopReason, Time, Unreadable, WaitLimits,
-    limit_clients, report_end, wait_for_clock,
+    clients_within, report_end, report_limit, wait_for_clock,
 };
 use sd_notify::{Notifier, NotifySocket, enabled_watchdog};
 use session_names::{GivenIds, HostFacts, choose_session};
@@ -24,10 +24,18 @@ fn the_clock_is_waited_for(rt: HostRuntime) -> Result<(), Fail> {
 
 #[test]
 fn descriptors_limit_clients(rt: HostRuntime) {
+    assert!(rt; clients_within(256, 1024, 64) == 256);
+    assert!(rt; clients_within(256, 100, 64) == 20);
+    assert!(rt; clients_within(256, 10, 0) == 1);
+}
+
+#[test]
+fn fewer_clients_are_reported(rt: HostRuntime) {
     let mut stage = Stage::new(rt.alloc(), 0, "[]");
-    assert!(rt; limit_clients(256, 1024, 64, 0, &mut stage) == 256);
-    assert!(rt; limit_clients(256, 100, 64, 0, &mut stage) == 20);
-    assert!(rt; limit_clients(256, 10, 0, 0, &mut stage) == 1);
+    report_limit(256, 256, 0, &mut stage);
+    assert!(rt; stage.log.len() == 0);
+    report_limit(256, 20, 0, &mut stage);
+    assert!(rt; stage.log.len() > 0);
 }
 
 #[test]

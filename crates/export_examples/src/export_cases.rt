@@ -1,5 +1,5 @@
 //! The results of the cases in a file: `tests/exports.py` makes them at random, and compares this with what it reads itself.
-use exports::{TimedExport, read_export_until};
+use exports::{ExportCounted, read_export_counted};
 use payload_lists::write_list;
 use std::alloc::Global;
 use std::io::Write;
@@ -17,16 +17,21 @@ fn second(alloc: Global, second: Option<u64>) -> Result<String, Fail> {
     }
 }
 
-/// The result of a text at a moment: how many entries have expired, when it was made, until when it stays so, and the payload list. Or the
-/// fault and its text.
+/// What was read of an export.
+fn listed(alloc: Global, read: &ExportCounted) -> Result<String, Fail> {
+    let (export, ignored) = (&read.lasting.export, read.ignored);
+    let list = write_list(alloc, export.set.as_slice())?;
+    let built = second(alloc, export.built)?;
+    let end = second(alloc, read.lasting.until)?;
+    let (expired, aspas, keys) = (export.expired, ignored.aspas, ignored.router_keys);
+    Ok(format!(in alloc; "{expired} {built} {end} {aspas} {keys} {list}")?)
+}
+
+/// The result of a text at a moment: how many entries have expired, when it was made, and until when it stays so. Then how many ASPAs and how
+/// many router keys are not served, and the payload list. Or the fault and its text.
 fn outcome(alloc: Global, now: u64, text: &[u8]) -> Result<String, Fail> {
-    match read_export_until(alloc, text, now) {
-        Ok(TimedExport { export, until }) => {
-            let list = write_list(alloc, export.set.as_slice())?;
-            let built = second(alloc, export.built)?;
-            let end = second(alloc, until)?;
-            Ok(format!(in alloc; "{} {built} {end} {list}", export.expired)?)
-        }
+    match read_export_counted(alloc, text, now) {
+        Ok(read) => listed(alloc, &read),
         Err(fault) => Ok(format!(in alloc; "fault {}: {fault}", fault.number())?),
     }
 }

@@ -45,6 +45,8 @@ const NO_JSON: &[&[u8]] = &[
     b"{\"x\":1e999,\"roas\":[]}",
     b"{\"roas\":[],\"roas\":[]} x",
     b"\xff{\"roas\":[]}",
+    b"\x00",
+    b"\x00{\"roas\":[]}",
     b"[[[[[[[[[[[[[[[[[[[[[[[[[[[[[[[[[[[[[[[[[[[[[[[[[[[[[[[[[[[[[[[[[[[[[[[[[[[[[[[[[[[[[[[[[[[[[[[[[[[[[[[[[[[[[[[[[[[[[[[[[[[[[[[[[[[[[[[[",
 ];
 
@@ -71,7 +73,7 @@ fn json_of_neither_form(rt: HostRuntime) {
 }
 
 /// Names that are read and repeated: in the export, in the metadata, in an entry; before an entry that cannot be read, and if there are no
-/// `roas`.
+/// `roas`. The last three are of arrays that are counted.
 const REPEATED: &[&[u8]] = &[
     b"{\"roas\":[],\"roas\":[]}",
     b"{\"roas\":[],\"ro\\u0061s\":7}",
@@ -84,6 +86,9 @@ const REPEATED: &[&[u8]] = &[
     b"{\"roas\":[{},{\"expires\":1,\"expires\":1},{}]}",
     b"{\"metadata\":{},\"metadata\":{}}",
     b"{\"roas\":{},\"roas\":[{\"asn\":1}]}",
+    b"{\"aspas\":[],\"roas\":[],\"aspas\":7}",
+    b"{\"bgpsec_keys\":[],\"bgpsec_keys\":[]}",
+    b"{\"roas\":[7],\"routerKeys\":[],\"routerKeys\":[1]}",
 ];
 
 #[test]
@@ -216,7 +221,7 @@ const FAULTS: &[(ExportFault, u8, &str)] = &[
     (
         ExportFault::Entry(7, EntryFault::Asn),
         3,
-        "entry 7 of roas cannot be read: asn is no AS number (fault 3)",
+        "entry 7 of roas cannot be read: asn is not an AS number (fault 3)",
     ),
     (
         ExportFault::TooMany,

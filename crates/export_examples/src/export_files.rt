@@ -1,7 +1,11 @@
 //! Files as validators and RTR tools write them.
 use example_values::sets::{Rows, set_of};
-use exports::{Export, ExportLasting, read_export, read_export_lasting, read_export_until};
-use std::alloc::Global;
+use exports::{
+    Export, ExportLasting, Ignored, read_export, read_export_counted, read_export_lasting,
+    read_export_until,
+};
+use prefixes::Vrp;
+use std::alloc::{AllocError, Global};
 use std::test::Fail;
 
 /// The moment at which the files are read: 14 November 2023, 22:13:20 UTC.
@@ -195,19 +199,16 @@ const TWICE: &str = r#"{"roas":[
 
 #[test]
 fn of_entries_with_one_record_the_last_end_counts(rt: HostRuntime) -> Result<(), Fail> {
-    let read = read_export_lasting(rt.alloc(), TWICE.as_bytes(), NOW)?;
     let rows: Rows = &[
         ("10.0.0.0/8", 8, 1),
         ("10.0.0.0/8", 8, 2),
         ("10.0.0.0/8", 8, 3),
     ];
-    assert!(rt; is_of(rt.alloc(), &read.export, rows)?);
-    assert_eq!(rt;
-        read.lasts.as_slice(),
-        [NOW + 8, NOW + 4, u64::MAX].as_slice()
-    );
+    let read = read_export_lasting(rt.alloc(), TWICE.as_bytes(), NOW)?;
+    assert!(rt; read.lasts.as_slice() == [NOW + 8, NOW + 4, u64::MAX].as_slice());
     assert!(rt; read.export.expired == 1);
     assert!(rt; read.until == Some(NOW + 1));
+    assert!(rt; is_of(rt.alloc(), &read.export, rows)?);
     Ok(())
 }
 
@@ -216,30 +217,43 @@ fn records_of_a_payload_list_do_not_end(rt: HostRuntime) -> Result<(), Fail> {
     let text =
         r#"[{"asn":1,"prefix":"10.0.0.0/8","maxLength":8},{"asn":1,"prefix":"10.0.0.0/8","maxLength":8}]"#;
     let read = read_export_lasting(rt.alloc(), text.as_bytes(), NOW)?;
-    assert_eq!(rt; read.lasts.as_slice(), [u64::MAX].as_slice());
+    assert!(rt; read.lasts.as_slice() == [u64::MAX].as_slice());
     assert!(rt; read.until.is_none());
     Ok(())
 }
 
-/// Whether the records that count at a moment, by their last seconds, are those that a text exports then.
-fn counts_then(alloc: Global, read: &ExportLasting, text: &str, moment: u64) -> Result<bool, Fail> {
+/// The records that count at a moment, by their last seconds.
+fn left_at(alloc: Global, read: &ExportLasting, moment: u64) -> Result<Vec<Vrp>, AllocError> {
     let mut left = Vec::new(alloc);
     for (vrp, last) in read.export.set.iter().zip(read.lasts.iter()) {
         if moment <= *last {
             left.push(*vrp)?;
         }
     }
+    Ok(left)
+}
+
+/// Whether the records that count at a moment, by their last seconds, are those that a text exports then.
+fn counts_then(alloc: Global, read: &ExportLasting, text: &str, moment: u64) -> Result<bool, Fail> {
+    let left = left_at(alloc, read, moment)?;
     let then = read_export(alloc, text.as_bytes(), moment)?;
     Ok(left.as_slice() == then.set.as_slice())
+}
+
+/// Whether this holds at each moment around the ends, and at the last there is.
+fn counts_always(alloc: Global, read: &ExportLasting, text: &str) -> Result<bool, Fail> {
+    for moment in NOW - 3..NOW + 12 {
+        if !counts_then(alloc, read, text, moment)? {
+            return Ok(false);
+        }
+    }
+    counts_then(alloc, read, text, u64::MAX)
 }
 
 #[test]
 fn later_exports_are_known(rt: HostRuntime) -> Result<(), Fail> {
     let read = read_export_lasting(rt.alloc(), TWICE.as_bytes(), NOW - 3)?;
-    for moment in NOW - 3..NOW + 12 {
-        assert!(rt; counts_then(rt.alloc(), &read, TWICE, moment)?);
-    }
-    assert!(rt; counts_then(rt.alloc(), &read, TWICE, u64::MAX)?);
+    assert!(rt; counts_always(rt.alloc(), &read, TWICE)?);
     Ok(())
 }
 
@@ -293,6 +307,58 @@ fn the_last_of_a_name_in_a_list(rt: HostRuntime) -> Result<(), Fail> {
         r#"[{"asn":1,"asn":64496,"prefix":"10.0.0.0/8","prefix":"192.0.2.0/24","maxLength":24},
         {"asn":64497,"prefix":"2001:db8::/32","maxLength":1,"maxLength":48}]"#;
     assert!(rt; is_two(rt.alloc(), text, None)?);
+    Ok(())
+}
+
+/// Texts, and how many ASPAs and how many router keys of them are not served.
+const IGNORED: &[(&str, u64, u64)] = &[
+    ("[]", 0, 0),
+    (r#"{"roas":[]}"#, 0, 0),
+    (
+        r#"{"roas":[],"aspas":[],"bgpsec_keys":[],"routerKeys":[]}"#,
+        0,
+        0,
+    ),
+    (
+        r#"{"aspas":[{"customer_asid":1,"providers":[2,3]}],"roas":[]}"#,
+        1,
+        0,
+    ),
+    (r#"{"roas":[],"aspas":[{"aspas":[1,2,3]},[7,[]]]}"#, 2, 0),
+    (r#"{"roas":[],"bgpsec_keys":[{"asn":1}]}"#, 0, 1),
+    (r#"{"bgpsec_keys":[{},{}],"roas":[]}"#, 0, 2),
+    (r#"{"roas":[],"routerKeys":[{"asn":"AS1"}]}"#, 0, 1),
+    (
+        r#"{"routerKeys":[1,2],"roas":[],"bgpsec_keys":[3],"nonfunc_cas":[4],"aspas":[5]}"#,
+        1,
+        3,
+    ),
+    (
+        r#"{"roas":[],"aspas":{"ipv4":[1]},"bgpsec_keys":null,"routerKeys":"x"}"#,
+        0,
+        0,
+    ),
+    (
+        r#"{"roas":[],"metadata":{"aspas":[1,2]},"x":[[1,2]]}"#,
+        0,
+        0,
+    ),
+];
+
+/// Whether this much of each is not served.
+fn ignore(alloc: Global, rows: &[(&str, u64, u64)]) -> Result<bool, Fail> {
+    for &(text, aspas, router_keys) in rows {
+        let read = read_export_counted(alloc, text.as_bytes(), NOW)?;
+        if read.ignored != (Ignored { aspas, router_keys }) {
+            return Ok(false);
+        }
+    }
+    Ok(true)
+}
+
+#[test]
+fn aspas_and_router_keys_are_counted(rt: HostRuntime) -> Result<(), Fail> {
+    assert!(rt; ignore(rt.alloc(), IGNORED)?);
     Ok(())
 }
 

@@ -1,6 +1,6 @@
 //! The results of the cases in a file: `tests/exceptions.py` makes them at random, and compares this with what it works out itself.
 use payload_lists::{read_list, write_list};
-use slurm::{Slurm, apply, read_slurm};
+use slurm::{ScopedSlurm, apply, read_slurm_scoped};
 use std::alloc::Global;
 use std::io::Write;
 use std::test::Fail;
@@ -9,16 +9,19 @@ use std::{fs, io, str};
 /// The file, in the folder in which the tests run: on each line a SLURM file and a payload list, both in hexadecimal digits.
 const CASES: &str = "exceptions.cases";
 
-/// The payload list that results from a list with these exceptions.
-fn applied(alloc: Global, slurm: &Slurm, list: &[u8]) -> Result<String, Fail> {
-    let left = apply(slurm, alloc, &read_list(alloc, list)?)?;
-    Ok(write_list(alloc, left.as_slice())?)
+/// How many filters and how many assertions of a file are not applied, and the payload list that results from a list with the others.
+fn applied(alloc: Global, scoped: &ScopedSlurm, list: &[u8]) -> Result<String, Fail> {
+    let left = apply(&scoped.slurm, alloc, &read_list(alloc, list)?)?;
+    let list = write_list(alloc, left.as_slice())?;
+    let ignored = scoped.ignored();
+    let (filters, assertions) = (ignored.bgpsec_filters, ignored.bgpsec_assertions);
+    Ok(format!(in alloc; "{filters} {assertions} {list}")?)
 }
 
 /// The same of a file, or its fault and the text of that.
 fn outcome(alloc: Global, file: &[u8], list: &[u8]) -> Result<String, Fail> {
-    match read_slurm(alloc, file) {
-        Ok(slurm) => applied(alloc, &slurm, list),
+    match read_slurm_scoped(alloc, file) {
+        Ok(scoped) => applied(alloc, &scoped, list),
         Err(fault) => Ok(format!(in alloc; "fault {}: {fault}", fault.number())?),
     }
 }

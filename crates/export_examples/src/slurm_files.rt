@@ -1,7 +1,8 @@
 use example_values::sets::{Row, set_of};
 use prefixes::Asn;
 use slurm::{
-    PrefixFilter, Slurm, SlurmArray, SlurmEntryFault, SlurmFault, SlurmObject, read_slurm,
+    Ignored, PrefixFilter, Slurm, SlurmArray, SlurmEntryFault, SlurmFault, SlurmObject, read_slurm,
+    read_slurm_scoped,
 };
 use std::alloc::Global;
 use std::test::Fail;
@@ -120,10 +121,57 @@ fn the_full_example_is_read(rt: HostRuntime) -> Result<(), Fail> {
     Ok(())
 }
 
+/// Whether a file has this many filters and assertions on BGPsec.
+fn ignores(alloc: Global, text: &str, filters: u64, assertions: u64) -> Result<bool, Fail> {
+    let ignored = read_slurm_scoped(alloc, text.as_bytes())?.ignored();
+    Ok(
+        ignored
+            == Ignored {
+                bgpsec_filters: filters,
+                bgpsec_assertions: assertions,
+            },
+    )
+}
+
+/// The arrays of a file, and how many entries of it are not applied.
+const IGNORED: &[([&str; 4], u64, u64)] = &[
+    ([r#"[{"asn":1}]"#, "[]", "[]", "[]"], 0, 0),
+    (["[]", r#"[{"asn":1,"SKI":"Zm9v"}]"#, "[]", "[]"], 1, 0),
+    (
+        [
+            "[]",
+            r#"[{"SKI":"Zm9v"},{"SKI":"Zm9v"}]"#,
+            "[]",
+            r#"[{"asn":1,"SKI":"Zm9v","routerPublicKey":"YmFy"}]"#,
+        ],
+        2,
+        1,
+    ),
+];
+
+/// Whether each ignores this many.
+fn ignore(alloc: Global, rows: &[([&str; 4], u64, u64)]) -> Result<bool, Fail> {
+    for (arrays, filters, assertions) in rows {
+        let text = file(alloc, arrays)?;
+        if !ignores(alloc, text.as_str(), *filters, *assertions)? {
+            return Ok(false);
+        }
+    }
+    Ok(true)
+}
+
+#[test]
+fn entries_on_router_keys_are_counted(rt: HostRuntime) -> Result<(), Fail> {
+    assert!(rt; ignores(rt.alloc(), FULL, 3, 1)?);
+    assert!(rt; ignore(rt.alloc(), IGNORED)?);
+    Ok(())
+}
+
 /// Texts that are no file, and why.
 const FILES: &[(&str, SlurmFault)] = &[
     ("", SlurmFault::NotJson),
     ("{", SlurmFault::NotJson),
+    ("\u{0}{}", SlurmFault::NotJson),
     ("{} {}", SlurmFault::NotJson),
     (r#"{"a":1,"a":2"#, SlurmFault::NotJson),
     (r#"{"a":1,"a":2}"#, SlurmFault::Repeated),
@@ -219,6 +267,10 @@ const ENTRIES: &[([&str; 4], SlurmFault)] = &[
         [r#"[{"prefix":"::ffff:192.0.2.1/120"}]"#, "[]", "[]", "[]"],
         SlurmFault::Entry(SlurmArray::PrefixFilters, 0, SlurmEntryFault::Prefix),
     ),
+];
+
+/// The same of the other three arrays.
+const LATER_ENTRIES: &[([&str; 4], SlurmFault)] = &[
     (
         ["[]", r#"[{"asn":1},{"SKI":"Zm9v"},[]]"#, "[7]", "[7]"],
         SlurmFault::Entry(SlurmArray::BgpsecFilters, 2, SlurmEntryFault::NoObject),
@@ -353,6 +405,7 @@ fn each_fault_of_a_key_is_told(rt: HostRuntime) -> Result<(), Fail> {
 fn each_fault_is_told_with_its_place(rt: HostRuntime) -> Result<(), Fail> {
     assert!(rt; have_faults(rt.alloc(), FILES));
     assert!(rt; have_entry_faults(rt.alloc(), ENTRIES)?);
+    assert!(rt; have_entry_faults(rt.alloc(), LATER_ENTRIES)?);
     assert!(rt; fault_of(rt.alloc(), &FULL.as_bytes()[..600]) == Some(SlurmFault::NotJson));
     Ok(())
 }
@@ -381,11 +434,12 @@ const ENTRY: SlurmFault = SlurmFault::Entry(
 );
 
 const ENTRY_TEXT: &str =
-    "prefixAssertions[12]: maxPrefixLength is no maximum length of the prefix (fault 5)";
+    "prefixAssertions[12]: maxPrefixLength is not a maximum length of the prefix (fault 5)";
 
 const MEMBERS: SlurmFault = SlurmFault::Members(SlurmObject::Filters);
 
-const MEMBERS_TEXT: &str = "validationOutputFilters is no object of exactly its members (fault 2)";
+const MEMBERS_TEXT: &str =
+    "validationOutputFilters is not an object of exactly its members (fault 2)";
 
 /// Of each kind one.
 const KINDS: &[SlurmFault] = &[

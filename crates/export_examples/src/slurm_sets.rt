@@ -224,24 +224,34 @@ const AFTER: &[Row] = &[
 ];
 
 #[test]
-fn the_example_and_another_file(rt: HostRuntime) -> Result<(), Fail> {
-    let alloc = rt.alloc();
-    let full = read_slurm_scoped(alloc, FULL.as_bytes())?;
-    let ases = full.bgpsec_filters.as_slice();
-    assert!(rt; ases.len() == 3);
-    assert!(rt; ases[0] == Some(Asn(64496)));
-    assert!(rt; ases[1] == None);
-    assert!(rt; ases[2] == Some(Asn(64497)));
-    assert!(rt; full.bgpsec_assertions.as_slice().len() == 1);
-    assert!(rt; full.bgpsec_assertions.as_slice()[0] == Asn(64496));
+fn the_ases_of_the_example(rt: HostRuntime) -> Result<(), Fail> {
+    let full = read_slurm_scoped(rt.alloc(), FULL.as_bytes())?;
+    let filters = [Some(Asn(64496)), None, Some(Asn(64497))];
+    assert!(rt; full.bgpsec_filters.as_slice() == filters.as_slice());
+    assert!(rt; full.bgpsec_assertions.as_slice() == [Asn(64496)].as_slice());
+    Ok(())
+}
+
+/// The example and the other file as one.
+fn both(alloc: Global) -> Result<Slurm, Fail> {
     let mut files = Vec::new(alloc);
-    files.push(full)?;
+    files.push(read_slurm_scoped(alloc, FULL.as_bytes())?)?;
     files.push(read(alloc, &OTHER)?)?;
-    let slurm = unite(alloc, files.as_slice())?;
+    Ok(unite(alloc, files.as_slice())?)
+}
+
+/// Whether exceptions make these records of those.
+fn make(alloc: Global, slurm: &Slurm, before: &[Row], after: &[Row]) -> Result<bool, Fail> {
+    let set = apply(slurm, alloc, &set_of(alloc, before)?)?;
+    Ok(set.is_same(&set_of(alloc, after)?))
+}
+
+#[test]
+fn the_example_and_another_file(rt: HostRuntime) -> Result<(), Fail> {
+    let slurm = both(rt.alloc())?;
     assert!(rt; slurm.filters.as_slice().len() == 4);
     assert!(rt; slurm.assertions.len() == 3);
-    let set = apply(&slurm, alloc, &set_of(alloc, BEFORE)?)?;
-    assert!(rt; set.is_same(&set_of(alloc, AFTER)?));
+    assert!(rt; make(rt.alloc(), &slurm, BEFORE, AFTER)?);
     Ok(())
 }
 
@@ -265,26 +275,33 @@ const THREE: &[Entries] = &[
     ],
 ];
 
+/// Why files of these entries cannot be united.
+fn refusal(alloc: Global, files: &[Entries]) -> Result<UniteFault, Fail> {
+    let Err(fault) = united(alloc, files)? else {
+        return Err("united".into());
+    };
+    Ok(fault)
+}
+
+/// Whether a fault has this text.
+fn is_told(alloc: Global, fault: &UniteFault, text: &str) -> Result<bool, Fail> {
+    Ok(format!(in alloc; "{fault}")?.as_str() == text)
+}
+
 #[test]
 fn the_two_files_and_prefixes_are_told(rt: HostRuntime) -> Result<(), Fail> {
     let first: IpPrefix = "192.0.2.0/25".parse()?;
     let second: IpPrefix = "192.0.2.0/24".parse()?;
-    let Err(fault) = united(rt.alloc(), THREE)? else {
-        return Err("united".into());
+    let wanted = UniteFault::Overlap {
+        first: 0,
+        second: 2,
+        what: Overlap::Prefixes(first, second),
     };
-    assert!(rt;
-        fault
-            == UniteFault::Overlap {
-                first: 0,
-                second: 2,
-                what: Overlap::Prefixes(first, second)
-            }
-    );
-    let text = fault.to_string(rt.alloc())?;
-    assert!(rt;
-        text.as_str()
-            == "192.0.2.0/25 overlaps with 192.0.2.0/24 of another SLURM file (RFC 8416 section 4.2)"
-    );
+    let fault = refusal(rt.alloc(), THREE)?;
+    assert!(rt; fault == wanted);
+    let text =
+        "192.0.2.0/25 overlaps with 192.0.2.0/24 of another SLURM file (RFC 8416 section 4.2)";
+    assert!(rt; is_told(rt.alloc(), &fault, text)?);
     Ok(())
 }
 
@@ -296,21 +313,15 @@ const ONE_AS: &[Entries] = &[
 
 #[test]
 fn the_as_is_told(rt: HostRuntime) -> Result<(), Fail> {
-    let Err(fault) = united(rt.alloc(), ONE_AS)? else {
-        return Err("united".into());
+    let wanted = UniteFault::Overlap {
+        first: 0,
+        second: 1,
+        what: Overlap::Bgpsec(Asn(64496)),
     };
-    assert!(rt;
-        fault
-            == UniteFault::Overlap {
-                first: 0,
-                second: 1,
-                what: Overlap::Bgpsec(Asn(64496))
-            }
-    );
-    let text = fault.to_string(rt.alloc())?;
-    assert!(rt;
-        text.as_str()
-            == "BGPsec entries of AS64496 overlap with those of another SLURM file (RFC 8416 section 4.2)"
-    );
+    let fault = refusal(rt.alloc(), ONE_AS)?;
+    assert!(rt; fault == wanted);
+    let text =
+        "BGPsec entries of AS64496 overlap with those of another SLURM file (RFC 8416 section 4.2)";
+    assert!(rt; is_told(rt.alloc(), &fault, text)?);
     Ok(())
 }

@@ -17,7 +17,7 @@ const FILES: &[(&str, &str)] = &[
         "{\n  \"slurmVersion\": 1,\n  }",
         "not JSON at line 3, column 3 (fault 1)",
     ),
-    ("7", "the file is 7, and no object (fault 2)"),
+    ("7", "the file is 7, must be an object (fault 2)"),
     (
         r#"{"slurmVersion":1,"validationOutputFilters":{}}"#,
         "the file has no member locallyAddedAssertions (fault 2)",
@@ -28,7 +28,15 @@ const FILES: &[(&str, &str)] = &[
     ),
     (
         r#"{"slurmVersion":2,"validationOutputFilters":{},"locallyAddedAssertions":{}}"#,
-        "slurmVersion is 2, and not 1 (fault 3)",
+        "slurmVersion is 2, must be 1: version 2 (ASPA) is not served (fault 3)",
+    ),
+    (
+        r#"{"slurmVersion":"1","validationOutputFilters":{},"locallyAddedAssertions":{}}"#,
+        r#"slurmVersion is "1", must be 1 (fault 3)"#,
+    ),
+    (
+        "\u{feff}{}",
+        "not JSON: it begins with a byte order mark, save it without one (fault 1)",
     ),
     (
         r#"{"slurmVersion":1,"validationOutputFilters":{"prefixFilters":[]},"locallyAddedAssertions":{}}"#,
@@ -48,11 +56,11 @@ const FILES: &[(&str, &str)] = &[
 const ENTRIES: &[([&str; 4], &str)] = &[
     (
         [r#"{"asn":1}"#, "[]", "[]", "[]"],
-        r#"prefixFilters is {"asn":1}, and no array (fault 4)"#,
+        r#"prefixFilters is {"asn":1}, must be an array (fault 4)"#,
     ),
     (
         [r#"[{"asn":1},7]"#, "[]", "[]", "[]"],
-        "prefixFilters[1]: 7 is no object (fault 5)",
+        "prefixFilters[1]: 7 is not an object (fault 5)",
     ),
     (
         [r#"[{"asn":1,"more":1}]"#, "[]", "[]", "[]"],
@@ -64,11 +72,28 @@ const ENTRIES: &[([&str; 4], &str)] = &[
     ),
     (
         [r#"[{"asn":"64496"}]"#, "[]", "[]", "[]"],
-        r#"prefixFilters[0]: asn "64496" is no AS number (fault 5)"#,
+        r#"prefixFilters[0]: asn "64496" is a string, must be a number (fault 5)"#,
+    ),
+    (
+        [r#"[{"prefix":"192.0.2.1/24"}]"#, "[]", "[]", "[]"],
+        r#"prefixFilters[0]: prefix "192.0.2.1/24" has host bits set (fault 5)"#,
+    ),
+    (
+        ["[]", r#"[{"SKI":7}]"#, "[]", "[]"],
+        "bgpsecFilters[0]: SKI 7 is not a string (fault 5)",
+    ),
+    (
+        [
+            "[]",
+            "[]",
+            r#"[{"asn":1,"prefix":"192.0.2.0/24","maxPrefixLength":"24"}]"#,
+            "[]",
+        ],
+        r#"prefixAssertions[0]: maxPrefixLength "24" is a string, must be a number (fault 5)"#,
     ),
     (
         ["[]", "[]", r#"[{"asn":1,"prefix":"::ffff:0:0/96x"}]"#, "[]"],
-        r#"prefixAssertions[0]: prefix "::ffff:0:0/96x" is no prefix (fault 5)"#,
+        r#"prefixAssertions[0]: prefix "::ffff:0:0/96x" is not a prefix (fault 5)"#,
     ),
     (
         ["[]", "[]", r#"[{"asn":1}]"#, "[]"],
@@ -81,7 +106,7 @@ const ENTRIES: &[([&str; 4], &str)] = &[
             r#"[{"asn":1,"prefix":"012345678901234567890123456789012345678901234567890123456789012345678901234567\u00e9"}]"#,
             "[]",
         ],
-        r#"prefixAssertions[0]: prefix "012345678901234567890123456789012345678901234567890123456789012345678901234567... is no prefix (fault 5)"#,
+        r#"prefixAssertions[0]: prefix "012345678901234567890123456789012345678901234567890123456789012345678901234567... is not a prefix (fault 5)"#,
     ),
     (
         ["[]", "[]", "[]", r#"[{"asn":1,"SKI":"Zm9v"}]"#],

@@ -64,7 +64,9 @@ pub(crate) fn empty(alloc: Global) -> Status {
         serial: None,
         ipv4: 0,
         ipv6: 0,
+        given: 0,
         left_out: 0,
+        peak: None,
         changes: Vec::new(alloc),
         files: Vec::new(alloc),
         max_age: None,
@@ -72,6 +74,7 @@ pub(crate) fn empty(alloc: Global) -> Status {
         client_limit: 256,
         clients_ever: 0,
         clients_refused: 0,
+        turned_away: None,
         clients_stalled: 0,
         received: TotalTraffic {
             bytes: 0,
@@ -114,6 +117,7 @@ fn taken_file(alloc: Global) -> Result<FileStatus, AllocError> {
         refused_at: None,
         is_old: false,
         expired: 12,
+        vrps: Some(523_456),
     })
 }
 
@@ -134,6 +138,7 @@ fn refused_file(alloc: Global) -> Result<FileStatus, AllocError> {
         refused_at: Some(NOW - 200),
         is_old: false,
         expired: 0,
+        vrps: None,
     })
 }
 
@@ -201,6 +206,7 @@ pub(crate) fn put_small(alloc: Global, status: &mut Status) -> Result<(), AllocE
     status.serial = Some(1_795_653_120);
     status.ipv4 = 400_000;
     status.ipv6 = 123_456;
+    status.given = 523_458;
     status.left_out = 2;
     put_counters(status);
     put_changes(status)?;
@@ -248,7 +254,7 @@ pub(crate) fn put_well(alloc: Global, status: &mut Status) -> Result<(), AllocEr
 }
 
 /// The last publication failed, for a reason that is special in HTML.
-fn put_failure(alloc: Global, status: &mut Status) -> Result<(), AllocError> {
+pub(crate) fn put_failure(alloc: Global, status: &mut Status) -> Result<(), AllocError> {
     status.publication_failure = Some(PublicationFailure {
         since: NOW - 120,
         reason: String::from_str(alloc, "more than <16777215> records (fault 1)")?,

@@ -14,8 +14,10 @@ fn address() -> SocketAddr {
 }
 
 /// The events of the daemon and of its sources.
-fn daemon_events() -> [LogEvent<'static>; 10] {
+fn daemon_events() -> [LogEvent<'static>; 12] {
     [
+        LogEvent::Unwell { reason: "no_vrps" },
+        LogEvent::Well { reason: "shrank" },
         LogEvent::Clock { behind: 3600 },
         LogEvent::Warning {
             reason: "the clock is before the year 2020",
@@ -48,7 +50,7 @@ fn daemon_events() -> [LogEvent<'static>; 10] {
 }
 
 /// The events of files, with names that must not break a line.
-fn file_events() -> [LogEvent<'static>; 7] {
+fn file_events() -> [LogEvent<'static>; 9] {
     [
         LogEvent::LeftOut { records: 2 },
         LogEvent::Refused {
@@ -67,6 +69,14 @@ fn file_events() -> [LogEvent<'static>; 7] {
             age: 86_401,
         },
         LogEvent::Fresh { file: "a", age: 0 },
+        LogEvent::FileUnwell {
+            reason: "refused_long",
+            file: "a b",
+        },
+        LogEvent::FileWell {
+            reason: "old",
+            file: "a",
+        },
         LogEvent::Expired {
             file: "a",
             entries: 18_446_744_073_709_551_615,
@@ -162,7 +172,8 @@ pub(crate) fn print<W: Write>(form: &str, words: &[String], out: &mut W) -> Resu
     match words {
         [word] if word.as_str() == "text" => Ok(print_all(LogFormat::Text, out)?),
         [word] if word.as_str() == "json" => Ok(print_all(LogFormat::Json, out)?),
-        _ => bail!("text or json is required"),
+        [word] if word.as_str() == "systemd" => Ok(print_all(LogFormat::Systemd, out)?),
+        _ => bail!("text, json or systemd is required"),
     }
 }
 

@@ -1,6 +1,8 @@
 //! Prints a text of the daemon for made-up values, so that `tests/page_texts.py` compares it with a stored one. The words say which:
 //!
 //! - `page CACHE`, `metrics CACHE`, `health CACHE`: the status page of a cache, its metrics, and its health. `caches.rt` has the caches.
+//! - `reasons CACHE`: the reasons why a cache is not well, and whether it is well, healthy and ready.
+//!   A CACHE is also `with WHAT VALUE..`: a cache that is well, with the changes of `changes.rt`.
 //! - `route PREFIX AS`, `route-page PREFIX AS`: the validity of a route, as JSON and as a page.
 //! - `csv CACHE`, `export CACHE`: the records of a cache as CSV, and the start of its export.
 //! - `http CACHE PIECE [NAME]`: the response to the request on standard input, in pieces of at most PIECE bytes.
@@ -11,6 +13,7 @@
 #![tactic(auto)]
 
 mod caches;
+mod changes;
 mod events;
 mod faults;
 mod responses;
@@ -26,7 +29,7 @@ use std::io::Write;
 
 /// The first words.
 const FORMS: &str = "\
-page\nmetrics\nhealth\nroute\nroute-page\ncsv\nexport\nhttp\nlog\ntimes\nsettings\nfaults\nvalues\n";
+page\nmetrics\nhealth\nreasons\nroute\nroute-page\ncsv\nexport\nhttp\nlog\ntimes\nsettings\nfaults\nvalues\n";
 
 fn main(rt: HostRuntime) -> Result<()> {
     let words: Vec<String> = env::args(&rt)?.skip(1).collect(rt.alloc())?;
@@ -40,7 +43,7 @@ fn main(rt: HostRuntime) -> Result<()> {
 /// Prints what these words say.
 fn print<W: Write>(alloc: Global, form: &str, words: &[String], out: &mut W) -> Result<()> {
     match form {
-        "page" | "metrics" | "health" => statuses::print(alloc, form, words, out),
+        "page" | "metrics" | "health" | "reasons" => statuses::print(alloc, form, words, out),
         "route" | "route-page" | "csv" | "export" => routes::print(alloc, form, words, out),
         "log" | "times" => events::print(form, words, out),
         "settings" => settings::print(alloc, words, out),

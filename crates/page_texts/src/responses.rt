@@ -1,6 +1,6 @@
 //! The response to an HTTP request, over a stream in memory.
 
-use crate::caches::{NOW, empty, put_small};
+use crate::caches::{NOW, empty, put_old, put_small};
 use anyhow::{Result, bail};
 use bytes::Bytes;
 use prefixes::{Asn, IpPrefix, Route, Vrp};
@@ -11,11 +11,13 @@ use std::hash::RandomState;
 use std::io::{self, ErrorKind, Read, Write};
 use vrps::{OriginIndex, VrpSet};
 
-/// A cache with one record, or without a version.
+/// A cache with one record, whose data may be too old, or without a version.
 #[derive(Drop)]
 struct Source {
     alloc: Global,
     index: Option<OriginIndex>,
+    /// Whether its data are too old.
+    is_old: bool,
 }
 
 impl Source {
@@ -35,7 +37,9 @@ impl StatusSource for Source {
 
     fn status(&mut self) -> Result<Status, AllocError> {
         let mut status = empty(self.alloc);
-        if self.index.is_some() {
+        if self.is_old {
+            put_old(self.alloc, &mut status)?;
+        } else if self.index.is_some() {
             put_small(self.alloc, &mut status)?;
         }
         Ok(status)
@@ -60,7 +64,11 @@ impl StatusSource for Source {
 /// The cache of this name.
 fn source_of(alloc: Global, name: &str) -> Result<Source> {
     if name == "empty" {
-        return Ok(Source { alloc, index: None });
+        return Ok(Source {
+            alloc,
+            index: None,
+            is_old: false,
+        });
     }
     let mut list = Vec::new(alloc);
     list.push(Vrp::new(IpPrefix::parse("192.0.2.0/24")?, 24, Asn(64496))?)?;
@@ -68,6 +76,7 @@ fn source_of(alloc: Global, name: &str) -> Result<Source> {
     Ok(Source {
         alloc,
         index: Some(index),
+        is_old: name == "old",
     })
 }
 

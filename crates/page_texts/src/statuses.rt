@@ -4,13 +4,23 @@ use crate::caches::{
     empty, put_crowded, put_failing, put_first, put_huge, put_named, put_old, put_router,
     put_small, put_well,
 };
+use crate::changes::put_changes;
 use anyhow::{Result, bail};
-use status_pages::{Status, is_healthy, write_health, write_metrics, write_page};
+use status_pages::{
+    REASONS, Status, has_reason, is_healthy, is_ready, is_well, write_health, write_metrics,
+    write_page,
+};
 use std::alloc::Global;
 use std::io::{self, Write};
 
 /// Makes a cache without a version into the one that these words name.
 fn put(alloc: Global, words: &[String], status: &mut Status) -> Result<()> {
+    if let [first, changes @ ..] = words {
+        if first.as_str() == "with" {
+            put_well(alloc, status)?;
+            return put_changes(alloc, changes, status);
+        }
+    }
     match words {
         [name] => put_named_one(alloc, name.as_str(), status),
         [max_age, now] => {
@@ -63,6 +73,7 @@ fn write<W: Write>(form: &str, status: &Status, out: &mut W) -> io::Result<()> {
     match form {
         "page" => write_page(out, status),
         "metrics" => write_metrics(out, status),
+        "reasons" => write_reasons(status, out),
         _ => write_judged(status, out),
     }
 }
@@ -76,4 +87,17 @@ fn write_judged<W: Write>(status: &Status, out: &mut W) -> io::Result<()> {
     };
     out.write_all(judged.as_bytes())?;
     write_health(out, status)
+}
+
+/// Writes the words of the reasons that hold, and then whether the cache is well, healthy and ready.
+fn write_reasons<W: Write>(status: &Status, out: &mut W) -> io::Result<()> {
+    for reason in REASONS {
+        if has_reason(status, reason) {
+            write!(out, "{} ", reason.word())?;
+        }
+    }
+    let well = if is_well(status) { "well" } else { "unwell" };
+    let healthy = if is_healthy(status) { "healthy" } else { "ill" };
+    let ready = if is_ready(status) { "ready" } else { "unready" };
+    writeln!(out, "{well} {healthy} {ready}")
 }

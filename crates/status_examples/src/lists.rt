@@ -12,6 +12,7 @@ fn file(alloc: Global, built: Option<u64>) -> FileStatus {
         refused_at: None,
         is_old: false,
         expired: 0,
+        vrps: None,
     }
 }
 
