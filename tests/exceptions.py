@@ -51,26 +51,26 @@ def arrays_of(text):
         unless(False, 1, "not JSON")
     unless(deep(file) <= 127, 1, "not JSON")
     unless(not any(it.doubled for it in objects_in(file)), 8, "a name is repeated in an object")
-    unless(is_of(file, ["slurmVersion", *OBJECTS]), 2, "the file is no object of exactly its members")
+    unless(is_of(file, ["slurmVersion", *OBJECTS]), 2, "the file is not an object of exactly its members")
     unless(is_whole(file["slurmVersion"]) and file["slurmVersion"] == 1, 3, "slurmVersion is not 1")
     for name, keys in zip(OBJECTS, (ARRAYS[:2], ARRAYS[2:])):
-        unless(is_of(file[name], keys), 2, f"{name} is no object of exactly its members")
+        unless(is_of(file[name], keys), 2, f"{name} is not an object of exactly its members")
     found = {**file[OBJECTS[0]], **file[OBJECTS[1]]}
     for name in ARRAYS:
-        unless(isinstance(found[name], list), 4, f"{name} is no array")
+        unless(isinstance(found[name], list), 4, f"{name} is not an array")
     return [found[name] for name in ARRAYS]
 
 
 def misshapen(entry, keys, either):
     """Why an entry of these keys is none, up to its AS. A filter needs either of two keys; an assertion needs its AS."""
     if not isinstance(entry, dict):
-        return "no object"
+        return "not an object"
     if set(entry) - set(keys):
         return "a key that is not known"
     if either and not {*either} & set(entry):
         return f"neither {either[0]} nor {either[1]}"
     if ("asn" in entry or not either) and not (is_whole(entry.get("asn")) and entry["asn"] < 1 << 32):
-        return "asn is no AS number"
+        return "asn is not an AS number"
     return None
 
 
@@ -79,9 +79,9 @@ def why_not(entry, keys, either=()):
     if why := misshapen(entry, keys, either):
         return why
     if type(entry.get("comment", "")) is not str:
-        return "comment is no text"
+        return "comment is not a string"
     if ("prefix" in entry or not either) and prefix_of(entry.get("prefix")) is None:
-        return "prefix is no prefix"
+        return "prefix is not a prefix"
     return None
 
 
@@ -97,7 +97,7 @@ def assertion_of(entry):
         if is_whole(longest) and length <= longest <= width:
             record = width, bits, length, longest, entry["asn"]
         else:
-            why = "maxPrefixLength is no maximum length of the prefix"
+            why = "maxPrefixLength is not a maximum length of the prefix"
     return why, record
 
 
@@ -108,7 +108,7 @@ def no_key(entry, keys, either=()):
     for key in ("comment", "SKI", "routerPublicKey"):
         needed = not either and key != "comment"
         if (key in entry or needed) and type(entry.get(key)) is not str:
-            return f"{key} is no text"
+            return f"{key} is not a string"
     return None
 
 
@@ -121,14 +121,15 @@ def key_assertion_of(entry):
 
 
 def values_of(text):
-    """The filters and the assertions of a file."""
+    """The filters and the assertions of a file, and how many of its entries are not applied."""
     values = []
     for name, array, read in zip(ARRAYS, arrays_of(text), (filter_of, key_filter_of, assertion_of, key_assertion_of)):
         for index, entry in enumerate(array):
             why, value = read(entry)
             unless(not why, 5, f"{name}[{index}]: {why}")
             values.append((name, value))
-    return [it for name, it in values if name == ARRAYS[0]], {it for name, it in values if name == ARRAYS[2]}
+    filters, assertions = [it for name, it in values if name == ARRAYS[0]], {it for name, it in values if name == ARRAYS[2]}
+    return filters, assertions, [sum(name == array for name, _ in values) for array in (ARRAYS[1], ARRAYS[3])]
 
 
 def matches(entry, record):
@@ -144,11 +145,11 @@ def matches(entry, record):
 def outcome(text, records):
     """What must come of a set with the exceptions of a text."""
     try:
-        filters, assertions = values_of(text)
+        filters, assertions, ignored = values_of(text)
     except Refused as fault:
         return str(fault)
     left = {it for it in records if not any(matches(entry, it) for entry in filters)} | assertions
-    return f"[{','.join(map(written, sorted(left)))}]"
+    return f"{ignored[0]} {ignored[1]} [{','.join(map(written, sorted(left)))}]"
 
 
 # ---- cases at random
@@ -246,7 +247,7 @@ def sample(program, folder):
             return it.read()
     records = {(*prefix_of(it["prefix"]), it["maxLength"], it["asn"]) for it in json.loads(read("before-slurm.json"))}
     found, status = outcomes(program, folder, [(read("slurm.json"), records)])
-    wanted = read("after-slurm.json").decode().strip()
+    wanted = f"3 1 {read('after-slurm.json').decode().strip()}"
     if status or found[0] != wanted:
         print(f"samples/slurm.json gives {found[0]}\n  in place of {wanted}")
     return bool(status) or found[0] != wanted

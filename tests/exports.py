@@ -24,7 +24,8 @@ GROUP = r"[0-9A-Fa-f]{1,4}"
 OCTET = r"(?:0|[1-9]\d?|1\d\d|2[0-4]\d|25[0-5])"
 LENGTH = re.compile(r"0|[1-9]\d{0,2}")
 PLAIN, MIXED = range(2)
-WHAT = ["it is no object", "asn is no AS number", "prefix is no prefix", "maxLength is not from the prefix length to 32 (IPv4) or 128 (IPv6)", "expires is no whole number"]
+WHAT = ["it is not an object", "asn is not an AS number", "prefix is not a prefix", "maxLength is not from the prefix length to 32 (IPv4) or 128 (IPv6)", "expires is not a whole number of seconds"]
+COUNTED = ["aspas", "bgpsec_keys", "routerKeys"]
 
 
 class Refused(Exception):
@@ -154,7 +155,7 @@ def built_of(value):
 
 def read_objects(value):
     """The objects of an export of which names are read, with these names."""
-    yield value, {"roas", "metadata"}
+    yield value, {"roas", "metadata", *COUNTED}
     yield value.get("metadata"), {"generated", "buildtime"}
     for it in value["roas"] if isinstance(value.get("roas"), list) else []:
         yield it, {"asn", "prefix", "maxLength", "expires"}
@@ -164,6 +165,13 @@ def judge_names(value):
     """Refuses an export of the object form in which a name that is read is repeated in its object."""
     if isinstance(value, dict) and any(isinstance(it, dict) and it.doubled & names for it, names in read_objects(value)):
         raise Refused("fault 6: a name that is read is repeated in an object (fault 6)")
+
+
+def ignored_of(value):
+    """How many ASPAs and how many router keys are not served."""
+    arrays = [value.get(name) if isinstance(value, dict) else None for name in COUNTED]
+    aspas, *keys = [len(it) if isinstance(it, list) else 0 for it in arrays]
+    return f"{aspas} {sum(keys)}"
 
 
 def entries_of(value):
@@ -203,7 +211,7 @@ def outcome(now, text):
     built = built_of(value)
     expired = sum(not (expires is None or expires > now) for _, expires in entries)
     until = min((expires for _, expires in entries if expires is not None and expires > now), default="-")
-    return f"{expired} {'-' if built is None else built} {until} [{','.join(map(written, sorted(current)))}]"
+    return f"{expired} {'-' if built is None else built} {until} {ignored_of(value)} [{','.join(map(written, sorted(current)))}]"
 
 
 # ---- cases at random
@@ -307,8 +315,11 @@ class Maker(Chance):
             pairs = [("roas", self.other() if self.rarely(0.03) else entries)]
             if chance.random() < 0.6:
                 pairs.append(("metadata", self.other() if self.rarely(0.1) else self.metadata()))
-            if chance.random() < 0.3:
-                pairs.append(("bgpsec_keys", [{"asn": 1, "pubkey": "x"}, self.other()]))
+            for name in COUNTED:
+                if chance.random() < 0.3:
+                    pairs.append((name, self.other() if self.rarely(0.1) else [{"asn": 1, "pubkey": "x"}, self.other(), [2]][: chance.randrange(4)]))
+            if self.rarely(0.02):
+                pairs.append((chance.choice(COUNTED), [1]))
             if self.rarely(0.03):
                 pairs.append(("roas", [tuple(self.entry())]))
             if self.rarely(0.03):

@@ -79,7 +79,7 @@ below_another() {
     { wanted_files opt/rpkirtr opt/rpkirtr/etc/default/rpkirtrd
         printf 'opt/rpkirtr/share/%s\n' man/man1/rpkirtr.1 man/man1/rpkiobject.1 man/man8/rpkirtrd.8 doc/rpkirtr/LICENSE doc/rpkirtr/installed; } >wanted
     holds other wanted
-    grep -q '^ExecStart=/opt/rpkirtr/bin/rpkirtrd \$OPTIONS$' other/opt/rpkirtr/lib/systemd/system/rpkirtrd.service || fail 'the unit starts another program'
+    grep -q '^ExecStart=/usr/bin/env --ignore-signal=[A-Z0-9,]* /opt/rpkirtr/bin/rpkirtrd \$OPTIONS$' other/opt/rpkirtr/lib/systemd/system/rpkirtrd.service || fail 'the unit starts another program'
     grep -q '^EnvironmentFile=-/opt/rpkirtr/etc/default/rpkirtrd$' other/opt/rpkirtr/lib/systemd/system/rpkirtrd.service || fail 'the unit reads other options'
     install_it 0 --prefix /opt/rpkirtr/ --destdir other --remove
     [ ! -e other ] || fail 'something is left below another prefix'

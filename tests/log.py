@@ -12,12 +12,16 @@ from common import PATIENCE
 
 VALUE = re.compile(r' ([\w-]+)=("(?:[^"\\]|\\.)*"|\S*)')
 
+# The priority of a line for systemd (sd-daemon(3)).
+PRIORITY = re.compile(r"^<[0-7]>")
+
 # The daemon that each thread started last.
 latest = threading.local()
 
 
 def values_of(line):
-    """The time, the event and the values of a line of the log, in either form."""
+    """The time, the event and the values of a line of the log, in each form."""
+    line = PRIORITY.sub("", line)
     if line.startswith("{"):
         return json.loads(line)
     parts = re.match(r"(\S+) (\S+)(.*)", line)

@@ -2,7 +2,7 @@
 
 DEFAULTS = (
     'Settings { vrps: ["a"], points: [], slurm: [], listen: [127.0.0.1:3323], session: None, session0: None, start: None, keep: 16, '
-    "timing: Timing { refresh: 3600, retry: 600, expire: 7200 }, check: 60, max_age: None, stop_when_old: false, max_size: 2147483648, "
+    "timing: Timing { refresh: 3600, retry: 600, expire: 7200 }, check: 60, max_age: None, stop_when_old: false, max_size: 1073741824, "
     "leave_out_length_0: false, clients: 256, clients_per_address: None, stall: 120, status: None, status_name: None, log: Text, "
     "log_level: Info, once: false, check_config: false }"
 )
@@ -41,6 +41,7 @@ READ = [
     ("--vrps a --status [::1]:9323", "status: Some([::1]:9323),"),
     ("--vrps a --log text", "log: Text,"),
     ("--vrps a --log json", "log: Json,"),
+    ("--vrps a --log systemd", "log: Systemd,"),
     ("--vrps a --status [::1]:9323 --status-name cache-1.Example.net", 'status: Some([::1]:9323), status_name: Some("cache-1.Example.net"),'),
     ("--vrps a --log-level error", "log_level: Error,"),
     ("--vrps a --log-level warning", "log_level: Warning,"),
@@ -57,23 +58,28 @@ READ = [
     ("-V", "rpkirtrd 1.0.0"),
 ]
 
+NOT_URL = 'a path, not a URL (see "A list from another machine, over HTTPS" in OPERATING.md), is required'
+
 # Lines that are refused, and why: unknown, missing, repeated or conflicting words.
 REFUSED = [
-    ("", "at least one of --vrps and --points is required, for something to serve"),
-    ("--slurm s", "at least one of --vrps and --points is required, for something to serve"),
+    ("", "nothing to serve: give --vrps or --points"),
+    ("--slurm s", "nothing to serve: give --vrps or --points"),
     ("--vrps a --keep 1 --keep 2", "the argument '--keep <NUMBER>' cannot be used multiple times"),
     ("--vrps a --once --once", "the argument '--once' cannot be used multiple times"),
     ("--vrps a --log-level info --log-level info", "the argument '--log-level <LEVEL>' cannot be used multiple times"),
     ("--vrps a --log-level debug", '--log-level "debug": error, warning, notice or info is required'),
     ("--vrps a --log-level Info", '--log-level "Info": error, warning, notice or info is required'),
-    ("--vrps a --status-name cache.example.net", "--status is required beside --status-name, as there are no pages without it"),
+    ("--vrps a --status-name cache.example.net", "--status-name needs --status"),
     ("--vrps=", '--vrps "": a path is required'),
+    ("--vrps https://validator.example.net/json", f'--vrps "https://validator.example.net/json": {NOT_URL}'),
+    ("--vrps a --slurm http://x", f'--slurm "http://x": {NOT_URL}'),
     ("--vrps a --points=", '--points "": a path is required'),
     ("--vrps a --slurm=", '--slurm "": a path is required'),
-    ("--vrps a --retry 7200", "--expire 7200: a number above --refresh (3600) and --retry (7200) is required"),
-    ("--vrps a --refresh 7200", "--expire 7200: a number above --refresh (7200) and --retry (600) is required"),
-    ("--vrps a --stop-when-old", "--max-age is required beside --stop-when-old, as nothing is old without it"),
-    ("--vrps a --log xml", '--log "xml": text or json is required'),
+    ("--vrps a --retry 7200", "--expire 7200 must be greater than --refresh (3600) and --retry (7200)"),
+    ("--vrps a --refresh 7200", "--expire 7200 must be greater than --refresh (7200) and --retry (600)"),
+    ("--vrps a --stop-when-old", "--stop-when-old needs --max-age"),
+    ("--vrps a --log xml", '--log "xml": text, json or systemd is required'),
+    ("--vrps a --log Systemd", '--log "Systemd": text, json or systemd is required'),
     ("--vrps", "a value is required for '--vrps <FILE>' but none was supplied"),
     ("--vrps --points d", "a value is required for '--vrps <FILE>' but none was supplied"),
     ("--vrps a --keep --once", "a value is required for '--keep <NUMBER>' but none was supplied"),

@@ -69,7 +69,19 @@ EITHER = (4096, 1)
 # for its metrics.
 expect(asked("GET /"), told("200 OK", "content-type: text/html; charset=utf-8", *ALWAYS, POLICY, "content-length: {length}", body=None) + "{page}", pieces=EITHER)
 expect(asked("GET /metrics"), told("200 OK", "content-type: text/plain; version=0.0.4; charset=utf-8", *ALWAYS, "content-length: {length}") + "{metrics}", pieces=EITHER)
-expect(asked("GET /health"), told("200 OK", PLAIN, *ALWAYS, body="ok\n"))
+for path in ("/health", "/ready", "/live"):
+    expect(asked(f"GET {path}"), told("200 OK", PLAIN, *ALWAYS, body="ok\n"))
+EARLY = told("503 Service Unavailable", PLAIN, *ALWAYS, body="no version is published yet\n")
+expect(asked("GET /health"), EARLY, cache="empty")
+expect(asked("GET /ready"), EARLY, cache="empty")
+expect(asked("GET /live"), told("200 OK", PLAIN, *ALWAYS, body="ok\n"), cache="empty")
+AGED = "/var/db/rpki-client/json: its data are older than the maximum age\n"
+REFUSED = (
+    '/srv/<b>\\"a\\\\b\\"&c\\n.json: refused since 2026-11-26T00:33:40Z: entry 3 of roas cannot be read: <prefix> is no prefix (fault 3); '
+    "none of its data were loaded yet\n"
+)
+expect(asked("GET /health"), told("503 Service Unavailable", PLAIN, *ALWAYS, body=AGED + REFUSED), cache="old")
+expect(asked("GET /ready"), told("200 OK", PLAIN, *ALWAYS, body="ok\n"), cache="old")
 expect(asked("GET /vrps.json"), told("200 OK", OF_EXPORT, JSON, *ALWAYS, body=EXPORT), pieces=EITHER)
 expect(asked("GET /list.json"), told("200 OK", OF_LIST, JSON, *ALWAYS, body=LIST))
 expect(asked("HEAD /list.json"), told("200 OK", OF_LIST, JSON, *ALWAYS, length=54), pieces=EITHER)
@@ -86,7 +98,7 @@ HOW = "write ?asn=NUMBER&prefix=PREFIX, each of the two keys once and no other, 
 expect(asked("GET /validity"), told("400 Bad Request", "vary: Accept", PLAIN, *ALWAYS, body=HOW), pieces=EITHER)
 PATH = "write /api/v1/validity/NUMBER/PREFIX, as in /api/v1/validity/AS64496/192.0.2.0/24\n"
 expect(asked("GET /api/v1/validity/64496"), told("400 Bad Request", PLAIN, *ALWAYS, body=PATH))
-WHERE = "there are /, /metrics, /health, /vrps.json, /list.json, /vrps.csv, /validity and /api/v1/validity/NUMBER/PREFIX\n"
+WHERE = "there are /, /metrics, /health, /ready, /live, /vrps.json, /list.json, /vrps.csv, /validity and /api/v1/validity/NUMBER/PREFIX\n"
 expect(asked("GET /status"), told("404 Not Found", PLAIN, *ALWAYS, body=WHERE), pieces=EITHER)
 expect(
     asked("POST /metrics", "content-length: 0"),

@@ -30,6 +30,7 @@ WHOLE = {
     "help.txt": "settings --help",
     "log.txt": "log text",
     "log.json": "log json",
+    "log.systemd": "log systemd",
     "times.txt": "times",
     "faults.txt": "faults",
     "values.txt": "values",
@@ -43,22 +44,67 @@ SHORT = {
 }
 
 REFUSED = (
-    '/srv/<b>\\"a\\\\b\\"&c\\n.json: refused since 2026-11-26T00:33:40Z: entry 3 of roas cannot be read: <prefix> is no prefix (fault 3)\n'
+    '/srv/<b>\\"a\\\\b\\"&c\\n.json: refused since 2026-11-26T00:33:40Z: entry 3 of roas cannot be read: <prefix> is no prefix (fault 3); '
+    "none of its data were loaded yet\n"
 )
 OLD = "/var/db/rpki-client/json: its data are older than the maximum age\n"
 
 # The health of caches: whether they are healthy, and the text. A file of the small cache is refused since 200 seconds; it is 1795653420 then.
 HEALTH = {
     "empty": "ill\nno version is published yet\n",
-    "first": "healthy\nok\n",
+    "first": "ill\nno VRPs are served\n",
     "small": "healthy\nok\n",
     "200 1795653420": "healthy\nok\n",
     "199 1795653420": f"ill\n{REFUSED}",
     "none 1795656820": "healthy\nok\n",
     "none 1795656821": f"ill\n{REFUSED}",
+    "86400 1795656820": "healthy\nok\n",
+    "86400 1795656821": f"ill\n{REFUSED}",
     "none 0": "healthy\nok\n",
-    "old": f"ill\n{OLD}",
-    "silent": f"ill\nno version is published yet\n{OLD}",
+    "old": f"ill\n{OLD}{REFUSED}",
+    "silent": f"ill\n{OLD}{REFUSED}no version is published yet\n",
+    "with failing 0": "ill\npublication fails since 2026-11-26T00:35:00Z: more than <16777215> records (fault 1)\n",
+    "with expired 12 vrps 0": "ill\n/var/db/rpki-client/json: all its entries have expired\n",
+    "with refused 3601":
+        "ill\n/var/db/rpki-client/json: refused since 2026-11-25T23:36:59Z: not JSON (fault 1); its previous data are served\n",
+    "with peak 700000 ipv4 3 ipv6 0": "healthy\nok\n",
+    "with old 1 peak 700000 ipv4 3 ipv6 0 away 5":
+        f"ill\n{OLD}the table shrank: 700000 to 3 VRPs at 2026-11-26T00:36:00Z\n"
+        "routers were turned away by --clients: 3, the last at 2026-11-26T00:36:55Z\n",
+    "with given 0 away-of-address 0":
+        "ill\nno VRPs are served\nrouters were turned away by --clients-per-address: 3, the last at 2026-11-26T00:37:00Z\n",
+}
+
+# The reasons why a cache is not well, and whether it is well, healthy and ready: both sides of each boundary.
+REASONS = {
+    "with": "well healthy ready\n",
+    "with ipv4 0 ipv6 0": "no_vrps unwell ill unready\n",
+    "with ipv4 0 ipv6 1": "well healthy ready\n",
+    "with given 0": "no_vrps unwell ill unready\n",
+    "with given 1": "well healthy ready\n",
+    "with failing 0": "publication unwell ill unready\n",
+    "with old 1": "old unwell ill ready\n",
+    "with expired 12 vrps 0": "old unwell ill ready\n",
+    "with expired 12 vrps 1": "well healthy ready\n",
+    "with expired 0 vrps 0": "well healthy ready\n",
+    "with refused 0": "refused unwell healthy ready\n",
+    "with refused 3600": "refused unwell healthy ready\n",
+    "with refused 3601": "refused_long refused unwell ill ready\n",
+    "with refused 100 max-age 100": "refused unwell healthy ready\n",
+    "with refused 101 max-age 100": "refused_long refused unwell ill ready\n",
+    "with refused 3600 max-age 86400": "refused unwell healthy ready\n",
+    "with refused 3601 max-age 86400": "refused_long refused unwell ill ready\n",
+    "with no-serial 0": "no_version unwell ill unready\n",
+    "with no-serial 0 ipv4 0 ipv6 0 given 0": "no_version unwell ill unready\n",
+    "with peak 1000 ipv4 800 ipv6 0": "well healthy ready\n",
+    "with peak 1000 ipv4 799 ipv6 0": "shrank unwell healthy ready\n",
+    "with peak 1001 ipv4 801 ipv6 0": "well healthy ready\n",
+    "with peak 1001 ipv4 800 ipv6 0": "shrank unwell healthy ready\n",
+    "with peak 999 ipv4 1 ipv6 0": "well healthy ready\n",
+    "with away 600": "turned_away unwell healthy ready\n",
+    "with away 601": "well healthy ready\n",
+    "with behind 1": "clock unwell healthy ready\n",
+    "with behind 1 away 0 refused 3601 old 1 failing 0": "publication old refused_long refused turned_away clock unwell ill unready\n",
 }
 
 # The state of a router: for how many seconds it is connected, how many seconds ago the last version was published, and how many versions it
@@ -131,6 +177,8 @@ def compare_stored(texts):
 def compare_status(texts):
     for words, wanted in HEALTH.items():
         texts.same(f"health {words}", texts.run(["health", *words.split(" ")])[0], wanted)
+    for words, wanted in REASONS.items():
+        texts.same(f"reasons {words}", texts.run(["reasons", *words.split(" ")])[0], wanted)
     for words, state in STATES.items():
         page = texts.run(["page", *words.split(" ")])[0]
         texts.check(f"page {words}", state in page, f"no {state}")

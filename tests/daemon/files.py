@@ -10,7 +10,7 @@ from common import PATIENCE, put
 from daemon.shared import EXCEPTIONS, FIRST, SECOND, SLURM, entry_of, part, text_of
 from log import running, unescaped
 from rtr import Router
-from web import metrics_of
+from web import got, metrics_of
 
 
 @part
@@ -278,7 +278,7 @@ def large_file(given):
     with running(given.program, "--vrps", "list.json", "--listen", "127.0.0.1:0", "--check", "1", "--max-size", most) as daemon:
         port = daemon.listens()
         put("list.json", large)
-        daemon.wait("refused", file="list.json", reason="it cannot be read: it has more bytes than --max-size allows")
+        daemon.wait("refused", file="list.json", reason="cannot be read: larger than --max-size allows")
         expect("what is served with a file that is too large", Router(port).catch_up(), set(FIRST))
         put("list.json", text_of(SECOND))
         daemon.wait("taken", file="list.json")
@@ -286,6 +286,21 @@ def large_file(given):
     words = [given.program, "--vrps", "list.json", "--listen", "127.0.0.1:0", "--max-size", most]
     status = subprocess.run(words, stdin=subprocess.DEVNULL, capture_output=True, timeout=PATIENCE)
     expect("a start with a file that is too large", (status.returncode, b"--max-size" in status.stderr), (3, True))
+
+
+@part
+def sparse_file(given):
+    """A sparse file is refused at its first byte, and costs at most a tenth more memory than it has bytes, beside that of the program."""
+    size = 256 << 20
+    with open("sparse.json", "wb") as it:
+        it.truncate(size)
+    ran = subprocess.Popen([given.program, "--check-config", "--vrps", "sparse.json"], stdin=subprocess.DEVNULL, stdout=subprocess.DEVNULL, stderr=subprocess.PIPE, text=True)
+    with ran.stderr:
+        said = ran.stderr.read()
+    _, status, used = os.wait4(ran.pid, 0)
+    ran.returncode = os.waitstatus_to_exitcode(status)
+    expect("a sparse file", (ran.returncode, "not JSON: it begins with a zero byte (fault 1)" in said), (1, True))
+    expect("its memory", used.ru_maxrss * 1024 < size * 11 // 10 + (32 << 20), True)
 
 
 @part
@@ -301,9 +316,8 @@ def old_by_its_file(given):
             expect("the age of a file", 7200 <= int(daemon.wait("old", file="list.json")["age"]) < 7200 + PATIENCE, True)
             expect("the end of the daemon", daemon.status(), 1)
         with running(given.program, *words, "3600") as daemon:
-            port = daemon.port()
             daemon.wait("old", file="list.json")
-            daemon.wait("ready")
+            port = daemon.listens()
             os.utime("list.json")
             daemon.wait("fresh", file="list.json")
             expect("what is served of it", Router(port).catch_up(), set(FIRST))
@@ -343,10 +357,14 @@ def refusals_in_words(given):
     put("export.json", good)
     put("slurm.json", SLURM)
     spoiled = [
-        ("export.json", json.dumps({"roas": [entry_of(*FIRST[0]), entry_of("::ffff:0:0/96x", 96, 1)]}), 'entry 1 of roas: prefix "::ffff:0:0/96x" is no prefix (fault 3)'),
+        ("export.json", json.dumps({"roas": [entry_of(*FIRST[0]), entry_of("::ffff:0:0/96x", 96, 1)]}), 'entry 1 of roas: prefix "::ffff:0:0/96x" is not a prefix (fault 3)'),
+        ("export.json", json.dumps({"roas": [entry_of("192.0.2.1/24", 24, 1)]}), 'entry 0 of roas: prefix "192.0.2.1/24" has host bits set (fault 3)'),
+        ("export.json", json.dumps({"roas": [{**entry_of(*FIRST[0]), "maxLength": "24"}]}), 'entry 0 of roas: maxLength "24" is a string, must be a number (fault 3)'),
+        ("export.json", "\ufeff" + good, "not JSON: it begins with a byte order mark, save it without one (fault 1)"),
         ("export.json", '{"roas":[],"roas":[]}', "roas is repeated in the file (fault 6)"),
+        ("export.json", '{"roas":[],"aspas":[],"aspas":[]}', "aspas is repeated in the file (fault 6)"),
         ("export.json", '{\n"roas":[,]}', "not JSON at line 2, column 9 (fault 1)"),
-        ("slurm.json", json.dumps({**EXCEPTIONS, "slurmVersion": 2}), "slurmVersion is 2, and not 1 (fault 3)"),
+        ("slurm.json", json.dumps({**EXCEPTIONS, "slurmVersion": 2}), "slurmVersion is 2, must be 1: version 2 (ASPA) is not served (fault 3)"),
         ("slurm.json", SLURM.replace('"bgpsecFilters": []', '"prefixFilters": []'), '"prefixFilters" is repeated in validationOutputFilters (fault 8)'),
     ]
     with running(given.program, "--vrps", "export.json", "--slurm", "slurm.json", "--listen", "127.0.0.1:0", "--check", "1") as daemon:
@@ -360,3 +378,27 @@ def refusals_in_words(given):
         put("export.json", text)
         ran = subprocess.run([given.program, "--vrps", "export.json", "--slurm", "slurm.json", "--listen", "127.0.0.1:0", *words], stdin=subprocess.DEVNULL, capture_output=True, text=True, timeout=PATIENCE)
         expect(f"a start {words} with {text}", (ran.returncode, said in ran.stderr), (status, True))
+
+
+@part
+def given_twice(given):
+    """A path that is given twice is read once, with one warning, and has one series in each metric."""
+    words = ["--vrps", "list.json", "--vrps", "./list.json", "--vrps", "list.json", "--check", "1"]
+    with running(given.program, *words, "--listen", "127.0.0.1:0", "--status", "127.0.0.1:0") as daemon:
+        at, port = daemon.serves()
+        warnings = [it for it in daemon.said if "is given twice" in it]
+        expect("the warning", [it.partition("reason=")[2] for it in warnings], ['"--vrps list.json is given twice: it is read once"'])
+        series = [it for it in got(port, "/metrics")[2].splitlines() if it.startswith("rpkirtrd_file_refused{")]
+        expect("the series", series, ['rpkirtrd_file_refused{file="list.json"} 0', 'rpkirtrd_file_refused{file="./list.json"} 0'])
+        expect("the table", Router(at).catch_up(), set(FIRST))
+
+
+@part
+def times_that_are_none(given):
+    """An export without a time of its own ages from its load, if its modification time is ahead of the clock, or before 1970."""
+    for modified in time.time() + 3600, -1:
+        put("list.json", text_of(FIRST))
+        os.utime("list.json", (modified, modified))
+        with running(given.program, "--vrps", "list.json", "--max-age", "2", "--listen", "127.0.0.1:0", "--check", "1") as daemon:
+            daemon.listens()
+            expect("its age", int(daemon.wait("old", file="list.json")["age"]) in (3, 4), True)

@@ -80,6 +80,10 @@ def points(given):
         expect("a point whose time is over", router.catch_up(), set(FIRST[2:]))
     status = subprocess.run([given.program, "--points", "nowhere", "--listen", "127.0.0.1:0"], stdin=subprocess.DEVNULL, capture_output=True, timeout=PATIENCE)
     expect("a point that is not there", (status.returncode, b"nowhere" in status.stderr), (3, True))
+    for left in "objects", "manifest.der":
+        os.rename(f"point/{left}", f"point/{left}.away")
+        status = subprocess.run([given.program, "--points", "point", "--listen", "127.0.0.1:0"], stdin=subprocess.DEVNULL, capture_output=True, text=True, timeout=PATIENCE)
+        expect(f"a point without {left}", (status.returncode, f"{left}: No such file or directory" in status.stderr), (3, True))
 
 
 @part

@@ -26,23 +26,34 @@ def words_and_starts(given):
     for words in ["", "--vrps list.json --check 0", "--vrps list.json --keep 65537", "--vrps list.json --once --once", "--vrps list.json --listen 127.0.0.1", "list.json"]:
         status, out, err = ran(*words.split())
         expect(words, (status, out, err.startswith("rpkirtrd: ")), (2, "", True))
+    status, out, err = ran("--vrps", "https://validator.example.net/json")
+    expect("a URL", (status, out, "OPERATING.md" in err), (2, "", True))
     free = "--listen 127.0.0.1:0 --vrps"
     status, out, err = ran(*free.split(), "nothing.json")
-    expect("a file that is not there", (status, "nothing.json" in err), (3, True))
+    expect("a file that is not there", (status, "nothing.json" in err, len(err.splitlines())), (3, True, 1))
+    status, out, err = ran("--log", "systemd", *free.split(), "nothing.json")
+    expect("the same for systemd", (status, bool(re.fullmatch(r"<3>\S+ refused file=nothing.json reason=.*\n", err))), (3, True))
     put("bad.json", '{"roas": [{"asn": 64496, "prefix": "192.0.2.0/24", "maxLength": 24}, {"asn": "AS01", "prefix": "192.0.2.0/24", "maxLength": 24}]}')
     status, out, err = ran(*free.split(), "bad.json")
-    expect("a file that is refused", (status, "bad.json: entry 1 of roas: asn \"AS01\" is no AS number (fault 3)" in err), (1, True))
+    expect("a file that is refused", (status, "bad.json: entry 1 of roas: asn \"AS01\" is not an AS number (fault 3)" in err), (1, True))
     status, out, err = ran(b"--vrps", b"\xff")
     expect("a word that is not UTF-8", (status, out, "UTF-8" in err), (2, "", True))
     status, out, err = ran(*free.split(), "no\x1bsuch\nfile")
     expect("a path that would break the line", (status, err.splitlines()[-1].startswith('rpkirtrd: "no\\u{1b}such\\nfile": ')), (3, True))
     status, out, err = ran("--log", "json", *free.split(), "no\x1bsuch\nfile")
-    last = json.loads(err.splitlines()[-1])
-    expect("the same as JSON", (status, last["event"], last["file"]), (3, "refused", "no\x1bsuch\nfile"))
+    only = json.loads(err)
+    expect("the same as JSON", (status, only["level"], only["event"], only["file"]), (3, "error", "refused", "no\x1bsuch\nfile"))
     with socket.create_server(("127.0.0.1", 0)) as taken:
         at = f"127.0.0.1:{taken.getsockname()[1]}"
         status, out, err = ran("--listen", at, "--vrps", "list.json")
-        expect("an address that is in use", (status, at in err), (3, True))
+        expect("an address that is in use", (status, err.startswith(f"rpkirtrd: cannot listen at {at}: "), len(err.splitlines())), (3, True, 1))
+        status, out, err = ran("--listen", at, "--vrps", "list.json", "--log", "json")
+        found = json.loads(err)
+        expect("the same as JSON", (status, found["level"], found["event"], found["what"], at in found["reason"]), (3, "error", "failed", "listen", True))
+        status, out, err = ran("--listen", at, "--vrps", "list.json", "--log", "systemd")
+        expect("the same for systemd", (status, bool(re.fullmatch(r"<3>\S+ failed what=listen reason=.*\n", err)), at in err), (3, True, True))
+        status, out, err = ran("--listen", "127.0.0.1:0", "--status", at, "--vrps", "list.json", "--log", "json")
+        expect("an address of the pages, as JSON", (status, json.loads(err)["event"], at in json.loads(err)["reason"]), (3, "failed", True))
 
 
 @part

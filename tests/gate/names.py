@@ -54,6 +54,7 @@ REPLACED = {
 # The public type names that two libraries may declare, with the reason.
 SHARED = {
     "Command": "the parsed command line of each program",
+    "Ignored": "how much of an export, and of a file of local exceptions, is not served",
 }
 
 # Comments, texts in quotes, and characters in quotes.
