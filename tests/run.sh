@@ -5,7 +5,7 @@ top=$(cd "$(dirname "${BASH_SOURCE[0]}")/.." && pwd) || exit 1
 folder=$(mktemp -d) || exit 1
 trap 'rm -rf "$folder"' EXIT
 cd "$folder" || exit 1
-printf '%s' '[{"asn":64496,"maxLength":24,"prefix":"192.0.2.0/24"}]' >vrps.json
+cp "$top/vrps.json" .
 
 expect() { # expect STATUS OUTPUT WORD..
     local status=$1 output=$2 found
@@ -33,6 +33,18 @@ expect 0 'invalid' route 192.0.2.0/24 none --vrps=vrps.json
 expect 0 'not-found' route --vrps vrps.json 198.51.100.0/24 64496
 expect 1 'refused word' route --vrps nothing.json 192.0.2.1/24 64496
 
+# Through a link to the script, the same.
+ln -s "$top/run" linked
+[ "$(./linked answer --session 4660 --serial 5 --vrps vrps.json 0102000000000008)" = "$answer" ] || exit 1
+
+# Without words the program says its line alone, and on a terminal the usage of each of the ten commands follows.
+expect 2 ''
+[ "$(cat errors)" = 'rpkirtr: bad words' ] || exit 1
+python3 -c 'import os, pty, sys; sys.exit(os.waitstatus_to_exitcode(pty.spawn(sys.argv[1:])))' "$top/run" >shown
+[ $? -eq 2 ] || exit 1
+[ "$(sed -n '1s/\r$//p' shown)" = 'rpkirtr: bad words' ] || exit 1
+[ "$(grep -c '^usage: ./run [a-z]' shown)" -eq 10 ] || exit 1
+
 # The blocks of README and of the page of commands, as a shell runs them that is no bash. A block that is no example of `./run` is left out.
 printf '#!/bin/sh\nexec "%s/run" "$@"\n' "$top" >run
 chmod +x run
@@ -45,8 +57,6 @@ sh -e commands.sh >told 2>errors || exit 1
 cat >wanted <<'END'
 0103123400000008
 010400000000001401181800c00002000000fbf0
-010400000000001401181a00c63364000000fbf1
-01060000000000200120300020010db80000000000000000000000000000fbf1
 01071234000000180000000500000e100000025800001c20
 0 empty
 0 caught-up
