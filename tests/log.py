@@ -93,6 +93,13 @@ class Daemon:
             return found
         raise NoLine(self, event, values)
 
+    def warns(self, text):
+        """Whether a line `warning` whose reason holds this text comes. Others come, too: one where the machine has no id."""
+        while found := self.find("warning"):
+            if text in found["reason"]:
+                return True
+        return False
+
     def port(self, event="listening"):
         """Waits for the line of this event, and returns the port of its address."""
         return int(self.wait(event)["address"].rpartition(":")[2])

@@ -86,5 +86,5 @@ def no_manager(given):
     for variable, reason in ("notify", "NOTIFY_SOCKET names"), ("/nobody/there", "could not be notified"):
         with running(given.program, "--vrps", "list.json", "--listen", "127.0.0.1:0", env={"NOTIFY_SOCKET": variable}) as daemon:
             port = daemon.port()
-            expect(f"the warning with {variable}", reason in daemon.wait("warning")["reason"], True)
+            expect(f"the warning with {variable}", daemon.warns(reason), True)
             expect(f"a table with {variable}", Router(port).catch_up(), set(FIRST))

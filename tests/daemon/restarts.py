@@ -24,7 +24,8 @@ def restarts(given):
             started = daemon.wait("started")
             daemon.wait("ready")
             router = Router(port)
-            if names:
+            # (without a machine id each start has a session of its own)
+            if names and names[-1][0] == int(started["session"]):
                 router.session, router.serial = names[-1]
                 expect("a serial from before the restart", router.ask(), CACHE_RESET)
             router.catch_up()
@@ -61,7 +62,7 @@ def warnings_and_names(given):
         started = daemon.wait("started")
         second = int(datetime.datetime.fromisoformat(started["time"].replace("Z", "+00:00")).timestamp())
         expect("the session in version 0", int(started["session0"]), second % 65536)
-        expect("a warning", "RFC 8210 section 8.2" in daemon.wait("warning")["reason"], True)
+        expect("a warning", daemon.warns("RFC 8210 section 8.2"), True)
         daemon.wait("ready")
     with running(given.program, "--vrps", "list.json", "--listen", "127.0.0.1:0", "--check", "60") as daemon:
         daemon.wait("ready")
