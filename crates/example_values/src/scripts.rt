@@ -6,7 +6,7 @@ use crate::units::{
 };
 
 /// The words of a line that are still to be read. One blank parts them.
-#[derive(Drop)]
+#[derive(Debug, Drop)]
 pub struct Words<'a> {
     /// What follows the words that were read.
     pub rest: &'a str,
