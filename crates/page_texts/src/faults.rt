@@ -168,14 +168,14 @@ fn print_pdus<W: Write>(out: &mut W) -> io::Result<()> {
 
 /// The faults of a cache, of a router and of a server.
 fn print_ends<W: Write>(out: &mut W) -> io::Result<()> {
-    let faults = [
-        (1, StreamFault::ReadFailed),
-        (2, StreamFault::WriteFailed),
-        (3, StreamFault::Memory),
+    let faults = numbered![
+        StreamFault::ReadFailed,
+        StreamFault::WriteFailed,
+        StreamFault::Memory,
     ];
     print_each(&faults, out)?;
     print_each(
-        &[(1, AdmitFault::TooManyClients), (2, AdmitFault::Memory)],
+        &numbered![AdmitFault::TooManyClients, AdmitFault::Memory],
         out,
     )?;
     print_each(
@@ -185,21 +185,21 @@ fn print_ends<W: Write>(out: &mut W) -> io::Result<()> {
         ],
         out,
     )?;
-    print_each(&[(1, AskFault::Busy), (2, AskFault::NotConnected)], out)
+    print_each(&numbered![AskFault::Busy, AskFault::NotConnected], out)
 }
 
 fn print_worlds<W: Write>(out: &mut W) -> io::Result<()> {
-    let faults = [
-        (1, WorldFault::SessionUsed),
-        (2, WorldFault::TooManyVersions),
-        (3, WorldFault::NoSuchRouter),
-        (4, WorldFault::Memory),
+    let faults = numbered![
+        WorldFault::SessionUsed,
+        WorldFault::TooManyVersions,
+        WorldFault::NoSuchRouter,
+        WorldFault::Memory,
     ];
     print_each(&faults, out)?;
-    let faults = [
-        (1, CatchFault::Memory),
-        (2, CatchFault::NoData),
-        (3, CatchFault::NoSuchRouter),
+    let faults = numbered![
+        CatchFault::Memory,
+        CatchFault::NoData,
+        CatchFault::NoSuchRouter,
     ];
     print_each(&faults, out)
 }
