@@ -1,83 +1,72 @@
 //! Logs of versions.
-use crate::sets::is_change;
-use example_values::sets::{Rows, V, W, set_in};
+use crate::sets::{is_change, set_named};
+use example_values::scripts::Words;
 use std::alloc::Global;
 use std::process::Abort;
 use std::rc::Rc;
 use vrps::{Published, Serial, Since, VersionLog, VersionStore, VrpSet, WholeLog};
 
 /// What is withdrawn and announced since a version, or nothing if that is not known.
-type Answer = Option<(Rows, Rows)>;
+type Answer<'a> = Option<(&'a str, &'a str)>;
 
-/// The first serial, and how many versions are kept before the current one. The sets that are published, each with the answer, and then the
-/// answers for serials.
-type Story = (
-    u32,
-    u32,
-    &'static [(Rows, Published)],
-    &'static [(u32, Answer)],
-);
+const NO_CHANGE: Answer<'static> = Some(("", ""));
 
-const NO_CHANGE: Answer = Some((&[], &[]));
+/// The first serial, and how many versions are kept before the current one. Then what happens, a step in a line:
+///
+/// - `as SERIAL RECORDS`, `same RECORDS`: a set of V and W is published, as a version of this serial, or it is the current one.
+/// - `since SERIAL WITHDRAWN | ANNOUNCED`, `unknown SERIAL`: what changed since a version, or that this is not known.
+type Story = (u32, u32, &'static str);
 
+/// What comes and goes is in neither list. Serials go round.
 const STORIES: &[Story] = &[
     (
         4,
         2,
-        &[
-            (&[], Published::New(Serial(4))),
-            (&[V], Published::New(Serial(5))),
-            (&[V], Published::Unchanged),
-            (&[V, W], Published::New(Serial(6))),
-            (&[V], Published::New(Serial(7))),
-        ],
-        &[
-            (5, NO_CHANGE),
-            (6, Some((&[W], &[]))),
-            (7, NO_CHANGE),
-            (4, None),
-            (8, None),
-            (0, None),
-            (2147483655, None),
-        ],
-    ),
-    // What comes and goes is in neither list.
-    (
-        10,
-        8,
-        &[
-            (&[], Published::New(Serial(10))),
-            (&[V], Published::New(Serial(11))),
-            (&[V, W], Published::New(Serial(12))),
-            (&[W], Published::New(Serial(13))),
-        ],
-        &[(10, Some((&[], &[W]))), (11, Some((&[V], &[W])))],
+        "as 4
+        as 5 V
+        same V
+        as 6 V W
+        as 7 V
+        since 5 |
+        since 6 W |
+        since 7 |
+        unknown 4
+        unknown 8
+        unknown 0
+        unknown 2147483655",
     ),
     (
         10,
         8,
-        &[
-            (&[V], Published::New(Serial(10))),
-            (&[], Published::New(Serial(11))),
-            (&[V], Published::New(Serial(12))),
-        ],
-        &[(10, NO_CHANGE), (11, Some((&[], &[V]))), (13, None)],
+        "as 10
+        as 11 V
+        as 12 V W
+        as 13 W
+        since 10 | W
+        since 11 V | W",
     ),
-    // Serials go round.
+    (
+        10,
+        8,
+        "as 10 V
+        as 11
+        as 12 V
+        since 10 |
+        since 11 | V
+        unknown 13",
+    ),
     (
         4294967295,
         2,
-        &[
-            (&[V], Published::New(Serial(4294967295))),
-            (&[V, W], Published::New(Serial(0))),
-        ],
-        &[(4294967295, Some((&[], &[W])))],
+        "as 4294967295 V
+        as 0 V W
+        since 4294967295 | W",
     ),
 ];
 
-/// What is answered to the set of these rows, if there is memory.
-fn publish<S: VersionStore>(store: &mut S, alloc: Global, rows: Rows) -> Option<Published> {
-    let Ok(set) = Rc::new(alloc, set_in(alloc, rows)?) else {
+/// What is answered to the set of the records of these names, if there is memory.
+fn publish<S: VersionStore>(store: &mut S, alloc: Global, names: &str) -> Option<Published> {
+    let Ok(set) = Rc::new(alloc, set_named(alloc, names)?) else {
         return None;
     };
     match store.publish(set) {
@@ -87,7 +76,7 @@ fn publish<S: VersionStore>(store: &mut S, alloc: Global, rows: Rows) -> Option<
 }
 
 /// Whether this is answered for a serial.
-fn answers<S: VersionStore>(log: &S, alloc: Global, serial: u32, want: &Answer) -> bool {
+fn answers<S: VersionStore>(log: &S, alloc: Global, serial: u32, want: &Answer<'_>) -> bool {
     match (log.since(Serial(serial)), want) {
         (Ok(Since::Unknown), None) => true,
         (Ok(Since::Change(change)), Some((withdraw, announce))) => {
@@ -104,37 +93,52 @@ fn is_new<S: VersionStore>(log: &S) -> bool {
         && matches!(log.since(Serial(4)), Ok(Since::NoData))
 }
 
-/// Whether the current version has this serial and the set of these rows.
-fn is_current<S: VersionStore>(log: &S, alloc: Global, serial: u32, rows: Rows) -> bool {
-    match (log.current(), set_in(alloc, rows)) {
+/// Whether the current version has this serial and the set of the records of these names.
+fn is_current<S: VersionStore>(log: &S, alloc: Global, serial: u32, names: &str) -> bool {
+    match (log.current(), set_named(alloc, names)) {
         (Some((found, set)), Some(want)) => found == Serial(serial) && set.as_ref().is_same(&want),
         _ => false,
     }
 }
 
-/// Whether sets are published so.
-fn publishes<S: VersionStore>(log: &mut S, alloc: Global, sets: &[(Rows, Published)]) -> bool {
-    for (rows, want) in sets {
-        let published = publish(log, alloc, rows);
-        if published != Some(*want) {
-            return false;
+/// Whether a set is published as a new version of this serial.
+fn is_version<S: VersionStore>(log: &mut S, alloc: Global, serial: u32, names: &str) -> bool {
+    publish(log, alloc, names) == Some(Published::New(Serial(serial)))
+        && is_current(log, alloc, serial, names)
+}
+
+/// Whether a step with a serial goes as it has to.
+fn goes_at<S: VersionStore>(log: &mut S, alloc: Global, word: &str, words: &mut Words<'_>) -> bool {
+    let Ok(serial) = words.next().parse::<u32>() else {
+        return false;
+    };
+    match (word, words.rest.split_once('|')) {
+        ("as", None) => is_version(log, alloc, serial, words.rest),
+        ("since", Some((withdrawn, announced))) => {
+            let change = Some((withdrawn, announced));
+            answers(log, alloc, serial, &change)
         }
-        if let Published::New(serial) = want {
-            if !is_current(log, alloc, serial.0, rows) {
-                return false;
-            }
-        }
+        ("unknown", None) => answers(log, alloc, serial, &None),
+        _ => false,
     }
-    true
+}
+
+/// Whether a step goes as it has to.
+fn steps<S: VersionStore>(log: &mut S, alloc: Global, line: &str) -> bool {
+    let mut words = Words { rest: line };
+    match words.next() {
+        "same" => publish(log, alloc, words.rest) == Some(Published::Unchanged),
+        word => goes_at(log, alloc, word, &mut words),
+    }
 }
 
 /// Whether a new log goes by a story, whichever way it keeps versions.
-fn goes<S: VersionStore>(log: &mut S, alloc: Global, (_, _, sets, table): &Story) -> bool {
-    if !is_new(log) || !publishes(log, alloc, sets) {
+fn goes<S: VersionStore>(log: &mut S, alloc: Global, story: &str) -> bool {
+    if !is_new(log) {
         return false;
     }
-    for (serial, want) in *table {
-        if !answers(log, alloc, *serial, want) {
+    for line in story.lines() {
+        if !steps(log, alloc, line.trim()) {
             return false;
         }
     }
@@ -142,8 +146,7 @@ fn goes<S: VersionStore>(log: &mut S, alloc: Global, (_, _, sets, table): &Story
 }
 
 /// Whether both logs go by a story.
-fn both_go(alloc: Global, story: &Story) -> bool {
-    let (start, keep) = (story.0, story.1);
+fn both_go(alloc: Global, &(start, keep, story): &Story) -> bool {
     if keep < 1 || keep > 65536 {
         return false;
     }
@@ -192,14 +195,14 @@ fn keeps_most<S: VersionStore>(
 ) -> bool {
     is_filled(log, set, none)
         && answers(log, alloc, 0, &NO_CHANGE)
-        && publish(log, alloc, &[]).is_some()
+        && publish(log, alloc, "").is_some()
         && answers(log, alloc, 0, &None)
         && answers(log, alloc, 1, &NO_CHANGE)
 }
 
 /// The set of one record, and that of none.
 fn one_and_none(alloc: Global) -> Option<(Rc<VrpSet>, Rc<VrpSet>)> {
-    let set = set_in(alloc, &[V])?;
+    let set = set_named(alloc, "V")?;
     match (Rc::new(alloc, set), Rc::new(alloc, VrpSet::empty(alloc))) {
         (Ok(set), Ok(none)) => Some((set, none)),
         _ => None,
@@ -228,7 +231,7 @@ fn a_log_keeps_65536_versions(rt: HostRuntime) {
 }
 
 /// Whether a step is kept, and is this change.
-fn is_step(alloc: Global, step: Option<&vrps::Change>, want: &Answer) -> bool {
+fn is_step(alloc: Global, step: Option<&vrps::Change>, want: &Answer<'_>) -> bool {
     match (step, want) {
         (None, None) => true,
         (Some(kept), Some((withdraw, announce))) => is_change(alloc, kept, withdraw, announce),
@@ -239,17 +242,16 @@ fn is_step(alloc: Global, step: Option<&vrps::Change>, want: &Answer) -> bool {
 /// Whether a log that keeps two steps of these four sets lends them.
 fn lends_steps(log: &mut VersionLog, alloc: Global) -> bool {
     let is_empty = log.kept(0).is_none() && log.newest_step().is_none();
-    let sets: [Rows; 4] = [&[], &[V], &[V, W], &[W]];
-    for rows in sets {
-        if publish(log, alloc, rows).is_none() {
+    for names in ["", "V", "V W", "W"] {
+        if publish(log, alloc, names).is_none() {
             return false;
         }
     }
     is_empty
-        && is_step(alloc, log.kept(0), &Some((&[], &[W])))
-        && is_step(alloc, log.kept(1), &Some((&[V], &[])))
+        && is_step(alloc, log.kept(0), &Some(("", "W")))
+        && is_step(alloc, log.kept(1), &Some(("V", "")))
         && is_step(alloc, log.kept(2), &None)
-        && is_step(alloc, log.newest_step(), &Some((&[V], &[])))
+        && is_step(alloc, log.newest_step(), &Some(("V", "")))
 }
 
 #[test]

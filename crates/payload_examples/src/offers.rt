@@ -2,6 +2,7 @@
 
 use crate::roas::is_alone;
 use der_lite::Moment;
+use example_values::scripts::Words;
 use payloads::{ListedFile, Manifest, encode_manifest};
 use points::{FileIn, Offered, Point, PointFault, Repository};
 use prefixes::Vrp;
@@ -53,99 +54,70 @@ const LATE: &str = "20250102000001Z";
 /// The nextUpdate of the next manifest.
 const NEXT_END: &str = "20250103000000Z";
 
-/// Files whose objects are their contents.
-const ROA_FILE: FileIn<'static> = FileIn {
-    name: "a.roa",
-    object: ROA,
-    content: ROA,
-};
+/// The object of a file that has this name.
+fn object_of(name: &str) -> Option<&'static [u8]> {
+    match name {
+        "ROA" => Some(ROA),
+        "WITH_VERSION" => Some(WITH_VERSION),
+        "SUPERFLUOUS" => Some(SUPERFLUOUS),
+        "abc" => Some(b"abc"),
+        "abb" => Some(b"abb"),
+        "signed" => Some(b"signed"),
+        "empty" => Some(b""),
+        _ => None,
+    }
+}
 
-const WITH_VERSION_FILE: FileIn<'static> = FileIn {
-    name: "a.roa",
-    object: WITH_VERSION,
-    content: WITH_VERSION,
-};
+/// A file, as `a.roa=ROA`. Its content is its object, but that of `signed` is the ROA.
+fn file_of(file: &'static str) -> Option<FileIn<'static>> {
+    let (name, object) = file.split_once('=')?;
+    let content = object_of(if object == "signed" { "ROA" } else { object })?;
+    Some(FileIn {
+        name,
+        object: object_of(object)?,
+        content,
+    })
+}
 
-const SECOND_WITH_VERSION: FileIn<'static> = FileIn {
-    name: "b.roa",
-    object: WITH_VERSION,
-    content: WITH_VERSION,
-};
+/// Files with blanks between them.
+fn files_of(alloc: Global, files: &'static str) -> Option<Vec<FileIn<'static>>> {
+    let mut list = Vec::new(alloc);
+    for file in files.split_whitespace() {
+        if list.push(file_of(file)?).is_err() {
+            return None;
+        }
+    }
+    Some(list)
+}
 
-const SUPERFLUOUS_FILE: FileIn<'static> = FileIn {
-    name: "a.roa",
-    object: SUPERFLUOUS,
-    content: SUPERFLUOUS,
-};
-
-const EMPTY_ROA: FileIn<'static> = FileIn {
-    name: "b.roa",
-    object: b"",
-    content: b"",
-};
-
-const ABB_ROA: FileIn<'static> = FileIn {
-    name: "b.roa",
-    object: b"abb",
-    content: b"abb",
-};
-
-const CRL: FileIn<'static> = FileIn {
-    name: "a.crl",
-    object: b"abc",
-    content: b"abc",
-};
-
-const OTHER: FileIn<'static> = FileIn {
-    name: "x",
-    object: b"",
-    content: b"",
-};
-
-/// A file whose object holds the ROA.
-const SIGNED: FileIn<'static> = FileIn {
-    name: "a.roa",
-    object: b"signed",
-    content: ROA,
-};
-
-/// The name and the object of a file that a manifest lists.
-type Listed = (&'static str, &'static [u8]);
-
-const LISTED: &[Listed] = &[("a.roa", ROA)];
-
-const FILES: &[FileIn<'static>] = &[ROA_FILE];
+const FILES: &str = "a.roa=ROA";
 
 /// What an offer is answered: of a fault its number and its index.
 type Answer = Result<Offered, (u8, Option<usize>)>;
 
-/// Lists a file, with the SHA-256 of its object.
-fn list(
-    files: &mut Vec<ListedFile>,
-    alloc: Global,
-    (name, object): &Listed,
-) -> Result<(), AllocError> {
-    let name = String::from_str(alloc, name)?;
-    Ok(files.push(ListedFile::new(name, Sha256::digest(object)))?)
+/// The entry of a file that a manifest lists, with the SHA-256 of its object.
+fn entry_of(alloc: Global, file: &FileIn<'static>) -> Result<ListedFile, AllocError> {
+    let name = String::from_str(alloc, file.name)?;
+    Ok(ListedFile::new(name, Sha256::digest(file.object)))
 }
 
-/// The files that a manifest lists, with the SHA-256 of these objects.
-fn listed(alloc: Global, objects: &[Listed]) -> Result<Vec<ListedFile>, AllocError> {
-    let mut files = Vec::new(alloc);
-    for object in objects {
-        list(&mut files, alloc, object)?;
+/// The entries of files.
+fn listed(alloc: Global, files: &[FileIn<'static>]) -> Result<Vec<ListedFile>, AllocError> {
+    let mut list = Vec::new(alloc);
+    for file in files {
+        list.push(entry_of(alloc, file)?)?;
     }
-    Ok(files)
+    Ok(list)
 }
 
-/// A manifest of this number and these times, which lists files with the SHA-256 of these objects.
+/// A manifest of this number and these times, which lists files.
 fn made(
     alloc: Global,
     number: u8,
     (this_update, next_update): (Moment, Moment),
-    objects: &[Listed],
+    files: &[FileIn<'static>],
 ) -> Option<Manifest> {
-    match (Vec::from_slice(alloc, &[number]), listed(alloc, objects)) {
+    match (Vec::from_slice(alloc, &[number]), listed(alloc, files)) {
         (Ok(number), Ok(files)) => {
             Manifest::new(alloc, number, this_update, next_update, files).ok()
         }
@@ -153,16 +125,11 @@ fn made(
     }
 }
 
-/// Its payload.
-fn manifest(
-    alloc: Global,
-    number: u8,
-    this_update: &str,
-    next_update: &str,
-    objects: &[Listed],
-) -> Option<Vec<u8>> {
-    let moments = (Moment::parse(this_update)?, Moment::parse(next_update)?);
-    match made(alloc, number, moments, objects) {
+/// The payload of a manifest of this number and this thisUpdate, which lists files.
+fn manifest(alloc: Global, number: u8, this_update: &str, files: &'static str) -> Option<Vec<u8>> {
+    let moments = (Moment::parse(this_update)?, Moment::parse(NEXT_END)?);
+    let files = files_of(alloc, files)?;
+    match made(alloc, number, moments, files.as_slice()) {
         Some(manifest) => encode_manifest(alloc, &manifest).ok(),
         None => None,
     }
@@ -189,8 +156,9 @@ fn offer(point: &mut Point, manifest: &[u8], files: &[FileIn], now: &str) -> Opt
 
 /// A point that accepted the first manifest.
 fn accepted(alloc: Global) -> Option<Point> {
+    let files = files_of(alloc, FILES)?;
     let mut point = Point::new(alloc);
-    match offer(&mut point, FIRST, FILES, START) {
+    match offer(&mut point, FIRST, files.as_slice(), START) {
         Some(Ok(Offered::New)) => Some(point),
         _ => None,
     }
@@ -218,15 +186,46 @@ fn knows_what_it_holds(rt: HostRuntime) {
     }
 }
 
-/// An offer at noon to a point that accepted the first manifest. It has the number and thisUpdate of its manifest, the files which that
-/// lists, those that are supplied, and what is answered.
-type Later = (
-    u8,
-    &'static str,
-    &'static [Listed],
-    &'static [FileIn<'static>],
-    Answer,
-);
+/// Offers at noon to a point that accepted the first manifest. Each has the number of its manifest, and whether its thisUpdate is noon or that
+/// of the first. Then come the files that it lists, those that are supplied, and the answer: `new`, or a fault's number and index.
+const LATER_OFFERS: &str = "1 noon; a.roa=ROA; a.roa=ROA; 4
+    1 first; a.roa=ROA; a.roa=ROA; 4
+    2 first; a.roa=ROA; a.roa=ROA; 5
+    2 noon; a.roa=ROA; a.roa=ROA a.roa=ROA; 6 1
+    2 noon; a.roa=ROA; ; 7 0
+    2 noon; a.roa=ROA; a.roa=WITH_VERSION; 8 0
+    2 noon; a.roa=WITH_VERSION; a.roa=WITH_VERSION; 9 0
+    2 noon; a.roa=ROA; a.roa=ROA b.roa=empty; new
+    2 noon; a.crl=abc; a.crl=abc; new";
+
+/// The hash of the first listed file is judged before the second, which is missing, and so is its content. Two files of one name come before all
+/// that is listed, also if neither is listed, and if they are equal. The object is hashed, and the content is read.
+const LEAST: &str = "2 noon; a.roa=ROA b.roa=ROA; a.roa=WITH_VERSION; 8 0
+    2 noon; a.roa=WITH_VERSION b.roa=ROA; a.roa=WITH_VERSION b.roa=WITH_VERSION; 9 0
+    2 noon; a.roa=ROA b.roa=ROA; a.roa=ROA a.roa=ROA; 6 1
+    2 noon; a.roa=ROA; a.roa=ROA x=empty x=empty a.roa=ROA; 6 2
+    2 noon; a.roa=signed; a.roa=signed; new";
+
+/// The payload of the manifest of a row, whose files are these.
+fn next_of(alloc: Global, row: &str, files: &'static str) -> Option<Vec<u8>> {
+    match row {
+        "1 noon" => manifest(alloc, 1, NOON, files),
+        "1 first" => manifest(alloc, 1, START, files),
+        "2 first" => manifest(alloc, 2, START, files),
+        "2 noon" => manifest(alloc, 2, NOON, files),
+        _ => None,
+    }
+}
+
+/// What a row says is answered.
+fn want_of(text: &str) -> Option<Answer> {
+    if text == "new" {
+        return Some(Ok(Offered::New));
+    }
+    let mut words = Words { rest: text };
+    let number = words.next().parse::<u8>().ok()?;
+    Some(Err((number, words.next().parse::<usize>().ok())))
+}
 
 /// What an offer at noon is answered.
 fn offer_next(alloc: Global, next: &[u8], files: &[FileIn]) -> Option<Answer> {
@@ -236,41 +235,30 @@ fn offer_next(alloc: Global, next: &[u8], files: &[FileIn]) -> Option<Answer> {
     }
 }
 
-/// What this offer is answered.
-fn at_noon(alloc: Global, (number, this_update, listed, files, _want): &Later) -> Option<Answer> {
-    match manifest(alloc, *number, this_update, NEXT_END, listed) {
-        Some(next) => offer_next(alloc, next.as_slice(), files),
-        None => None,
-    }
+/// Whether a row's offer is answered so.
+fn is_offered(alloc: Global, line: &'static str) -> Option<bool> {
+    let mut parts = line.split(';');
+    let (row, listed) = (parts.next()?, parts.next()?);
+    let (files, want) = (parts.next()?, parts.next()?);
+    let want = want_of(want.trim())?;
+    let files = files_of(alloc, files)?;
+    let next = next_of(alloc, row, listed)?;
+    Some(is(offer_next(alloc, next.as_slice(), files.as_slice()), &want))
 }
 
-fn expect_later<R: Abort>(rt: &R, alloc: Global, rows: &[Later]) {
-    for later in rows {
-        assert!(rt; is(at_noon(alloc, later), &later.4));
-    }
+fn are_offered(alloc: Global, rows: &'static str) -> bool {
+    rows.lines()
+        .all(|line| is_offered(alloc, line.trim()) == Some(true))
 }
-
-const LATER_OFFERS: &[Later] = &[
-    (1, NOON, LISTED, FILES, Err((4, None))),
-    (1, START, LISTED, FILES, Err((4, None))),
-    (2, START, LISTED, FILES, Err((5, None))),
-    (2, NOON, LISTED, &[ROA_FILE, ROA_FILE], Err((6, Some(1)))),
-    (2, NOON, LISTED, &[], Err((7, Some(0)))),
-    (2, NOON, LISTED, &[WITH_VERSION_FILE], Err((8, Some(0)))),
-    (
-        2,
-        NOON,
-        &[("a.roa", WITH_VERSION)],
-        &[WITH_VERSION_FILE],
-        Err((9, Some(0))),
-    ),
-    (2, NOON, LISTED, &[ROA_FILE, EMPTY_ROA], Ok(Offered::New)),
-    (2, NOON, &[("a.crl", b"abc")], &[CRL], Ok(Offered::New)),
-];
 
 #[test]
 fn judges_later_offers(rt: HostRuntime) {
-    expect_later(&rt, rt.alloc(), LATER_OFFERS);
+    assert!(rt; are_offered(rt.alloc(), LATER_OFFERS));
+}
+
+#[test]
+fn judges_the_least_file_and_its_first_fault(rt: HostRuntime) {
+    assert!(rt; are_offered(rt.alloc(), LEAST));
 }
 
 /// The index of the file that is no ROA, and the number and the offset of its fault.
@@ -303,37 +291,57 @@ fn uses_the_roa(repository: &Repository, now: &str) -> bool {
     in_use(repository, now).is_some_and(|vrps| is_alone(vrps.as_slice(), "192.0.2.0/24", 24))
 }
 
+/// Whether the first manifest is accepted for a point at a moment.
+fn accepts_first(repository: &mut Repository, files: &[FileIn], name: &str, now: &str) -> bool {
+    is(
+        offer_to(repository, name, FIRST, files, now),
+        &Ok(Offered::New),
+    )
+}
+
 /// The fault of a maximum that is the prefix's length, at noon at a point that accepted the first manifest.
 fn fault_of_superfluous(alloc: Global, repository: &mut Repository) -> Option<(usize, u8, usize)> {
     let noon = Moment::parse(NOON)?;
-    let next = manifest(alloc, 2, NOON, NEXT_END, &[("a.roa", SUPERFLUOUS)])?;
-    roa_fault(repository.offer("one", next.as_slice(), &[SUPERFLUOUS_FILE], noon))
+    let files = files_of(alloc, "a.roa=SUPERFLUOUS")?;
+    let next = manifest(alloc, 2, NOON, "a.roa=SUPERFLUOUS")?;
+    roa_fault(repository.offer("one", next.as_slice(), files.as_slice(), noon))
+}
+
+/// Whether a repository refuses that file, and uses the first one.
+fn refuses_superfluous(alloc: Global, repository: &mut Repository) -> bool {
+    let Some(files) = files_of(alloc, FILES) else {
+        return false;
+    };
+    accepts_first(repository, files.as_slice(), "one", START)
+        && fault_of_superfluous(alloc, repository) == Some((0, 20, 25))
+        && uses_the_roa(repository, NOON)
 }
 
 #[test]
 fn refuses_a_superfluous_maximum(rt: HostRuntime) {
     let mut repository = Repository::new(rt.alloc());
-    let first = offer_to(&mut repository, "one", FIRST, FILES, START);
-    assert!(rt; is(first, &Ok(Offered::New)));
-    let fault = fault_of_superfluous(rt.alloc(), &mut repository);
-    assert!(rt; fault == Some((0, 20, 25)));
-    assert!(rt; uses_the_roa(&repository, NOON));
+    assert!(rt; refuses_superfluous(rt.alloc(), &mut repository));
 }
 
-/// A manifest that lists two files, and these files: the object of the second is another one.
-const WITH_ABC: &[Listed] = &[("a.roa", ROA), ("b.roa", b"abc")];
-
-const WITH_ABB: &[FileIn<'static>] = &[ROA_FILE, ABB_ROA];
+/// Whether the next manifest, which lists a second file of another object, is refused.
+fn refuses_second(alloc: Global, repository: &mut Repository, files: &[FileIn]) -> bool {
+    match manifest(alloc, 2, NOON, "a.roa=ROA b.roa=abc") {
+        Some(next) => {
+            let later = offer_to(repository, "one", next.as_slice(), files, NOON);
+            is(later, &Err((8, Some(1))))
+        }
+        None => false,
+    }
+}
 
 /// Whether a repository accepts the first manifest for two points, and in between refuses the next one for the first point.
 fn refuses_the_next(alloc: Global, repository: &mut Repository) -> bool {
-    let Some(next) = manifest(alloc, 2, NOON, NEXT_END, WITH_ABC) else {
+    let Some(files) = files_of(alloc, "a.roa=ROA b.roa=abb") else {
         return false;
     };
-    let first = offer_to(repository, "one", FIRST, WITH_ABB, START);
-    let later = offer_to(repository, "one", next.as_slice(), WITH_ABB, NOON);
-    let other = offer_to(repository, "two", FIRST, WITH_ABB, NOON);
-    is(first, &Ok(Offered::New)) && is(later, &Err((8, Some(1)))) && is(other, &Ok(Offered::New))
+    accepts_first(repository, files.as_slice(), "one", START)
+        && refuses_second(alloc, repository, files.as_slice())
+        && accepts_first(repository, files.as_slice(), "two", NOON)
 }
 
 #[test]
@@ -344,50 +352,22 @@ fn keeps_what_is_in_use(rt: HostRuntime) {
     assert!(rt; in_use(&repository, LATE).is_some_and(|vrps| vrps.is_empty()));
 }
 
-const BOTH: &[Listed] = &[("a.roa", ROA), ("b.roa", ROA)];
-
-const LEAST: &[Later] = &[
-    // The hash of the first listed file is judged before the second, which is missing, and so is its content.
-    (2, NOON, BOTH, &[WITH_VERSION_FILE], Err((8, Some(0)))),
-    (
-        2,
-        NOON,
-        &[("a.roa", WITH_VERSION), ("b.roa", ROA)],
-        &[WITH_VERSION_FILE, SECOND_WITH_VERSION],
-        Err((9, Some(0))),
-    ),
-    // Two files of one name come before all that is listed, also if neither is listed, and if they are equal.
-    (2, NOON, BOTH, &[ROA_FILE, ROA_FILE], Err((6, Some(1)))),
-    (
-        2,
-        NOON,
-        LISTED,
-        &[ROA_FILE, OTHER, OTHER, ROA_FILE],
-        Err((6, Some(2))),
-    ),
-    // The object is hashed, and the content is read.
-    (
-        2,
-        NOON,
-        &[("a.roa", b"signed")],
-        &[SIGNED],
-        Ok(Offered::New),
-    ),
-];
-
-#[test]
-fn judges_the_least_file_and_its_first_fault(rt: HostRuntime) {
-    expect_later(&rt, rt.alloc(), LEAST);
+/// Whether only nextUpdate is looked at, and an offer that is refused, here as too late, removes nothing.
+fn uses_until_next_update(alloc: Global, repository: &mut Repository) -> bool {
+    let Some(files) = files_of(alloc, FILES) else {
+        return false;
+    };
+    accepts_first(repository, files.as_slice(), "one", NOON)
+        && uses_the_roa(repository, EARLY)
+        && is(
+            offer_to(repository, "one", FIRST, &[], LATE),
+            &Err((3, None)),
+        )
+        && uses_the_roa(repository, END)
 }
 
 #[test]
 fn uses_a_point_until_its_next_update(rt: HostRuntime) {
     let mut repository = Repository::new(rt.alloc());
-    let first = offer_to(&mut repository, "one", FIRST, FILES, NOON);
-    assert!(rt; is(first, &Ok(Offered::New)));
-    // Only nextUpdate is looked at, and an offer that is refused, here as too late, removes nothing.
-    assert!(rt; uses_the_roa(&repository, EARLY));
-    let late = offer_to(&mut repository, "one", FIRST, &[], LATE);
-    assert!(rt; is(late, &Err((3, None))));
-    assert!(rt; uses_the_roa(&repository, END));
+    assert!(rt; uses_until_next_update(rt.alloc(), &mut repository));
 }

@@ -1,28 +1,45 @@
 //! Sets of records, and changes between them.
-use example_values::sets::{Row, Rows, V, W, record, set_in};
+use example_values::scripts::Words;
+use example_values::sets::{Row, Rows, record, set_in};
 use prefixes::Vrp;
 use std::alloc::Global;
-use std::process::Abort;
 use vrps::{
     Change, Gathered, PathFault, Segment, SegmentKind, Serial, SetFault, VrpSet, origin_of_path,
 };
 
-const X: Row = ("192.0.2.0/24", 25, 64496);
+/// The record of this name.
+fn named(name: &str) -> Option<Vrp> {
+    match name {
+        "V" => record("192.0.2.0/24", 24, 64496),
+        "W" => record("198.51.100.0/24", 24, 64497),
+        "X" => record("192.0.2.0/24", 25, 64496),
+        "Y" => record("2001:db8::/32", 48, 64496),
+        "Z" => record("10.0.0.0/8", 8, 1),
+        _ => None,
+    }
+}
 
-const Y: Row = ("2001:db8::/32", 48, 64496);
+/// The set of the records of these names.
+pub(crate) fn set_named(alloc: Global, names: &str) -> Option<VrpSet> {
+    let mut list = Vec::new(alloc);
+    for name in names.split_whitespace() {
+        if list.push(named(name)?).is_err() {
+            return None;
+        }
+    }
+    VrpSet::from_list(list).ok()
+}
 
-const Z: Row = ("10.0.0.0/8", 8, 1);
-
-/// Whether a set has these rows and no others, in their order.
-pub(crate) fn is_set(alloc: Global, set: &VrpSet, rows: &[Row]) -> bool {
-    match set_in(alloc, rows) {
+/// Whether a set has the records of these names and no others.
+pub(crate) fn is_set(alloc: Global, set: &VrpSet, names: &str) -> bool {
+    match set_named(alloc, names) {
         Some(other) => set.as_slice() == other.as_slice(),
         None => false,
     }
 }
 
-/// Whether a change withdraws these rows and announces those.
-pub(crate) fn is_change(alloc: Global, change: &Change, withdraw: Rows, announce: Rows) -> bool {
+/// Whether a change withdraws these records and announces those.
+pub(crate) fn is_change(alloc: Global, change: &Change, withdraw: &str, announce: &str) -> bool {
     is_set(alloc, &change.withdraw, withdraw) && is_set(alloc, &change.announce, announce)
 }
 
@@ -96,33 +113,34 @@ fn sets_ascend(rt: HostRuntime) {
     assert!(rt; VrpSet::empty(rt.alloc()).is_empty());
 }
 
-/// Four lists of rows.
-type Four = (Rows, Rows, Rows, Rows);
+/// Names of records in four parts, with semicolons between them.
+fn four(line: &str) -> Option<[&str; 4]> {
+    let mut parts = line.split(';');
+    Some([parts.next()?, parts.next()?, parts.next()?, parts.next()?])
+}
 
 /// A set, another one, and what is withdrawn and announced between them.
-const BETWEEN: &[Four] = &[
-    (&[], &[], &[], &[]),
-    (&[], &[V, W], &[], &[V, W]),
-    (&[V, W], &[], &[V, W], &[]),
-    (&[V, W], &[V, W], &[], &[]),
-    (&[V], &[V, W], &[], &[W]),
-    (&[V, W], &[W], &[V], &[]),
-    (&[V, Y], &[Z, X, W], &[V, Y], &[Z, X, W]),
-    (&[Z, V, W, Y], &[V, X, Y], &[Z, W], &[X]),
-    (&[X], &[V, Y], &[X], &[V, Y]),
-];
+const BETWEEN: &str = ";;;
+    ; V W;; V W
+    V W;; V W;
+    V W; V W;;
+    V; V W;; W
+    V W; W; V;
+    V Y; Z X W; V Y; Z X W
+    Z V W Y; V X Y; Z W; X
+    X; V Y; X; V Y";
 
-/// The change between the sets of these rows.
-fn between(alloc: Global, old: Rows, new: Rows) -> Option<Change> {
-    match (set_in(alloc, old), set_in(alloc, new)) {
+/// The change between the sets of these records.
+fn between(alloc: Global, old: &str, new: &str) -> Option<Change> {
+    match (set_named(alloc, old), set_named(alloc, new)) {
         (Some(old), Some(new)) => Change::between(alloc, &old, &new).ok(),
         _ => None,
     }
 }
 
-/// Whether a change leads from the set of these rows to that of those.
-fn leads(alloc: Global, change: &Change, old: Rows, new: Rows) -> bool {
-    let Some(old) = set_in(alloc, old) else {
+/// Whether a change leads from the set of these records to that of those.
+fn leads(alloc: Global, change: &Change, old: &str, new: &str) -> bool {
+    let Some(old) = set_named(alloc, old) else {
         return false;
     };
     match change.apply(alloc, &old) {
@@ -132,7 +150,10 @@ fn leads(alloc: Global, change: &Change, old: Rows, new: Rows) -> bool {
 }
 
 /// Whether the change between two sets is this, and leads from the one to the other.
-fn is_between(alloc: Global, &(old, new, withdraw, announce): &Four) -> bool {
+fn is_between(alloc: Global, line: &str) -> bool {
+    let Some([old, new, withdraw, announce]) = four(line) else {
+        return false;
+    };
     match between(alloc, old, new) {
         Some(change) => {
             is_change(alloc, &change, withdraw, announce) && leads(alloc, &change, old, new)
@@ -141,51 +162,48 @@ fn is_between(alloc: Global, &(old, new, withdraw, announce): &Four) -> bool {
     }
 }
 
-fn expect_between<R: Abort>(rt: &R, alloc: Global, rows: &[Four]) {
-    for row in rows {
-        assert!(rt; is_between(alloc, row));
-    }
+fn are_between(alloc: Global, lines: &str) -> bool {
+    lines.lines().all(|line| is_between(alloc, line))
 }
 
 #[test]
 fn changes_lead_from_set_to_set(rt: HostRuntime) {
-    expect_between(&rt, rt.alloc(), BETWEEN);
+    assert!(rt; are_between(rt.alloc(), BETWEEN));
 }
 
 /// A set, what is withdrawn and announced, and the set to which that leads.
-const APPLIED: &[Four] = &[
-    (&[], &[V], &[W], &[W]),
-    (&[V, W], &[X], &[Y], &[V, W, Y]),
-    (&[W], &[], &[W], &[W]),
-    (&[V], &[V], &[V], &[V]),
-    (&[Z, V, X, W], &[Z, X], &[X, Y], &[V, X, W, Y]),
-    (&[V, W], &[V, W, Y], &[Z], &[Z]),
-];
+const APPLIED: &str = "; V; W; W
+    V W; X; Y; V W Y
+    W;; W; W
+    V; V; V; V
+    Z V X W; Z X; X Y; V X W Y
+    V W; V W Y; Z; Z";
 
 /// Whether a change of these sets leads from this set to that.
-fn applies(alloc: Global, &(old, withdraw, announce, new): &Four) -> bool {
-    let (Some(withdraw), Some(announce)) = (set_in(alloc, withdraw), set_in(alloc, announce)) else {
+fn applies(alloc: Global, line: &str) -> bool {
+    let Some([old, withdraw, announce, new]) = four(line) else {
         return false;
     };
-    leads(alloc, &Change { withdraw, announce }, old, new)
+    match (set_named(alloc, withdraw), set_named(alloc, announce)) {
+        (Some(withdraw), Some(announce)) => {
+            leads(alloc, &Change { withdraw, announce }, old, new)
+        }
+        _ => false,
+    }
 }
 
-fn expect_applied<R: Abort>(rt: &R, alloc: Global, rows: &[Four]) {
-    for row in rows {
-        assert!(rt; applies(alloc, row));
-    }
+fn all_apply(alloc: Global, lines: &str) -> bool {
+    lines.lines().all(|line| applies(alloc, line))
 }
 
 #[test]
 fn changes_apply_to_any_set(rt: HostRuntime) {
-    expect_applied(&rt, rt.alloc(), APPLIED);
+    assert!(rt; all_apply(rt.alloc(), APPLIED));
 }
 
 #[test]
 fn faults_are_numbered(rt: HostRuntime) {
-    assert!(rt; SetFault::TooMany.number() == 1);
-    assert!(rt; SetFault::Memory.number() == 2);
-    assert!(rt; PathFault::EmptySequence.number() == 1);
+    assert!(rt; SetFault::Memory.number() == 2 && PathFault::EmptySequence.number() == 1);
 }
 
 #[test]
@@ -196,129 +214,113 @@ fn serials_go_round(rt: HostRuntime) {
     assert!(rt; Serial(4294967295).is_before(Serial(0)));
 }
 
-/// The segments of a path, and the origin that it has at a router of AS 64500.
-type Path = (
-    &'static [(SegmentKind, &'static [u32])],
-    Result<Option<u32>, PathFault>,
-);
+/// The segments of paths, and the origin that each has at a router of AS 64500.
+const PATHS: &str = "= 64500
+    sequence 1 2 3 = 3
+    sequence 1; set 2 3 = none
+    set 2; sequence = fault
+    sequence; confederation-set 7 = 64500
+    sequence 1; confederation-sequence 65001 65002 = 64500
+    confederation-sequence 65001; sequence 1 2 = 2
+    set 2 = none
+    set = none
+    sequence 0 = 0";
 
-const PATHS: &[Path] = &[
-    (&[], Ok(Some(64500))),
-    (&[(SegmentKind::Sequence, &[1, 2, 3])], Ok(Some(3))),
-    (
-        &[(SegmentKind::Sequence, &[1]), (SegmentKind::Set, &[2, 3])],
-        Ok(None),
-    ),
-    (
-        &[(SegmentKind::Set, &[2]), (SegmentKind::Sequence, &[])],
-        Err(PathFault::EmptySequence),
-    ),
-    (
-        &[(SegmentKind::Sequence, &[]), (SegmentKind::ConfedSet, &[7])],
-        Ok(Some(64500)),
-    ),
-    (
-        &[
-            (SegmentKind::Sequence, &[1]),
-            (SegmentKind::ConfedSequence, &[65001, 65002]),
-        ],
-        Ok(Some(64500)),
-    ),
-    (
-        &[
-            (SegmentKind::ConfedSequence, &[65001]),
-            (SegmentKind::Sequence, &[1, 2]),
-        ],
-        Ok(Some(2)),
-    ),
-    (&[(SegmentKind::Set, &[2])], Ok(None)),
-    (&[(SegmentKind::Set, &[])], Ok(None)),
-    (&[(SegmentKind::Sequence, &[0])], Ok(Some(0))),
-];
+fn kind_of(word: &str) -> Option<SegmentKind> {
+    match word {
+        "sequence" => Some(SegmentKind::Sequence),
+        "set" => Some(SegmentKind::Set),
+        "confederation-sequence" => Some(SegmentKind::ConfedSequence),
+        "confederation-set" => Some(SegmentKind::ConfedSet),
+        _ => None,
+    }
+}
+
+/// A segment.
+fn segment_of(alloc: Global, text: &str) -> Option<Segment> {
+    let mut words = Words { rest: text.trim() };
+    let kind = kind_of(words.next())?;
+    let mut numbers = Vec::new(alloc);
+    for word in words.rest.split_whitespace() {
+        if numbers.push(word.parse::<u32>().ok()?).is_err() {
+            return None;
+        }
+    }
+    Some(Segment { kind, numbers })
+}
 
 /// The segments of a path.
-fn segments_of(alloc: Global, path: &[(SegmentKind, &[u32])]) -> Option<Vec<Segment>> {
+fn segments_of(alloc: Global, path: &str) -> Option<Vec<Segment>> {
     let mut segments = Vec::new(alloc);
-    for &(kind, numbers) in path {
-        let Ok(numbers) = numbers.to_vec(alloc) else {
-            return None;
-        };
-        if segments.push(Segment { kind, numbers }).is_err() {
+    if path.trim().is_empty() {
+        return Some(segments);
+    }
+    for text in path.split(';') {
+        if segments.push(segment_of(alloc, text)?).is_err() {
             return None;
         }
     }
     Some(segments)
 }
 
+/// An origin, none, or the fault of a path.
+fn origin_in(text: &str) -> Result<Option<u32>, PathFault> {
+    match text {
+        "fault" => Err(PathFault::EmptySequence),
+        "none" => Ok(None),
+        number => Ok(number.parse::<u32>().ok()),
+    }
+}
+
 /// Whether a path has its origin.
-fn is_origin(alloc: Global, (path, want): &Path) -> bool {
+fn is_origin(alloc: Global, line: &str) -> bool {
+    let Some((path, want)) = line.split_once('=') else {
+        return false;
+    };
     match segments_of(alloc, path) {
-        Some(segments) => origin_of_path(segments.as_slice(), 64500) == *want,
+        Some(segments) => origin_of_path(segments.as_slice(), 64500) == origin_in(want.trim()),
         None => false,
     }
 }
 
-fn expect_origins<R: Abort>(rt: &R, alloc: Global, paths: &[Path]) {
-    for path in paths {
-        assert!(rt; is_origin(alloc, path));
-    }
+fn are_origins(alloc: Global, paths: &str) -> bool {
+    paths.lines().all(|line| is_origin(alloc, line))
 }
 
 #[test]
 fn the_final_segment_tells_the_origin(rt: HostRuntime) {
-    expect_origins(&rt, rt.alloc(), PATHS);
+    assert!(rt; are_origins(rt.alloc(), PATHS));
 }
 
-/// Two lists of rows, and whether they make the same set.
-const SAME: &[(Rows, Rows, bool)] = &[
-    (&[V, W], &[W, V, W], true),
-    (&[V, W], &[V], false),
-    (&[V, W], &[V, X], false),
-    (&[], &[], true),
-];
-
 /// Whether both lists make the same set.
-fn is_same(alloc: Global, rows: Rows, others: Rows) -> Option<bool> {
-    match (set_in(alloc, rows), set_in(alloc, others)) {
+fn is_same(alloc: Global, names: &str, others: &str) -> Option<bool> {
+    match (set_named(alloc, names), set_named(alloc, others)) {
         (Some(set), Some(other)) => Some(set.is_same(&other)),
         _ => None,
     }
 }
 
-/// Whether no rows make the empty set.
+/// Whether no records make the empty set.
 fn is_empty_set(alloc: Global) -> bool {
-    match set_in(alloc, &[]) {
+    match set_named(alloc, "") {
         Some(set) => VrpSet::empty(alloc).is_same(&set),
         None => false,
     }
 }
 
-fn expect_same<R: Abort>(rt: &R, alloc: Global, lists: &[(Rows, Rows, bool)]) {
-    for &(rows, others, want) in lists {
-        assert!(rt; is_same(alloc, rows, others) == Some(want));
-    }
-}
-
 #[test]
 fn equal_sets_are_same(rt: HostRuntime) {
-    expect_same(&rt, rt.alloc(), SAME);
+    assert!(rt; is_same(rt.alloc(), "V W", "W V W") == Some(true));
+    assert!(rt; is_same(rt.alloc(), "V W", "V") == Some(false));
+    assert!(rt; is_same(rt.alloc(), "V W", "V X") == Some(false));
     assert!(rt; is_empty_set(rt.alloc()));
 }
 
-/// Records as they come, each with whether it is new: in ascending order, and out of order from some place on.
-const GATHERED: &[&[(Row, bool)]] = &[
-    &[],
-    &[(V, true), (V, false), (X, true), (Y, true), (X, false)],
-    &[(Y, true), (Z, true), (Y, false), (Z, false), (W, true)],
-    &[
-        (V, true),
-        (X, true),
-        (Z, true),
-        (V, false),
-        (Z, false),
-        (Y, true),
-    ],
-];
+/// Records as they come, in ascending order, and out of order from some place on. One that has come before is in brackets.
+const GATHERED: &str = "
+    V [V] X Y [X]
+    Y Z [Y] [Z] W
+    V X Z [V] [Z] Y";
 
 /// Whether a record is new if it is said so, and is found from then on.
 fn inserts(gathered: &mut Gathered, vrp: Vrp, is_new: bool) -> bool {
@@ -332,12 +334,12 @@ fn inserts(gathered: &mut Gathered, vrp: Vrp, is_new: bool) -> bool {
 }
 
 /// Whether both hold of records that come one by one, and a record that did not come is not found.
-fn all_come(gathered: &mut Gathered, list: &mut Vec<Vrp>, rows: &[(Row, bool)]) -> bool {
-    for &((text, max_len, asn), is_new) in rows {
-        let Some(vrp) = record(text, max_len, asn) else {
+fn all_come(gathered: &mut Gathered, list: &mut Vec<Vrp>, names: &str) -> bool {
+    for name in names.split_whitespace() {
+        let Some(vrp) = named(name.trim_matches(['[', ']'])) else {
             return false;
         };
-        if !inserts(gathered, vrp, is_new) || list.push(vrp).is_err() {
+        if !inserts(gathered, vrp, !name.starts_with('[')) || list.push(vrp).is_err() {
             return false;
         }
     }
@@ -354,19 +356,17 @@ fn is_same_set(alloc: Global, gathered: Gathered, list: Vec<Vrp>) -> bool {
 }
 
 /// Whether both hold of these records.
-fn gathers(alloc: Global, rows: &[(Row, bool)]) -> bool {
+fn gathers(alloc: Global, names: &str) -> bool {
     let mut gathered = Gathered::new(alloc);
     let mut list = Vec::new(alloc);
-    all_come(&mut gathered, &mut list, rows) && is_same_set(alloc, gathered, list)
+    all_come(&mut gathered, &mut list, names) && is_same_set(alloc, gathered, list)
 }
 
-fn expect_gathered<R: Abort>(rt: &R, alloc: Global, lists: &[&[(Row, bool)]]) {
-    for rows in lists {
-        assert!(rt; gathers(alloc, rows));
-    }
+fn all_gather(alloc: Global, lines: &str) -> bool {
+    lines.lines().all(|line| gathers(alloc, line))
 }
 
 #[test]
 fn gathered_records_make_a_set(rt: HostRuntime) {
-    expect_gathered(&rt, rt.alloc(), GATHERED);
+    assert!(rt; all_gather(rt.alloc(), GATHERED));
 }
