@@ -99,7 +99,7 @@ start 3 'the sources here are not those' "${route[@]}"
 rm repo/crates/prefixes/src/more.rt
 start 0 '' "${route[@]}"
 # A crate that no program is built from is none of its sources.
-echo '// changed' >>repo/crates/pdu_examples/src/lib.rt
+echo '// changed' >>repo/crates/rtr_examples/src/lib.rt
 start 0 '' "${route[@]}"
 
 # An unpacked program with one byte changed is refused, and unpacked anew once it is removed.
@@ -193,7 +193,7 @@ if [ "$compared" = 'the same bytes as built here' ] && same_linkers; then
         mkdir -p "${path%/*}" && if [ -f "$built" ]; then cp -p "$built" "$path"; else gzip -dc "$delivery/$name.gz" >"$path"; fi || exit 1
     done
     cp -rp "$top/include" repo && mkdir -p repo/tools/librpkirtr && cp -p "$top"/tools/librpkirtr/* repo/tools/librpkirtr || exit 1
-    cp -p "$top/crates/pdu_examples/src/lib.rt" repo/crates/pdu_examples/src
+    cp -p "$top/crates/rtr_examples/src/lib.rt" repo/crates/rtr_examples/src
     in_git init
     in_git add -A
     in_git commit -m all

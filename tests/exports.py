@@ -211,7 +211,9 @@ def outcome(now, text):
     built = built_of(value)
     expired = sum(not (expires is None or expires > now) for _, expires in entries)
     until = min((expires for _, expires in entries if expires is not None and expires > now), default="-")
-    return f"{expired} {'-' if built is None else built} {until} {ignored_of(value)} [{','.join(map(written, sorted(current)))}]"
+    lasts = [max((1 << 64) - 1 if expires is None else expires - 1 for it, expires in entries if it == record) for record in sorted(current)]
+    listed = ",".join(map(written, sorted(current)))
+    return f"{expired} {'-' if built is None else built} {until} {ignored_of(value)} [{listed}] [{''.join(f'{it},' for it in lasts)}]"
 
 
 # ---- cases at random
@@ -358,7 +360,8 @@ def main():
             for (now, text), answer in zip(cases, found):
                 wanted = outcome(now, text)
                 kinds[wanted[:7] if wanted.startswith("fault") else "taken"] = kinds.get(wanted[:7] if wanted.startswith("fault") else "taken", 0) + 1
-                if answer != wanted:
+                # (tests/file_rows.py compares the fault in words)
+                if answer.partition(" | ")[0] != wanted:
                     print(f"seed {given.seed}, at {now}: {text!r}\n  gives {answer}\n  in place of {wanted}")
                     return 1
             if status or len(found) < len(cases):

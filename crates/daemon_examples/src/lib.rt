@@ -1,13 +1,27 @@
-//! Examples of a daemon, which are the tests of `session_names`, `event_log`, `log_output`, `sd_notify`, `rtr_daemon` and `rpkirtrd_start`. They are of its
-//! sessions and serials, their pace, its clock, the levels and the output of its log, and its turns. Sockets, files, clocks and log are in
-//! memory. `page_texts` prints the lines of the log and the command line. They are a crate of their own, as a crate with tests is proved
-//! twice.
+//! Examples of a daemon and of its status pages, which are the tests of `session_names`, `event_log`, `log_output`, `sd_notify`, `rtr_daemon`,
+//! `rpkirtrd_start`, `status_pages` and `status_server`. They are of its sessions and serials, their pace, its clock, the levels and the output
+//! of its log, its turns, and the turns of its pages. Sockets, files, clocks and log are in memory. `page_texts` prints the lines of the log, the
+//! command line and the texts of the pages. They are a crate of their own, as a crate with tests is proved twice.
 #![tactic(auto)]
 
 #[cfg(test)]
+mod connections;
+#[cfg(test)]
+mod endpoint;
+#[cfg(test)]
+mod endpoint_play;
+#[cfg(test)]
+mod event_log_example;
+#[cfg(test)]
 mod following;
 #[cfg(test)]
+mod hosts;
+#[cfg(test)]
 mod levels;
+#[cfg(test)]
+mod lists;
+#[cfg(test)]
+mod log_output_example;
 #[cfg(test)]
 mod managers;
 #[cfg(test)]
@@ -17,10 +31,40 @@ mod names;
 #[cfg(test)]
 mod outputs;
 #[cfg(test)]
+mod payload_commands_example;
+#[cfg(test)]
+mod play;
+#[cfg(test)]
+mod queries;
+#[cfg(test)]
+mod rpkirtr_cli_example;
+#[cfg(test)]
+mod rpkirtrd_cli_example;
+#[cfg(test)]
+mod rtr_daemon_example;
+#[cfg(test)]
 mod runs;
+#[cfg(test)]
+mod sd_notify_example;
+#[cfg(test)]
+mod session_names_example;
+#[cfg(test)]
+mod sinks;
 #[cfg(test)]
 mod stage;
 #[cfg(test)]
 mod starts;
+#[cfg(test)]
+mod status_pages_example;
+#[cfg(test)]
+mod status_server_example;
+#[cfg(test)]
+mod status_source;
+#[cfg(test)]
+mod validities;
+#[cfg(test)]
+mod versions;
+#[cfg(test)]
+mod visitors;
 #[cfg(test)]
 mod wires;

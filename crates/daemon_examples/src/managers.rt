@@ -1,8 +1,6 @@
 //! The service manager: addresses of its socket, and the times of its watchdog.
 use sd_notify::{Watchdog, socket_address};
-use std::alloc::{AllocGlobal, Global};
-use std::process::Abort;
-use std::test::Fail;
+use std::alloc::Global;
 
 /// Names of sockets, and the bytes of their addresses (unix(7)), or none.
 const NAMES: &[(&str, Option<&[u8]>)] = &[
@@ -28,40 +26,51 @@ fn has_address(alloc: Global, name: &str, bytes: Option<&[u8]>) -> bool {
     }
 }
 
-fn expect_addresses<R: AllocGlobal + Abort>(rt: &R) -> Result<(), Fail> {
-    for &(name, bytes) in NAMES {
-        assert!(rt; has_address(rt.alloc(), name, bytes), "{name}");
+fn have_addresses(alloc: Global, rows: &[(&str, Option<&[u8]>)]) -> bool {
+    rows.iter()
+        .all(|&(name, bytes)| has_address(alloc, name, bytes))
+}
+
+#[test]
+fn names_have_addresses(rt: HostRuntime) {
+    assert!(rt; have_addresses(rt.alloc(), NAMES));
+}
+
+/// How long the address is of a name of this many bytes, if it has one.
+fn length(alloc: Global, bytes: usize) -> Option<usize> {
+    let Ok(mut name) = String::from_str(alloc, "/") else {
+        return None;
+    };
+    for _byte in 1..bytes {
+        if name.push('x').is_err() {
+            return None;
+        }
     }
-    Ok(())
-}
-
-#[test]
-fn names_have_addresses(rt: HostRuntime) -> Result<(), Fail> {
-    expect_addresses(&rt)
-}
-
-#[test]
-fn a_name_has_107_bytes_at_most(rt: HostRuntime) -> Result<(), Fail> {
-    let mut name = String::from_str(rt.alloc(), "/")?;
-    for _byte in 0..106 {
-        name.push('x')?;
+    match socket_address(alloc, name.as_str()) {
+        Ok(Some(address)) => Some(address.len()),
+        _ => None,
     }
-    let address = socket_address(rt.alloc(), name.as_str())?;
-    assert!(rt; address.is_some_and(|bytes| bytes.len() == 110));
-    name.push('x')?;
-    assert!(rt; socket_address(rt.alloc(), name.as_str())?.is_none());
-    Ok(())
 }
 
 #[test]
-fn a_watchdog_is_signalled_at_half_of_its_time(rt: HostRuntime) -> Result<(), Fail> {
+fn a_name_has_107_bytes_at_most(rt: HostRuntime) {
+    assert!(rt; length(rt.alloc(), 107) == Some(110));
+    assert!(rt; length(rt.alloc(), 108).is_none());
+}
+
+/// Whether a watchdog of two minutes, from the fifth second on, is signalled each minute.
+fn is_signalled_each_minute(watchdog: &mut Watchdog) -> bool {
+    watchdog.wait_limit(5000) == 60_000
+        && !watchdog.is_signalled(64_999)
+        && watchdog.wait_limit(64_999) == 1
+        && watchdog.is_signalled(65_000)
+        && !watchdog.is_signalled(65_000)
+        && watchdog.wait_limit(200_000) == 0
+        && watchdog.is_signalled(u64::MAX)
+}
+
+#[test]
+fn a_watchdog_is_signalled_at_half_of_its_time(rt: HostRuntime) {
     let mut watchdog = Watchdog::new(120_000_000, 5000);
-    assert!(rt; watchdog.wait_limit(5000) == 60_000);
-    assert!(rt; !watchdog.is_signalled(64_999));
-    assert!(rt; watchdog.wait_limit(64_999) == 1);
-    assert!(rt; watchdog.is_signalled(65_000));
-    assert!(rt; !watchdog.is_signalled(65_000));
-    assert!(rt; watchdog.wait_limit(200_000) == 0);
-    assert!(rt; watchdog.is_signalled(u64::MAX));
-    Ok(())
+    assert!(rt; is_signalled_each_minute(&mut watchdog));
 }

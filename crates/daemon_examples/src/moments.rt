@@ -1,38 +1,39 @@
 //! The times of seconds since 1970.
 use der_lite::Moment;
 use event_log::moment_at;
-use std::process::Abort;
 
 /// Seconds since 1970, and the text of their time.
-const MOMENTS: &[(u64, &str)] = &[
-    (0, "19700101000000Z"),
-    (951_782_399, "20000228235959Z"),
-    (951_782_400, "20000229000000Z"),
-    (951_868_800, "20000301000000Z"),
-    (1_700_000_000, "20231114221320Z"),
-    (1_709_251_199, "20240229235959Z"),
-    (1_709_251_200, "20240301000000Z"),
-    (4_107_542_399, "21000228235959Z"),
-    (4_107_542_400, "21000301000000Z"),
-    (253_402_300_799, "99991231235959Z"),
-];
+const MOMENTS: &str = "0 19700101000000Z
+    951782399 20000228235959Z
+    951782400 20000229000000Z
+    951868800 20000301000000Z
+    1700000000 20231114221320Z
+    1709251199 20240229235959Z
+    1709251200 20240301000000Z
+    4107542399 21000228235959Z
+    4107542400 21000301000000Z
+    253402300799 99991231235959Z";
 
-/// Whether the time of these seconds has this text.
-fn is_moment(seconds: u64, text: &str) -> bool {
-    let moment = moment_at(seconds);
-    moment.is_some() && moment == Moment::parse(text)
+/// Whether the time of the seconds of a line has its text.
+fn is_moment(line: &str) -> bool {
+    match line.split_once(' ') {
+        Some((seconds, text)) => match seconds.parse::<u64>() {
+            Ok(seconds) => {
+                let moment = moment_at(seconds);
+                moment.is_some() && moment == Moment::parse(text)
+            }
+            Err(_) => false,
+        },
+        None => false,
+    }
 }
 
-/// Checks each time.
-fn expect_moments<R: Abort>(rt: &R, moments: &[(u64, &str)]) {
-    for &(seconds, text) in moments {
-        assert!(rt; is_moment(seconds, text), "{seconds}");
-    }
+fn are_moments(lines: &str) -> bool {
+    lines.lines().all(|line| is_moment(line.trim()))
 }
 
 #[test]
 fn moments_of_seconds(rt: HostRuntime) {
-    expect_moments(&rt, MOMENTS);
-    assert!(rt; moment_at(253_402_300_800).is_none());
-    assert!(rt; moment_at(18_446_744_073_709_551_615).is_none());
+    assert!(rt; are_moments(MOMENTS));
+    assert!(rt; moment_at(253_402_300_800).is_none() && moment_at(u64::MAX).is_none());
 }

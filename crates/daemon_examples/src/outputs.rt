@@ -1,492 +1,397 @@
-//! The output of the log: levels, the limit of lines about clients, and a sink that has room, blocks or fails.
-use event_log::{ClientClosed, LogEvent, LogFormat, LogLevel, PeerReport, Publication};
-use log_output::{ClientLineLimit, Log, LogBuffer, LogSink};
-use session_names::SessionIds;
-use std::alloc::{AllocError, Global};
-use std::io::{self, ErrorKind, Write};
+//! The output of the log: levels, the limit of lines about clients, and a sink that has room, blocks or fails. One function plays scripts of
+//! what happens at a log. Each line is a step: a word, and what belongs to it.
+//!
+//! - `sink MANNER`: what the sink does from now on. It is `full`, `narrow`, `takes` or `space` with a number, or its writes fail: `blocked`,
+//!   `interrupted`, `broken`.
+//! - `at SECONDS MILLIS`: the time from now on, after 2026-11-25T18:40:00Z, and of the clock that is never set.
+//! - `adds COUNT EVENT`: an event is added this number of times.
+//! - `ticks`, `writes`: a tick, and a call that writes to the sink. `tries COUNT`: both, this number of times.
+//! - `bytes COUNT`, `lines COUNT`: what the sink has. `calls COUNT`: how many writes there were.
+//! - `dropped COUNT`, `suppressed COUNT`, `failures COUNT`: what the log has counted. `wait MILLIS`: how long a wait may be.
+//! - `empty yes`, `written yes`, and the same with `no`: whether the log is empty, and whether what it has is written.
+//! - `ends LINES`: the sink has these lines at its end. Bars part them, and the first is the end of one.
+use crate::sinks::{Manner, Memory, manner_of};
+use event_log::{LogEvent, LogFormat, LogLevel};
+use example_values::scripts::Words;
+use log_output::Log;
+use std::alloc::{AllocGlobal, Global};
 use std::net::{IpAddr, Ipv4Addr, SocketAddr};
-use std::test::Fail;
+use std::process::Abort;
 
 /// 2026-11-25T18:40:00Z.
 const MOMENT: u64 = 1_795_632_000;
 
-/// The line of `Ready` at that time: 27 bytes.
-const READY: &str = "2026-11-25T18:40:00Z ready\n";
+/// A name, the word of a level, and what happens at a log of that level.
+type Script = (&'static str, &'static str, &'static str);
 
-/// What a sink does.
-#[derive(Clone, Copy, PartialEq, Eq)]
-enum Manner {
-    /// It has no room.
-    IsFull,
-    /// It accepts at most this number of bytes a write.
-    Takes(usize),
-    /// It has room for one byte at a time.
-    IsNarrow,
-    /// It accepts this number of bytes in all, and then fails.
-    HasSpace(usize),
-    /// Its writes fail.
-    Fails(ErrorKind),
+/// An event of each level.
+fn event_of(name: &str) -> Option<LogEvent<'static>> {
+    match name {
+        "no-descriptor" => Some(LogEvent::NoDescriptor),
+        "clock" => Some(LogEvent::Clock { behind: 1 }),
+        "ready" => Some(LogEvent::Ready),
+        "client-came" => Some(LogEvent::ClientCame {
+            address: SocketAddr::new(IpAddr::V4(Ipv4Addr::new(192, 0, 2, 1)), 40_000),
+        }),
+        _ => None,
+    }
 }
 
-/// A sink in memory.
+/// A log, its sink, and the time.
 #[derive(Drop)]
-struct Memory {
-    manner: Manner,
-    taken: Vec<u8>,
-    writes: u64,
+struct Trial {
+    log: Log,
+    sink: Memory,
+    seconds: u64,
+    millis: u64,
 }
 
-impl Memory {
-    fn new(alloc: Global, manner: Manner) -> Memory {
-        Memory {
-            manner,
-            taken: Vec::new(alloc),
-            writes: 0,
-        }
-    }
-}
-
-impl LogSink for Memory {
-    ghost use Rattle.std.specs.Prelude.{Some, None};
-
-    ghost contents = { λ m. Some m.taken.items };
-
-    ghost last_answer = { λ _. None };
-
-    ghost allowed = { λ _. 4096 };
-
-    fn room(&mut self) -> usize {
-        match self.manner {
-            Manner::IsFull => 0,
-            Manner::IsNarrow => 1,
-            _ => 4096,
-        }
-    }
-
-    fn write(&mut self, bytes: &[u8]) -> io::Result<usize> {
-        self.writes = self.writes.saturating_add(1);
-        match self.manner {
-            Manner::IsFull => Err(io::Error::from(ErrorKind::WouldBlock)),
-            Manner::Takes(most) => self.taken.write(&bytes[..bytes.len().min(most)]),
-            Manner::IsNarrow => self.taken.write(bytes),
-            Manner::HasSpace(0) => Err(io::Error::from(ErrorKind::StorageFull)),
-            Manner::HasSpace(space) => {
-                let count = bytes.len().min(space);
-                self.manner = Manner::HasSpace(space - count);
-                self.taken.write(&bytes[..count])
-            }
-            Manner::Fails(kind) => Err(io::Error::from(kind)),
-        }
-    }
-}
-
-fn address() -> SocketAddr {
-    SocketAddr::new(IpAddr::V4(Ipv4Addr::new(192, 0, 2, 1)), 40_000)
-}
-
-fn client_came() -> LogEvent<'static> {
-    LogEvent::ClientCame { address: address() }
-}
-
-/// A log of everything, as text.
-fn open_log(alloc: Global) -> Result<Log, AllocError> {
-    Log::new(alloc, LogFormat::Text, LogLevel::Info)
-}
-
-/// Adds an event this number of times, at one time.
-fn add_many(log: &mut Log, count: u64, millis: u64, event: &LogEvent<'_>) {
+/// Adds an event this number of times.
+fn add_many(trial: &mut Trial, count: u64, event: &LogEvent<'_>) {
     for _ in 0..count {
-        log.add(MOMENT, millis, event);
+        trial.log.add(trial.seconds, trial.millis, event);
     }
 }
 
-/// How many newlines a sink has.
-fn lines_of(sink: &Memory) -> usize {
-    sink.taken.iter().filter(|&&byte| byte == b'\n').count()
+/// Whether an event is added as a line says.
+fn adds(trial: &mut Trial, words: &mut Words<'_>) -> bool {
+    let Some(count) = words.number() else {
+        return false;
+    };
+    match event_of(words.rest) {
+        Some(event) => {
+            add_many(trial, count, &event);
+            true
+        }
+        None => false,
+    }
 }
 
-/// Whether a sink has this text at its end.
-fn ends_with(sink: &Memory, text: &str) -> bool {
-    sink.taken.as_slice().ends_with(text.as_bytes())
+/// Whether the sink has the manner of a line from now on.
+fn turns(trial: &mut Trial, words: &mut Words<'_>) -> bool {
+    match manner_of(words) {
+        Some(manner) => {
+            trial.sink.manner = manner;
+            true
+        }
+        None => false,
+    }
 }
 
-/// 2,600 lines of 27 bytes, which are 70,200 bytes. Of them 2,427 fit into 65,536 bytes.
-#[test]
-fn dropped_lines_are_reported_where_they_are_missing(rt: HostRuntime) -> Result<(), Fail> {
-    let mut log = open_log(rt.alloc())?;
-    let mut sink = Memory::new(rt.alloc(), Manner::IsFull);
-    assert!(rt; log.is_empty());
-    add_many(&mut log, 2600, 0, &LogEvent::Ready);
-    log.write_to(&mut sink);
-    assert!(rt; !log.is_written());
-    assert!(rt; sink.taken.is_empty());
-    assert!(rt; log.dropped_lines() == 173);
-    sink.manner = Manner::Takes(10_000);
-    log.write_to(&mut sink);
-    assert!(rt; sink.taken.len() == 65_529);
-    assert!(rt; lines_of(&sink) == 2427);
-    assert!(rt; log.is_written());
-    assert!(rt; !log.is_empty());
-    add_many(&mut log, 2, 0, &LogEvent::Ready);
-    log.write_to(&mut sink);
-    assert!(rt; lines_of(&sink) == 2430);
-    assert!(rt;
-        ends_with(
-            &sink,
-            "ready\n2026-11-25T18:40:00Z dropped lines=173\n2026-11-25T18:40:00Z ready\n2026-11-25T18:40:00Z ready\n"
-        )
-    );
-    assert!(rt; log.dropped_lines() == 173);
-    assert!(rt; log.memory_failures() == 0);
-    assert!(rt; log.is_empty());
-    Ok(())
+/// Whether the time is that of a line from now on.
+fn passes(trial: &mut Trial, words: &mut Words<'_>) -> bool {
+    match (words.number(), words.number()) {
+        (Some(seconds), Some(millis)) => {
+            trial.seconds = MOMENT.saturating_add(seconds);
+            trial.millis = millis;
+            true
+        }
+        _ => false,
+    }
 }
 
-/// The report comes with no further event, too.
-#[test]
-fn a_tick_reports(rt: HostRuntime) -> Result<(), Fail> {
-    let mut log = open_log(rt.alloc())?;
-    let mut sink = Memory::new(rt.alloc(), Manner::Takes(10_000));
-    add_many(&mut log, 2428, 0, &LogEvent::Ready);
-    log.tick(MOMENT, 0);
-    log.write_to(&mut sink);
-    assert!(rt; lines_of(&sink) == 2427);
-    log.tick(MOMENT + 1, 1000);
-    log.write_to(&mut sink);
-    assert!(rt; ends_with(&sink, "ready\n2026-11-25T18:40:01Z dropped lines=1\n"));
-    assert!(rt; log.is_empty());
-    Ok(())
+/// Ticks and writes as often as a line says.
+fn tries(trial: &mut Trial, words: &mut Words<'_>) -> bool {
+    let Some(count) = words.number() else {
+        return false;
+    };
+    for _ in 0..count {
+        trial.log.tick(trial.seconds, trial.millis);
+        trial.log.write_to(&mut trial.sink);
+    }
+    true
 }
 
-/// A storm of 5,000 lines about clients: 1,000 are let through. The report comes when the window has ended, after 10 seconds.
-#[test]
-fn a_storm_is_limited(rt: HostRuntime) -> Result<(), Fail> {
-    let mut log = open_log(rt.alloc())?;
-    let mut sink = Memory::new(rt.alloc(), Manner::Takes(10_000));
-    add_many(&mut log, 5000, 5000, &client_came());
-    log.write_to(&mut sink);
-    assert!(rt; lines_of(&sink) == 1000);
-    assert!(rt; log.suppressed_lines() == 4000);
-    log.add(MOMENT, 14_999, &LogEvent::Ready);
-    log.write_to(&mut sink);
-    assert!(rt; lines_of(&sink) == 1001);
-    assert!(rt; !log.is_empty());
-    log.add(MOMENT, 15_000, &client_came());
-    log.write_to(&mut sink);
-    assert!(rt;
-        ends_with(
-            &sink,
-            "ready\n2026-11-25T18:40:00Z suppressed lines=4000 seconds=10\n2026-11-25T18:40:00Z client-came address=192.0.2.1:40000\n"
-        )
-    );
-    assert!(rt; log.suppressed_lines() == 4000);
-    assert!(rt; log.is_empty());
-    Ok(())
+/// The count of this name.
+fn count_of(trial: &Trial, name: &str) -> Option<u64> {
+    match name {
+        "bytes" => Some(trial.sink.taken.len() as u64),
+        "lines" => Some(trial.sink.lines()),
+        "calls" => Some(trial.sink.writes),
+        "dropped" => Some(trial.log.dropped_lines()),
+        "suppressed" => Some(trial.log.suppressed_lines()),
+        "failures" => Some(trial.log.memory_failures()),
+        "wait" => Some(trial.log.wait_limit()),
+        _ => None,
+    }
 }
 
-/// What a sink of this manner has after one call, of two lines of 27 bytes: how many bytes, in how many writes, and how many lines were dropped.
-type Written = (Manner, usize, u64, u64);
+/// Whether the count of this name is the number of a line.
+fn counts(trial: &Trial, name: &str, words: &mut Words<'_>) -> bool {
+    let count = count_of(trial, name);
+    count.is_some() && count == words.number()
+}
 
-const WRITTEN: &[Written] = &[
-    (Manner::IsFull, 0, 0, 0),
-    (Manner::Takes(0), 0, 1, 0),
-    (Manner::Takes(1), 54, 54, 0),
-    (Manner::Takes(27), 54, 2, 0),
-    (Manner::Takes(4096), 54, 1, 0),
-    (Manner::IsNarrow, 54, 54, 0),
-    (Manner::HasSpace(0), 0, 1, 2),
-    (Manner::HasSpace(27), 27, 2, 1),
-    (Manner::HasSpace(28), 28, 2, 0),
-    (Manner::Fails(ErrorKind::WouldBlock), 0, 1, 0),
-    (Manner::Fails(ErrorKind::Interrupted), 0, 1, 0),
-    (Manner::Fails(ErrorKind::BrokenPipe), 0, 1, 2),
+/// Whether a step goes as it has to.
+fn goes(trial: &mut Trial, line: &str) -> bool {
+    let mut words = Words { rest: line };
+    match words.next() {
+        "sink" => turns(trial, &mut words),
+        "at" => passes(trial, &mut words),
+        "adds" => adds(trial, &mut words),
+        "tries" => tries(trial, &mut words),
+        "ticks" => {
+            trial.log.tick(trial.seconds, trial.millis);
+            true
+        }
+        "writes" => {
+            trial.log.write_to(&mut trial.sink);
+            true
+        }
+        "empty" => trial.log.is_empty() == (words.rest == "yes"),
+        "written" => trial.log.is_written() == (words.rest == "yes"),
+        "ends" => trial.sink.ends_with(words.rest),
+        name => counts(trial, name, &mut words),
+    }
+}
+
+/// A log of this level, as text, and a sink of 10,000 bytes a call.
+fn trial_of(alloc: Global, level: &str) -> Option<Trial> {
+    let level = LogLevel::parse(level)?;
+    Some(Trial {
+        log: Log::new(alloc, LogFormat::Text, level).ok()?,
+        sink: Memory::new(alloc, Manner::Takes(10_000)),
+        seconds: MOMENT,
+        millis: 0,
+    })
+}
+
+/// Whether all steps go as they have to.
+fn all_go(trial: &mut Trial, steps: &str) -> bool {
+    for line in steps.lines() {
+        if !goes(trial, line.trim()) {
+            return false;
+        }
+    }
+    true
+}
+
+/// Whether a script goes as it has to.
+fn is_played(alloc: Global, level: &str, steps: &str) -> bool {
+    match trial_of(alloc, level) {
+        Some(mut trial) => all_go(&mut trial, steps),
+        None => false,
+    }
+}
+
+/// Plays scripts.
+fn play_each<R: AllocGlobal + Abort>(rt: &R, scripts: &[Script]) {
+    for &(name, level, steps) in scripts {
+        assert!(rt; is_played(rt.alloc(), level, steps), "{name}");
+    }
+}
+
+/// A line of `ready` has 27 bytes. 2,600 of them are 70,200 bytes, and 2,427 fit into 65,536 bytes. Of 5,000 lines about clients 1,000 are let
+/// through.
+const SCRIPTS: &[Script] = &[
+    (
+        "dropped lines are reported in their place",
+        "info",
+        "empty yes
+        sink full
+        adds 2600 ready
+        writes
+        written no
+        bytes 0
+        dropped 173
+        sink takes 10000
+        writes
+        bytes 65529
+        lines 2427
+        written yes
+        empty no
+        wait 1000
+        adds 2 ready
+        writes
+        lines 2430
+        ends ready|2026-11-25T18:40:00Z dropped lines=173|2026-11-25T18:40:00Z ready|2026-11-25T18:40:00Z ready
+        dropped 173
+        failures 0
+        empty yes
+        wait 18446744073709551615",
+    ),
+    (
+        "the report comes with no further event, too",
+        "info",
+        "adds 2428 ready
+        ticks
+        writes
+        lines 2427
+        at 1 1000
+        ticks
+        writes
+        ends ready|2026-11-25T18:40:01Z dropped lines=1
+        empty yes",
+    ),
+    (
+        "a storm is limited, and reported when its window of 10 seconds has ended",
+        "info",
+        "at 0 5000
+        adds 5000 client-came
+        writes
+        lines 1000
+        suppressed 4000
+        at 0 14999
+        adds 1 ready
+        writes
+        lines 1001
+        empty no
+        at 0 15000
+        adds 1 client-came
+        writes
+        ends ready|2026-11-25T18:40:00Z suppressed lines=4000 seconds=10|2026-11-25T18:40:00Z client-came address=192.0.2.1:40000
+        suppressed 4000
+        empty yes",
+    ),
+    (
+        "a call makes 4,096 writes: of 4,104 bytes one at a time",
+        "info",
+        "sink narrow
+        adds 152 ready
+        writes
+        calls 4096
+        written no",
+    ),
+    (
+        "a disk that is full in the third of four lines, then in the report, tears no line: its rest waits, and the other lines are lost",
+        "info",
+        "sink space 64
+        adds 4 ready
+        writes
+        bytes 64
+        dropped 1
+        sink space 27
+        at 0 1000
+        ticks
+        writes
+        bytes 91
+        dropped 1
+        sink takes 10000
+        at 0 2000
+        adds 1 ready
+        writes
+        lines 5
+        ends ready|2026-11-25T18:40:00Z ready|2026-11-25T18:40:00Z dropped lines=1|2026-11-25T18:40:00Z ready
+        dropped 1
+        empty yes",
+    ),
+    (
+        "a report that a sink fails to write is no lost line, however often it is tried",
+        "info",
+        "sink space 0
+        adds 1 ready
+        writes
+        tries 100
+        dropped 1
+        sink takes 10000
+        ticks
+        writes
+        bytes 37
+        ends 2026-11-25T18:40:00Z dropped lines=1
+        dropped 1",
+    ),
 ];
 
-fn writes_so(alloc: Global, row: &Written) -> Result<bool, Fail> {
-    let &(manner, bytes, writes, dropped) = row;
-    let mut log = open_log(alloc)?;
-    let mut sink = Memory::new(alloc, manner);
-    add_many(&mut log, 2, 0, &LogEvent::Ready);
-    log.write_to(&mut sink);
-    Ok(sink.taken.len() == bytes && sink.writes == writes && log.dropped_lines() == dropped)
-}
+/// A log has what is at least as severe as its level. The level of each event is in its lines as JSON and for systemd (`page_texts`).
+const OF_LEVELS: &[Script] = &[
+    (
+        "errors alone",
+        "error",
+        "adds 1 clock
+        adds 1 ready
+        adds 1 client-came
+        empty yes
+        adds 1 no-descriptor
+        writes
+        lines 1",
+    ),
+    (
+        "warnings too",
+        "warning",
+        "adds 1 ready
+        adds 1 client-came
+        empty yes
+        adds 1 no-descriptor
+        adds 1 clock
+        writes
+        lines 2",
+    ),
+    (
+        "notices too",
+        "notice",
+        "adds 1 client-came
+        empty yes
+        adds 1 no-descriptor
+        adds 1 clock
+        adds 1 ready
+        writes
+        lines 3",
+    ),
+    (
+        "all",
+        "info",
+        "adds 1 no-descriptor
+        adds 1 clock
+        adds 1 ready
+        adds 1 client-came
+        writes
+        lines 4
+        ends ready|2026-11-25T18:40:00Z client-came address=192.0.2.1:40000",
+    ),
+];
 
-fn all_write_so(alloc: Global, rows: &[Written]) -> Result<bool, Fail> {
-    for row in rows {
-        if !writes_so(alloc, row)? {
-            return Ok(false);
-        }
+/// What a sink does, and what it has after one call for two lines of 27 bytes: how many bytes, in how many writes, and how many lines were
+/// dropped.
+const WRITTEN: &str = "full 0 0 0
+    takes 0 0 1 0
+    takes 1 54 54 0
+    takes 27 54 2 0
+    takes 4096 54 1 0
+    narrow 54 54 0
+    space 0 0 1 2
+    space 27 27 2 1
+    space 28 28 2 0
+    blocked 0 1 0
+    interrupted 0 1 0
+    broken 0 1 2";
+
+/// Whether a sink has what a line says after one call.
+fn writes_two(trial: &mut Trial, line: &str) -> bool {
+    let mut words = Words { rest: line };
+    if !turns(trial, &mut words) {
+        return false;
     }
-    Ok(true)
+    add_many(trial, 2, &LogEvent::Ready);
+    trial.log.write_to(&mut trial.sink);
+    counts(trial, "bytes", &mut words)
+        && counts(trial, "calls", &mut words)
+        && counts(trial, "dropped", &mut words)
 }
 
-#[test]
-fn a_sink_is_written_to_as_it_takes(rt: HostRuntime) -> Result<(), Fail> {
-    assert!(rt; all_write_so(rt.alloc(), WRITTEN)?);
-    Ok(())
-}
-
-/// How many bytes one call writes to a sink that accepts one at a time: 4,096 of 4,104.
-#[test]
-fn a_call_makes_4096_writes(rt: HostRuntime) -> Result<(), Fail> {
-    let mut log = open_log(rt.alloc())?;
-    let mut sink = Memory::new(rt.alloc(), Manner::IsNarrow);
-    add_many(&mut log, 152, 0, &LogEvent::Ready);
-    log.write_to(&mut sink);
-    assert!(rt; sink.writes == 4096);
-    assert!(rt; !log.is_written());
-    Ok(())
-}
-
-/// A disk that is full in the third of four lines, then in the report. The rest of a line waits until there is space, and the other lines are
-/// lost.
-#[test]
-fn a_full_disk_tears_no_line(rt: HostRuntime) -> Result<(), Fail> {
-    let mut log = open_log(rt.alloc())?;
-    let mut sink = Memory::new(rt.alloc(), Manner::HasSpace(64));
-    add_many(&mut log, 4, 0, &LogEvent::Ready);
-    log.write_to(&mut sink);
-    assert!(rt; sink.taken.len() == 64);
-    assert!(rt; log.dropped_lines() == 1);
-    sink.manner = Manner::HasSpace(27);
-    log.tick(MOMENT, 1000);
-    log.write_to(&mut sink);
-    assert!(rt; sink.taken.len() == 91);
-    assert!(rt; log.dropped_lines() == 1);
-    sink.manner = Manner::Takes(10_000);
-    log.add(MOMENT, 2000, &LogEvent::Ready);
-    log.write_to(&mut sink);
-    assert!(rt; lines_of(&sink) == 5);
-    assert!(rt;
-        ends_with(
-            &sink,
-            "ready\n2026-11-25T18:40:00Z ready\n2026-11-25T18:40:00Z dropped lines=1\n2026-11-25T18:40:00Z ready\n"
-        )
-    );
-    assert!(rt; log.dropped_lines() == 1);
-    assert!(rt; log.is_empty());
-    Ok(())
-}
-
-/// A report that a sink fails to write is no lost line, however often it is tried.
-#[test]
-fn lost_reports_are_not_counted(rt: HostRuntime) -> Result<(), Fail> {
-    let mut log = open_log(rt.alloc())?;
-    let mut sink = Memory::new(rt.alloc(), Manner::HasSpace(0));
-    log.add(MOMENT, 0, &LogEvent::Ready);
-    log.write_to(&mut sink);
-    for _ in 0..100u8 {
-        log.tick(MOMENT, 0);
-        log.write_to(&mut sink);
-    }
-    assert!(rt; log.dropped_lines() == 1);
-    sink.manner = Manner::Takes(10_000);
-    log.tick(MOMENT, 0);
-    log.write_to(&mut sink);
-    assert!(rt; sink.taken.as_slice() == b"2026-11-25T18:40:00Z dropped lines=1\n".as_slice());
-    assert!(rt; log.dropped_lines() == 1);
-    Ok(())
-}
-
-/// Events with their levels.
-type Leveled = (LogEvent<'static>, LogLevel);
-
-/// The events of files.
-fn file_events() -> [Leveled; 8] {
-    let (file, reason) = ("a", "b");
-    [
-        (LogEvent::Refused { file, reason }, LogLevel::Error),
-        (LogEvent::Taken { file }, LogLevel::Notice),
-        (LogEvent::Old { file, age: 1 }, LogLevel::Warning),
-        (LogEvent::Fresh { file, age: 1 }, LogLevel::Notice),
-        (LogEvent::Expired { file, entries: 1 }, LogLevel::Warning),
-        (LogEvent::LeftOut { records: 1 }, LogLevel::Notice),
-        (
-            LogEvent::Published(Publication {
-                session: 1,
-                serial: 1,
-                announced: 1,
-                withdrawn: 0,
-                records: 1,
-                milliseconds: 1,
-            }),
-            LogLevel::Notice,
-        ),
-        (
-            LogEvent::Checked {
-                files: 1,
-                ipv4: 1,
-                ipv6: 1,
-                left_out: 0,
-            },
-            LogLevel::Notice,
-        ),
-    ]
-}
-
-/// The events of clients.
-fn client_events() -> [Leveled; 7] {
-    let address = address();
-    [
-        (LogEvent::ClientCame { address }, LogLevel::Info),
-        (
-            LogEvent::ClientGone(ClientClosed {
-                address,
-                why: "peer closed",
-                version: Some(1),
-                read: 8,
-                written: 60,
-                seconds: 1,
-            }),
-            LogLevel::Info,
-        ),
-        (
-            LogEvent::ErrorReport(PeerReport {
-                address,
-                is_received: true,
-                code: 0,
-                text: "",
-            }),
-            LogLevel::Warning,
-        ),
-        (LogEvent::Stalled { address }, LogLevel::Warning),
-        (
-            LogEvent::Full {
-                address,
-                clients: 1,
-            },
-            LogLevel::Warning,
-        ),
-        (
-            LogEvent::AddressFull {
-                address,
-                clients: 1,
-            },
-            LogLevel::Warning,
-        ),
-        (
-            LogEvent::Suppressed {
-                lines: 1,
-                seconds: 10,
-            },
-            LogLevel::Warning,
-        ),
-    ]
-}
-
-/// The events of the daemon.
-fn daemon_events() -> [Leveled; 12] {
-    let (reason, what, address) = ("a", "b", address());
-    [
-        (LogEvent::Failed { what, reason }, LogLevel::Error),
-        (LogEvent::Memory { what }, LogLevel::Error),
-        (LogEvent::NoDescriptor, LogLevel::Error),
-        (LogEvent::Dropped { lines: 1 }, LogLevel::Error),
-        (LogEvent::Warning { reason }, LogLevel::Warning),
-        (LogEvent::Clock { behind: 1 }, LogLevel::Warning),
-        (LogEvent::Limited { clients: 1 }, LogLevel::Warning),
-        (LogEvent::Listening { address }, LogLevel::Notice),
-        (LogEvent::Status { address }, LogLevel::Notice),
-        (
-            LogEvent::Started(SessionIds {
-                session: 1,
-                session0: 1,
-                serial: 1,
-            }),
-            LogLevel::Notice,
-        ),
-        (LogEvent::Ready, LogLevel::Notice),
-        (LogEvent::Stopped { reason }, LogLevel::Notice),
-    ]
-}
-
-/// Whether a log of this level has the event.
-fn has_event(alloc: Global, level: LogLevel, event: &LogEvent<'_>) -> Result<bool, Fail> {
-    let mut log = Log::new(alloc, LogFormat::Json, level)?;
-    log.add(MOMENT, 0, event);
-    Ok(!log.is_empty())
-}
-
-/// Whether a log has each of these events at its level and at each less severe one, and at no other.
-fn all_have_their_level(alloc: Global, events: &[Leveled]) -> Result<bool, Fail> {
-    for (event, level) in events {
-        let at_error = has_event(alloc, LogLevel::Error, event)?;
-        let at_warning = has_event(alloc, LogLevel::Warning, event)?;
-        let at_notice = has_event(alloc, LogLevel::Notice, event)?;
-        let at_info = has_event(alloc, LogLevel::Info, event)?;
-        let wanted = match level {
-            LogLevel::Error => [true, true, true, true],
-            LogLevel::Warning => [false, true, true, true],
-            LogLevel::Notice => [false, false, true, true],
-            LogLevel::Info => [false, false, false, true],
+/// Whether a sink has what each line says after one call.
+fn each_is_written(alloc: Global, rows: &str) -> bool {
+    for line in rows.lines() {
+        let Some(mut trial) = trial_of(alloc, "info") else {
+            return false;
         };
-        if [at_error, at_warning, at_notice, at_info] != wanted {
-            return Ok(false);
+        if !writes_two(&mut trial, line.trim()) {
+            return false;
         }
     }
-    Ok(true)
+    true
 }
 
 #[test]
-fn a_log_has_the_events_of_its_level(rt: HostRuntime) -> Result<(), Fail> {
-    assert!(rt; all_have_their_level(rt.alloc(), &file_events())?);
-    assert!(rt; all_have_their_level(rt.alloc(), &client_events())?);
-    assert!(rt; all_have_their_level(rt.alloc(), &daemon_events())?);
-    Ok(())
+fn a_sink_is_written_to_as_it_takes(rt: HostRuntime) {
+    assert!(rt; each_is_written(rt.alloc(), WRITTEN));
 }
 
-/// The limit at both sides of each boundary: 1,000 lines in 10,000 milliseconds.
 #[test]
-fn a_window_lets_1000_lines_through(rt: HostRuntime) -> Result<(), Fail> {
-    let mut limit = ClientLineLimit::new();
-    assert!(rt; !limit.is_open(0));
-    let mut passed = 0;
-    for _ in 0..1000 {
-        if limit.admit(7) {
-            passed = u64::saturating_add(passed, 1);
-        }
-    }
-    assert!(rt; passed == 1000);
-    assert!(rt; !limit.admit(7));
-    assert!(rt; !limit.admit(10_006));
-    assert!(rt; limit.suppressed() == 2);
-    assert!(rt; limit.take_suppressed(10_006) == 0);
-    assert!(rt; limit.is_open(10_006));
-    assert!(rt; !limit.is_open(10_007));
-    assert!(rt; limit.take_suppressed(10_007) == 2);
-    assert!(rt; limit.take_suppressed(10_007) == 0);
-    assert!(rt; limit.admit(10_007));
-    Ok(())
+fn lines_are_kept_limited_and_reported(rt: HostRuntime) {
+    play_each(&rt, SCRIPTS);
 }
 
-/// A line of 65,536 bytes fits, and then not even a newline. What is given up after the rest of that line is a line and a report.
 #[test]
-fn a_buffer_has_room_for_65536_bytes(rt: HostRuntime) -> Result<(), Fail> {
-    let mut line = Vec::new(rt.alloc());
-    for _ in 0..65_535 {
-        line.push(b'a')?;
-    }
-    line.push(b'\n')?;
-    let mut buffer = LogBuffer::new(rt.alloc())?;
-    assert!(rt; buffer.is_empty());
-    assert!(rt; buffer.add_line(line.as_slice()));
-    assert!(rt; !buffer.add_line(b"\n"));
-    assert!(rt; buffer.len() == 65_536);
-    assert!(rt; buffer.dropped() == 1);
-    assert!(rt; buffer.is_report_due());
-    assert!(rt; !buffer.add_report(b"b\n"));
-    let count = buffer.chunk(4096).len();
-    assert!(rt; count == 4096);
-    buffer.consume(count);
-    assert!(rt; !buffer.add_line(b"\n"));
-    assert!(rt; buffer.add_report(b"b\n"));
-    assert!(rt; !buffer.is_report_due());
-    assert!(rt; buffer.add_line(b"c\n"));
-    buffer.lose_line();
-    buffer.give_up();
-    assert!(rt; buffer.len() == 61_440);
-    assert!(rt; buffer.lost() == 4);
-    assert!(rt; buffer.dropped() == 4);
-    assert!(rt; buffer.is_report_due());
-    Ok(())
+fn a_log_has_the_events_of_its_level(rt: HostRuntime) {
+    play_each(&rt, OF_LEVELS);
 }

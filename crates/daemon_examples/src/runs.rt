@@ -31,7 +31,7 @@ fn words_of(alloc: Global, words: &[&str]) -> Result<Vec<String>, AllocError> {
 }
 
 /// The settings of these words.
-fn settings_of(alloc: Global, words: &[&str]) -> Option<Settings> {
+pub(crate) fn settings_of(alloc: Global, words: &[&str]) -> Option<Settings> {
     let words = words_of(alloc, words).ok()?;
     match read_words(alloc, words.as_slice()) {
         Ok(Command::Serve(settings)) => Some(settings),

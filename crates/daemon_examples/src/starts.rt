@@ -1,7 +1,8 @@
 //! How a run starts and ends: its clock, its limits, its session, its files, its sockets, and its service manager.
+use crate::runs::settings_of;
 use crate::stage::Stage;
 use crate::wires::Wire;
-use rpkirtrd_cli::{Command, read_words, session_warning};
+use rpkirtrd_cli::{Settings, session_warning};
 use rtr_daemon::{
     AcceptResult, FileForm, PollToken, SocketFault, StopReason, Time, Unreadable, WaitLimits,
     clients_within, report_end, report_limit, wait_for_clock,
@@ -146,18 +147,29 @@ fn a_service_manager_is_notified(rt: HostRuntime) {
     assert!(rt; !notifier.fails_to_report_ready());
 }
 
-#[test]
-fn settings_say_what_follows(rt: HostRuntime) -> Result<(), Fail> {
-    let mut words = Vec::new(rt.alloc());
-    for word in ["--vrps", "a.json", "--check", "5"] {
-        words.push(String::from_str(rt.alloc(), word)?)?;
-    }
-    let Command::Serve(settings) = read_words(rt.alloc(), words.as_slice())? else {
-        return Err(Fail::from("no settings"));
+/// Whether settings of one list that is polled each 5 seconds say what follows from them.
+fn say(alloc: Global, settings: &Settings) -> bool {
+    let (Ok(listen), Ok(sources)) = (settings.listen_text(alloc), settings.sources_text(alloc))
+    else {
+        return false;
     };
-    assert!(rt; settings.check_millis() == 5000 && settings.stall_millis() == 120_000);
-    assert!(rt; settings.notify_warning().is_some() && session_warning(false).is_none());
-    assert!(rt; settings.listen_text(rt.alloc())?.as_str() == LISTEN);
-    assert!(rt; settings.sources_text(rt.alloc())?.as_str() == "--vrps a.json\n");
-    Ok(())
+    settings.check_millis() == 5000
+        && settings.stall_millis() == 120_000
+        && settings.notify_warning().is_some()
+        && listen.as_str() == LISTEN
+        && sources.as_str() == "--vrps a.json\n"
+}
+
+/// Whether words give such settings.
+fn have_words(alloc: Global) -> bool {
+    match settings_of(alloc, &["--vrps", "a.json", "--check", "5"]) {
+        Some(settings) => say(alloc, &settings),
+        None => false,
+    }
+}
+
+#[test]
+fn settings_say_what_follows(rt: HostRuntime) {
+    assert!(rt; have_words(rt.alloc()));
+    assert!(rt; session_warning(false).is_none());
 }

@@ -1,14 +1,15 @@
-use example_values::sets::{Row, set_of};
-use prefixes::Asn;
+//! Files of local exceptions. The rows of files, of faults and of results are in `tests/file_rows.py`.
+use example_values::sets::{payload, set_in};
+use prefixes::{Asn, IpPrefix};
 use slurm::{
-    Ignored, PrefixFilter, Slurm, SlurmArray, SlurmEntryFault, SlurmFault, SlurmObject, read_slurm,
-    read_slurm_scoped,
+    Ignored, Overlap, PrefixFilter, ScopedSlurm, Slurm, SlurmArray, SlurmEntryFault, SlurmFault,
+    UniteFault, apply, fault_text, read_slurm, read_slurm_scoped, unite,
 };
 use std::alloc::Global;
 use std::test::Fail;
 
 /// The full example of RFC 8416 section 3.5.
-pub(crate) const FULL: &str = r#"{
+const FULL: &str = r#"{
   "slurmVersion": 1,
   "validationOutputFilters": {
     "prefixFilters": [
@@ -76,388 +77,174 @@ pub(crate) fn file(alloc: Global, arrays: &[&str; 4]) -> Result<String, Fail> {
     )?)
 }
 
-/// Why bytes give no exceptions.
-fn fault_of(alloc: Global, bytes: &[u8]) -> Option<SlurmFault> {
-    match read_slurm(alloc, bytes) {
-        Ok(_) => None,
-        Err(fault) => Some(fault),
+/// A filter of a prefix, of an AS, or of both.
+fn filter(prefix: &str, asn: Option<u32>) -> PrefixFilter {
+    PrefixFilter {
+        prefix: IpPrefix::parse(prefix).ok(),
+        asn: asn.map(Asn),
     }
 }
 
-/// Whether the filters are these.
-fn has_filters(slurm: &Slurm, filters: &[(Option<&str>, Option<u32>)]) -> Result<bool, Fail> {
-    for (filter, &(text, number)) in slurm.filters.iter().zip(filters) {
-        let prefix = match text {
-            Some(text) => Some(text.parse()?),
-            None => None,
-        };
-        let wanted = PrefixFilter {
-            prefix,
-            asn: number.map(Asn),
-        };
-        if *filter != wanted {
-            return Ok(false);
-        }
-    }
-    Ok(slurm.filters.len() == filters.len())
-}
-
-/// Whether the assertions are these.
-fn has_assertions(alloc: Global, slurm: &Slurm, rows: &[Row]) -> Result<bool, Fail> {
-    Ok(slurm.assertions.is_same(&set_of(alloc, rows)?))
-}
-
-#[test]
-fn the_full_example_is_read(rt: HostRuntime) -> Result<(), Fail> {
-    let slurm = read_slurm(rt.alloc(), FULL.as_bytes())?;
-    let filters = [
-        (Some("192.0.2.0/24"), None),
-        (None, Some(64496)),
-        (Some("198.51.100.0/24"), Some(64497)),
+/// Whether these are the filters of the example.
+fn are_filters(filters: &[PrefixFilter]) -> bool {
+    let wanted = [
+        filter("192.0.2.0/24", None),
+        filter("", Some(64496)),
+        filter("198.51.100.0/24", Some(64497)),
     ];
-    assert!(rt; has_filters(&slurm, &filters)?);
-    let assertions = [("198.51.100.0/24", 24, 64496), ("2001:db8::/32", 48, 64496)];
-    assert!(rt; has_assertions(rt.alloc(), &slurm, &assertions)?);
+    *filters == *wanted.as_slice()
+}
+
+/// Whether these are the exceptions of the example.
+fn are_full(alloc: Global, slurm: &Slurm) -> bool {
+    let rows = [("198.51.100.0/24", 24, 64496), ("2001:db8::/32", 48, 64496)];
+    match set_in(alloc, &rows) {
+        Some(assertions) => {
+            slurm.assertions.is_same(&assertions) && are_filters(slurm.filters.as_slice())
+        }
+        None => false,
+    }
+}
+
+/// Whether the example is read.
+fn is_read(alloc: Global) -> bool {
+    match read_slurm(alloc, FULL.as_bytes()) {
+        Ok(slurm) => are_full(alloc, &slurm),
+        Err(_) => false,
+    }
+}
+
+/// Whether what is not applied of the example is counted.
+fn counts(full: &ScopedSlurm) -> bool {
+    let filters = [Some(Asn(64496)), None, Some(Asn(64497))];
+    let ignored = Ignored {
+        bgpsec_filters: 3,
+        bgpsec_assertions: 1,
+    };
+    full.bgpsec_filters.as_slice() == filters.as_slice()
+        && full.bgpsec_assertions.as_slice() == [Asn(64496)].as_slice()
+        && full.ignored() == ignored
+}
+
+/// Whether the example is read with what is not applied of it, and without it.
+fn is_read_scoped(alloc: Global) -> bool {
+    match read_slurm_scoped(alloc, FULL.as_bytes()) {
+        Ok(full) => counts(&full) && are_full(alloc, &full.into_exceptions()),
+        Err(_) => false,
+    }
+}
+
+#[test]
+fn the_full_example_is_read(rt: HostRuntime) {
+    assert!(rt; is_read(rt.alloc()));
+    assert!(rt; is_read_scoped(rt.alloc()));
+}
+
+/// Whether a text has this fault, which is reported so.
+fn is_refused(alloc: Global, text: &str, fault: SlurmFault, words: &str) -> bool {
+    match read_slurm(alloc, text.as_bytes()) {
+        Ok(_) => false,
+        Err(found) => match fault_text(alloc, text.as_bytes(), found) {
+            Ok(told) => found == fault && told.as_str() == words,
+            Err(_) => false,
+        },
+    }
+}
+
+/// A file whose second filter is a number.
+const SEVEN: &str =
+    r#"{"slurmVersion":1,"validationOutputFilters":{"prefixFilters":[{"asn":1},7],"bgpsecFilters":[]},"locallyAddedAssertions":{"prefixAssertions":[],"bgpsecAssertions":[]}}"#;
+
+#[test]
+fn a_fault_has_its_place(rt: HostRuntime) {
+    let fault = SlurmFault::Entry(SlurmArray::PrefixFilters, 1, SlurmEntryFault::NoObject);
+    let words = "prefixFilters[1]: 7 is not an object (fault 5)";
+    assert!(rt; is_refused(rt.alloc(), SEVEN, fault, words));
+    assert!(rt; fault.number() == 5);
+}
+
+#[test]
+fn a_filter_matches_what_its_keys_say(rt: HostRuntime) -> Result<(), Fail> {
+    let vrp = payload("10.1.0.0/16", 24, 64497)?;
+    assert!(rt; filter("10.0.0.0/8", Some(64497)).matches(&vrp));
+    assert!(rt; !filter("10.0.0.0/8", Some(64496)).matches(&vrp));
     Ok(())
 }
 
-/// Whether a file has this many filters and assertions on BGPsec.
-fn ignores(alloc: Global, text: &str, filters: u64, assertions: u64) -> Result<bool, Fail> {
-    let ignored = read_slurm_scoped(alloc, text.as_bytes())?.ignored();
-    Ok(
-        ignored
-            == Ignored {
-                bgpsec_filters: filters,
-                bgpsec_assertions: assertions,
+/// Reads files whose first array is each of these, and whose second is this one.
+fn filtering(alloc: Global, filters: &[&str], keys: &str) -> Result<Vec<ScopedSlurm>, Fail> {
+    let mut files = Vec::new(alloc);
+    for entries in filters {
+        let text = file(alloc, &[entries, keys, "[]", "[]"])?;
+        files.push(read_slurm_scoped(alloc, text.as_bytes())?)?;
+    }
+    Ok(files)
+}
+
+/// Whether files as one leave this many of two records, of 192.0.2.0/25 and of 10.0.0.0/8.
+fn leave(alloc: Global, files: &[ScopedSlurm], count: usize) -> bool {
+    let rows = [("192.0.2.0/25", 25, 64496), ("10.0.0.0/8", 8, 64496)];
+    match (unite(alloc, files), set_in(alloc, &rows)) {
+        (Ok(slurm), Some(set)) => match apply(&slurm, alloc, &set) {
+            Ok(left) => left.len() == count,
+            Err(_) => false,
+        },
+        _ => false,
+    }
+}
+
+/// Whether this is the prefix of a text.
+fn is_prefix(prefix: &IpPrefix, text: &str) -> bool {
+    match IpPrefix::parse(text) {
+        Ok(other) => other == *prefix,
+        Err(_) => false,
+    }
+}
+
+/// Whether these overlap: 192.0.2.0/25 with 192.0.2.0/24, or entries of AS64496.
+fn are_these(what: &Overlap) -> bool {
+    match what {
+        Overlap::Prefixes(first, second) => {
+            is_prefix(first, "192.0.2.0/25") && is_prefix(second, "192.0.2.0/24")
+        }
+        Overlap::Bgpsec(asn) => asn.0 == 64496,
+    }
+}
+
+/// Whether the first of these files overlaps with the one at this index.
+fn overlap(alloc: Global, files: &[ScopedSlurm], other: usize) -> bool {
+    let united = unite(alloc, files);
+    match &united {
+        Err(
+            UniteFault::Overlap {
+                first,
+                second,
+                what,
             },
-    )
-}
-
-/// The arrays of a file, and how many entries of it are not applied.
-const IGNORED: &[([&str; 4], u64, u64)] = &[
-    ([r#"[{"asn":1}]"#, "[]", "[]", "[]"], 0, 0),
-    (["[]", r#"[{"asn":1,"SKI":"Zm9v"}]"#, "[]", "[]"], 1, 0),
-    (
-        [
-            "[]",
-            r#"[{"SKI":"Zm9v"},{"SKI":"Zm9v"}]"#,
-            "[]",
-            r#"[{"asn":1,"SKI":"Zm9v","routerPublicKey":"YmFy"}]"#,
-        ],
-        2,
-        1,
-    ),
-];
-
-/// Whether each ignores this many.
-fn ignore(alloc: Global, rows: &[([&str; 4], u64, u64)]) -> Result<bool, Fail> {
-    for (arrays, filters, assertions) in rows {
-        let text = file(alloc, arrays)?;
-        if !ignores(alloc, text.as_str(), *filters, *assertions)? {
-            return Ok(false);
-        }
+        ) => *first == 0 && *second == other && are_these(what),
+        _ => false,
     }
-    Ok(true)
 }
 
 #[test]
-fn entries_on_router_keys_are_counted(rt: HostRuntime) -> Result<(), Fail> {
-    assert!(rt; ignores(rt.alloc(), FULL, 3, 1)?);
-    assert!(rt; ignore(rt.alloc(), IGNORED)?);
-    Ok(())
-}
-
-/// Texts that are no file, and why.
-const FILES: &[(&str, SlurmFault)] = &[
-    ("", SlurmFault::NotJson),
-    ("{", SlurmFault::NotJson),
-    ("\u{0}{}", SlurmFault::NotJson),
-    ("{} {}", SlurmFault::NotJson),
-    (r#"{"a":1,"a":2"#, SlurmFault::NotJson),
-    (r#"{"a":1,"a":2}"#, SlurmFault::Repeated),
-    (r#"[{"a":1,"\u0061":1}]"#, SlurmFault::Repeated),
-    ("[]", SlurmFault::Members(SlurmObject::File)),
-    ("{}", SlurmFault::Members(SlurmObject::File)),
-    (
-        r#"{"slurmVersion":1,"validationOutputFilters":{},"locallyAddedAssertions":{},"more":1}"#,
-        SlurmFault::Members(SlurmObject::File),
-    ),
-    (
-        r#"{"slurmVersion":2,"validationOutputFilters":{},"locallyAddedAssertions":{}}"#,
-        SlurmFault::Version,
-    ),
-    (
-        r#"{"slurmVersion":"1","validationOutputFilters":{},"locallyAddedAssertions":{}}"#,
-        SlurmFault::Version,
-    ),
-    (
-        r#"{"slurmVersion":1,"validationOutputFilters":[],"locallyAddedAssertions":{}}"#,
-        SlurmFault::Members(SlurmObject::Filters),
-    ),
-    (
-        r#"{"slurmVersion":1,"validationOutputFilters":{"prefixFilters":1,"bgpsecFilters":2},"locallyAddedAssertions":{"prefixAssertions":3}}"#,
-        SlurmFault::Members(SlurmObject::Assertions),
-    ),
-];
-
-/// Entries of the four arrays, and the fault of a file of them.
-const ENTRIES: &[([&str; 4], SlurmFault)] = &[
-    (
-        ["1", "2", "3", "4"],
-        SlurmFault::NoArray(SlurmArray::PrefixFilters),
-    ),
-    (
-        ["[]", "2", "3", "4"],
-        SlurmFault::NoArray(SlurmArray::BgpsecFilters),
-    ),
-    (
-        ["[1]", "[]", "{}", "4"],
-        SlurmFault::NoArray(SlurmArray::PrefixAssertions),
-    ),
-    (
-        ["[]", "[]", "[]", "null"],
-        SlurmFault::NoArray(SlurmArray::BgpsecAssertions),
-    ),
-    (
-        [r#"[{"asn":1},7]"#, "[7]", "[7]", "[7]"],
-        SlurmFault::Entry(SlurmArray::PrefixFilters, 1, SlurmEntryFault::NoObject),
-    ),
-    (
-        [r#"[{"asn":1,"asn":1}]"#, "2", "3", "4"],
-        SlurmFault::Repeated,
-    ),
-    (
-        ["[]", "[]", "[]", r#"[{"SKI":"Zm9v","asn":1,"SKI":"Zm9v"}]"#],
-        SlurmFault::Repeated,
-    ),
-    (
-        [r#"[{"asn":1,"more":1}]"#, "[]", "[]", "[]"],
-        SlurmFault::Entry(SlurmArray::PrefixFilters, 0, SlurmEntryFault::OtherKey),
-    ),
-    (
-        [r#"[{"comment":"all"}]"#, "[]", "[]", "[]"],
-        SlurmFault::Entry(SlurmArray::PrefixFilters, 0, SlurmEntryFault::NeitherKey),
-    ),
-    (
-        [r#"[{"asn":"64496"}]"#, "[]", "[]", "[]"],
-        SlurmFault::Entry(SlurmArray::PrefixFilters, 0, SlurmEntryFault::Asn),
-    ),
-    (
-        [r#"[{"asn":-1}]"#, "[]", "[]", "[]"],
-        SlurmFault::Entry(SlurmArray::PrefixFilters, 0, SlurmEntryFault::Asn),
-    ),
-    (
-        [
-            r#"[{"asn":4294967295},{"asn":4294967296,"prefix":1}]"#,
-            "[]",
-            "[]",
-            "[]",
-        ],
-        SlurmFault::Entry(SlurmArray::PrefixFilters, 1, SlurmEntryFault::Asn),
-    ),
-    (
-        [r#"[{"asn":1,"comment":2,"prefix":3}]"#, "[]", "[]", "[]"],
-        SlurmFault::Entry(SlurmArray::PrefixFilters, 0, SlurmEntryFault::Comment),
-    ),
-    (
-        [r#"[{"prefix":"192.0.2.1/24"}]"#, "[]", "[]", "[]"],
-        SlurmFault::Entry(SlurmArray::PrefixFilters, 0, SlurmEntryFault::Prefix),
-    ),
-    (
-        [r#"[{"prefix":"::ffff:192.0.2.1/120"}]"#, "[]", "[]", "[]"],
-        SlurmFault::Entry(SlurmArray::PrefixFilters, 0, SlurmEntryFault::Prefix),
-    ),
-];
-
-/// The same of the other three arrays.
-const LATER_ENTRIES: &[([&str; 4], SlurmFault)] = &[
-    (
-        ["[]", r#"[{"asn":1},{"SKI":"Zm9v"},[]]"#, "[7]", "[7]"],
-        SlurmFault::Entry(SlurmArray::BgpsecFilters, 2, SlurmEntryFault::NoObject),
-    ),
-    (
-        ["[]", "[]", r#"[{"prefix":"192.0.2.0/24"}]"#, "[7]"],
-        SlurmFault::Entry(SlurmArray::PrefixAssertions, 0, SlurmEntryFault::Asn),
-    ),
-    (
-        ["[]", "[]", r#"[{"asn":1}]"#, "[]"],
-        SlurmFault::Entry(SlurmArray::PrefixAssertions, 0, SlurmEntryFault::Prefix),
-    ),
-    (
-        [
-            "[]",
-            "[]",
-            r#"[{"asn":1,"prefix":"192.0.2.0/24","maxPrefixLength":23}]"#,
-            "[]",
-        ],
-        SlurmFault::Entry(SlurmArray::PrefixAssertions, 0, SlurmEntryFault::MaxLength),
-    ),
-    (
-        [
-            "[]",
-            "[]",
-            r#"[{"asn":1,"prefix":"192.0.2.0/24","maxPrefixLength":33}]"#,
-            "[]",
-        ],
-        SlurmFault::Entry(SlurmArray::PrefixAssertions, 0, SlurmEntryFault::MaxLength),
-    ),
-    (
-        [
-            "[]",
-            "[]",
-            r#"[{"asn":1,"prefix":"192.0.2.0/24","maxPrefixLength":"24"}]"#,
-            "[]",
-        ],
-        SlurmFault::Entry(SlurmArray::PrefixAssertions, 0, SlurmEntryFault::MaxLength),
-    ),
-    (
-        [
-            "[]",
-            "[]",
-            r#"[{"asn":1,"prefix":"192.0.2.0/24","maxLength":24}]"#,
-            "[]",
-        ],
-        SlurmFault::Entry(SlurmArray::PrefixAssertions, 0, SlurmEntryFault::OtherKey),
-    ),
-    (
-        ["[]", "[]", "[]", "[\"SKI\"]"],
-        SlurmFault::Entry(SlurmArray::BgpsecAssertions, 0, SlurmEntryFault::NoObject),
-    ),
-];
-
-/// Entries on BGPsec of the four arrays, and the fault of a file of them.
-const KEYS: &[([&str; 4], SlurmFault)] = &[
-    (
-        ["[]", r#"[{"asn":1},{"comment":"all"}]"#, "[7]", "[7]"],
-        SlurmFault::Entry(SlurmArray::BgpsecFilters, 1, SlurmEntryFault::NeitherSki),
-    ),
-    (
-        ["[]", r#"[{"asn":1,"prefix":"192.0.2.0/24"}]"#, "[7]", "[7]"],
-        SlurmFault::Entry(SlurmArray::BgpsecFilters, 0, SlurmEntryFault::OtherKey),
-    ),
-    (
-        ["[]", r#"[{"SKI":"Zm9v"},{"SKI":7}]"#, "[7]", "[7]"],
-        SlurmFault::Entry(SlurmArray::BgpsecFilters, 1, SlurmEntryFault::Ski),
-    ),
-    (
-        ["[]", r#"[{"SKI":7,"asn":1,"comment":2}]"#, "[7]", "[7]"],
-        SlurmFault::Entry(SlurmArray::BgpsecFilters, 0, SlurmEntryFault::Comment),
-    ),
-    (
-        ["[]", r#"[{"SKI":7,"asn":4294967296}]"#, "[7]", "[7]"],
-        SlurmFault::Entry(SlurmArray::BgpsecFilters, 0, SlurmEntryFault::Asn),
-    ),
-    (
-        [
-            "[]",
-            "[]",
-            "[]",
-            r#"[{"SKI":"Zm9v","routerPublicKey":"YmFy"}]"#,
-        ],
-        SlurmFault::Entry(SlurmArray::BgpsecAssertions, 0, SlurmEntryFault::Asn),
-    ),
-    (
-        ["[]", "[]", "[]", r#"[{"asn":1,"routerPublicKey":"YmFy"}]"#],
-        SlurmFault::Entry(SlurmArray::BgpsecAssertions, 0, SlurmEntryFault::Ski),
-    ),
-    (
-        ["[]", "[]", "[]", r#"[{"asn":1,"SKI":"Zm9v"}]"#],
-        SlurmFault::Entry(
-            SlurmArray::BgpsecAssertions,
-            0,
-            SlurmEntryFault::RouterPublicKey,
-        ),
-    ),
-    (
-        [
-            "[]",
-            "[]",
-            "[]",
-            r#"[{"asn":1,"SKI":"Zm9v","routerPublicKey":"YmFy","comment":""},{"asn":1,"SKI":"Zm9v","routerPublicKey":"YmFy","prefix":1}]"#,
-        ],
-        SlurmFault::Entry(SlurmArray::BgpsecAssertions, 1, SlurmEntryFault::OtherKey),
-    ),
-];
-
-/// Whether each text has its fault.
-fn have_faults(alloc: Global, rows: &[(&str, SlurmFault)]) -> bool {
-    rows.iter().all(|(text, fault)| fault_of(alloc, text.as_bytes()) == Some(*fault))
-}
-
-/// Whether each file of entries has its fault.
-fn have_entry_faults(alloc: Global, rows: &[([&str; 4], SlurmFault)]) -> Result<bool, Fail> {
-    for (arrays, fault) in rows {
-        let text = file(alloc, arrays)?;
-        if fault_of(alloc, text.as_bytes()) != Some(*fault) {
-            return Ok(false);
-        }
-    }
-    Ok(true)
-}
-
-#[test]
-fn each_fault_of_a_key_is_told(rt: HostRuntime) -> Result<(), Fail> {
-    assert!(rt; have_entry_faults(rt.alloc(), KEYS)?);
+fn files_are_united(rt: HostRuntime) -> Result<(), Fail> {
+    assert!(rt; leave(rt.alloc(), &[], 2));
+    let apart = [r#"[{"prefix":"192.0.2.0/25"}]"#, r#"[{"asn":64497}]"#];
+    let files = filtering(rt.alloc(), &apart, "[]")?;
+    assert!(rt; leave(rt.alloc(), files.as_slice(), 1));
     Ok(())
 }
 
 #[test]
-fn each_fault_is_told_with_its_place(rt: HostRuntime) -> Result<(), Fail> {
-    assert!(rt; have_faults(rt.alloc(), FILES));
-    assert!(rt; have_entry_faults(rt.alloc(), ENTRIES)?);
-    assert!(rt; have_entry_faults(rt.alloc(), LATER_ENTRIES)?);
-    assert!(rt; fault_of(rt.alloc(), &FULL.as_bytes()[..600]) == Some(SlurmFault::NotJson));
-    Ok(())
-}
-
-/// Whether the text of each fault ends with its number.
-fn tell_their_numbers(alloc: Global, faults: &[SlurmFault]) -> Result<bool, Fail> {
-    for fault in faults {
-        let text = format!(in alloc; "{fault}")?;
-        let end = format!(in alloc; "(fault {})", fault.number())?;
-        if !text.as_str().ends_with(end.as_str()) {
-            return Ok(false);
-        }
-    }
-    Ok(true)
-}
-
-/// Whether a fault has this text.
-fn is_told(alloc: Global, fault: &SlurmFault, text: &str) -> Result<bool, Fail> {
-    Ok(format!(in alloc; "{fault}")?.as_str() == text)
-}
-
-const ENTRY: SlurmFault = SlurmFault::Entry(
-    SlurmArray::PrefixAssertions,
-    12,
-    SlurmEntryFault::MaxLength,
-);
-
-const ENTRY_TEXT: &str =
-    "prefixAssertions[12]: maxPrefixLength is not a maximum length of the prefix (fault 5)";
-
-const MEMBERS: SlurmFault = SlurmFault::Members(SlurmObject::Filters);
-
-const MEMBERS_TEXT: &str =
-    "validationOutputFilters is not an object of exactly its members (fault 2)";
-
-/// Of each kind one.
-const KINDS: &[SlurmFault] = &[
-    SlurmFault::NotJson,
-    MEMBERS,
-    SlurmFault::Version,
-    SlurmFault::NoArray(SlurmArray::BgpsecFilters),
-    ENTRY,
-    SlurmFault::TooMany,
-    SlurmFault::Memory,
-    SlurmFault::Repeated,
-];
-
-#[test]
-fn faults_have_texts(rt: HostRuntime) -> Result<(), Fail> {
-    assert!(rt; is_told(rt.alloc(), &ENTRY, ENTRY_TEXT)?);
-    assert!(rt; is_told(rt.alloc(), &MEMBERS, MEMBERS_TEXT)?);
-    assert!(rt; tell_their_numbers(rt.alloc(), KINDS)?);
-    assert!(rt; ENTRY.number() == 5);
+fn files_overlap(rt: HostRuntime) -> Result<(), Fail> {
+    let three = [
+        r#"[{"prefix":"192.0.2.0/25"}]"#,
+        r#"[{"prefix":"198.51.100.0/24"}]"#,
+        r#"[{"prefix":"192.0.2.0/24"}]"#,
+    ];
+    let files = filtering(rt.alloc(), &three, "[]")?;
+    assert!(rt; overlap(rt.alloc(), files.as_slice(), 2));
+    let files = filtering(rt.alloc(), &["[]", "[]"], r#"[{"asn":64496}]"#)?;
+    assert!(rt; overlap(rt.alloc(), files.as_slice(), 1));
     Ok(())
 }

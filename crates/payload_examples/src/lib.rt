@@ -48,4 +48,6 @@ mod signed_objects_example;
 #[cfg(test)]
 mod states;
 #[cfg(test)]
+mod values;
+#[cfg(test)]
 mod vrps_example;

@@ -1,0 +1,231 @@
+//! A daemon over files and sockets in memory, and one function that plays scripts of what happens at it. Each line is a step: a word, and
+//! what belongs to it.
+//!
+//! - `writes TEXT`: the list has this text from now on, which has a name or is spelled.
+//! - `restless yes`, `restless no`: the list is or is not rewritten with the same text at each poll from now on.
+//! - `accepts well`, `accepts no-room`, `accepts fails`: the result of each accept from now on.
+//! - `comes ROUTER`: a router connects. Routers are named by their places in the order of arrival.
+//! - `turns COUNT`: the daemon makes this many turns.
+//! - `back SECONDS`, `ahead SECONDS`: the wall clock is set back, or ahead.
+//! - `serves COUNT`: this many clients are connected.
+//! - `has ROUTER PDUS`: a router received these PDUs, and no others. Each has a name (`example_values::scripts`) or is spelled.
+use crate::stage::{Accepting, LIST, Stage};
+use crate::wires::{Router, Wire};
+use example_values::scripts::{Words, units_in};
+use rtr_daemon::{Daemon, Paths, Plan};
+use rtr_ends::{Cache, Timing};
+use rtr_server::Server;
+use session_names::SessionIds;
+use std::alloc::{AllocGlobal, Global};
+use std::process::Abort;
+use vrps::VersionLog;
+
+/// A name, the name of the settings, the text of the list at the start, what happens, and the log.
+pub(crate) type Script = (
+    &'static str,
+    &'static str,
+    &'static str,
+    &'static str,
+    &'static str,
+);
+
+/// The evening of 2026-11-25, 18:40 UTC.
+const EVENING: u64 = 1_795_632_000;
+
+const PLAN: Plan = Plan {
+    check: 60_000,
+    stall: 30_000,
+    clients_per_address: None,
+    leaves_out_length_0: false,
+    max_age: None,
+    stops_when_old: false,
+    once: false,
+    listeners: 1,
+    clients: 2,
+};
+
+const NAMES: SessionIds = SessionIds {
+    session: 4660,
+    session0: 4660,
+    serial: 5,
+};
+
+/// Settings by their name.
+fn plan_of(name: &str) -> Plan {
+    match name {
+        "one client for each address" => Plan {
+            clients_per_address: Some(1),
+            ..PLAN
+        },
+        "an export is old after 100 seconds" => Plan {
+            max_age: Some(100),
+            ..PLAN
+        },
+        "polls ten times a second" => Plan { check: 100, ..PLAN },
+        "leaves out length 0" => Plan {
+            leaves_out_length_0: true,
+            ..PLAN
+        },
+        _ => PLAN,
+    }
+}
+
+/// The text of a list that has this name, or that is spelled.
+fn list_of(name: &'static str) -> &'static str {
+    match name {
+        "ONE" => "[{\"asn\":64496,\"prefix\":\"192.0.2.0/24\",\"maxLength\":24}]",
+        "TWO" => "[{\"asn\":64496,\"prefix\":\"192.0.2.0/24\",\"maxLength\":25}]",
+        _ => name,
+    }
+}
+
+/// A router by its name.
+fn router_of(name: &str) -> Option<Router> {
+    match name {
+        "asks" => Some(Router::Asks),
+        "is-silent" => Some(Router::IsSilent),
+        "sends-a-header" => Some(Router::SendsHeader),
+        "reads-nothing" => Some(Router::TakesNothing),
+        "reads-bytes" => Some(Router::TakesBytes),
+        "reads-slowly" => Some(Router::TakesSlowly),
+        _ => None,
+    }
+}
+
+/// The result of accepts by its name.
+fn accepting_of(name: &str) -> Option<Accepting> {
+    match name {
+        "well" => Some(Accepting::Well),
+        "no-room" => Some(Accepting::NoRoom),
+        "fails" => Some(Accepting::Fails),
+        _ => None,
+    }
+}
+
+/// A server of session 4660 and first serial 5.
+fn server(alloc: Global) -> Option<Server<VersionLog, Wire>> {
+    let store = VersionLog::new(alloc, 4660, 5, 4).ok()?;
+    let cache = Cache::new(alloc, store, Timing::default());
+    Some(Server::new(alloc, cache, 2))
+}
+
+/// The list is the only source.
+fn paths(alloc: Global) -> Option<Paths> {
+    let mut files = Vec::new(alloc);
+    files.push(String::from_str(alloc, LIST).ok()?).ok()?;
+    Some(Paths {
+        files,
+        slurms: Vec::new(alloc),
+        points: Vec::new(alloc),
+    })
+}
+
+/// A daemon that polls the list.
+fn opened(alloc: Global, plan: Plan, stage: &mut Stage) -> Option<Daemon<VersionLog, Wire>> {
+    let paths = paths(alloc)?;
+    let server = server(alloc)?;
+    Daemon::open(alloc, plan, NAMES, server, paths, stage).ok()
+}
+
+/// Whether this many turns succeed.
+fn turns(daemon: &mut Daemon<VersionLog, Wire>, stage: &mut Stage, count: u64) -> bool {
+    for _turn in 0..count {
+        if daemon.turn(stage).is_err() {
+            return false;
+        }
+    }
+    true
+}
+
+/// Whether a router connects that has this name.
+fn comes(stage: &mut Stage, name: &str) -> bool {
+    match router_of(name) {
+        Some(router) => stage.connect(router).is_ok(),
+        None => false,
+    }
+}
+
+/// Whether accepts have the result of this name from now on.
+fn accepts(stage: &mut Stage, name: &str) -> bool {
+    match accepting_of(name) {
+        Some(accepting) => {
+            stage.set_accepting(accepting);
+            true
+        }
+        None => false,
+    }
+}
+
+/// Whether a router received what a line says.
+fn has(stage: &Stage, words: &mut Words<'_>) -> bool {
+    match words.next().parse::<usize>() {
+        Ok(router) => stage.has_got(router, units_in(1, words.rest).as_slice()),
+        Err(_) => false,
+    }
+}
+
+/// Whether a step of a number succeeds.
+fn counts(
+    daemon: &mut Daemon<VersionLog, Wire>,
+    stage: &mut Stage,
+    word: &str,
+    number: Option<u64>,
+) -> bool {
+    let Some(number) = number else {
+        return false;
+    };
+    match word {
+        "turns" => return turns(daemon, stage, number),
+        "serves" => return daemon.server().clients() as u64 == number,
+        "back" => stage.set_back(number),
+        "ahead" => stage.set_ahead(number),
+        _ => return false,
+    }
+    true
+}
+
+/// Whether a step succeeds.
+fn goes(daemon: &mut Daemon<VersionLog, Wire>, stage: &mut Stage, line: &'static str) -> bool {
+    let mut words = Words { rest: line };
+    match words.next() {
+        "writes" => stage.write(list_of(words.rest)),
+        "restless" => stage.set_restless(words.rest == "yes"),
+        "accepts" => return accepts(stage, words.rest),
+        "comes" => return comes(stage, words.rest),
+        "has" => return has(stage, &mut words),
+        word => return counts(daemon, stage, word, words.number()),
+    }
+    true
+}
+
+/// Whether all lines go as they have to.
+fn all_go(daemon: &mut Daemon<VersionLog, Wire>, stage: &mut Stage, steps: &'static str) -> bool {
+    for line in steps.lines() {
+        if !goes(daemon, stage, line.trim()) {
+            return false;
+        }
+    }
+    true
+}
+
+/// Whether all lines go as they have to with a new daemon.
+fn opens_and_goes(stage: &mut Stage, alloc: Global, plan: Plan, steps: &'static str) -> bool {
+    match opened(alloc, plan, stage) {
+        Some(mut daemon) => all_go(&mut daemon, stage, steps),
+        None => false,
+    }
+}
+
+/// Whether a script goes as it has to.
+fn is_played(alloc: Global, &(_, settings, list, steps, log): &Script) -> bool {
+    let mut stage = Stage::new(alloc, EVENING, list_of(list));
+    opens_and_goes(&mut stage, alloc, plan_of(settings), steps)
+        && stage.log.as_slice() == log.as_bytes()
+}
+
+/// Plays scripts.
+pub(crate) fn play_each<R: AllocGlobal + Abort>(rt: &R, scripts: &[Script]) {
+    for script in scripts {
+        assert!(rt; is_played(rt.alloc(), script), "{}", script.0);
+    }
+}
