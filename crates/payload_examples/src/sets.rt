@@ -113,10 +113,17 @@ fn sets_ascend(rt: HostRuntime) {
     assert!(rt; VrpSet::empty(rt.alloc()).is_empty());
 }
 
-/// Names of records in four parts, with semicolons between them.
-fn four(line: &str) -> Option<[&str; 4]> {
-    let mut parts = line.split(';');
-    Some([parts.next()?, parts.next()?, parts.next()?, parts.next()?])
+/// Whether a line has four parts, with semicolons between them.
+fn has_four(line: &str) -> bool {
+    line.split(';').count() == 4
+}
+
+/// The names of records in a part of a line, or nothing.
+fn part(line: &str, place: usize) -> &str {
+    match line.split(';').nth(place) {
+        Some(names) => names,
+        None => "",
+    }
 }
 
 /// A set, another one, and what is withdrawn and announced between them.
@@ -151,15 +158,14 @@ fn leads(alloc: Global, change: &Change, old: &str, new: &str) -> bool {
 
 /// Whether the change between two sets is this, and leads from the one to the other.
 fn is_between(alloc: Global, line: &str) -> bool {
-    let Some([old, new, withdraw, announce]) = four(line) else {
+    let old = part(line, 0);
+    let new = part(line, 1);
+    let Some(change) = between(alloc, old, new) else {
         return false;
     };
-    match between(alloc, old, new) {
-        Some(change) => {
-            is_change(alloc, &change, withdraw, announce) && leads(alloc, &change, old, new)
-        }
-        None => false,
-    }
+    has_four(line)
+        && is_change(alloc, &change, part(line, 2), part(line, 3))
+        && leads(alloc, &change, old, new)
 }
 
 fn are_between(alloc: Global, lines: &str) -> bool {
@@ -181,15 +187,14 @@ const APPLIED: &str = "; V; W; W
 
 /// Whether a change of these sets leads from this set to that.
 fn applies(alloc: Global, line: &str) -> bool {
-    let Some([old, withdraw, announce, new]) = four(line) else {
+    let Some(withdraw) = set_named(alloc, part(line, 1)) else {
         return false;
     };
-    match (set_named(alloc, withdraw), set_named(alloc, announce)) {
-        (Some(withdraw), Some(announce)) => {
-            leads(alloc, &Change { withdraw, announce }, old, new)
-        }
-        _ => false,
-    }
+    let Some(announce) = set_named(alloc, part(line, 2)) else {
+        return false;
+    };
+    let change = Change { withdraw, announce };
+    has_four(line) && leads(alloc, &change, part(line, 0), part(line, 3))
 }
 
 fn all_apply(alloc: Global, lines: &str) -> bool {
