@@ -1,6 +1,7 @@
 //! The value of a router's handle.
 ghost use Rattle.std.specs.Prelude.{◌≡◌, ◌≤◌, length, take};
 ghost use Rattle.rtr_ends.specs.Router as model;
+ghost use Rattle.rtr_server.specs.Counting.{first_byte};
 ghost use Rattle.rtr_server.specs.Turns.{no_traffic};
 ghost use Rattle.rpkirtr_c.specs.Carried.{and_sent};
 ghost use Rattle.rpkirtr_c.specs.Sessions.{Carries, IsPulled, Receives, Shows};
@@ -43,6 +44,7 @@ impl Session {
         let traffic = &mut self.traffic;
         traffic.carried.read = traffic.carried.read.saturating_add(taken as u64);
         traffic.received.count(&bytes[..taken]);
+        traffic.asked = first_byte(traffic.asked, &bytes[..taken]);
         taken
     }
 
@@ -57,5 +59,15 @@ impl Session {
         traffic.carried.written = traffic.carried.written.saturating_add(pulled as u64);
         traffic.sent.count(&room[..pulled]);
         pulled
+    }
+}
+
+/// The first byte that came: one that came before, or the first of these.
+fn first_byte(before: Option<u8>, bytes: &[u8]) -> Option<u8>
+    ensures { result ≡ first_byte before bytes.now }
+{
+    match before {
+        Some(_) => before,
+        None => bytes.get(0).copied(),
     }
 }

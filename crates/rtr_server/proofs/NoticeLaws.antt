@@ -1,5 +1,5 @@
 -- Clients that are notified, one after the other.
-use Rattle.std.specs.Prelude.{◌≡◌, ◌⊎◌, ℕ, zero, suc, ◌<◌, ◌≤◌, ◌==◌, Bool, true, false, not, ◌&&◌, List, [], ◌∷◌, ◌++◌, Box, Option, Some, None, Ok, length, option_map, if◌then◌else◌, refl}
+use Rattle.std.specs.Prelude.{◌≡◌, ◌⊎◌, ℕ, zero, suc, ◌<◌, ◌≤◌, ◌==◌, Bool, true, false, not, ◌&&◌, List, [], ◌∷◌, ◌++◌, Box, Option, Some, None, Ok, length, slice_get, option_map, if◌then◌else◌, refl}
 use Rattle.std.proofs.Common.{sym, ap, ◌∙◌, subst, arith, inl, inr}
 use Rattle.std.proofs.lemmas.Bool.{cases_eq, cases_lt}
 use Rattle.std.specs.List.{AllByRecursion}
@@ -356,6 +356,7 @@ module _ {T A : Type 0} (remaining contents : T → Option (List ℕ)) (p : Past
               all_written = h.1.all_written;
               all_received = h.1.all_received ∙ ap (λ came. counted came) (sym k.came);
               all_sent = h.1.all_sent;
+              all_asked = h.1.all_asked ∙ ap (λ came. slice_get came 0) (sym k.came);
             },
             ap (λ b. b && not (can_be_told_of set p c)) (asked_same c x e),
             record { unread = h.3.unread; unwritten = h.3.unwritten },

@@ -433,7 +433,7 @@ module _ {S T : Type 0} (holds : ℕ → Instance → S → Type 0) (remaining c
         by_test d true e =
             subst (λ x. ShowsClient remaining contents (record { before = remaining stream; had = contents stream }) d
             (Some (record { opened = (present p).cache; serving = serving (present p).keep (present p).timing (present p).cache [] })) false x) (sym (ap (slot_at new.slots.items) (eq_of d c.0 e) ∙ placed))
-            (sym (eq_of d c.0 e), record { read = Consumes-nil (remaining stream); written = []; given = refl; out = Appends-nil (contents stream); all_read = refl; all_written = refl; all_received = refl; all_sent = refl }, refl, record { unread = omega arith; unwritten = omega arith })
+            (sym (eq_of d c.0 e), record { read = Consumes-nil (remaining stream); written = []; given = refl; out = Appends-nil (contents stream); all_read = refl; all_written = refl; all_received = refl; all_sent = refl; all_asked = refl }, refl, record { unread = omega arith; unwritten = omega arith })
         by_test d false e = subst (λ x. ShowsClient remaining contents (p.begun d) d (life p.calls (made p) d) (awaits p.calls (made p) d) x) (sym (others d (not_eq_of d c.0 e))) (shows.each d)
 
 -- Each client is served.

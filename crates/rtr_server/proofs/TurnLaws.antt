@@ -1,5 +1,5 @@
 -- One client, from step to step.
-use Rattle.std.specs.Prelude.{◌≡◌, ℕ, ◌+◌, ◌-◌, ◌<◌, ◌≤◌, ◌==◌, Bool, true, false, not, ◌&&◌, List, [], ◌∷◌, ◌++◌, length, take, drop, min, Option, Some, None, IfSome, option_map, if◌then◌else◌, refl}
+use Rattle.std.specs.Prelude.{◌≡◌, ℕ, ◌+◌, ◌-◌, ◌<◌, ◌≤◌, ◌==◌, Bool, true, false, not, ◌&&◌, List, [], ◌∷◌, ◌++◌, length, slice_get, take, drop, min, Option, Some, None, IfSome, option_map, if◌then◌else◌, refl}
 use Rattle.std.proofs.Common.{zero, suc, sym, ap, ◌∙◌, subst, arith, append_assoc}
 use Rattle.std.proofs.lemmas.List.{append-nil, length-append, length-drop, length-take, length-take-le, take-append-drop}
 use Rattle.std.specs.Io.KnownBytes.{Consumes, IsAtEnd, Keeps}
@@ -18,7 +18,7 @@ use Rattle.rtr_ends.proofs.CacheStateLaws.{with_conn_at}
 use Rattle.rtr_ends.proofs.ServeStreamLaws.{drop_none, none_taken, pulled_is}
 use Rattle.rtr_ends.proofs.TableLaws.{false_true}
 use Rattle.prefixes.proofs.Basics.{eq_of, not_eq_of}
-use Rattle.rtr_server.specs.Counting.{Counted, capped, counted, counted_on, none_counted}
+use Rattle.rtr_server.specs.Counting.{Counted, capped, counted, counted_on, first_byte, none_counted}
 use Rattle.rtr_server.specs.Streams.{EmptiesSo, FillsSo, IsRoom, PullsInto, moved_count, room_of}
 use Rattle.rtr_server.proofs.CountingLaws.{counted_both}
 use Rattle.rtr_server.specs.Turns.{Anyhow, ClientState, ClientStep, EndsSo, Flow, Goes, GoesFrom, GoesOrEnds, HandsIn, HasRoom, IsIdle, IsOver, IsSettled, IsToWrite, MaySettle, MayStep, MaySteps, NoneDue, Notifies, Pulls, Reads, StandsSo, Writes, WritesFrom, and_read, and_written, after_read, after_write, and_received, can_be_told, client_after, client_of, consumed_of, settles, steps_after}
@@ -136,8 +136,16 @@ more_counted count more all now e is = omega (arith, e, is)
 pub read_more : (t : Traffic) (now more count : ℕ) → now ≡ capped (t.carried.read + more) → more ≡ count → record t { carried = record t.carried { read = now } } ≡ and_read count t
 read_more t now more count e is = let f : ℕ → Traffic = λ n. record t { carried = record t.carried { read = n } } in ap f (e ∙ ap (λ k. capped (t.carried.read + k)) is)
 
-pub received_more : (t : Traffic) (received : Counted) (bytes : List ℕ) → received ≡ counted_on t.received bytes → record t { received = received } ≡ and_received bytes t
-received_more t received bytes counts = let f : Counted → Traffic = λ c. record t { received = c } in ap f counts
+pub received_more : (t : Traffic) (received : Counted) (asked : Option ℕ) (bytes : List ℕ) → received ≡ counted_on t.received bytes → asked ≡ first_byte t.asked bytes
+    → record t { received = received; asked = asked } ≡ and_received bytes t
+received_more t received asked bytes counts asks =
+    let f : Counted → Option ℕ → Traffic = λ c first. record t { received = c; asked = first } in
+    λ i. f (counts i) (asks i)
+
+-- the first byte of both, if the first of these bytes is noted
+first_of_both : (came bytes : List ℕ) → first_byte (slice_get came 0) bytes ≡ slice_get (came ++ bytes) 0
+first_of_both [] bytes = refl
+first_of_both (b ∷ came) bytes = refl
 
 pub written_more : (t : Traffic) (now more count : ℕ) (sent : Counted) (bytes : List ℕ) → now ≡ capped (t.carried.written + more) → more ≡ count → sent ≡ counted_on t.sent bytes
     → record t { carried = record t.carried { written = now }; sent = sent } ≡ and_written count bytes t
@@ -168,6 +176,7 @@ reads_on before left after had has still s old unread unwritten owed traffic mov
       all_written = flow.all_written;
       all_received = flow.all_received;
       all_sent = flow.all_sent;
+      all_asked = flow.all_asked;
     }
   where
     came : Consumes before left s.came
@@ -201,6 +210,7 @@ writes_on before left still had has wrote s unread old new owed traffic moved fl
       all_written = more_counted traffic.carried.written 0 (length flow.written) (length flow.written) flow.all_written (omega arith);
       all_received = flow.all_received;
       all_sent = flow.all_sent;
+      all_asked = flow.all_asked;
     }
 
     by_moved : (moved : Progress) → EmptiesSo has wrote moved old new → Flow before still had wrote (record { serving = s; unread = unread; unwritten = new; owed = owed; traffic = and_written (moved_count moved) (take (moved_count moved) old) traffic })
@@ -214,6 +224,7 @@ writes_on before left still had has wrote s unread old new owed traffic moved fl
           (length-append flow.written (take n old) ∙ ap (λ k. length flow.written + k) (length-take-le n old h.2));
       all_received = flow.all_received;
       all_sent = ap (λ c. counted_on c (take n old)) flow.all_sent ∙ sym (counted_both none_counted flow.written (take n old));
+      all_asked = flow.all_asked;
     }
     by_moved Waits h = none h.0 h.1
     by_moved Interrupted h = none h.0 h.1
@@ -307,6 +318,7 @@ module _ {S T : Type 0} (holds : ℕ → Instance → S → Type 0) (remaining c
           all_written = ap (λ (x : Traffic). x.carried.written) traffic_is ∙ flow.all_written;
           all_received = ap (λ (x : Traffic). x.received) traffic_is ∙ ap (λ c. counted_on c (take count unread)) flow.all_received ∙ sym (counted_both none_counted s.came (take count unread)) ∙ ap (λ n. counted (s.came ++ take n unread)) is;
           all_sent = ap (λ (x : Traffic). x.sent) traffic_is ∙ flow.all_sent;
+          all_asked = ap (λ (x : Traffic). x.asked) traffic_is ∙ ap (λ first. first_byte first (take count unread)) flow.all_asked ∙ first_of_both s.came (take count unread) ∙ ap (λ n. slice_get (s.came ++ take n unread) 0) is;
         };
         so = λ none.
             let n = none_taken m.keep m.timing s.cache t.wanting unread s.conn settled.none_due (sym none ∙ is) in
@@ -336,6 +348,7 @@ module _ {S T : Type 0} (holds : ℕ → Instance → S → Type 0) (remaining c
           all_written = flow.all_written;
           all_received = flow.all_received;
           all_sent = flow.all_sent;
+          all_asked = flow.all_asked;
         };
         so = λ none. none_left m.keep m.timing p.most s.conn p.room.some (sym bytes_are ∙ none);
       }
@@ -355,7 +368,7 @@ module _ {S T : Type 0} (holds : ℕ → Instance → S → Type 0) (remaining c
         now = now;
         leads = ap with_owed (ap (λ b. b && not (can_be_told s)) owed ∙ ap not (sym is));
         shows = set_known holds (conn_notified m.keep m.timing m.cache) m old.conn.0 s.conn now.conn after stands.at (ap (λ i. conn_notified m.keep m.timing i s.conn) (sym stands.now)) n.1;
-        flow = record { read = flow.read; written = flow.written; given = flow.given; out = flow.out; all_read = flow.all_read; all_written = flow.all_written; all_received = flow.all_received; all_sent = flow.all_sent };
+        flow = record { read = flow.read; written = flow.written; given = flow.given; out = flow.out; all_read = flow.all_read; all_written = flow.all_written; all_received = flow.all_received; all_sent = flow.all_sent; all_asked = flow.all_asked };
         so = by_sent m.keep m.timing s sent is (due nothing);
       }
     where

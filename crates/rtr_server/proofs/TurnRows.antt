@@ -38,8 +38,8 @@ told = (refl, refl, omega arith, refl, refl, λ e. cc, λ e. cc)
 
 module _ (keep : ℕ) (t : Intervals) (s : Serving) where
   -- three bytes are left to be written, and two of them are; five come
-  steps : steps_after keep t (Reads (5 ∷ []) ∷ Writes 2 ∷ []) (record { serving = s; unread = []; unwritten = 1 ∷ 2 ∷ 3 ∷ []; owed = true; traffic = record { carried = record { read = 8; written = 40 }; received = none_counted; sent = none_counted } })
-      ≡ record { serving = s; unread = 5 ∷ []; unwritten = 3 ∷ []; owed = true; traffic = record { carried = record { read = 9; written = 42 }; received = none_counted; sent = record none_counted { front = 1 ∷ 2 ∷ []; came = 2 } } }
+  steps : steps_after keep t (Reads (5 ∷ []) ∷ Writes 2 ∷ []) (record { serving = s; unread = []; unwritten = 1 ∷ 2 ∷ 3 ∷ []; owed = true; traffic = record { carried = record { read = 8; written = 40 }; received = none_counted; sent = none_counted; asked = Some 1 } })
+      ≡ record { serving = s; unread = 5 ∷ []; unwritten = 3 ∷ []; owed = true; traffic = record { carried = record { read = 9; written = 42 }; received = none_counted; sent = record none_counted { front = 1 ∷ 2 ∷ []; came = 2 }; asked = Some 1 } }
   steps = refl
 
 -- A router that has just come awaits nothing, whatever was before; nor does another call make one await.

@@ -68,7 +68,7 @@ TakesTurn holds remaining contents answers budget client cache turn new after = 
 
 -- what is counted of a client that speaks in this version
 abbrev pub parted_of : {T : Type 0} → Option Version → Slot T → Parted
-parted_of version slot = record { carried = slot.traffic.carried; received = slot.traffic.received.pdus; sent = slot.traffic.sent.pdus; received_report = slot.traffic.received.report; sent_report = option_map (λ said. said.code) slot.traffic.sent.report; version = version }
+parted_of version slot = record { carried = slot.traffic.carried; received = slot.traffic.received.pdus; sent = slot.traffic.sent.pdus; received_report = slot.traffic.received.report; sent_report = option_map (λ said. said.code) slot.traffic.sent.report; version = version; asked = slot.traffic.asked }
 
 -- What was counted of the client that left last: of this one, if one was there, otherwise as before
 abbrev pub parted_last : {T : Type 0} → Option Version → Option (Slot T) → Option Parted → Option Parted

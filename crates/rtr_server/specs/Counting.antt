@@ -1,5 +1,5 @@
 -- How many PDUs of each type went one way, as their headers say (RFC 6810 section 5, RFC 8210 section 5).
-use Rattle.std.specs.Prelude.{ℕ, ◌+◌, ◌-◌, ◌^◌, min, max, ◌&&◌, ◌||◌, nat_le, nat_lt, Bool, true, List, [], ◌∷◌, ◌++◌, length, take, drop, replicate, slice_index, slice_set, Option, Some, None, if◌then◌else◌, ◌≡◌, suc, ◌==◌, false}
+use Rattle.std.specs.Prelude.{ℕ, ◌+◌, ◌-◌, ◌^◌, min, max, ◌&&◌, ◌||◌, nat_le, nat_lt, Bool, true, List, [], ◌∷◌, ◌++◌, length, take, drop, replicate, slice_get, slice_index, slice_set, Option, Some, None, if◌then◌else◌, ◌≡◌, suc, ◌==◌, false}
 use Rattle.vrps.specs.declared.serial.Serial.{Serial}
 use Rattle.prefixes.specs.declared.prefix.IpPrefix.{IpPrefix}
 use Rattle.prefixes.specs.declared.prefix.IpPrefix.TheVariants.{V4, V6}
@@ -14,6 +14,11 @@ use Rattle.rtr_pdu.specs.declared.kind.Kind.{Kind}
 use Rattle.rtr_pdu.specs.declared.kind.Kind.TheVariants as kinds
 use Rattle.rtr_server.specs.Reports.{Said, said_in}
 use Rattle.rtr_server.specs.declared.tally.PdusByKind.{PdusByKind}
+
+-- The first byte that came: one that came before, or the first of these. It is the version in the first header.
+abbrev pub first_byte : Option ℕ → List ℕ → Option ℕ
+first_byte None bytes = slice_get bytes 0
+first_byte (Some first) bytes = Some first
 
 -- a count of 64 bits
 abbrev pub capped : ℕ → ℕ

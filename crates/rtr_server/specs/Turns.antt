@@ -1,5 +1,5 @@
 -- What is done for one client, step by step, and how its turn ends (RFC 8210 sections 5, 7, 8 and 12).
-use Rattle.std.specs.Prelude.{◌≡◌, ◌⊎◌, ℕ, ◌+◌, ◌-◌, ◌<◌, ◌≤◌, ◌==◌, Bool, true, false, not, ◌&&◌, List, [], ◌∷◌, ◌++◌, length, take, drop, Option, Some, None, IfSome, if◌then◌else◌, ⊤}
+use Rattle.std.specs.Prelude.{◌≡◌, ◌⊎◌, ℕ, ◌+◌, ◌-◌, ◌<◌, ◌≤◌, ◌==◌, Bool, true, false, not, ◌&&◌, List, [], ◌∷◌, ◌++◌, length, slice_get, take, drop, Option, Some, None, IfSome, if◌then◌else◌, ⊤}
 use Rattle.std.specs.Io.KnownBytes.{Appends, Consumes, IsAtEnd}
 use Rattle.vrps.specs.Instance.{Instance}
 use Rattle.rtr_pdu.specs.Code.{INTERNAL_ERROR}
@@ -13,7 +13,7 @@ use Rattle.rtr_ends.specs.Connection.{Connection}
 use Rattle.rtr_ends.specs.Peer.{is_wanted_by_peer}
 use Rattle.rtr_ends.specs.Timing.{Intervals}
 use Rattle.rtr_ends.specs.declared.cache.Cache.{Cache}
-use Rattle.rtr_server.specs.Counting.{capped, counted, counted_on, none_counted}
+use Rattle.rtr_server.specs.Counting.{capped, counted, counted_on, first_byte, none_counted}
 use Rattle.rtr_server.specs.Streams.{IsRoom, Logged}
 use Rattle.rtr_server.specs.declared.stream.Call.{Call}
 use Rattle.rtr_server.specs.declared.stream.Call.TheVariants as calls
@@ -55,13 +55,13 @@ can_be_told s = can_notify s.cache s.conn
 
 -- What is counted of a client that has just come
 abbrev pub no_traffic : Traffic
-no_traffic = record { carried = record { read = 0; written = 0 }; received = none_counted; sent = none_counted }
+no_traffic = record { carried = record { read = 0; written = 0 }; received = none_counted; sent = none_counted; asked = None }
 
 abbrev pub and_read : ℕ → Traffic → Traffic
 and_read count t = record t { carried = record t.carried { read = capped (t.carried.read + count) } }
 
 abbrev pub and_received : List ℕ → Traffic → Traffic
-and_received bytes t = record t { received = counted_on t.received bytes }
+and_received bytes t = record t { received = counted_on t.received bytes; asked = first_byte t.asked bytes }
 
 abbrev pub and_written : ℕ → List ℕ → Traffic → Traffic
 and_written count bytes t = record t { carried = record t.carried { written = capped (t.carried.written + count) }; sent = counted_on t.sent bytes }
@@ -156,7 +156,7 @@ MaySteps keep t (step ∷ steps) s = MayStep keep t step (steps_after keep t ste
 
 -- What was read of the stream since it came is what its connection consumed, and then the bytes that are not consumed. What was pulled is
 -- what was written to it, and then the bytes that are not written. This many are counted. The PDUs that are counted are those of what its
--- connection consumed, and of what was written.
+-- connection consumed, and of what was written. The version of its first header is the first byte of what was consumed.
 pub record Flow (before left had has : Option (List ℕ)) (s : ClientState) : Type 0 where
   pub read : Consumes before left (s.serving.came ++ s.unread)
   pub written : List ℕ
@@ -166,6 +166,7 @@ pub record Flow (before left had has : Option (List ℕ)) (s : ClientState) : Ty
   pub all_written : s.traffic.carried.written ≡ capped (length written)
   pub all_received : s.traffic.received ≡ counted s.serving.came
   pub all_sent : s.traffic.sent ≡ counted written
+  pub all_asked : s.traffic.asked ≡ slice_get s.serving.came 0
 
 -- what a slot is, with this connection
 abbrev pub client_of : {T : Type 0} → Serving → Slot T → ClientState

@@ -4,10 +4,10 @@ ghost use Rattle.std.specs.Io.KnownBytes.{Keeps};
 ghost use Rattle.rtr_pdu.specs.Payloads.{AreBytes};
 ghost use Rattle.rtr_ends.specs.CacheState.{CacheState, GivesBytes, ShowsCache, TakesPiece};
 ghost use Rattle.rtr_server.specs.Streams.{EmptiesSo, FillsSo, Logged, PullsInto, a_read, a_write, moved_count, room_of};
-ghost use Rattle.rtr_server.specs.Counting.{counted_on};
+ghost use Rattle.rtr_server.specs.Counting.{counted_on, first_byte};
 
 use crate::stream::{Progress, Stream};
-use crate::tally::Tally;
+use crate::tally::{Tally, first_byte};
 use rtr_ends::{Cache, Conn};
 use rtr_pdu::MAX_UNIT_LEN;
 use std::alloc::Global;
@@ -69,21 +69,24 @@ impl Unread {
         moved
     }
 
-    /// Hands it in, counts what was consumed, and answers how many bytes that is.
+    /// Hands it in, counts what was consumed, notes the first byte of all, and answers how many bytes were consumed.
     pub(crate) fn hand_in<S: VersionStore>(
         &mut self,
         cache: &mut Cache<S>,
         conn: Conn,
         received: &mut Tally,
+        asked: &mut Option<u8>,
     ) -> usize
         ensures takes { (m : CacheState) → ShowsCache S.holds m cache.old → TakesPiece S.holds m conn.0 self.old result cache.new }
         ensures rest { self.new ≡ drop result self.old }
         ensures within { result ≤ length self.old }
         ensures bytes { AreBytes self.old }
         ensures counts { received.new ≡ counted_on received.old (take result self.old) }
+        ensures asks { asked.new ≡ first_byte asked.old (take result self.old) }
     {
         let taken = hand_piece(cache, conn, &self.bytes[self.from..self.to]);
         received.count(&self.bytes[self.from..self.from + taken]);
+        *asked = first_byte(*asked, &self.bytes[self.from..self.from + taken]);
         self.from += taken;
         taken
     }

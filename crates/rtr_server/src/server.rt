@@ -4,7 +4,8 @@ ghost use Rattle.vrps.specs.Instance.{Instance, IsInstance, versions};
 ghost use Rattle.vrps.specs.Stores.{newest};
 ghost use Rattle.rtr_ends.specs.Timing.{Intervals};
 ghost use Rattle.rtr_ends.specs.CacheState.{CacheCall, CacheState, ShowsCache, can_notify_at, joined, life, notified, version_at, with_conn, without_conns};
-ghost use Rattle.rtr_server.specs.Clients.{AdmitsTo, Begun, GoesOnAfter, IsCounted, KeepsAll, KeepsOthers, NotifiesAt, NotifiesBelow, Past, PublishesSo, PublishesTo, Serves, ShowsServer, TakesTurn, admit_fault_number, clients_in, has_asked, is_gone, made, parted_last, parted_of, present, router_asked, slot_at};
+ghost use Rattle.rtr_server.specs.Clients.{AdmitsTo, Begun, GoesOnAfter, IsCounted, KeepsAll, KeepsOthers, NotifiesAt, NotifiesBelow, Past, PublishesSo, PublishesTo, Serves};
+ghost use Rattle.rtr_server.specs.Clients.{ShowsServer, TakesTurn, admit_fault_number, clients_in, has_asked, is_gone, made, parted_last, parted_of, present, router_asked, slot_at};
 ghost use Rattle.rtr_server.specs.Turns.{no_traffic};
 
 use crate::stream::Stream;
@@ -411,6 +412,7 @@ fn counts_at<T: Stream>(
             received_report: slot.traffic.received.report(),
             sent_report: slot.traffic.sent.report_code(),
             version,
+            asked: slot.traffic.asked,
         }),
     }
 }

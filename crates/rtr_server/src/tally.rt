@@ -1,7 +1,8 @@
 //! How many PDUs of each type went one way, as their headers say (RFC 6810 section 5, RFC 8210 section 5).
 ghost use Rattle.std.specs.Prelude.{◌≡◌, ◌+◌, ◌≤◌, ◌<◌, ◌-◌, ◌*◌, ◌^◌, ◌++◌, ◌∷◌, [], IfSome, length, max, min, option_map, take, drop, nat_le, nat_lt, slice_set, if◌then◌else◌, true};
 ghost use Rattle.rtr_pdu.specs.Stream.{type_of};
-ghost use Rattle.rtr_server.specs.Counting.{Counted, IsBetween, and_byte, and_many, and_pdu, and_pdus, and_whole, count_of, counted_on, grown, has_query, is_whole, none_counted, report_after, serial_after, tail_at, text_in, told_len};
+ghost use Rattle.rtr_server.specs.Counting.{Counted, IsBetween, and_byte, and_many, and_pdu, and_pdus, and_whole, count_of, counted_on, first_byte};
+ghost use Rattle.rtr_server.specs.Counting.{grown, has_query, is_whole, none_counted, report_after, serial_after, tail_at, text_in, told_len};
 ghost use Rattle.rtr_server.specs.Runs.{IsOnlyCounted, PassesMany, ShowsHeader, length_in, type_in};
 
 use crate::report::{REPORT_TEXT_LEN, Report};
@@ -223,6 +224,16 @@ impl Tally {
         }
         self.take(piece[0]);
         &piece[1..]
+    }
+}
+
+/// The first byte that came: one that came before, or the first of these.
+pub(crate) fn first_byte(before: Option<u8>, bytes: &[u8]) -> Option<u8>
+    ensures { result ≡ first_byte before bytes.now }
+{
+    match before {
+        Some(_) => before,
+        None => bytes.get(0).copied(),
     }
 }
 

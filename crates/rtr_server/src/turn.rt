@@ -1,6 +1,7 @@
 //! One turn of a client.
 ghost use Rattle.std.specs.Prelude.{◌≡◌, ◌<◌, ◌≤◌, [], false, drop, length, take};
-ghost use Rattle.rtr_server.specs.Turns.{Anyhow, AnswersTurn, AnswersStep, EndsSo, GoesFrom, GoesOrEnds, IsIdle, IsOver, IsSettled, IsToWrite, MaySettle, NoneDue, StandsFor, WritesFrom, after_read, after_write, and_received, no_traffic, settles};
+ghost use Rattle.rtr_server.specs.Turns.{Anyhow, AnswersTurn, AnswersStep, EndsSo, GoesFrom, GoesOrEnds, IsIdle, IsOver, IsSettled, IsToWrite};
+ghost use Rattle.rtr_server.specs.Turns.{MaySettle, NoneDue, StandsFor, WritesFrom, after_read, after_write, and_received, no_traffic, settles};
 
 use crate::pieces::{Unread, Unwritten};
 use crate::report::Report;
@@ -65,6 +66,8 @@ pub struct Parted {
     pub sent_report: Option<u16>,
     /// The version of the protocol in which it spoke, if a whole header came (RFC 8210 section 7).
     pub version: Option<Version>,
+    /// The version in the first header that came from it: the first byte that was consumed. It need not be one that is served.
+    pub asked: Option<u8>,
 }
 
 /// What is counted of a peer: the bytes that went over its stream, the PDUs of what was consumed of them, and those of what was written.
@@ -76,6 +79,8 @@ pub struct Traffic {
     pub received: Tally,
     /// What was written to it.
     pub sent: Tally,
+    /// The first byte that came from it and was consumed: the version in its first header (RFC 8210 section 5.1).
+    pub asked: Option<u8>,
 }
 
 impl Traffic {
@@ -90,6 +95,7 @@ impl Traffic {
             },
             received: Tally::new(),
             sent: Tally::new(),
+            asked: None,
         }
     }
 }
@@ -192,8 +198,12 @@ impl<T: Stream> Slot<T> {
         ensures conn { self.new.conn ≡ self.old.conn }
         ensures within { result ≤ length self.old.unread }
     {
-        self.unread
-            .hand_in(cache, self.conn, &mut self.traffic.received)
+        self.unread.hand_in(
+            cache,
+            self.conn,
+            &mut self.traffic.received,
+            &mut self.traffic.asked,
+        )
     }
 
     /// Passes in what was read, as far as nothing becomes due, and returns what comes next.

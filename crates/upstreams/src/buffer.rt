@@ -6,7 +6,7 @@ ghost use Rattle.rtr_ends.specs.LinkRules as rules;
 ghost use Rattle.rtr_ends.specs.Router as model;
 ghost use Rattle.rtr_ends.specs.Router.{called};
 ghost use Rattle.rtr_ends.specs.RouterShown.{Calls, IsShown, ReceivesSo};
-ghost use Rattle.rtr_server.specs.Counting.{counted_on};
+ghost use Rattle.rtr_server.specs.Counting.{counted_on, first_byte};
 ghost use Rattle.rtr_server.specs.Streams.{EmptiesSo, FillsSo, Logged, a_read, a_write, moved_count};
 
 use rtr_ends::Router;
@@ -69,16 +69,24 @@ impl Buffer {
         moved
     }
 
-    /// Passes it to the router, counts what was consumed, and returns how many bytes that is.
-    pub(crate) fn hand_in(&mut self, router: &mut Router, now: u64, received: &mut Tally) -> usize
+    /// Passes it to the router, counts what was consumed, notes the first byte of all, and returns how many bytes were consumed.
+    pub(crate) fn hand_in(
+        &mut self,
+        router: &mut Router,
+        now: u64,
+        received: &mut Tally,
+        asked: &mut Option<u8>,
+    ) -> usize
         ensures takes { ReceivesSo now self.old result router.old router.new }
         ensures rest { self.new ≡ drop result self.old }
         ensures within { result ≤ length self.old }
         ensures bytes { AreBytes self.old }
         ensures counts { received.new ≡ counted_on received.old (take result self.old) }
+        ensures asks { asked.new ≡ first_byte asked.old (take result self.old) }
     {
         let taken = hand_piece(router, &self.bytes[self.from..self.to], now);
         received.count(&self.bytes[self.from..self.from + taken]);
+        *asked = first_byte(*asked, &self.bytes[self.from..self.from + taken]);
         self.from += taken;
         taken
     }
@@ -115,4 +123,14 @@ fn hand_piece(router: &mut Router, piece: &[u8], now: u64) -> usize
     ensures bytes { AreBytes piece.now }
 {
     router.receive(piece, now)
+}
+
+/// The first byte that came: one that came before, or the first of these.
+fn first_byte(before: Option<u8>, bytes: &[u8]) -> Option<u8>
+    ensures { result ≡ first_byte before bytes.now }
+{
+    match before {
+        Some(_) => before,
+        None => bytes.get(0).copied(),
+    }
 }

@@ -95,7 +95,9 @@ impl<T: Stream> Connection<T> {
         ensures within { result ≤ length self.old.unread }
     {
         self.heard_at = now;
-        self.unread.hand_in(router, now, &mut self.traffic.received)
+        let traffic = &mut self.traffic;
+        self.unread
+            .hand_in(router, now, &mut traffic.received, &mut traffic.asked)
     }
 
     /// Passes what was read to the router, as far as that has nothing to send, and returns which call of the stream is next.

@@ -4,5 +4,5 @@ use Rattle.upstreams.proofs.ConnectionLaws as laws
 use Rattle.upstreams.proofs.connection.Connection.take.Goals as goal
 
 pub returns-clause-goes : goal.returns-clause-goes
-returns-clause-goes g c = laws.takes g.T.Stream.remaining g.T.Stream.contents c.args.now c.args.router.now c.hand_in.new.router c.args.self.now c.hand_in.new.self (record c.args.self.now.traffic { received = c.hand_in.new.received }) c.hand_in.result c.requires c.hand_in.ensures.rest
-    (received_more c.args.self.now.traffic c.hand_in.new.received (take c.hand_in.result c.args.self.now.unread) c.hand_in.ensures.counts) c.hand_in.ensures.bytes c.hand_in.ensures.takes
+returns-clause-goes g c = laws.takes g.T.Stream.remaining g.T.Stream.contents c.args.now c.args.router.now c.hand_in.new.router c.args.self.now c.hand_in.new.self (record c.args.self.now.traffic { received = c.hand_in.new.received; asked = c.hand_in.new.asked }) c.hand_in.result c.requires c.hand_in.ensures.rest
+    (received_more c.args.self.now.traffic c.hand_in.new.received c.hand_in.new.asked (take c.hand_in.result c.args.self.now.unread) c.hand_in.ensures.counts c.hand_in.ensures.asks) c.hand_in.ensures.bytes c.hand_in.ensures.takes
