@@ -3,27 +3,28 @@ use Rattle.std.specs.Prelude.{◌≡◌, ◌⊎◌, ◌||◌, Bool, true, false,
 use Rattle.std.proofs.Common.{arith, inl, inr, ap, subst, sym, ◌∙◌, get_or, append-nil}
 use Rattle.std.specs.List.{slice_get}
 use Rattle.std.proofs.lemmas.List.{take_more}
-use Rattle.slurm.specs.Chains.{UnlessMemory, seen}
+use Rattle.slurm.specs.Chains.{UnlessMemory}
 use Rattle.slurm.specs.Exceptions.{Exceptions, exceptions_of}
 use Rattle.slurm.specs.Scoped.{ReadsScoped, Scoped}
 use Rattle.slurm.specs.SlurmFile.{ReadsSlurm}
 use Rattle.slurm.specs.Uniting.{Unites}
 use Rattle.slurm.specs.declared.fault.SlurmFault.{SlurmFault}
 use Rattle.slurm.specs.declared.fault.SlurmFault.TheVariants.{Memory}
-use Rattle.slurm.specs.declared.filter.Slurm.{Slurm}
+use Rattle.slurm.specs.Ignored.{ignored_of}
+use Rattle.slurm.specs.declared.scoped.Ignored.{Ignored}
 use Rattle.slurm.specs.declared.unite_fault.UniteFault.{UniteFault}
 use Rattle.slurm.specs.declared.unite_fault.UniteFault.TheVariants as unite
 use Rattle.slurm.specs.Uniting.{united}
-use Rattle.slurm.proofs.Chained.{ok_is}
 use Rattle.slurm.proofs.Exactly.{reads_exactly}
-use Rattle.slurm.proofs.Scopes.{drop_scope, fault_without, lift_scope}
+use Rattle.slurm.proofs.Scopes.{drop_scope, fault_without}
 use Rattle.slurm.proofs.United.{one_is_apart}
 use Rattle.vrps.specs.VrpSet.{VrpSet, empty, has, size, union}
 use Rattle.vrps.proofs.SetLaws.{has-empty, has-union, same_set}
-use Rattle.sources.specs.Served.{AllRead, AreRefused, AreUnited, FirstFault, TakesSlurm, TakesSlurms}
+use Rattle.sources.specs.Served.{AllRead, AreApplied, AreRefused, AreUnited, FirstFault, TakesSlurm, TakesSlurms}
 use Rattle.sources.specs.TakenLaws.{OneSlurm}
 use Rattle.sources.specs.declared.fault.SlurmSetFault.{SlurmSetFault}
 use Rattle.sources.specs.declared.fault.SlurmSetFault.TheVariants.{File, Unite}
+use Rattle.sources.specs.declared.slurms.AppliedSlurms.{AppliedSlurms}
 
 -- One file more is read.
 pub next_read : (bs : List (List ℕ)) (ss : List Scoped) (b : List ℕ) (s : Scoped) → AllRead bs ss → ReadsScoped b (Ok s) → AllRead (bs ++ b ∷ []) (ss ++ s ∷ [])
@@ -55,7 +56,7 @@ found bytes [] i f h is = absurd (omega (arith, h))
 found bytes (g ∷ fs) zero f h is = ap (λ x. Some (bytes x)) (sym is)
 found bytes (g ∷ fs) (suc i) f h is = found bytes fs i f (omega (arith, h)) is
 
-why : (bytes : List ℕ) (fault : SlurmFault) → UnlessMemory (ReadsSlurm bytes) (Err fault) → fault ≡ Memory ⊎ ReadsSlurm bytes (Err fault)
+pub why : (bytes : List ℕ) (fault : SlurmFault) → UnlessMemory (ReadsSlurm bytes) (Err fault) → fault ≡ Memory ⊎ ReadsSlurm bytes (Err fault)
 why bytes fault (inl h) = inr h
 why bytes fault (inr h) = inl (same h)
   where
@@ -74,14 +75,24 @@ first_fault bytes fs i f ss fault h is so_far one =
       reason = why (bytes f) fault (fault_without (bytes f) fault one);
     }
 
--- All of them, united
-pub united_files : {F : Type 0} (bytes : F → List ℕ) (fs : List F) (ss : List Scoped) (e : Slurm) → ¬ (length fs ≡ 0) → AllRead (map bytes fs) ss → Unites ss (Ok (exceptions_of e)) → AreUnited (map bytes fs) (Some e)
-united_files bytes [] ss e some read unites = absurd (some refl)
-united_files bytes (f ∷ fs) ss e some read unites = (e, ss, read, unites, refl)
+-- What is counted of each of them
+pub counted_each : {G : Type 0} (scope : G → Scoped) (read : List G) (counts : List Ignored) → counts ≡ map (λ g. ignored_of (scope g)) read → counts ≡ map ignored_of (map scope read)
+counted_each scope read counts is = is ∙ both read
+  where
+    both : (gs : List _) → map (λ g. ignored_of (scope g)) gs ≡ map ignored_of (map scope gs)
+    both [] = refl
+    both (g ∷ gs) = ap (λ ns. ignored_of (scope g) ∷ ns) (both gs)
 
--- All of them, which are not used together
-pub not_united : (bs : List (List ℕ)) (ss : List Scoped) (r : Result (Option Slurm) SlurmSetFault) (x : SlurmSetFault) (f : UniteFault) → r ≡ Err x → x ≡ Unite f → AllRead bs ss → Unites ss (Err f) → IfErr r (AreRefused bs)
-not_united bs ss r x f is same read unites = subst (λ q. IfErr q (AreRefused bs)) (sym (is ∙ ap Err same)) (inr (ss, read, unites))
+-- All of them, united
+pub united_files : {F : Type 0} (bytes : F → List ℕ) (fs : List F) (ss : List Scoped) (e : AppliedSlurms) → ¬ (length fs ≡ 0) → AllRead (map bytes fs) ss → AreApplied ss e → AreUnited (map bytes fs) (Some e)
+united_files bytes [] ss e some read applied = absurd (some refl)
+united_files bytes (f ∷ fs) ss e some read applied = (e, ss, read, applied, refl)
+
+-- All of them, which are not used together, or memory runs out
+pub not_united : (bs : List (List ℕ)) (ss : List Scoped) (r : Result (Option AppliedSlurms) SlurmSetFault) (x : SlurmSetFault) (f : UniteFault) → r ≡ Err x → x ≡ Unite f → AllRead bs ss
+    → (f ≡ unite.Memory) ⊎ Unites ss (Err f) → IfErr r (AreRefused bs)
+not_united bs ss r x f is same read (inl memory) = subst (λ q. IfErr q (AreRefused bs)) (sym (is ∙ ap Err same)) (inl memory)
+not_united bs ss r x f is same read (inr unites) = subst (λ q. IfErr q (AreRefused bs)) (sym (is ∙ ap Err same)) (inr (ss, read, unites))
 
 -- ---- one file
 
@@ -106,28 +117,25 @@ and_empty t = same_set _ _ (λ v. has-union t empty v ∙ ap (λ b. has t v || b
 alone : (s : Scoped) → united (s ∷ []) ≡ s.exceptions
 alone s = λ i. record { filters = append-nil s.exceptions.filters i; assertions = and_empty s.exceptions.assertions i }
 
-lifted : (bytes : List ℕ) (e : Exceptions) → ReadsSlurm bytes (Ok e) → (s : Scoped) × ReadsScoped bytes (Ok s) × (s.exceptions ≡ e)
-lifted bytes e h = let k = lift_scope bytes (Ok e) h in by_result k.0 k.1 k.2
-  where
-    by_result : (r : Result Scoped SlurmFault) → ReadsScoped bytes r → seen (λ s. s.exceptions) r ≡ Ok e → (s : Scoped) × ReadsScoped bytes (Ok s) × (s.exceptions ≡ e)
-    by_result (Ok s) reads is = (s, reads, ok_is {E = SlurmFault} s.exceptions e is)
-    by_result (Err f) reads is = absurd (cc)
-
 few_enough : (bytes : List ℕ) (e : Exceptions) → ReadsSlurm bytes (Ok e) → size e.assertions ≤ 16777215
 few_enough bytes e h =
     let is = ((reads_exactly bytes e).0 h).is_file in subst (λ t. size t ≤ 16777215) (sym is.set_is) is.within_limit
 
-module _ (bytes : List ℕ) (old new : Option Slurm) where
+-- What is applied of one file
+pub one_applied : (bytes : List ℕ) (s : Scoped) (e : AppliedSlurms) → ReadsScoped bytes (Ok s) → exceptions_of e.slurm ≡ s.exceptions → e.ignored.items ≡ ignored_of s ∷ [] → AreApplied (s ∷ []) e
+one_applied bytes s e reads is counts = record {
+  united = (one_is_apart s, subst (λ x. size x.assertions ≤ 16777215) (sym is) (few_enough bytes s.exceptions (drop_scope bytes (Ok s) reads)), is ∙ sym (alone s));
+  counted = counts;
+}
+
+module _ (bytes : List ℕ) (old new : Option AppliedSlurms) where
   taken_alone : TakesSlurms (bytes ∷ []) (Ok tt) old new → TakesSlurm bytes (Ok tt) old new
   taken_alone h =
       let one = one_scope bytes h.1 h.2 in
-      let is : exceptions_of h.0 ≡ one.0.exceptions = h.3.2 ∙ ap united one.2 ∙ alone one.0 in
-      (h.0, subst (λ e. ReadsSlurm bytes (Ok e)) (sym is) (drop_scope bytes (Ok one.0) one.1), h.4)
+      (h.0, one.0, one.1, subst (λ ss. AreApplied ss h.0) one.2 h.3, h.4)
 
   alone_taken : TakesSlurm bytes (Ok tt) old new → TakesSlurms (bytes ∷ []) (Ok tt) old new
-  alone_taken h =
-      let one = lifted bytes (exceptions_of h.0) h.1 in
-      (h.0, one.0 ∷ [], (one.1, tt), (one_is_apart one.0, few_enough bytes (exceptions_of h.0) h.1, sym (alone one.0 ∙ one.2)), h.2)
+  alone_taken h = (h.0, h.1 ∷ [], (h.2, tt), h.3, h.4)
 
   refused_alone : (fault : SlurmFault) → TakesSlurms (bytes ∷ []) (Err (File 0 fault)) old new → TakesSlurm bytes (Err fault) old new
   refused_alone fault h = (subst (λ b. fault ≡ Memory ⊎ ReadsSlurm b (Err fault)) (some_is h.0.bytes bytes h.0.bytes_are) h.0.reason, h.1)

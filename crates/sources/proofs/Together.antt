@@ -13,14 +13,12 @@ use Rattle.vrps.proofs.Listed.{size_of_listing}
 use Rattle.vrps.proofs.SetLaws.{has-empty, has-listing, has-set_of, has-union, has-without, kept, same_set, same_vrp}
 use Rattle.prefixes.specs.Orders.{vrp_exact}
 use Rattle.vrps.proofs.Sizes.{size_le}
-use Rattle.slurm.specs.Chains.{UnlessMemory, seen}
 use Rattle.slurm.specs.Exceptions.{exceptions_of}
-use Rattle.slurm.specs.SlurmFile.{ReadsSlurm}
-use Rattle.slurm.specs.declared.filter.Slurm.{Slurm}
 use Rattle.slurm.proofs.ExceptionLaws.{is_excepted}
 use Rattle.sources.specs.Served.{Gives, HasServed, IsServed, LeavesOut, counting_at, excepted_by, has_length_0, is_asserted, is_left_out, is_listed, left_out_of, narrowed, with_lists}
 use Rattle.sources.specs.declared.listed.Listed.{Listed}
 use Rattle.sources.specs.declared.sources.ServedSet.{ServedSet}
+use Rattle.sources.specs.declared.slurms.AppliedSlurms.{AppliedSlurms}
 
 and_all : (b : Bool) → (b && not false) ≡ b
 and_all true = refl
@@ -117,9 +115,9 @@ not_excepted true = refl
 not_excepted false = refl
 
 -- the members of what local exceptions leave
-has-left : (e : Option Slurm) (s : VrpSet) (v : Payload) → has (excepted_by e s) v ≡ ((has s v && not (is_left_out e v)) || is_asserted e v)
+has-left : (e : Option AppliedSlurms) (s : VrpSet) (v : Payload) → has (excepted_by e s) v ≡ ((has s v && not (is_left_out e v)) || is_asserted e v)
 has-left None s v = not_excepted (has s v)
-has-left (Some e) s v = is_excepted (exceptions_of e) s v
+has-left (Some e) s v = is_excepted (exceptions_of e.slurm) s v
 
 -- A member of a set is one of those that are left out if it is of length 0 and such are left out.
 any_left_out : (leaves : Bool) (s : VrpSet) (v : Payload) → has (set_of (left_out_of leaves s)) v ≡ (leaves && (has s v && has_length_0 v))
@@ -166,7 +164,7 @@ narrowed_over s t over =
     first_of true w e = refl
     first_of false w e = absurd (let f : false ≡ true = e in cc)
 
-pub has_served : {points : Points} {lists : List Listed} {e : Option Slurm} {leaves : Bool} {now : CivilMoment} {t : VrpSet} → IsServed points lists e leaves now t → HasServed points lists e leaves now t
+pub has_served : {points : Points} {lists : List Listed} {e : Option AppliedSlurms} {leaves : Bool} {now : CivilMoment} {t : VrpSet} → IsServed points lists e leaves now t → HasServed points lists e leaves now t
 has_served {points} {lists} {e} {leaves} {now} {t} h = record {
   used = h.used;
   in_use = h.in_use;
@@ -177,7 +175,7 @@ has_served {points} {lists} {e} {leaves} {now} {t} h = record {
       has-left e (with_lists (seconds_of now) (set_of h.used) lists) v ∙ ap (λ b. (b && not (is_left_out e v)) || is_asserted e v) (has-lists (seconds_of now) (set_of h.used) lists v));
 }
 
-pub all_served : (points : Points) (lists : List Listed) (e : Option Slurm) (leaves : Bool) (now : CivilMoment) (r : Result ServedSet SetFault) → IfOk r (λ t. IsServed points lists e leaves now t.set) → IfOk r (λ t. HasServed points lists e leaves now t.set)
+pub all_served : (points : Points) (lists : List Listed) (e : Option AppliedSlurms) (leaves : Bool) (now : CivilMoment) (r : Result ServedSet SetFault) → IfOk r (λ t. IsServed points lists e leaves now t.set) → IfOk r (λ t. HasServed points lists e leaves now t.set)
 all_served points lists e leaves now (Ok t) h = has_served h
 all_served points lists e leaves now (Err f) h = tt
 
@@ -190,13 +188,13 @@ pub over_so : (t u : VrpSet) → t ≡ u → 16777215 < size t → 16777215 < si
 over_so t u e over = subst (λ s. 16777215 < size s) e over
 
 -- What is made of what was left of all, and how much is left out of it
-pub is_made : (points : Points) (lists : List Listed) (e : Option Slurm) (leaves : Bool) (now : CivilMoment) (used : List Payload) (left : VrpSet) (r : Result ServedSet SetFault) → Lists used points now
+pub is_made : (points : Points) (lists : List Listed) (e : Option AppliedSlurms) (leaves : Bool) (now : CivilMoment) (used : List Payload) (left : VrpSet) (r : Result ServedSet SetFault) → Lists used points now
     → left ≡ excepted_by e (with_lists (seconds_of now) (set_of used) lists) → IfOk r (λ t. (t.set ≡ narrowed leaves left) × (t.left_out ≡ length (left_out_of leaves left)))
     → IfOk r (λ t. IsServed points lists e leaves now t.set)
 is_made points lists e leaves now used left (Ok t) in_use is h = record { used = used; in_use = in_use; is = h.0 ∙ ap (narrowed leaves) is }
 is_made points lists e leaves now used left (Err f) in_use is h = tt
 
-pub is_counted : (points : Points) (lists : List Listed) (e : Option Slurm) (leaves : Bool) (now : CivilMoment) (used : List Payload) (left : VrpSet) (r : Result ServedSet SetFault) → Lists used points now
+pub is_counted : (points : Points) (lists : List Listed) (e : Option AppliedSlurms) (leaves : Bool) (now : CivilMoment) (used : List Payload) (left : VrpSet) (r : Result ServedSet SetFault) → Lists used points now
     → left ≡ excepted_by e (with_lists (seconds_of now) (set_of used) lists) → IfOk r (λ t. (t.set ≡ narrowed leaves left) × (t.left_out ≡ length (left_out_of leaves left)))
     → IfOk r (λ t. LeavesOut points lists e leaves now t.left_out)
 is_counted points lists e leaves now used left (Ok t) in_use is h = record { used = used; in_use = in_use; is = h.1 ∙ ap (λ s. length (left_out_of leaves s)) is }
@@ -212,8 +210,3 @@ is_given points lists now used given (Err f) in_use is h = tt
 pub same_joined : (r : Result VrpSet SetFault) (t u : VrpSet) → IfOk r (λ x. (x ≡ t) × (size x ≤ 16777215)) → t ≡ u → IfOk r (λ x. x ≡ u)
 same_joined (Ok x) t u h e = h.0 ∙ e
 same_joined (Err f) t u h e = tt
-
--- What is read of a file of local exceptions
-pub took : (bytes : List ℕ) (e : Slurm) → UnlessMemory (ReadsSlurm bytes) (seen exceptions_of (Ok e)) → ReadsSlurm bytes (Ok (exceptions_of e))
-took bytes e (inl h) = h
-took bytes e (inr never) = absurd (cc)

@@ -1,21 +1,25 @@
 -- What is served: what all sources have together, with local exceptions.
-use Rattle.std.specs.Prelude.{◌≡◌, ◌⊎◌, ◌<◌, ◌≤◌, ℕ, ◌+◌, ◌^◌, cond, nat_le, nat_lt, length, take, count_by, filter, slice_set, Bool, true, false, not, ◌&&◌, ◌||◌, ◌==◌, List, [], ◌∷◌, Option, Some, None, Result, Ok, Err, ⊤}
+use Rattle.std.specs.Prelude.{◌≡◌, ◌⊎◌, ◌<◌, ◌≤◌, ℕ, ◌+◌, ◌^◌, cond, nat_le, nat_lt, length, map, take, unwrap_or, count_by, filter, slice_set, Bool, true, false, not, ◌&&◌, ◌||◌, ◌==◌, List, [], ◌∷◌, Option, Some, None, Result, Ok, Err, ⊤}
 use Rattle.std.specs.List.{All, list_any, slice_get}
 use Rattle.der_lite.specs.Moments.{CivilMoment}
 use Rattle.der_lite.specs.Seconds.{seconds_of}
 use Rattle.prefixes.specs.Payload.{Payload, block_of}
 use Rattle.vrps.specs.VrpSet.{VrpSet, empty, has, listing, set_of, size, union, without}
 use Rattle.exports.specs.Export.{HasFault}
+use Rattle.exports.specs.Ignored.{IsExportCounted}
 use Rattle.exports.specs.Lasting.{IsExportLasting, counting}
+use Rattle.exports.specs.declared.export.ExportCounted.{ExportCounted}
 use Rattle.exports.specs.declared.export.ExportLasting.{ExportLasting}
+use Rattle.exports.specs.declared.ignored.Ignored.{Ignored}
 use Rattle.points.specs.InUse.{Points, Lists}
 use Rattle.slurm.specs.Exceptions.{excepted, exceptions_of, is_filtered}
+use Rattle.slurm.specs.Ignored.{ignored_of}
 use Rattle.slurm.specs.Scoped.{ReadsScoped, Scoped}
 use Rattle.slurm.specs.SlurmFile.{ReadsSlurm}
 use Rattle.slurm.specs.Uniting.{Unites}
 use Rattle.slurm.specs.declared.fault.SlurmFault.{SlurmFault}
 use Rattle.slurm.specs.declared.fault.SlurmFault.TheVariants.{Memory}
-use Rattle.slurm.specs.declared.filter.Slurm.{Slurm}
+use Rattle.slurm.specs.declared.scoped.Ignored.{Ignored as IgnoredExceptions}
 use Rattle.slurm.specs.declared.unite_fault.UniteFault.TheVariants as unite
 use Rattle.sources.specs.declared.fault.SlurmSetFault.{SlurmSetFault}
 use Rattle.sources.specs.declared.fault.SlurmSetFault.TheVariants.{File, Unite}
@@ -24,6 +28,7 @@ use Rattle.sources.specs.declared.fault.TakeFault.TheVariants.{NoSuchFile, Expor
 use Rattle.sources.specs.declared.fault.TakeSetFault.{TakeSetFault}
 use Rattle.sources.specs.declared.fault.TakeSetFault.TheVariants as set
 use Rattle.sources.specs.declared.listed.Listed.{Listed}
+use Rattle.sources.specs.declared.slurms.AppliedSlurms.{AppliedSlurms}
 use Rattle.sources.specs.declared.sources.Sources.{Sources}
 
 -- the set of a file's payloads that count at a moment, in seconds since 1970
@@ -36,9 +41,9 @@ with_lists at s [] = s
 with_lists at s (l ∷ ls) = with_lists at (union s (counting_at at l)) ls
 
 -- with local exceptions, if there are any
-abbrev pub excepted_by : Option Slurm → VrpSet → VrpSet
+abbrev pub excepted_by : Option AppliedSlurms → VrpSet → VrpSet
 excepted_by None s = s
-excepted_by (Some e) s = excepted (exceptions_of e) s
+excepted_by (Some e) s = excepted (exceptions_of e.slurm) s
 
 -- A payload of length 0, for 0.0.0.0/0 or ::/0, is about all addresses of its family.
 abbrev pub has_length_0 : Payload → Bool
@@ -55,14 +60,14 @@ narrowed leaves s = without s (set_of (left_out_of leaves s))
 
 -- The payloads that publication points have in use at a moment, and those of files that count then, with local exceptions, and without
 -- payloads of length 0 if these are left out
-pub record IsServed (points : Points) (lists : List Listed) (exceptions : Option Slurm) (leaves : Bool) (now : CivilMoment) (t : VrpSet) : Type 0 where
+pub record IsServed (points : Points) (lists : List Listed) (exceptions : Option AppliedSlurms) (leaves : Bool) (now : CivilMoment) (t : VrpSet) : Type 0 where
   pub used : List Payload
   pub in_use : Lists used points now
   pub is : t ≡ narrowed leaves (excepted_by exceptions (with_lists (seconds_of now) (set_of used) lists))
 
 -- The payloads that publication points have in use at a moment and those of files that count then are more than a set may have. Or the local
 -- exceptions make more than that of them.
-pub record PassesLimit (points : Points) (lists : List Listed) (exceptions : Option Slurm) (now : CivilMoment) : Type 0 where
+pub record PassesLimit (points : Points) (lists : List Listed) (exceptions : Option AppliedSlurms) (now : CivilMoment) : Type 0 where
   pub used : List Payload
   pub in_use : Lists used points now
   pub passes : (16777215 < size (with_lists (seconds_of now) (set_of used) lists)) ⊎ (16777215 < size (excepted_by exceptions (with_lists (seconds_of now) (set_of used) lists)))
@@ -72,17 +77,17 @@ abbrev pub is_listed : ℕ → List Listed → Payload → Bool
 is_listed at ls v = list_any (λ l. has (counting_at at l) v) ls
 
 -- local exceptions leave the payload out
-abbrev pub is_left_out : Option Slurm → Payload → Bool
+abbrev pub is_left_out : Option AppliedSlurms → Payload → Bool
 is_left_out None v = false
-is_left_out (Some e) v = is_filtered e.filters.items v
+is_left_out (Some e) v = is_filtered e.slurm.filters.items v
 
 -- local exceptions say the payload
-abbrev pub is_asserted : Option Slurm → Payload → Bool
+abbrev pub is_asserted : Option AppliedSlurms → Payload → Bool
 is_asserted None v = false
-is_asserted (Some e) v = has e.assertions v
+is_asserted (Some e) v = has e.slurm.assertions v
 
 -- This number of payloads is left out.
-pub record LeavesOut (points : Points) (lists : List Listed) (exceptions : Option Slurm) (leaves : Bool) (now : CivilMoment) (n : ℕ) : Type 0 where
+pub record LeavesOut (points : Points) (lists : List Listed) (exceptions : Option AppliedSlurms) (leaves : Bool) (now : CivilMoment) (n : ℕ) : Type 0 where
   pub used : List Payload
   pub in_use : Lists used points now
   pub is : n ≡ length (left_out_of leaves (excepted_by exceptions (with_lists (seconds_of now) (set_of used) lists)))
@@ -94,11 +99,11 @@ pub record Gives (points : Points) (lists : List Listed) (now : CivilMoment) (n 
   pub is : n ≡ size (with_lists (seconds_of now) (set_of used) lists)
 
 -- A payload is in use at a publication point or counts in a file, and local exceptions do not leave it out; or they say it.
-abbrev pub is_wanted : ℕ → List Payload → List Listed → Option Slurm → Payload → Bool
+abbrev pub is_wanted : ℕ → List Payload → List Listed → Option AppliedSlurms → Payload → Bool
 is_wanted at used lists exceptions v = ((has (set_of used) v || is_listed at lists v) && not (is_left_out exceptions v)) || is_asserted exceptions v
 
 -- Exactly such payloads are served, but for those of length 0 if these are left out.
-pub record HasServed (points : Points) (lists : List Listed) (exceptions : Option Slurm) (leaves : Bool) (now : CivilMoment) (t : VrpSet) : Type 0 where
+pub record HasServed (points : Points) (lists : List Listed) (exceptions : Option AppliedSlurms) (leaves : Bool) (now : CivilMoment) (t : VrpSet) : Type 0 where
   pub used : List Payload
   pub in_use : Lists used points now
   pub those : (v : Payload) → has t v ≡ (is_wanted (seconds_of now) used lists exceptions v && not (leaves && has_length_0 v))
@@ -107,7 +112,7 @@ pub record HasServed (points : Points) (lists : List Listed) (exceptions : Optio
 abbrev pub is_any_before : ℕ → List ℕ → Bool
 is_any_before at lasts = list_any (λ last. nat_lt last at) lasts
 
--- What is kept of a file is the set of its export at the moment, with the last second of each payload.
+-- What is kept of a file is the set of its export at the moment, with the last second of each payload, and how much of its value is not served.
 pub record IsTaken (bytes : List ℕ) (now : ℕ) (expired : ℕ) (l : Listed) : Type 0 where
   pub read : ExportLasting
   pub is : IsExportLasting bytes now read
@@ -115,6 +120,9 @@ pub record IsTaken (bytes : List ℕ) (now : ℕ) (expired : ℕ) (l : Listed) :
   pub lasts_are : l.lasts.items ≡ read.lasts.items
   pub built_is : l.built ≡ read.export.built
   pub expired_is : expired ≡ read.export.expired
+  pub counted : ExportCounted
+  pub is_counted : IsExportCounted bytes now counted
+  pub ignored_is : l.ignored ≡ counted.ignored
 
 -- Why an export is refused: there is no such file, or its bytes have a fault.
 abbrev pub IsRefused : List ℕ → ℕ → ℕ → List Listed → TakeFault → Type 0
@@ -126,9 +134,14 @@ abbrev pub TakesExport : List ℕ → ℕ → ℕ → Result ℕ TakeFault → L
 TakesExport bytes now i (Ok expired) old new = (i < length old) × ((l : Listed) × IsTaken bytes now expired l × (new ≡ slice_set old i l))
 TakesExport bytes now i (Err fault) old new = IsRefused bytes now i old fault × (new ≡ old)
 
+-- Of files of these scopes, these exceptions are applied, and the entries on BGPsec of each file are counted.
+pub record AreApplied (ss : List Scoped) (e : AppliedSlurms) : Type 0 where
+  pub united : Unites ss (Ok (exceptions_of e.slurm))
+  pub counted : e.ignored.items ≡ map ignored_of ss
+
 -- Local exceptions are replaced as a whole, or nothing changes.
-abbrev pub TakesSlurm : List ℕ → Result (Unit {0}) SlurmFault → Option Slurm → Option Slurm → Type 0
-TakesSlurm bytes (Ok u) old new = (e : Slurm) × ReadsSlurm bytes (Ok (exceptions_of e)) × (new ≡ Some e)
+abbrev pub TakesSlurm : List ℕ → Result (Unit {0}) SlurmFault → Option AppliedSlurms → Option AppliedSlurms → Type 0
+TakesSlurm bytes (Ok u) old new = (e : AppliedSlurms) × (s : Scoped) × ReadsScoped bytes (Ok s) × AreApplied (s ∷ []) e × (new ≡ Some e)
 TakesSlurm bytes (Err fault) old new = (fault ≡ Memory ⊎ ReadsSlurm bytes (Err fault)) × (new ≡ old)
 
 -- Each of these files is read, and has this scope.
@@ -147,9 +160,9 @@ pub record FirstFault (files : List (List ℕ)) (index : ℕ) (fault : SlurmFaul
   pub reason : fault ≡ Memory ⊎ ReadsSlurm bytes (Err fault)
 
 -- The files are all read, and what they are as one becomes the exceptions. Without a file there are none.
-abbrev pub AreUnited : List (List ℕ) → Option Slurm → Type 0
+abbrev pub AreUnited : List (List ℕ) → Option AppliedSlurms → Type 0
 AreUnited [] new = new ≡ None
-AreUnited (b ∷ bs) new = (e : Slurm) × (ss : List Scoped) × AllRead (b ∷ bs) ss × Unites ss (Ok (exceptions_of e)) × (new ≡ Some e)
+AreUnited (b ∷ bs) new = (e : AppliedSlurms) × (ss : List Scoped) × AllRead (b ∷ bs) ss × AreApplied ss e × (new ≡ Some e)
 
 -- Why the files are refused: one of them cannot be read, or they are all read and cannot be united, or memory ran out.
 abbrev pub AreRefused : List (List ℕ) → SlurmSetFault → Type 0
@@ -157,15 +170,20 @@ AreRefused files (File index fault) = FirstFault files index fault
 AreRefused files (Unite fault) = (fault ≡ unite.Memory) ⊎ ((ss : List Scoped) × AllRead files ss × Unites ss (Err fault))
 
 -- Local exceptions of several files are replaced as a whole, or nothing changes (RFC 8416 section 4.2).
-abbrev pub TakesSlurms : List (List ℕ) → Result (Unit {0}) SlurmSetFault → Option Slurm → Option Slurm → Type 0
+abbrev pub TakesSlurms : List (List ℕ) → Result (Unit {0}) SlurmSetFault → Option AppliedSlurms → Option AppliedSlurms → Type 0
 TakesSlurms files (Ok u) old new = AreUnited files new
 TakesSlurms files (Err fault) old new = AreRefused files fault × (new ≡ old)
+
+-- Nothing of a file is left out.
+abbrev pub none_ignored : Ignored
+none_ignored = record { aspas = 0; router_keys = 0 }
 
 -- No export of a file was read yet ..
 pub record IsNothing (l : Listed) : Type 0 where
   pub set : l.set ≡ empty
   pub lasts : l.lasts.items ≡ []
   pub built : l.built ≡ None
+  pub ignored : l.ignored ≡ none_ignored
 
 -- .. nor of any of these files.
 abbrev pub NoneTaken : ℕ → List Listed → Type 0
@@ -191,6 +209,16 @@ abbrev pub built_at : Option Listed → Option ℕ
 built_at None = None
 built_at (Some l) = l.built
 
+-- how many elements of the export of a file are not served
+abbrev pub ignored_at : Option Listed → Ignored
+ignored_at None = none_ignored
+ignored_at (Some l) = l.ignored
+
+-- how many entries of a file of local exceptions are not applied
+abbrev pub ignored_exceptions : Option AppliedSlurms → ℕ → IgnoredExceptions
+ignored_exceptions None i = record { bgpsec_filters = 0; bgpsec_assertions = 0 }
+ignored_exceptions (Some e) i = unwrap_or (slice_get e.ignored.items i) (record { bgpsec_filters = 0; bgpsec_assertions = 0 })
+
 -- A second is before the end. Without an end each second is.
 abbrev pub is_before_end : Option ℕ → ℕ → Bool
 is_before_end None at = true
@@ -202,6 +230,7 @@ pub record CountsUntil (set : VrpSet) (end : Option ℕ) (l : Listed) : Type 0 w
   pub counts : (at : ℕ) → at < 2 ^ 64 → counting_at at l ≡ cond (is_before_end end at) set empty
   pub expired : (at : ℕ) → at < 2 ^ 64 → size (counting_at at l) + expired_of at (Some l) ≡ size (counting_at 0 l)
   pub built_is : l.built ≡ None
+  pub ignored_is : l.ignored ≡ none_ignored
 
 -- A list is replaced by a set as a whole, or nothing changes.
 abbrev pub TakesSet : VrpSet → Option ℕ → ℕ → Result (Unit {0}) TakeSetFault → List Listed → List Listed → Type 0

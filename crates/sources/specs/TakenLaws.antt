@@ -4,12 +4,12 @@ use Rattle.vrps.specs.VrpSet.{empty, size}
 use Rattle.exports.specs.Export.{IsExport}
 use Rattle.exports.specs.declared.export.Export.{Export}
 use Rattle.slurm.specs.declared.fault.SlurmFault.{SlurmFault}
-use Rattle.slurm.specs.declared.filter.Slurm.{Slurm}
 use Rattle.slurm.specs.declared.unite_fault.UniteFault.{UniteFault}
 use Rattle.slurm.specs.declared.unite_fault.UniteFault.TheVariants as unite
 use Rattle.sources.specs.Served.{IsNothing, IsTaken, TakesSlurm, TakesSlurms, counting_at, ends_between, expired_of}
 use Rattle.sources.specs.declared.fault.SlurmSetFault.TheVariants.{File, Unite}
 use Rattle.sources.specs.declared.listed.Listed.{Listed}
+use Rattle.sources.specs.declared.slurms.AppliedSlurms.{AppliedSlurms}
 
 -- The records of a file that count at a later second are exactly the set that its bytes export then.
 abbrev pub StaysTaken : Type 0
@@ -34,7 +34,7 @@ NothingEnds = (from to at : ℕ) (l : Option Listed) → ends_between from to l 
 -- One file is read alike by `TakesSlurm`, and by `TakesSlurms` as the only one.
 abbrev pub OneSlurm : Type 0
 OneSlurm =
-    (bytes : List ℕ) (old new : Option Slurm)
+    (bytes : List ℕ) (old new : Option AppliedSlurms)
     → (TakesSlurms (bytes ∷ []) (Ok tt) old new ↔ TakesSlurm bytes (Ok tt) old new)
     × ((fault : SlurmFault) → TakesSlurms (bytes ∷ []) (Err (File 0 fault)) old new ↔ TakesSlurm bytes (Err fault) old new)
     × ((fault : UniteFault) → TakesSlurms (bytes ∷ []) (Err (Unite fault)) old new → fault ≡ unite.Memory)

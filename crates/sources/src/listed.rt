@@ -2,8 +2,9 @@
 ghost use Rattle.std.specs.Prelude.{◌≡◌, ◌<◌, ◌++◌, ◌∷◌, [], cond, nat_le, IfOk, IsErrOf, None, OnOk, Some, replicate};
 ghost use Rattle.vrps.specs.VrpSet.{size};
 ghost use Rattle.exports.specs.Lasting.{counting, last_at};
-ghost use Rattle.sources.specs.Served.{CountsUntil, IsNothing, counting_at, ends_between, expired_of, is_any_before};
+ghost use Rattle.sources.specs.Served.{CountsUntil, IsNothing, counting_at, ends_between, expired_of, is_any_before, none_ignored};
 
+use exports::Ignored;
 use prefixes::Vrp;
 use std::alloc::{AllocError, Global};
 use vrps::{SetFault, VrpSet};
@@ -18,7 +19,15 @@ pub struct Listed {
     pub lasts: Vec<u64>,
     /// When the export was made, if it says so.
     pub built: Option<u64>,
+    /// How many elements of the export are not served.
+    pub ignored: Ignored,
 }
+
+/// Nothing is left out.
+const NONE_IGNORED: Ignored = Ignored {
+    aspas: 0,
+    router_keys: 0,
+};
 
 impl Listed {
     /// No record yet. It allocates nothing.
@@ -29,6 +38,7 @@ impl Listed {
             set: VrpSet::empty(alloc),
             lasts: Vec::new(alloc),
             built: None,
+            ignored: NONE_IGNORED,
         }
     }
 
@@ -51,7 +61,7 @@ impl Listed {
 
     /// A set whose records all have the same last second.
     fn to_one_second(alloc: Global, set: &VrpSet, last: u64) -> Result<Listed, AllocError>
-        ensures set { IfOk result (λ l. (l.set ≡ set.now) × (l.built ≡ None)) }
+        ensures set { IfOk result (λ l. (l.set ≡ set.now) × (l.built ≡ None) × (l.ignored ≡ none_ignored)) }
         ensures lasts { IfOk result (λ l. l.lasts.items ≡ replicate (size set.now) last) }
     {
         let lasts = vec![in alloc; last; set.len()]?;
@@ -59,6 +69,7 @@ impl Listed {
             set: set.duplicate()?,
             lasts,
             built: None,
+            ignored: NONE_IGNORED,
         })
     }
 

@@ -5,16 +5,16 @@ ghost use Rattle.points.specs.Answers.{told_by, NewExactly, BecomesAt};
 ghost use Rattle.points.specs.InUse.{accepted_at, no_points};
 ghost use Rattle.points.specs.Offers.{Acceptable, Judged};
 ghost use Rattle.sources.specs.Served.{DropsSet, Gives, HasServed, IsServed, LeavesOut, NoneTaken, PassesLimit, TakesExport, TakesSet, TakesSlurm, TakesSlurms};
-ghost use Rattle.sources.specs.Served.{built_at, ends_between, excepted_by, expired_of, has_length_0, left_out_of, narrowed, records_of, with_lists};
+ghost use Rattle.sources.specs.Served.{built_at, ends_between, excepted_by, expired_of, has_length_0, ignored_at, ignored_exceptions, left_out_of, narrowed, records_of, with_lists};
 
 use crate::fault::{SlurmSetFault, TakeFault, TakeSetFault};
 use crate::listed::Listed;
-use crate::slurms::read_united;
+use crate::slurms::{AppliedSlurms, NO_EXCEPTIONS, read_applied, read_united};
 use der_lite::Moment;
-use exports::{Export, ExportLasting, read_export_lasting};
+use exports::{Export, ExportCounted, ExportLasting, Ignored, read_export_counted};
 use points::{FileIn, Offered, PointFault, Repository};
 use prefixes::Vrp;
-use slurm::{Slurm, SlurmFault, apply, read_slurm};
+use slurm::{Ignored as IgnoredExceptions, SlurmFault, apply};
 use std::alloc::{AllocError, Global};
 use vrps::{Change, SetFault, VrpSet};
 
@@ -23,7 +23,7 @@ use vrps::{Change, SetFault, VrpSet};
 pub struct Sources {
     alloc: Global,
     lists: Vec<Listed>,
-    exceptions: Option<Slurm>,
+    exceptions: Option<AppliedSlurms>,
     repository: Repository,
     /// Whether payloads of length 0 are left out.
     leaves_out: bool,
@@ -113,6 +113,19 @@ impl Sources {
         }
     }
 
+    /// How many elements of the export of a file are not served, as it was read last: ASPAs and router keys. None of a set of another cache.
+    pub fn ignored(&self, file: usize) -> Ignored
+        ensures { result ≡ ignored_at (slice_get self.now.lists.items file) }
+    {
+        match self.lists.get(file) {
+            Some(list) => list.ignored,
+            None => Ignored {
+                aspas: 0,
+                router_keys: 0,
+            },
+        }
+    }
+
     /// Replaces the export of a file, counted from 0, by what these bytes are at a moment, in seconds since 1970. It returns how many of their
     /// entries had expired. If there is no such file, or the bytes are no export, nothing changes.
     pub fn take_export(&mut self, file: usize, bytes: &[u8], now: u64) -> Result<u64, TakeFault>
@@ -122,7 +135,7 @@ impl Sources {
         if file >= self.lists.len() {
             return Err(TakeFault::NoSuchFile);
         }
-        let read = read_export_lasting(self.alloc, bytes, now)?;
+        let read = read_export_counted(self.alloc, bytes, now)?;
         let (list, expired) = listed_of(read);
         self.lists[file] = list;
         Ok(expired)
@@ -166,8 +179,8 @@ impl Sources {
         ensures exceptions { TakesSlurm bytes.now result self.old.exceptions self.new.exceptions }
         ensures rest { (self.new.lists ≡ self.old.lists) × (self.new.repository ≡ self.old.repository) × (self.new.leaves_out ≡ self.old.leaves_out) }
     {
-        let slurm = read_slurm(self.alloc, bytes)?;
-        self.exceptions = Some(slurm);
+        let slurms = read_applied(self.alloc, bytes)?;
+        self.exceptions = Some(slurms);
         Ok(())
     }
 
@@ -181,6 +194,16 @@ impl Sources {
         let exceptions = read_united(self.alloc, files)?;
         self.exceptions = exceptions;
         Ok(())
+    }
+
+    /// How many entries of a file of local exceptions are not applied, counted from 0 in the order of the files: those on BGPsec.
+    pub fn ignored_exceptions(&self, file: usize) -> IgnoredExceptions
+        ensures { result ≡ ignored_exceptions self.now.exceptions file }
+    {
+        match &self.exceptions {
+            Some(slurms) => slurms.ignored_of(file),
+            None => NO_EXCEPTIONS,
+        }
     }
 
     /// Offers to the publication point of a name, as [`Repository::offer`] does.
@@ -228,13 +251,17 @@ fn all_of(alloc: Global, used: VrpSet, lists: &[Listed], now: u64) -> Result<Vrp
 }
 
 /// A set with local exceptions, if there are any.
-fn excepted(alloc: Global, exceptions: &Option<Slurm>, all: VrpSet) -> Result<VrpSet, SetFault>
+fn excepted(
+    alloc: Global,
+    exceptions: &Option<AppliedSlurms>,
+    all: VrpSet,
+) -> Result<VrpSet, SetFault>
     ensures ok { IfOk result (λ t. t ≡ excepted_by exceptions.now all) }
     ensures too_many { IsErrOf result SetFault.TooMany → 16777215 < size (excepted_by exceptions.now all) }
 {
     match exceptions {
         None => Ok(all),
-        Some(slurm) => apply(slurm, alloc, &all),
+        Some(slurms) => apply(&slurms.slurm, alloc, &all),
     }
 }
 
@@ -287,21 +314,29 @@ fn narrowed(alloc: Global, leaves: bool, given: u64, set: VrpSet) -> Result<Serv
 }
 
 /// What is kept of an export, and how many of its entries did not count.
-fn listed_of(read: ExportLasting) -> (Listed, u64)
-    ensures list { (result.0.set ≡ read.export.set) × (result.0.lasts ≡ read.lasts) × (result.0.built ≡ read.export.built) }
-    ensures expired { result.1 ≡ read.export.expired }
+fn listed_of(read: ExportCounted) -> (Listed, u64)
+    ensures list { (result.0.set ≡ read.lasting.export.set) × (result.0.lasts ≡ read.lasting.lasts) × (result.0.built ≡ read.lasting.export.built) }
+    ensures ignored { result.0.ignored ≡ read.ignored }
+    ensures expired { result.1 ≡ read.lasting.export.expired }
 {
+    let ExportCounted { lasting, ignored } = read;
     let ExportLasting {
         export,
         until: _,
         lasts,
-    } = read;
+    } = lasting;
     let Export {
         set,
         expired,
         built,
     } = export;
-    (Listed { set, lasts, built }, expired)
+    let list = Listed {
+        set,
+        lasts,
+        built,
+        ignored,
+    };
+    (list, expired)
 }
 
 /// A set, and the members of another.
