@@ -6,7 +6,7 @@ use Rattle.event_log.specs.declared.event.LogEvent.{LogEvent}
 use Rattle.event_log.specs.declared.event.LogEvent.TheVariants as event
 use Rattle.event_log.specs.declared.event.PeerReport.{PeerReport}
 use Rattle.event_log.specs.declared.event.Publication.{Publication}
-use Rattle.event_log.specs.ReportNames.{report_name}
+use Rattle.event_log.specs.ReportNames.{UNSUPPORTED, report_name}
 use Rattle.session_names.specs.declared.names.SessionIds.{SessionIds}
 use Rattle.event_log.specs.declared.entries.Value.{Value}
 use Rattle.event_log.specs.declared.entries.Value.TheVariants as value
@@ -71,6 +71,24 @@ report_entries r =
     at r.address ∷ of_text (codes "direction") (direction r.is_received) ∷ of_number (codes "code") r.code
     ∷ of_text (codes "name") (report_name r.code) ∷ of_text (codes "text") r.text.now ∷ []
 
+-- of the Error Report that refuses a protocol version,
+abbrev pub refused_version_entries : SocketAddr → ℕ → List Entry
+refused_version_entries address asked =
+    at address ∷ of_text (codes "direction") (direction false) ∷ of_number (codes "code") UNSUPPORTED
+    ∷ of_text (codes "name") (report_name UNSUPPORTED) ∷ of_number (codes "asked") asked ∷ []
+
+-- of a connection of the status pages that was closed as there are too many,
+abbrev pub status_full_entries : SocketAddr → ℕ → List Entry
+status_full_entries address clients = at address ∷ of_number (codes "clients") clients ∷ of_text (codes "listener") (codes "status") ∷ []
+
+-- of what is not served of a file,
+abbrev pub not_served_entries : List ℕ → ℕ → ℕ → List Entry
+not_served_entries file aspas router_keys = of_text (codes "file") file ∷ of_number (codes "aspas") aspas ∷ of_number (codes "router-keys") router_keys ∷ []
+
+abbrev pub slurm_not_served_entries : List ℕ → ℕ → ℕ → List Entry
+slurm_not_served_entries file filters assertions =
+    of_text (codes "file") file ∷ of_number (codes "bgpsec-filters") filters ∷ of_number (codes "bgpsec-assertions") assertions ∷ []
+
 -- of a published version,
 abbrev pub publication_entries : Publication → List Entry
 publication_entries p =
@@ -92,9 +110,11 @@ word_of event.Ready = codes "ready"
 word_of (event.ClientCame address) = codes "client-came"
 word_of (event.ClientGone closed) = codes "client-gone"
 word_of (event.ErrorReport report) = codes "error-report"
+word_of (event.VersionRefused address asked) = codes "error-report"
 word_of (event.Stalled address) = codes "stalled"
 word_of (event.Full address clients) = codes "full"
 word_of (event.AddressFull address clients) = codes "address-full"
+word_of (event.StatusFull address clients) = codes "full"
 word_of (event.Suppressed lines seconds) = codes "suppressed"
 word_of event.NoDescriptor = codes "no-descriptor"
 word_of (event.Published publication) = codes "published"
@@ -104,6 +124,8 @@ word_of (event.Taken file) = codes "taken"
 word_of (event.Old file age) = codes "old"
 word_of (event.Fresh file age) = codes "fresh"
 word_of (event.Expired file entries) = codes "expired"
+word_of (event.NotServed file aspas router_keys) = codes "not-served"
+word_of (event.SlurmNotServed file filters assertions) = codes "not-served"
 word_of (event.Unwell reason) = codes "unwell"
 word_of (event.FileUnwell reason file) = codes "unwell"
 word_of (event.Well reason) = codes "well"
@@ -143,6 +165,8 @@ file_entries (event.FileWell reason file) = of_text (codes "reason") reason.now 
 file_entries (event.Old file age) = of_text (codes "file") file.now ∷ of_number (codes "age") age ∷ []
 file_entries (event.Fresh file age) = of_text (codes "file") file.now ∷ of_number (codes "age") age ∷ []
 file_entries (event.Expired file entries) = of_text (codes "file") file.now ∷ of_number (codes "entries") entries ∷ []
+file_entries (event.NotServed file aspas router_keys) = not_served_entries file.now aspas router_keys
+file_entries (event.SlurmNotServed file filters assertions) = slurm_not_served_entries file.now filters assertions
 file_entries (event.Checked files ipv4 ipv6 left_out) = checked_entries files ipv4 ipv6 left_out
 file_entries e = daemon_entries e
 
@@ -151,8 +175,10 @@ abbrev pub entries_of : LogEvent → List Entry
 entries_of (event.ClientCame address) = at address ∷ []
 entries_of (event.ClientGone closed) = client_closed_entries closed
 entries_of (event.ErrorReport report) = report_entries report
+entries_of (event.VersionRefused address asked) = refused_version_entries address asked
 entries_of (event.Stalled address) = at address ∷ []
 entries_of (event.Full address clients) = at address ∷ of_number (codes "clients") clients ∷ []
 entries_of (event.AddressFull address clients) = at address ∷ of_number (codes "clients") clients ∷ []
+entries_of (event.StatusFull address clients) = status_full_entries address clients
 entries_of (event.Suppressed lines seconds) = of_number (codes "lines") lines ∷ of_number (codes "seconds") seconds ∷ []
 entries_of e = file_entries e

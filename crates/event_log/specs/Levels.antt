@@ -36,6 +36,7 @@ level_of (event.Limited clients) = level.Warning
 level_of (event.Stalled address) = level.Warning
 level_of (event.Full address clients) = level.Warning
 level_of (event.AddressFull address clients) = level.Warning
+level_of (event.StatusFull address clients) = level.Warning
 level_of (event.Suppressed lines seconds) = level.Warning
 level_of (event.ErrorReport report) = level.Warning
 level_of (event.Listening address) = level.Notice
@@ -46,19 +47,24 @@ level_of (event.Published publication) = level.Notice
 level_of (event.LeftOut records) = level.Notice
 level_of (event.Taken file) = level.Notice
 level_of (event.Fresh file age) = level.Notice
+level_of (event.NotServed file aspas router_keys) = level.Notice
+level_of (event.SlurmNotServed file filters assertions) = level.Notice
 level_of (event.Well reason) = level.Notice
 level_of (event.FileWell reason file) = level.Notice
 level_of (event.Checked files ipv4 ipv6 left_out) = level.Notice
 level_of (event.Stopped reason) = level.Notice
 level_of (event.ClientCame address) = level.Info
 level_of (event.ClientGone closed) = level.Info
+level_of (event.VersionRefused address asked) = level.Info
 
 -- The events about one client: any number of them can be caused by its peer.
 abbrev pub is_of_client : LogEvent → Bool
 is_of_client (event.ClientCame address) = true
 is_of_client (event.ClientGone closed) = true
 is_of_client (event.ErrorReport report) = true
+is_of_client (event.VersionRefused address asked) = true
 is_of_client (event.Stalled address) = true
 is_of_client (event.Full address clients) = true
 is_of_client (event.AddressFull address clients) = true
+is_of_client (event.StatusFull address clients) = true
 is_of_client _ = false

@@ -1,6 +1,10 @@
 -- The names of the codes of an Error Report, as in RFC 8210 section 12.
 use Rattle.std.specs.Prelude.{ℕ, ◌==◌, if◌then◌else◌, List, codes}
 
+-- the code by which a protocol version is refused (RFC 8210 sections 7 and 12)
+abbrev pub UNSUPPORTED : ℕ
+UNSUPPORTED = 4
+
 abbrev pub report_name : ℕ → List ℕ
 report_name code =
     if code == 0 then codes "Corrupt Data"

@@ -1,9 +1,10 @@
 //! The log entry of an event: a word, and values under keys.
 ghost use Rattle.std.specs.Prelude.{◌≡◌, codes, map};
-ghost use Rattle.event_log.specs.Entries.{at, checked_entries, client_closed_entries, direction, entry, session_entries, of_number, of_text, publication_entries, report_entries, spoken, log_pair, log_value, word_of};
+ghost use Rattle.event_log.specs.Entries.{at, checked_entries, client_closed_entries, direction, entry, session_entries, of_number, of_text, publication_entries};
+ghost use Rattle.event_log.specs.Entries.{report_entries, spoken, log_pair, log_value, not_served_entries, refused_version_entries, slurm_not_served_entries, status_full_entries, word_of};
 
 use crate::event::{ClientClosed, LogEvent, PeerReport, Publication};
-use crate::report::report_name;
+use crate::report::{UNSUPPORTED_VERSION, report_name};
 use session_names::SessionIds;
 use std::net::SocketAddr;
 
@@ -111,6 +112,52 @@ pub(crate) fn report_pairs<'a>(report: &PeerReport<'a>) -> [Pair<'a>; 5]
     ]
 }
 
+pub(crate) fn refused_version_pairs<'a>(at: &SocketAddr, asked: u8) -> [Pair<'a>; 5]
+    ensures { map log_pair result ≡ refused_version_entries at.now asked }
+{
+    [
+        address(at),
+        text("direction", direction(false)),
+        number("code", u64::from(UNSUPPORTED_VERSION)),
+        text("name", report_name(UNSUPPORTED_VERSION)),
+        number("asked", u64::from(asked)),
+    ]
+}
+
+pub(crate) fn status_full_pairs<'a>(at: &SocketAddr, clients: u64) -> [Pair<'a>; 3]
+    ensures { map log_pair result ≡ status_full_entries at.now clients }
+{
+    [
+        address(at),
+        number("clients", clients),
+        text("listener", "status"),
+    ]
+}
+
+pub(crate) fn not_served_pairs<'a>(file: &'a str, aspas: u64, router_keys: u64) -> [Pair<'a>; 3]
+    ensures { map log_pair result ≡ not_served_entries file.now aspas router_keys }
+{
+    [
+        text("file", file),
+        number("aspas", aspas),
+        number("router-keys", router_keys),
+    ]
+}
+
+pub(crate) fn slurm_not_served_pairs<'a>(
+    file: &'a str,
+    filters: u64,
+    assertions: u64,
+) -> [Pair<'a>; 3]
+    ensures { map log_pair result ≡ slurm_not_served_entries file.now filters assertions }
+{
+    [
+        text("file", file),
+        number("bgpsec-filters", filters),
+        number("bgpsec-assertions", assertions),
+    ]
+}
+
 pub(crate) fn publication_pairs<'a>(publication: &Publication) -> [Pair<'a>; 6]
     ensures { map log_pair result ≡ publication_entries publication.now }
 {
@@ -148,9 +195,11 @@ pub(crate) fn word_of(event: &LogEvent<'_>) -> &'static str
         LogEvent::ClientCame { .. } => "client-came",
         LogEvent::ClientGone(_) => "client-gone",
         LogEvent::ErrorReport(_) => "error-report",
+        LogEvent::VersionRefused { .. } => "error-report",
         LogEvent::Stalled { .. } => "stalled",
         LogEvent::Full { .. } => "full",
         LogEvent::AddressFull { .. } => "address-full",
+        LogEvent::StatusFull { .. } => "full",
         LogEvent::Suppressed { .. } => "suppressed",
         LogEvent::NoDescriptor => "no-descriptor",
         LogEvent::Published(_) => "published",
@@ -160,6 +209,7 @@ pub(crate) fn word_of(event: &LogEvent<'_>) -> &'static str
         LogEvent::Old { .. } => "old",
         LogEvent::Fresh { .. } => "fresh",
         LogEvent::Expired { .. } => "expired",
+        LogEvent::NotServed { .. } | LogEvent::SlurmNotServed { .. } => "not-served",
         LogEvent::Unwell { .. } | LogEvent::FileUnwell { .. } => "unwell",
         LogEvent::Well { .. } | LogEvent::FileWell { .. } => "well",
         LogEvent::Clock { .. } => "clock",

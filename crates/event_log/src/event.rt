@@ -80,6 +80,14 @@ pub enum LogEvent<'a> {
     ClientGone(ClientClosed<'a>),
     /// `error-report`: a client that was closed had sent or received an Error Report.
     ErrorReport(PeerReport<'a>),
+    /// `error-report`: a client was closed that asked in a protocol version that is not served. It was sent Error Report 4, Unsupported Protocol
+    /// Version, and may come again in a lower version (RFC 8210 section 7).
+    VersionRefused {
+        /// The client's address and port.
+        address: SocketAddr,
+        /// The version in which it asked.
+        asked: u8,
+    },
     /// `stalled`: a client was blocked on writing for too long, and is closed.
     Stalled {
         /// The client's address and port.
@@ -97,6 +105,13 @@ pub enum LogEvent<'a> {
         /// The address and the port of the client that was closed.
         address: SocketAddr,
         /// How many clients the address has.
+        clients: u64,
+    },
+    /// `full`: a connection of the status pages was closed at once, or for a newer one, as there are as many as there may be.
+    StatusFull {
+        /// The address and the port of the visitor whose connection was closed.
+        address: SocketAddr,
+        /// How many connections there are.
         clients: u64,
     },
     /// `suppressed`: lines about clients were left out, as too many came at once.
@@ -147,6 +162,24 @@ pub enum LogEvent<'a> {
         file: &'a str,
         /// How many. For a publication point, this is the number of objects that its manifest lists.
         entries: u64,
+    },
+    /// `not-served`: an export was loaded, and it has another number of elements that are not served than what was loaded of the file before.
+    NotServed {
+        /// The path of the file.
+        file: &'a str,
+        /// How many ASPAs it has.
+        aspas: u64,
+        /// How many router keys it has (RFC 8635).
+        router_keys: u64,
+    },
+    /// `not-served`: the same of a file of local exceptions, whose entries on BGPsec are not applied.
+    SlurmNotServed {
+        /// The path of the file.
+        file: &'a str,
+        /// How many filters on BGPsec it has (RFC 8416 section 3.3.2).
+        bgpsec_filters: u64,
+        /// How many assertions on BGPsec it has (section 3.4.2).
+        bgpsec_assertions: u64,
     },
     /// `unwell`: a reason has begun why the daemon is not well.
     Unwell {

@@ -80,6 +80,7 @@ impl LogEvent<'_> {
             | LogEvent::Stalled { .. }
             | LogEvent::Full { .. }
             | LogEvent::AddressFull { .. }
+            | LogEvent::StatusFull { .. }
             | LogEvent::Suppressed { .. }
             | LogEvent::ErrorReport(_) => LogLevel::Warning,
             LogEvent::Listening { .. }
@@ -90,11 +91,15 @@ impl LogEvent<'_> {
             | LogEvent::LeftOut { .. }
             | LogEvent::Taken { .. }
             | LogEvent::Fresh { .. }
+            | LogEvent::NotServed { .. }
+            | LogEvent::SlurmNotServed { .. }
             | LogEvent::Well { .. }
             | LogEvent::FileWell { .. }
             | LogEvent::Checked { .. }
             | LogEvent::Stopped { .. } => LogLevel::Notice,
-            LogEvent::ClientCame { .. } | LogEvent::ClientGone(_) => LogLevel::Info,
+            LogEvent::ClientCame { .. }
+            | LogEvent::ClientGone(_)
+            | LogEvent::VersionRefused { .. } => LogLevel::Info,
         }
     }
 
@@ -113,8 +118,10 @@ impl LogEvent<'_> {
             LogEvent::ClientCame { .. }
             | LogEvent::ClientGone(_)
             | LogEvent::ErrorReport(_)
+            | LogEvent::VersionRefused { .. }
             | LogEvent::Stalled { .. }
             | LogEvent::Full { .. }
+            | LogEvent::StatusFull { .. }
             | LogEvent::AddressFull { .. } => true,
             _ => false,
         }

@@ -5,13 +5,15 @@ ghost use Rattle.std.specs.Io.KnownBytes.{Appends};
 ghost use Rattle.std.specs.List.{flat_map, list_all};
 ghost use Rattle.std.specs.Str.{chars};
 ghost use Rattle.event_log.specs.Entries.{Text, daemon_entries, entries_of, file_entries, log_pair, log_value, word_of};
-ghost use Rattle.event_log.specs.Lines.{LogsEvent, end_text, entry_text, escaped, head_text, log_char, is_plain, is_plain_byte, json_entry, json_value, line_text, plain_entry, plain_head, plain_value, quoted};
+ghost use Rattle.event_log.specs.Lines.{LogsEvent, end_text, entry_text, escaped, head_text, log_char, is_plain, is_plain_byte};
+ghost use Rattle.event_log.specs.Lines.{json_entry, json_value, line_text, plain_entry, plain_head, plain_value, quoted};
 ghost use Rattle.event_log.specs.Levels.{level_of};
 
 use crate::clock::{civil_at, time_text};
 use crate::entries::{
-    Pair, Value, address, checked_pairs, client_closed_pairs, number, publication_pairs,
-    report_pairs, session_pairs, text, word_of,
+    Pair, Value, address, checked_pairs, client_closed_pairs, not_served_pairs, number,
+    publication_pairs, refused_version_pairs, report_pairs, session_pairs, slurm_not_served_pairs,
+    status_full_pairs, text, word_of,
 };
 use crate::event::LogEvent;
 use crate::level::LogLevel;
@@ -252,6 +254,13 @@ fn write_values<W: Write>(out: &mut W, form: LogFormat, event: &LogEvent<'_>) ->
         }
         LogEvent::ClientGone(closed) => write_pairs(out, form, &client_closed_pairs(closed)),
         LogEvent::ErrorReport(report) => write_pairs(out, form, &report_pairs(report)),
+        LogEvent::VersionRefused { address, asked } => {
+            write_pairs(out, form, &refused_version_pairs(address, *asked))
+        }
+        LogEvent::StatusFull {
+            address: at,
+            clients,
+        } => { write_pairs(out, form, &status_full_pairs(at, *clients)) }
         LogEvent::Full {
             address: at,
             clients,
@@ -287,6 +296,19 @@ fn write_file_values<W: Write>(out: &mut W, form: LogFormat, event: &LogEvent<'_
             file,
             entries: count,
         } => { write_pairs(out, form, &[text("file", file), number("entries", *count)]) }
+        LogEvent::NotServed {
+            file,
+            aspas,
+            router_keys,
+        } => { write_pairs(out, form, &not_served_pairs(file, *aspas, *router_keys)) }
+        LogEvent::SlurmNotServed {
+            file,
+            bgpsec_filters,
+            bgpsec_assertions,
+        } => {
+            let pairs = slurm_not_served_pairs(file, *bgpsec_filters, *bgpsec_assertions);
+            write_pairs(out, form, &pairs)
+        }
         LogEvent::Checked {
             files,
             ipv4,

@@ -2,6 +2,9 @@
 ghost use Rattle.std.specs.Prelude.{◌≡◌};
 ghost use Rattle.event_log.specs.ReportNames.{report_name};
 
+/// The code by which a protocol version is refused (RFC 8210 sections 7 and 12).
+pub(crate) const UNSUPPORTED_VERSION: u16 = 4;
+
 /// The name of an Error Report's code (RFC 8210 section 12), or `unknown`.
 pub fn report_name(code: u16) -> &'static str
     ensures { result.now ≡ report_name code }

@@ -1,6 +1,7 @@
 //! Lines that wait for room.
 ghost use Rattle.std.specs.Prelude.{◌≡◌, ◌+◌, ◌-◌, ◌<◌, ◌≤◌, ◌==◌, [], ◌++◌, length, take, drop, slice_get, IfOk};
-ghost use Rattle.log_output.specs.Buffers.{IsChunk, after_line, after_loss, after_report, after_written, and_lost, first_bytes, fits, is_accepted, is_newline, is_report_due, is_torn_after, kept_bytes, line_length, lines_behind, lines_in, lines_reported, no_lines, takes_report};
+ghost use Rattle.log_output.specs.Buffers.{IsChunk, after_line, after_loss, after_report, after_written, and_lost, first_bytes, fits, is_accepted, is_newline};
+ghost use Rattle.log_output.specs.Buffers.{is_report_due, is_torn_after, kept_bytes, line_length, lines_behind, lines_in, lines_reported, no_lines, takes_report};
 
 use crate::report::{
     WaitingReport, lines_reported, report_behind, report_within, reported_within, reports_behind,

@@ -3,7 +3,8 @@ ghost use Rattle.std.specs.Prelude.{◌≡◌, ◌+◌, ◌≤◌, ◌<◌, ◌=
 ghost use Rattle.event_log.specs.Levels.{level_of, severity};
 ghost use Rattle.log_output.specs.Buffers.{no_lines, saturated};
 ghost use Rattle.log_output.specs.Limits.{limited};
-ghost use Rattle.log_output.specs.Logs.{AddsEvent, AddsOwn, CountsLines, Grows, IsLine, IsWhole, OffersEvent, ReportsDrops, ReportsDue, ReportsSuppressed, StaysWhole, WritesCounted, is_empty, log_state, with_buffer};
+ghost use Rattle.log_output.specs.Logs.{AddsEvent, AddsOwn, CountsLines, Grows, IsLine, IsWhole, OffersEvent, ReportsDrops};
+ghost use Rattle.log_output.specs.Logs.{ReportsDue, ReportsSuppressed, StaysWhole, WritesCounted, is_empty, log_state, with_buffer};
 ghost use Rattle.log_output.specs.Sinks.{WritesOut};
 
 use crate::buffer::LogBuffer;
