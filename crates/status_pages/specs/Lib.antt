@@ -8,3 +8,4 @@ pub mod Export
 pub mod Reasons
 pub mod Health
 pub mod Made
+pub mod Ignored

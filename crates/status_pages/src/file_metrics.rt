@@ -1,5 +1,6 @@
 //! The metrics of files and publication points.
 
+use crate::ignored::write_ignored;
 use crate::metrics::{write_head, write_one, write_value};
 use crate::status::{FileStatus, Status};
 use crate::text::{write_label, write_texts};
@@ -105,7 +106,14 @@ pub(crate) fn write_files<W: Write>(out: &mut W, status: &Status) -> io::Result<
         "rpkirtrd_file_expired_entries",
         "Entries of a file that have expired.",
         FileMetric::Expired,
-    )
+    )?;
+    write_head(
+        out,
+        "rpkirtrd_file_ignored_entries",
+        "gauge",
+        "Entries of a file that are not served, by kind.",
+    )?;
+    write_ignored(out, status.files.as_slice())
 }
 
 /// How many VRPs the sources give, each and together.

@@ -1,7 +1,8 @@
 //! The health of a cache as a text.
 ghost use Rattle.std.specs.Prelude.{◌≡◌, OnOk};
 ghost use Rattle.std.specs.Io.KnownBytes.{Appends};
-ghost use Rattle.status_pages.specs.Health.{AppendsSome, AreSourceTexts, Both, IsAwayText, IsFailureText, IsHealthText, IsPeakText, IsRefusalText, IsRestText, IsSourceText, IsTableText, TellsAway, TellsPeak};
+ghost use Rattle.status_pages.specs.Health.{AppendsSome, AreSourceTexts, Both, IsAwayText, IsFailureText, IsHealthText, IsPeakText};
+ghost use Rattle.status_pages.specs.Health.{IsRefusalText, IsRestText, IsSourceText, IsTableText, TellsAway, TellsPeak};
 ghost use Rattle.status_pages.specs.Health.{age_text, away_line, expired_line, failure_line, limit_text, none_text, old_line, refused_line, shrunk_line, still_served, version_text};
 
 use crate::reasons::{Reason, has_all_expired, has_reason, is_healthy, served_vrps};

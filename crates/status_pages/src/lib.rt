@@ -21,9 +21,12 @@
 mod csv;
 mod export;
 mod file_metrics;
+mod form;
 mod health;
+mod ignored;
 pub mod laws;
 mod made;
+mod meant;
 mod metrics;
 mod page;
 mod page_figures;
@@ -35,6 +38,7 @@ mod picture;
 mod query;
 mod query_fault;
 mod reasons;
+mod report_metrics;
 mod router_metrics;
 mod status;
 mod text;
@@ -44,6 +48,7 @@ mod validity_text;
 
 pub use csv::write_csv;
 pub use export::write_export_head;
+pub use form::write_form_page;
 pub use health::write_health;
 pub use made::oldest_built;
 pub use metrics::write_metrics;
@@ -54,8 +59,9 @@ pub use reasons::{
     REASONS, Reason, has_reason, is_blamed, is_healthy, is_ready, is_well, served_vrps,
 };
 pub use status::{
-    ChangeStatus, ClientLimit, ClientStatus, ClientTraffic, FileStatus, LostLines, PdusByType,
-    PublicationFailure, Status, TotalTraffic, TurnedAway, VrpPeak,
+    ChangeStatus, ClientLimit, ClientStatus, ClientTraffic, ErrorReports, FileStatus,
+    IgnoredEntries, LostLines, PdusByType, PublicationFailure, ReportsByCode, Status, TotalTraffic,
+    TurnedAway, VrpPeak,
 };
 pub use validity::Validity;
 pub use validity_page::write_validity_page;

@@ -2,6 +2,7 @@
 
 use crate::file_metrics::{write_files, write_given};
 use crate::reasons::{REASONS, has_reason};
+use crate::report_metrics::write_reports;
 use crate::router_metrics::write_router_metrics;
 use crate::status::{PdusByType, Status, TotalTraffic};
 use crate::text::{write_decimal, write_label, write_texts};
@@ -365,5 +366,6 @@ pub fn write_metrics<W: Write>(out: &mut W, status: &Status) -> io::Result<()> {
     write_disconnected(out, status)?;
     write_router_metrics(out, status)?;
     write_traffic(out, status)?;
+    write_reports(out, &status.error_reports)?;
     write_log(out, status)
 }

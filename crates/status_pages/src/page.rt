@@ -9,7 +9,6 @@ use crate::picture::write_picture;
 use crate::reasons::is_well;
 use crate::status::Status;
 use crate::text::{write_html, write_span, write_texts, write_time};
-use crate::validity_page::write_form;
 use std::io::{self, Write};
 
 /// Writes the name of the program, and of its host if that is known.
@@ -81,7 +80,7 @@ fn write_part_end<W: Write>(out: &mut W) -> io::Result<()> {
 /// Writes the sections of the page.
 fn write_parts<W: Write>(out: &mut W, status: &Status) -> io::Result<()> {
     write_part(out, "Route")?;
-    write_form(out, None)?;
+    out.write_all(b"<p><a href=\"/validity\">Ask whether a route is valid</a></p>\n")?;
     write_part_end(out)?;
     write_part(out, "Files")?;
     write_files(out, status)?;

@@ -1,9 +1,10 @@
-//! The style of the pages: light and dark, narrow and wide. All texts have a contrast of at least 4.5 to 1 with their background.
+//! The style of the pages: light and dark, narrow and wide. All texts have a contrast of at least 4.5 to 1 with their background,
+//! placeholders too, and the borders of inputs one of at least 3 to 1.
 
 /// The style sheet of the pages.
 pub(crate) const STYLE: &str = "\
-:root{color-scheme:light dark;--back:#fff;--text:#1b1f24;--dim:#57606a;--line:#d0d7de;--soft:#f6f8fa;--warn:#9a3412;--warnsoft:#fff1e8;--ok:#116329;--oksoft:#e6f6ea;--plot:#0b5cad}
-@media (prefers-color-scheme:dark){:root{--back:#0f1318;--text:#e6e9ed;--dim:#a3adb8;--line:#30363d;--soft:#171c23;--warn:#ffb077;--warnsoft:#33200f;--ok:#7ee29a;--oksoft:#12301b;--plot:#6cb2ff}}
+:root{color-scheme:light dark;--back:#fff;--text:#1b1f24;--dim:#57606a;--line:#d0d7de;--edge:#7d8590;--soft:#f6f8fa;--warn:#9a3412;--warnsoft:#fff1e8;--ok:#116329;--oksoft:#e6f6ea;--plot:#0b5cad}
+@media (prefers-color-scheme:dark){:root{--back:#0f1318;--text:#e6e9ed;--dim:#a3adb8;--line:#30363d;--edge:#6e7681;--soft:#171c23;--warn:#ffb077;--warnsoft:#33200f;--ok:#7ee29a;--oksoft:#12301b;--plot:#6cb2ff}}
 *{box-sizing:border-box}
 body{margin:0;padding:1rem;background:var(--back);color:var(--text);font:14px/1.45 system-ui,sans-serif;font-variant-numeric:tabular-nums}
 header,main{max-width:80rem;margin:0 auto}
@@ -24,8 +25,10 @@ dl>div{background:var(--back);padding:.6rem .8rem}
 dt{color:var(--dim)}
 dd{margin:0;font-size:1.35rem;font-weight:600}
 dd small{display:block;font-size:.85rem;font-weight:400;color:var(--dim)}
-form{display:flex;flex-wrap:wrap;gap:.5rem}
-input,button{font:inherit;padding:.3rem .5rem;border:1px solid var(--line);border-radius:4px;background:var(--back);color:inherit;min-width:0}
+form{display:flex;flex-wrap:wrap;gap:.5rem .8rem}
+label{display:flex;gap:.4rem;align-items:center}
+input::placeholder{color:var(--dim);opacity:1}
+input,button{font:inherit;padding:.3rem .5rem;border:1px solid var(--edge);border-radius:4px;background:var(--back);color:inherit;min-width:0}
 .scroll{overflow:auto;max-height:32rem;border:1px solid var(--line);border-radius:6px}
 .pair .scroll{max-height:15.4rem}
 .scroll:focus-visible{outline:2px solid var(--plot)}

@@ -1,5 +1,6 @@
 //! The tables of the page.
 
+use crate::ignored::write_not_served;
 use crate::status::{ChangeStatus, FileStatus, Status};
 use crate::text::{write_decimal, write_grouped, write_html, write_since, write_texts, write_time};
 use std::io::{self, Write};
@@ -94,6 +95,7 @@ fn write_file<W: Write>(out: &mut W, now: u64, file: &FileStatus) -> io::Result<
     write_html(out, &file.path)?;
     out.write_all(b"</th><td class=\"long\">")?;
     write_how(out, file)?;
+    write_not_served(out, file)?;
     out.write_all(b"</td>")?;
     write_ago_cell(out, now, file.built)?;
     write_ago_cell(out, now, file.taken)?;

@@ -2,7 +2,7 @@
 ghost use Rattle.std.specs.Prelude.{◌≤◌};
 
 use crate::status::ChangeStatus;
-use crate::text::{write_clock_time, write_grouped, write_texts};
+use crate::text::{write_clock_time, write_grouped};
 use std::io::{self, Write};
 
 /// The width and the height of the chart, in its own units.
@@ -169,14 +169,7 @@ fn write_plot<W: Write>(
 fn write_words<W: Write>(out: &mut W, axis: Axis, range: Axis, versions: u64) -> io::Result<()> {
     out.write_all(b"The last ")?;
     write_grouped(out, versions)?;
-    write_texts(
-        out,
-        &[if versions == 1 {
-            " version: "
-        } else {
-            " versions: "
-        }],
-    )?;
+    out.write_all(b" versions: ")?;
     write_grouped(out, range.bottom)?;
     out.write_all(b" to ")?;
     write_grouped(out, range.top)?;
@@ -189,7 +182,14 @@ fn write_words<W: Write>(out: &mut W, axis: Axis, range: Axis, versions: u64) ->
     Ok(())
 }
 
-/// Writes the chart, its labels and its description.
+/// Writes how many records the only version has. It has no chart.
+fn write_only<W: Write>(out: &mut W, records: u64) -> io::Result<()> {
+    out.write_all(b"<p>One version was published: ")?;
+    write_grouped(out, records)?;
+    out.write_all(b" VRPs.</p>\n")
+}
+
+/// Writes the chart of two versions or more, its labels and its description.
 pub(crate) fn write_picture<W: Write>(
     out: &mut W,
     changes: &[ChangeStatus],
@@ -198,6 +198,9 @@ pub(crate) fn write_picture<W: Write>(
     let Some(first) = changes.first() else {
         return out.write_all(b"<p>No version has been published yet.</p>\n");
     };
+    if changes.len() == 1 {
+        return write_only(out, first.records);
+    }
     let range = range_of(changes);
     let axis = axis_of(range);
     out.write_all(b"<figure><div class=\"plot\">")?;

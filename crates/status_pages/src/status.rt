@@ -55,6 +55,8 @@ pub struct Status {
     pub received: TotalTraffic,
     /// The traffic to all clients since the start.
     pub sent: TotalTraffic,
+    /// The Error Reports of closed clients since the start.
+    pub error_reports: ErrorReports,
     /// How many times a file was loaded since the start.
     pub reloads_taken: u64,
     /// How many times a file was refused since the start.
@@ -150,6 +152,27 @@ pub struct FileStatus {
     pub expired: u64,
     /// How many VRPs it gives now, if that is known.
     pub vrps: Option<u64>,
+    /// How much of it is not served, if it was loaded. A publication point has none.
+    pub ignored: Option<IgnoredEntries>,
+}
+
+/// How many entries of a file are not served. Only payloads of ROAs are.
+#[derive(Clone, Copy, Debug, PartialEq, Eq)]
+pub enum IgnoredEntries {
+    /// Of an export.
+    Export {
+        /// ASPAs.
+        aspas: u64,
+        /// Router keys (RFC 8635).
+        router_keys: u64,
+    },
+    /// Of a file of local exceptions.
+    Slurm {
+        /// Filters on BGPsec (RFC 8416 section 3.3.2).
+        bgpsec_filters: u64,
+        /// Assertions on BGPsec (section 3.4.2).
+        bgpsec_assertions: u64,
+    },
 }
 
 /// A connected client.
@@ -167,6 +190,40 @@ pub struct ClientStatus {
     pub received: ClientTraffic,
     /// The traffic to it.
     pub sent: ClientTraffic,
+}
+
+/// The last Error Report of each closed client in each direction, by error code.
+#[derive(Clone, Copy, Debug, PartialEq, Eq)]
+pub struct ErrorReports {
+    /// Those that came from clients.
+    pub received: ReportsByCode,
+    /// Those that were sent to clients.
+    pub sent: ReportsByCode,
+}
+
+impl ErrorReports {
+    /// No Error Report.
+    pub const NONE: ErrorReports = ErrorReports {
+        received: ReportsByCode::NONE,
+        sent: ReportsByCode::NONE,
+    };
+}
+
+/// How many Error Reports of each code there were (RFC 8210 section 12).
+#[derive(Clone, Copy, Debug, PartialEq, Eq)]
+pub struct ReportsByCode {
+    /// Of the codes from 0 to 8.
+    pub known: [u64; 9],
+    /// Of all other codes.
+    pub others: u64,
+}
+
+impl ReportsByCode {
+    /// None of any code.
+    pub const NONE: ReportsByCode = ReportsByCode {
+        known: [0; 9],
+        others: 0,
+    };
 }
 
 /// The traffic of one connection in one direction.

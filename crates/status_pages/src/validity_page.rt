@@ -1,5 +1,6 @@
 //! The validity of a route as a page of HTML.
 
+use crate::form::write_form_of;
 use crate::page_style::STYLE;
 use crate::text::{write_texts, write_time};
 use crate::validity::Validity;
@@ -43,25 +44,6 @@ fn write_banner<W: Write>(out: &mut W, route: &Route, state: OriginState) -> io:
     write!(out, "{} of ", route.prefix)?;
     write_origin(out, route)?;
     write_texts(out, &[" is ", word, ".</p>\n"])
-}
-
-/// Writes the form that asks about a route, with the text of one in it if there is one.
-pub(crate) fn write_form<W: Write>(out: &mut W, route: Option<&Route>) -> io::Result<()> {
-    out.write_all(
-        b"<form action=\"/validity\"><input name=\"asn\" aria-label=\"AS\" placeholder=\"AS64496\" size=\"12\" required",
-    )?;
-    if let Some(route) = route {
-        out.write_all(b" value=\"")?;
-        write_origin(out, route)?;
-        out.write_all(b"\"")?;
-    }
-    out.write_all(
-        b"> <input name=\"prefix\" aria-label=\"Prefix\" placeholder=\"192.0.2.0/24\" size=\"20\" required",
-    )?;
-    if let Some(route) = route {
-        write!(out, " value=\"{}\"", route.prefix)?;
-    }
-    out.write_all(b"> <button>Is it valid?</button></form>\n")
 }
 
 /// Writes the row of a record.
@@ -123,7 +105,7 @@ pub fn write_validity_page<W: Write>(
     out.write_all(b" UTC</p>\n</div>\n")?;
     write_banner(out, route, validity.state)?;
     out.write_all(b"</header>\n<main>\n<h2>Route</h2>\n")?;
-    write_form(out, Some(route))?;
+    write_form_of(out, route)?;
     write_lists(out, validity)?;
     out.write_all(b"</main>\n</body>\n</html>\n")
 }

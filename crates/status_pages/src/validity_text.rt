@@ -3,7 +3,8 @@ ghost use Rattle.std.specs.Prelude.{◌≡◌, OnOk};
 ghost use Rattle.std.specs.Io.KnownBytes.{Appends};
 ghost use Rattle.std.specs.List.{flat_map};
 ghost use Rattle.status_pages.specs.Kinds.{has_origin};
-ghost use Rattle.status_pages.specs.ValidityText.{TellsValidity, after_comma, beginning, description, ending, joined_vrps, judged_text, last_list, listed, lists_text, middle, origin_text, prefix_text, reason_text, route_text, state_text, state_word, validity_text, vrp_text, vrps_text};
+ghost use Rattle.status_pages.specs.ValidityText.{TellsValidity, after_comma, beginning, description, ending, joined_vrps, judged_text, last_list, listed, lists_text};
+ghost use Rattle.status_pages.specs.ValidityText.{middle, origin_text, prefix_text, reason_text, route_text, state_text, state_word, validity_text, vrp_text, vrps_text};
 
 use crate::validity::{Validity, is_origin};
 use event_log::time_at;

@@ -1,0 +1,139 @@
+//! The form that asks about a route, and its page.
+
+use crate::meant::meant_route;
+use crate::page_style::STYLE;
+use crate::query_fault::QueryFault;
+use crate::text::{write_html, write_texts, write_time};
+use form_urlencoded::{decode, raw_pairs};
+use prefixes::Route;
+use std::alloc::{AllocError, Global};
+use std::borrow::CowStr;
+use std::io::{self, ErrorKind, Write};
+
+/// The form, up to the value of the AS number, from there to the value of the prefix, and its end.
+const TO_ASN: &str =
+    "<form action=\"/validity\"><label>AS <input name=\"asn\" placeholder=\"AS64496\" size=\"12\" required";
+
+const TO_PREFIX: &str =
+    "></label> <label>Prefix <input name=\"prefix\" placeholder=\"192.0.2.0/24\" size=\"20\" required";
+
+const TO_END: &str = "></label> <button>Is it valid?</button></form>\n";
+
+/// Writes the form with the texts of a route in it.
+pub(crate) fn write_form_of<W: Write>(out: &mut W, route: &Route) -> io::Result<()> {
+    write_texts(out, &[TO_ASN])?;
+    if let Some(asn) = route.origin {
+        write!(out, " value=\"AS{asn}\"")?;
+    }
+    write_texts(out, &[TO_PREFIX])?;
+    write!(out, " value=\"{}\"", route.prefix)?;
+    write_texts(out, &[TO_END])
+}
+
+/// What was typed: the texts under `asn` and `prefix`.
+#[derive(Drop)]
+struct Typed<'a> {
+    asn: CowStr<'a>,
+    prefix: CowStr<'a>,
+}
+
+/// The first text under this name in a query, or an empty one.
+fn typed_under<'a>(alloc: Global, query: &'a str, name: &str) -> Result<CowStr<'a>, AllocError> {
+    for (key, value) in raw_pairs(query.as_bytes()) {
+        if key == name.as_bytes() {
+            return decode(alloc, value);
+        }
+    }
+    decode(alloc, b"")
+}
+
+/// What was typed, in a query.
+fn typed_in(alloc: Global, query: &str) -> Result<Typed<'_>, AllocError> {
+    Ok(Typed {
+        asn: typed_under(alloc, query, "asn")?,
+        prefix: typed_under(alloc, query, "prefix")?,
+    })
+}
+
+/// Writes the value of an input, if it has one.
+fn write_typed_value<W: Write>(out: &mut W, text: &str) -> io::Result<()> {
+    if text.is_empty() {
+        return Ok(());
+    }
+    out.write_all(b" value=\"")?;
+    write_html(out, text)?;
+    out.write_all(b"\"")
+}
+
+/// Writes the form with what was typed in it.
+fn write_form<W: Write>(out: &mut W, typed: &Typed<'_>) -> io::Result<()> {
+    write_texts(out, &[TO_ASN])?;
+    write_typed_value(out, typed.asn.as_str())?;
+    write_texts(out, &[TO_PREFIX])?;
+    write_typed_value(out, typed.prefix.as_str())?;
+    write_texts(out, &[TO_END])
+}
+
+/// Writes a link to the route that was probably meant, if there is a guess.
+fn write_meant<W: Write>(out: &mut W, typed: &Typed<'_>) -> io::Result<()> {
+    let Some(route) = meant_route(typed.asn.as_str(), typed.prefix.as_str()) else {
+        return Ok(());
+    };
+    let (asn, prefix) = (route.origin.unwrap_or(0), route.prefix);
+    write!(
+        out,
+        "<p>Did you mean <a href=\"/validity?asn=AS{asn}&amp;prefix={prefix}\">{prefix} of AS{asn}</a>?</p>\n"
+    )
+}
+
+/// Writes the head of the document and its header.
+fn write_head<W: Write>(out: &mut W, title: &str, now: u64) -> io::Result<()> {
+    out.write_all(b"<!doctype html>\n<html lang=\"en\">\n<head>\n<meta charset=\"utf-8\">\n")?;
+    out.write_all(b"<meta name=\"viewport\" content=\"width=device-width, initial-scale=1\">\n")?;
+    write_texts(
+        out,
+        &[
+            "<title>",
+            title,
+            "</title>\n<style>\n",
+            STYLE,
+            "</style>\n</head>\n<body>\n<header><div class=\"top\">\n<h1><a href=\"/\">rpkirtrd</a></h1>\n<p class=\"dim\">",
+        ],
+    )?;
+    write_time(out, now)?;
+    out.write_all(b" UTC</p>\n</div>\n")
+}
+
+/// Writes why a query names no route, as a banner.
+fn write_fault<W: Write>(out: &mut W, alloc: Global, fault: QueryFault) -> io::Result<()> {
+    let Ok(text) = fault.to_string(alloc) else {
+        return Err(io::Error::from(ErrorKind::OutOfMemory));
+    };
+    out.write_all(b"<p class=\"state bad\">")?;
+    write_html(out, text.as_str())?;
+    out.write_all(b".</p>\n")
+}
+
+/// Writes the page of the form. Without a query it is empty. Otherwise it has what was typed, why that is no route, and the route that was probably
+/// meant. `now` is the time that is written, in seconds since 1970. The page does not refresh, so what is typed stays.
+pub fn write_form_page<W: Write>(
+    out: &mut W,
+    alloc: Global,
+    query: &str,
+    fault: QueryFault,
+    now: u64,
+) -> io::Result<()> {
+    let Ok(typed) = typed_in(alloc, query) else {
+        return Err(io::Error::from(ErrorKind::OutOfMemory));
+    };
+    if query.is_empty() {
+        write_head(out, "A route: rpkirtrd", now)?;
+    } else {
+        write_head(out, "Not a route: rpkirtrd", now)?;
+        write_fault(out, alloc, fault)?;
+    }
+    out.write_all(b"</header>\n<main>\n<h2>Route</h2>\n")?;
+    write_form(out, &typed)?;
+    write_meant(out, &typed)?;
+    out.write_all(b"</main>\n</body>\n</html>\n")
+}
