@@ -1,9 +1,8 @@
 -- The connections of a list of entries.
-use Rattle.std.proofs.Common.{◌≡◌, ℕ, ◌+◌, ◌≤◌, zero, suc, Bool, true, false, ◌==◌, cond, List, [], ◌∷◌, ◌++◌, length, inl, inr, arith, map, get_or, refl, ap, sym, subst, ◌∙◌, Result, Ok, Err}
-use Rattle.std.specs.Prelude.{OnOk, OnErr, ⊤}
-use Rattle.std.proofs.lemmas.List.{append-nil, append_assoc}
+use Rattle.std.proofs.Common.{◌≡◌, ℕ, ◌+◌, ◌≤◌, zero, suc, Bool, true, false, ◌==◌, cond, List, [], ◌∷◌, length, inl, inr, arith, map, get_or, refl, ap, sym, subst, ◌∙◌, Option, Result, Ok, Err, OnOk, OnErr}
+use Rattle.std.specs.Prelude.{⊤}
 use Rattle.std.proofs.Math.ListN.{set}
-use Rattle.status_server.specs.Connections.{Accepts, Admits, AllNew, Each, IsNew, IsWoken, wake}
+use Rattle.status_server.specs.Connections.{Accepts, AcceptsMany, AcceptsOne, Admits, Each, IsWoken, MakesRoom, wake}
 use Rattle.status_server.specs.declared.http_connection.HttpProgress.TheVariants.{Busy}
 use Rattle.status_server.specs.declared.http_connections.Entry.{Entry}
 
@@ -114,31 +113,26 @@ pub each_woken : {T : Type 0} (token : ℕ) (vs : List (Entry T)) → Each IsWok
 each_woken token [] = tt
 each_woken token (v ∷ vs) = (is_woken v (v.token == token), each_woken token vs)
 
-pub new_then : {T : Type 0} (now : ℕ) (us vs : List (Entry T)) → AllNew now us → AllNew now vs → AllNew now (us ++ vs)
-new_then now [] vs h k = k
-new_then now (u ∷ us) vs h k = (h.0, new_then now us vs h.1 k)
-
--- what is admitted under a token is admitted under its own
-its_own : {T : Type 0} (token now : ℕ) (stream : T) (v : Entry T) → IsNew token now stream v → IsNew v.token now v.connection.stream v
-its_own token now stream v n = record {
-  token_is = refl;
-  came = n.came;
-  moved = n.moved;
-  progress = n.progress;
-  connection = record { stream_is = refl; history_is = n.connection.history_is };
-}
-
 pub accepts_none : {T : Type 0} (now : ℕ) (vs : List (Entry T)) → Accepts now vs vs
-accepts_none now vs = record { added = []; new = tt; list = sym (append-nil vs) }
+accepts_none now vs = (zero, refl)
 
--- An admission adds one connection, or none.
-pub accepts_one : {T E : Type 0} (now token : ℕ) (stream : T) (vs ws : List (Entry T)) (r : Result ⊤ E) → OnOk r (Admits token now stream vs ws) → OnErr r (ws ≡ vs) → Accepts now vs ws
-accepts_one now token stream vs ws (Ok o) h k = record { added = h.added ∷ []; new = (its_own token now stream h.added h.is_new, tt); list = h.list }
-accepts_one now token stream vs ws (Err e) h k = record { added = []; new = tt; list = k ∙ sym (append-nil vs) }
+pub accepts_one : {T : Type 0} (now : ℕ) (vs ws : List (Entry T)) → AcceptsOne now vs ws → Accepts now vs ws
+accepts_one now vs ws h = (suc zero, (vs, refl, h))
+
+-- as many more were accepted
+more_then : {T : Type 0} (now n : ℕ) (us vs ws : List (Entry T)) → Accepts now us vs → AcceptsMany n now vs ws → Accepts now us ws
+more_then now zero us vs ws h k = subst (λ l. Accepts now us l) (sym k) h
+more_then now (suc n) us vs ws h k = let before = more_then now n us vs k.0 h k.1 in (suc before.0, (k.0, before.1, k.2))
 
 pub accepts_then : {T : Type 0} (now : ℕ) (us vs ws : List (Entry T)) → Accepts now us vs → Accepts now vs ws → Accepts now us ws
-accepts_then now us vs ws h k = record {
-  added = h.added ++ k.added;
-  new = new_then now h.added k.added h.new k.new;
-  list = k.list ∙ ap (λ l. l ++ k.added) h.list ∙ append_assoc us h.added k.added;
-}
+accepts_then now us vs ws h k = more_then now k.0 us vs ws h k.1
+
+-- There is no room, so it is closed.
+pub turned_away : {T : Type 0} (now : ℕ) (gone : Option T) (vs ws : List (Entry T)) → MakesRoom gone vs ws → AcceptsOne now vs ws
+turned_away now gone vs ws h = record { gone = gone; room = ws; made = h; admitted = inl refl }
+
+-- There is room, and it is admitted unless memory runs out.
+pub let_in : {T E : Type 0} (now token : ℕ) (stream : T) (gone : Option T) (vs room ws : List (Entry T)) (r : Result ⊤ E)
+    → MakesRoom gone vs room → OnOk r (Admits token now stream room ws) → OnErr r (ws ≡ room) → AcceptsOne now vs ws
+let_in now token stream gone vs room ws (Ok o) made h k = record { gone = gone; room = room; made = made; admitted = inr (token, stream, h) }
+let_in now token stream gone vs room ws (Err e) made h k = record { gone = gone; room = room; made = made; admitted = inl k }

@@ -3,4 +3,5 @@ pub mod Sources
 pub mod Sending
 pub mod CallLaws
 pub mod ConnectionLaws
+pub mod WaitingLaws
 pub mod VersionLaws

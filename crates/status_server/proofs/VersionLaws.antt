@@ -1,5 +1,5 @@
 -- What is kept for a version, before and after more is made of it.
-use Rattle.std.proofs.Common.{◌≡◌, ◌⊎◌, ◌∙◌, ℕ, ◌==◌, Bool, true, false, if◌then◌else◌, List, Option, Some, None, ap, option_map, refl, rules, subst, sym, inl, inr}
+use Rattle.std.proofs.Common.{◌≡◌, ◌∙◌, ℕ, ◌==◌, Bool, true, false, if◌then◌else◌, List, Option, Some, None, ap, option_map, refl, rules, subst, sym, inl, inr}
 use Rattle.std.specs.Prelude.{unwrap_or}
 use Rattle.std.specs.Borrow.{Bor}
 use Rattle.vrps.specs.declared.serial.Serial.{Serial}

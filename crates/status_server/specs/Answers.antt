@@ -126,11 +126,17 @@ abbrev pub SendsKnownValidity : Shown → Bool → Route → Response → Respon
 SendsKnownValidity shown is_html route old new =
     (answer : Option Validity) × IsShownValidity shown.set route answer × SendsValidity is_html route answer old new
 
--- The validity of the route that a request asks about, or why it names none
-abbrev pub SendsJudged : Shown → Bool → Result Route QueryFault → Response → Response → Type 0
-SendsJudged shown is_html (Ok route) old new = SendsKnownValidity shown is_html route old new
-SendsJudged shown is_html (Err fault.Memory) old new = ⊥
-SendsJudged shown is_html (Err why) old new = (text : List ℕ) × SendsText 400 text old new
+-- Why a query names no route, as a text, or as a page with the form. To ask for the empty form is no mistake.
+abbrev pub SendsFault : Bool → List ℕ → Response → Response → Type 0
+SendsFault false query old new = (text : List ℕ) × SendsText 400 text old new
+SendsFault true [] old new = (text : List ℕ) × Sends old.status page_headers text old new
+SendsFault true (b ∷ query) old new = (text : List ℕ) × Sends 400 page_headers text old new
+
+-- The validity of the route that a query asks about, or why it names none
+abbrev pub SendsJudged : Shown → Bool → List ℕ → Result Route QueryFault → Response → Response → Type 0
+SendsJudged shown is_html query (Ok route) old new = SendsKnownValidity shown is_html route old new
+SendsJudged shown is_html query (Err fault.Memory) old new = ⊥
+SendsJudged shown is_html query (Err why) old new = SendsFault is_html query old new
 
 -- The form depends on what the client accepts, which the response says (RFC 9110 section 12.5.5).
 pub record SendsQuery (shown : Shown) (p : Parts) (old new : Response) : Type 0 where
@@ -139,7 +145,7 @@ pub record SendsQuery (shown : Shown) (p : Parts) (old new : Response) : Type 0 
   pub is_html : Bool
   pub found : Result Route QueryFault
   pub finds : Finds (unwrap_or (uri_query p.uri) []) found
-  pub judged : SendsJudged shown is_html found varied new
+  pub judged : SendsJudged shown is_html (unwrap_or (uri_query p.uri) []) found varied new
 
 -- The route is the one that the end of a path names.
 pub record SendsRoute (shown : Shown) (path : List ℕ) (old new : Response) : Type 0 where
@@ -147,7 +153,7 @@ pub record SendsRoute (shown : Shown) (path : List ℕ) (old new : Response) : T
   pub ends : IsRoute path → path ≡ route_path rest
   pub found : Result Route QueryFault
   pub finds : FindsInPath rest found
-  pub judged : SendsJudged shown false found old new
+  pub judged : SendsJudged shown false [] found old new
 
 -- A plan is carried out: a resource is sent as the source has it, and a refusal has its status and its text.
 abbrev pub CarriesOut : Shown → Parts → Plan → Response → Response → Type 0

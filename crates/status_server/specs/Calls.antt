@@ -1,24 +1,16 @@
 -- The calls of the stream of one connection, and the bytes that they move.
-use Rattle.std.specs.Prelude.{◌≡◌, ◌⊎◌, ℕ, zero, suc, ◌+◌, ◌<◌, ◌≤◌, Bool, false, nat_lt, List, ◌++◌, length, take, Option}
+use Rattle.std.specs.Prelude.{◌≡◌, ◌⊎◌, ℕ, zero, suc, ◌<◌, ◌≤◌, Bool, false, nat_lt, List, ◌++◌, length, take, Option}
 use Rattle.std.specs.Io.KnownBytes.{Appends, Consumes}
 use Rattle.http_server.specs.Connection.{history}
 use Rattle.http_server.specs.History.{new_history}
 use Rattle.status_server.specs.declared.http_connection.HttpConnection.{HttpConnection}
 use Rattle.status_server.specs.declared.http_connection.Moved.{Moved}
-use Rattle.status_server.specs.declared.http_connection.Moved.TheVariants.{Bytes, Ends}
+use Rattle.status_server.specs.declared.http_connection.Moved.TheVariants.{Ends, Sent}
 
 -- a connection over this stream, of which nothing was read, and to which nothing was written
 pub record IsFirst {T : Type 0} (stream : T) (v : HttpConnection T) : Type 0 where
   pub stream_is : v.stream ≡ stream
   pub history_is : history v.connection ≡ new_history
-
--- how many bytes were read of the stream and written to it
-abbrev pub moved_of : {T : Type 0} → HttpConnection T → ℕ
-moved_of v = length (history v.connection).received + length (history v.connection).sent
-
--- whether a byte was read or written in between
-abbrev pub has_moved : {T : Type 0} → HttpConnection T → HttpConnection T → Bool
-has_moved v w = nat_lt (moved_of v) (moved_of w)
 
 -- A read of the stream: these bytes were received. None were if it failed.
 pub record Reads {T : Type 0} (remaining : T → Option (List ℕ)) (v w : HttpConnection T) : Type 0 where
@@ -49,7 +41,15 @@ Calls {T} remaining contents (suc n) v w = (u : HttpConnection T) × Calls remai
 abbrev pub MakesCalls : {T : Type 0} → (T → Option (List ℕ)) → (T → Option (List ℕ)) → ℕ → HttpConnection T → HttpConnection T → Type 0
 MakesCalls remaining contents budget v w = (n : ℕ) × (n ≤ budget) × Calls remaining contents n v w
 
--- whether a call moved a byte
-abbrev pub TellsMoved : Moved → Bool → Type 0
-TellsMoved (Bytes n) moved = nat_lt 0 n ≡ moved
-TellsMoved (Ends progress) moved = moved ≡ false
+-- how many bytes were written to the stream
+abbrev pub sent_of : {T : Type 0} → HttpConnection T → ℕ
+sent_of v = length (history v.connection).sent
+
+-- whether a byte was written in between
+abbrev pub has_sent : {T : Type 0} → HttpConnection T → HttpConnection T → Bool
+has_sent v w = nat_lt (sent_of v) (sent_of w)
+
+-- whether a call wrote a byte
+abbrev pub TellsSent : Moved → Bool → Type 0
+TellsSent (Sent n) sent = nat_lt 0 n ≡ sent
+TellsSent (Ends progress) sent = sent ≡ false

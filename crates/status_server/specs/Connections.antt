@@ -1,13 +1,13 @@
--- The HTTP connections, each with its stream: the poll token, when it was admitted, when a byte last moved on it, in milliseconds of a
+-- The HTTP connections, each with its stream: the poll token, when it was admitted, when a byte was last sent on it, in milliseconds of a
 -- monotonic clock, and how its last turn ended.
-use Rattle.std.specs.Prelude.{◌≡◌, ◌⊎◌, ℕ, ◌+◌, ⊤, Bool, false, true, cond, not, ◌||◌, ◌&&◌, ◌==◌, nat_lt, List, [], ◌∷◌, ◌++◌, filter, length, map, Option, if◌then◌else◌, All}
+use Rattle.std.specs.Prelude.{◌≡◌, ◌⊎◌, ◌<◌, ◌≤◌, ℕ, zero, suc, ◌+◌, ⊤, Bool, false, true, cond, not, ◌||◌, ◌&&◌, ◌==◌, nat_lt, List, [], ◌∷◌, ◌++◌, filter, length, map, slice_get, take, drop, Option, None, Some, if◌then◌else◌, All}
 use Rattle.std.specs.List.{list_any}
 use Rattle.http.specs.Request.{head_of}
 use Rattle.http.specs.declared.request.Parts.{Parts}
 use Rattle.http_server.specs.Connection.{history}
 use Rattle.http_server.specs.Exchange.{Call}
 use Rattle.http_server.specs.declared.response.Response.{Response}
-use Rattle.status_server.specs.Calls.{IsFirst, MakesCalls, has_moved}
+use Rattle.status_server.specs.Calls.{IsFirst, MakesCalls, has_sent}
 use Rattle.status_server.specs.Progress.{is_busy, is_closed}
 use Rattle.status_server.specs.declared.http_connection.HttpConnection.{HttpConnection}
 use Rattle.status_server.specs.declared.http_connection.HttpProgress.TheVariants.{Busy}
@@ -17,9 +17,29 @@ use Rattle.status_server.specs.declared.http_connections.Entry.{Entry}
 abbrev pub has_token : {T : Type 0} → ℕ → List (Entry T) → Bool
 has_token token vs = list_any (λ v. v.token == token) vs
 
--- A connection times out if no byte moved on it for 30 seconds, or 10 minutes after it was admitted.
+-- A connection times out if no byte was sent on it for 30 seconds since it was admitted, or 10 minutes after it was admitted. So a visitor
+-- has 30 seconds in all for a request, however it comes.
 abbrev pub is_in_time : {T : Type 0} → ℕ → Entry T → Bool
-is_in_time now v = nat_lt now (v.moved + 30000) && nat_lt now (v.came + 600000)
+is_in_time now v = nat_lt now (v.last_sent + 30000) && nat_lt now (v.came + 600000)
+
+-- No byte is pending on a connection: it waits for a request, of which not all has come.
+abbrev pub is_waiting : {T : Type 0} → Entry T → Bool
+is_waiting v = length (history v.connection.connection).pending == 0
+
+-- Of the first n connections, this is the one that has waited longest for its request; or none of them waits.
+abbrev pub HasWaitedLongest : {T : Type 0} → ℕ → List (Entry T) → Option ℕ → Type 0
+HasWaitedLongest {T} n vs None = (k : ℕ) (w : Entry T) → k < n → slice_get vs k ≡ Some w → is_waiting w ≡ false
+HasWaitedLongest {T} n vs (Some i) =
+    (v : Entry T) × (slice_get vs i ≡ Some v) × (is_waiting v ≡ true)
+    × ((k : ℕ) (w : Entry T) → k < n → slice_get vs k ≡ Some w → is_waiting w ≡ true → v.last_sent ≤ w.last_sent)
+
+-- Room is made for one more: nothing changes if there is room, or if no connection waits. Otherwise the one goes that has waited longest, whose
+-- stream this is.
+abbrev pub MakesRoom : {T : Type 0} → Option T → List (Entry T) → List (Entry T) → Type 0
+MakesRoom None vs ws = (ws ≡ vs) × ((length vs < 64) ⊎ HasWaitedLongest (length vs) vs None)
+MakesRoom {T} (Some stream) vs ws =
+    (64 ≤ length vs)
+    × ((i : ℕ) × (v : Entry T) × HasWaitedLongest (length vs) vs (Some i) × (slice_get vs i ≡ Some v) × (stream ≡ v.connection.stream) × (ws ≡ take i vs ++ drop (i + 1) vs))
 
 abbrev pub in_time : {T : Type 0} → ℕ → List (Entry T) → List (Entry T)
 in_time now vs = filter (is_in_time now) vs
@@ -48,11 +68,11 @@ pub record Answered {T : Type 0} (answers : Parts → Response → Type 0) (v w 
   pub each : All (λ c. answers (head_of c.0) c.1) calls
 
 -- A busy connection had a turn at this time, of at most this many calls of its own stream. It keeps its token and its admission. If a byte was
--- moved, this is the time of its last one.
+-- sent, this is the time of its last one.
 pub record Turned {T : Type 0} (remaining contents : T → Option (List ℕ)) (answers : Parts → Response → Type 0) (now budget : ℕ) (v w : Entry T) : Type 0 where
   pub token : w.token ≡ v.token
   pub came : w.came ≡ v.came
-  pub moved : w.moved ≡ (if has_moved v.connection w.connection then now else v.moved)
+  pub last_sent : w.last_sent ≡ (if has_sent v.connection w.connection then now else v.last_sent)
   pub calls : MakesCalls remaining contents budget v.connection w.connection
   pub answered : Answered answers v.connection w.connection
 
@@ -78,7 +98,7 @@ pub record Serves {T : Type 0} (remaining contents : T → Option (List ℕ)) (a
 pub record IsNew {T : Type 0} (token now : ℕ) (stream : T) (v : Entry T) : Type 0 where
   pub token_is : v.token ≡ token
   pub came : v.came ≡ now
-  pub moved : v.moved ≡ now
+  pub last_sent : v.last_sent ≡ now
   pub progress : v.progress ≡ Busy
   pub connection : IsFirst stream v.connection
 
@@ -88,16 +108,21 @@ pub record Admits {T : Type 0} (token now : ℕ) (stream : T) (vs ws : List (Ent
   pub is_new : IsNew token now stream added
   pub list : ws ≡ vs ++ added ∷ []
 
--- All were admitted at this time.
-abbrev pub AllNew : {T : Type 0} → ℕ → List (Entry T) → Type 0
-AllNew now [] = ⊤
-AllNew now (v ∷ vs) = IsNew v.token now v.connection.stream v × AllNew now vs
+-- One more was accepted at this time, for which room was made. If it was not admitted, its stream was closed.
+pub record AcceptsOne {T : Type 0} (now : ℕ) (vs ws : List (Entry T)) : Type 0 where
+  pub gone : Option T
+  pub room : List (Entry T)
+  pub made : MakesRoom gone vs room
+  pub admitted : (ws ≡ room) ⊎ ((token : ℕ) × (stream : T) × Admits token now stream room ws)
 
--- The second list is the first, and behind it connections that are admitted at this time.
-pub record Accepts {T : Type 0} (now : ℕ) (vs ws : List (Entry T)) : Type 0 where
-  pub added : List (Entry T)
-  pub new : AllNew now added
-  pub list : ws ≡ vs ++ added
+-- This many were accepted at this time, one after the other.
+abbrev pub AcceptsMany : {T : Type 0} → ℕ → ℕ → List (Entry T) → List (Entry T) → Type 0
+AcceptsMany zero now vs ws = ws ≡ vs
+AcceptsMany {T} (suc n) now vs ws = (us : List (Entry T)) × AcceptsMany n now vs us × AcceptsOne now us ws
+
+-- Connections were accepted at this time.
+abbrev pub Accepts : {T : Type 0} → ℕ → List (Entry T) → List (Entry T) → Type 0
+Accepts now vs ws = (n : ℕ) × AcceptsMany n now vs ws
 
 -- A turn at this time: some connections are woken, others admitted, the busy ones are served, and those that timed out are removed.
 pub record Turns {T : Type 0} (remaining contents : T → Option (List ℕ)) (answers : Parts → Response → Type 0) (now budget : ℕ) (vs ws : List (Entry T)) : Type 0 where

@@ -2,14 +2,15 @@
 ghost use Rattle.std.specs.Prelude.{◌≡◌, ℕ, List, OnOk, option_copied};
 ghost use Rattle.http.specs.Request.{head_of};
 ghost use Rattle.http_server.specs.Response.{IsBlank};
-ghost use Rattle.status_server.specs.Answers.{AnswersOn, AnswersSo, CarriesOut, IsPlanned, SendsJudged, SendsKnownExport, SendsKnownHealth, SendsKnownList, SendsKnownReady, SendsKnownValidity, SendsQuery, SendsRoute};
+ghost use Rattle.status_server.specs.Answers.{AnswersOn, AnswersSo, CarriesOut, IsPlanned, SendsJudged, SendsKnownExport};
+ghost use Rattle.status_server.specs.Answers.{SendsKnownHealth, SendsKnownList, SendsKnownReady, SendsKnownValidity, SendsQuery, SendsRoute};
 ghost use Rattle.status_server.specs.Responses.{Sends, body_headers, csv_kind, json_kind, metrics_kind, page_headers};
 
 use crate::conditions::prefers_html;
 use crate::plan::{Plan, plan_of};
 use crate::representations::{
-    send_export, send_health, send_list, send_ok, send_ready, send_validity, send_validity_page,
-    shared,
+    send_export, send_form_page, send_health, send_list, send_ok, send_ready, send_validity,
+    send_validity_page, shared,
 };
 use crate::resources::{Resource, route_in};
 use crate::responses::{
@@ -219,19 +220,24 @@ impl<'a, S: StatusSource> Answers<'a, S> {
         }
     }
 
-    /// The validity of a route that was read, or why there is none.
+    /// The validity of a route that was read of a query, or why there is none.
     fn judged(
         &mut self,
         route: Result<Route, QueryFault>,
         is_html: bool,
+        query: &str,
         response: &mut Response,
     ) -> Result<(), AllocError>
-        ensures sends { OnOk result (SendsJudged (S.shows self.old.source) is_html route response.old response.new) }
+        ensures sends { OnOk result (SendsJudged (S.shows self.old.source) is_html query.now route response.old response.new) }
         ensures keeps { AnswersOn S.shows self.old self.new }
     {
         match route {
             Ok(route) => self.validity(&route, is_html, response),
             Err(QueryFault::Memory) => Err(AllocError),
+            Err(fault) if is_html => {
+                let now = self.source.now();
+                send_form_page(self.alloc, query, fault, now, response)
+            }
             Err(fault) => {
                 let text = format!(in self.alloc; "{fault}\n")?;
                 send_text(response, StatusCode::BAD_REQUEST, text.as_bytes())
@@ -245,8 +251,9 @@ impl<'a, S: StatusSource> Answers<'a, S> {
         ensures keeps { AnswersOn S.shows self.old self.new }
     {
         add_vary(response)?;
-        let route = read_query(self.alloc, request.uri().query().unwrap_or(""));
-        self.judged(route, prefers_html(request.headers()), response)
+        let query = request.uri().query().unwrap_or("");
+        let route = read_query(self.alloc, query);
+        self.judged(route, prefers_html(request.headers()), query, response)
     }
 
     /// The validity of the route of a path.
@@ -255,7 +262,7 @@ impl<'a, S: StatusSource> Answers<'a, S> {
         ensures keeps { AnswersOn S.shows self.old self.new }
     {
         let rest = route_in(path).unwrap_or("");
-        self.judged(read_path(self.alloc, rest), false, response)
+        self.judged(read_path(self.alloc, rest), false, "", response)
     }
 
     /// A resource.

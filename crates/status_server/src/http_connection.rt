@@ -1,10 +1,10 @@
 //! One HTTP connection, over a non-blocking stream.
-ghost use Rattle.std.specs.Prelude.{◌≡◌, false, IfOk, OnErr};
+ghost use Rattle.std.specs.Prelude.{◌≡◌, ◌==◌, false, IfOk, OnErr, length};
 ghost use Rattle.http_server.specs.Connection.{history};
 ghost use Rattle.http_server.specs.Exchange.{Calls};
 ghost use Rattle.http_server.specs.History.{IsQuiet};
 ghost use Rattle.status_server.specs.Progress.{is_busy, is_closed};
-ghost use Rattle.status_server.specs.Calls.{IsFirst, MakesCall, MakesCalls, TellsMoved, has_moved};
+ghost use Rattle.status_server.specs.Calls.{IsFirst, MakesCall, MakesCalls, TellsSent, has_sent};
 
 use http_server::{Config, Connection, Service};
 use std::alloc::Global;
@@ -61,17 +61,32 @@ pub(crate) struct HttpConnection<T> {
 /// What a call of the stream came to.
 #[derive(Clone, Copy, Debug, PartialEq, Eq)]
 enum Moved {
-    /// It moved this many bytes: none if it was interrupted, or at the end of the input.
-    Bytes(usize),
+    /// It sent this many bytes: none if it was interrupted, or if it read.
+    Sent(usize),
     /// It moved none, and the turn of the connection ends so.
     Ends(HttpProgress),
 }
 
-/// How the turn of a connection ended, and whether it moved a byte.
+impl Moved {
+    ghost use Rattle.std.specs.Prelude.{false};
+    ghost use Rattle.status_server.specs.Calls.{TellsSent};
+
+    /// The same of a call that read: it sent nothing.
+    fn as_read(self) -> Moved
+        ensures { TellsSent result false }
+    {
+        match self {
+            Moved::Sent(_) => Moved::Sent(0),
+            Moved::Ends(progress) => Moved::Ends(progress),
+        }
+    }
+}
+
+/// How the turn of a connection ended, and whether it sent a byte.
 #[derive(Clone, Copy, Debug, PartialEq, Eq)]
 pub(crate) struct Served {
     pub(crate) progress: HttpProgress,
-    pub(crate) has_moved: bool,
+    pub(crate) has_sent: bool,
 }
 
 impl<T: Read + Write> HttpConnection<T> {
@@ -88,29 +103,26 @@ impl<T: Read + Write> HttpConnection<T> {
     /// Serves the connection until its stream would block, or until this many calls were made.
     pub(crate) fn serve<S: Service>(&mut self, service: &mut S, budget: u32) -> Served
         ensures calls { MakesCalls T.remaining T.contents budget self.old self.new }
-        ensures moved { result.has_moved ≡ has_moved self.old self.new }
+        ensures sent { result.has_sent ≡ has_sent self.old self.new }
         ensures answered { Calls S.answers service.old service.new (history self.old.connection).calls (history self.new.connection).calls }
     {
-        let mut has_moved = false;
+        let mut has_sent = false;
         for _call in 0..budget {
             match self.call(service) {
-                Moved::Bytes(count) => has_moved |= count > 0,
-                Moved::Ends(progress) => return Served {
-                    progress,
-                    has_moved,
-                },
+                Moved::Sent(count) => has_sent |= count > 0,
+                Moved::Ends(progress) => return Served { progress, has_sent },
             }
         }
         Served {
             progress: HttpProgress::Busy,
-            has_moved,
+            has_sent,
         }
     }
 
     /// Makes one call of the stream: it writes if bytes are due, and reads otherwise.
     fn call<S: Service>(&mut self, service: &mut S) -> Moved
         ensures call { MakesCall T.remaining T.contents self.old self.new }
-        ensures moved { TellsMoved result (has_moved self.old self.new) }
+        ensures sent { TellsSent result (has_sent self.old self.new) }
         ensures answered { Calls S.answers service.old service.new (history self.old.connection).calls (history self.new.connection).calls }
     {
         if self.connection.wants_write() {
@@ -118,7 +130,7 @@ impl<T: Read + Write> HttpConnection<T> {
             self.go_on(written, service)
         } else if self.connection.wants_read() {
             let read = self.connection.read_from(&mut self.stream);
-            self.go_on(read, service)
+            self.go_on(read, service).as_read()
         } else {
             Moved::Ends(HttpProgress::Closed)
         }
@@ -128,20 +140,40 @@ impl<T: Read + Write> HttpConnection<T> {
     fn go_on<S: Service>(&mut self, moved: io::Result<usize>, service: &mut S) -> Moved
         ensures quiet { IsQuiet (history self.old.connection) (history self.new.connection) }
         ensures stream { self.new.stream ≡ self.old.stream }
-        ensures ok { IfOk moved (λ n. result ≡ Moved.Bytes n) }
-        ensures err { OnErr moved (TellsMoved result false) }
+        ensures ok { IfOk moved (λ n. result ≡ Moved.Sent n) }
+        ensures err { OnErr moved (TellsSent result false) }
         ensures answered { Calls S.answers service.old service.new (history self.old.connection).calls (history self.new.connection).calls }
     {
         match moved {
             Ok(count) => {
                 self.connection.advance(service);
-                Moved::Bytes(count)
+                Moved::Sent(count)
             }
             Err(error) => match error.kind() {
                 ErrorKind::WouldBlock => Moved::Ends(HttpProgress::WouldBlock),
-                ErrorKind::Interrupted => Moved::Bytes(0),
+                ErrorKind::Interrupted => Moved::Sent(0),
                 _ => Moved::Ends(HttpProgress::Closed),
             },
         }
+    }
+}
+
+impl<T> HttpConnection<T> {
+    /// Whether no byte is pending: the connection waits for a request, of which not all has come.
+    pub(crate) fn is_waiting(&self) -> bool
+        ensures { result ≡ (length (history self.now.connection).pending == 0) }
+    {
+        !self.connection.wants_write()
+    }
+
+    /// Its stream. What was received and is not answered is dropped.
+    pub(crate) fn into_stream(self) -> T
+        ensures { result ≡ self.stream }
+    {
+        let HttpConnection {
+            stream,
+            connection: _,
+        } = self;
+        stream
     }
 }

@@ -1,8 +1,8 @@
 //! All HTTP connections.
-ghost use Rattle.std.specs.Prelude.{◌≡◌, ◌==◌, ◌++◌, ◌∷◌, ◌↔◌, ◌≤◌, [], length, Err, OnOk, OnErr, option_copied};
+ghost use Rattle.std.specs.Prelude.{◌≡◌, ◌==◌, ◌++◌, ◌∷◌, ◌+◌, ◌↔◌, ◌<◌, ◌≤◌, [], length, Err, IfSome, IsTrue, OnOk, OnErr, option_copied};
 ghost use Rattle.std.specs.List.{list_any};
 ghost use Rattle.status_server.specs.Answers.{AnswersOn, AnswersSo};
-ghost use Rattle.status_server.specs.Connections.{Admits, Each, IsServed, Serves, has_busy, has_token, in_time, is_in_time, unclosed, wake, woken};
+ghost use Rattle.status_server.specs.Connections.{Admits, Each, HasWaitedLongest, IsServed, MakesRoom, Serves, has_busy, has_token, in_time, is_in_time, unclosed, wake, woken};
 ghost use Rattle.status_server.specs.Progress.{is_busy};
 
 use crate::answers::Answers;
@@ -18,7 +18,7 @@ use thiserror::Error;
 /// How many connections there may be at once.
 pub const MAX_CONNECTIONS: usize = 64;
 
-/// How long a connection stays open while no byte moves on it, in milliseconds.
+/// How long a connection stays open while no byte is sent on it, in milliseconds. So long a visitor has for each request.
 pub const IDLE_MILLIS: u64 = 30_000;
 
 /// How long a connection stays open, in milliseconds.
@@ -35,13 +35,13 @@ pub enum HttpAdmitFault {
     Memory,
 }
 
-/// A connection, with its poll token, when it was admitted, when a byte last moved on it, and its progress. If it is busy, it is served in the
+/// A connection, with its poll token, when it was admitted, when a byte was last sent on it, and its progress. If it is busy, it is served in the
 /// next turn.
 #[derive(Drop)]
 struct Entry<T> {
     token: usize,
     came: u64,
-    moved: u64,
+    last_sent: u64,
     progress: HttpProgress,
     connection: HttpConnection<T>,
 }
@@ -79,7 +79,7 @@ impl<T> Entry<T> {
     fn is_in_time(&self, now: u64) -> bool
         ensures { result ≡ is_in_time now self.now }
     {
-        now.saturating_sub(self.moved) < IDLE_MILLIS
+        now.saturating_sub(self.last_sent) < IDLE_MILLIS
             && now.saturating_sub(self.came) < CONNECTION_MILLIS
     }
 }
@@ -95,8 +95,8 @@ impl<T: Read + Write> Entry<T> {
         }
         let served = self.connection.serve(answers, budget);
         self.progress = served.progress;
-        if served.has_moved {
-            self.moved = now;
+        if served.has_sent {
+            self.last_sent = now;
         }
     }
 }
@@ -113,6 +113,33 @@ fn any_at<T>(entries: &[Entry<T>], token: usize) -> bool
     ensures { result ≡ list_any (λ p. p.token == token) entries.now }
 {
     entries.iter().any(|entry| entry.token == token)
+}
+
+/// The entry of an index, if it has waited longer than the one that was found.
+fn longer_waiting<T>(entries: &[Entry<T>], found: Option<usize>, index: usize) -> Option<usize>
+    requires within { index < length entries.now }
+    requires longest { HasWaitedLongest index entries.now found }
+    ensures { HasWaitedLongest (index + 1) entries.now result }
+{
+    if !entries[index].connection.is_waiting() {
+        return found;
+    }
+    match found {
+        Some(other) if entries[other].last_sent <= entries[index].last_sent => found,
+        _ => Some(index),
+    }
+}
+
+/// The entry that has waited longest for its request, if any waits.
+fn longest_waiting<T>(entries: &[Entry<T>]) -> Option<usize>
+    ensures longest { HasWaitedLongest (length entries.now) entries.now result }
+    ensures within { IfSome result (λ i. i < length entries.now) }
+{
+    let mut found = None;
+    for index in 0..entries.len() {
+        found = longer_waiting(entries, found, index);
+    }
+    found
 }
 
 /// Whether some entry is busy.
@@ -184,7 +211,7 @@ impl<T: Read + Write + Drop> HttpConnections<T> {
         let entry = Entry {
             token,
             came: now,
-            moved: now,
+            last_sent: now,
             progress: HttpProgress::Busy,
             connection: HttpConnection::new(self.alloc, self.keys, stream),
         };
@@ -192,6 +219,26 @@ impl<T: Read + Write + Drop> HttpConnections<T> {
             return Err(HttpAdmitFault::Memory);
         }
         Ok(())
+    }
+
+    /// Whether there are as many as there may be.
+    pub fn is_full(&self) -> bool
+        ensures { IsTrue result ↔ (64 ≤ length self.now) }
+    {
+        self.len() >= MAX_CONNECTIONS
+    }
+
+    /// Makes room for one more connection, if there is none: the one goes that has waited longest for its request. It returns that one's stream. If
+    /// requests are answered on all of them, none goes.
+    pub fn make_room(&mut self) -> Option<T>
+        ensures { MakesRoom result self.old self.new }
+    {
+        if self.entries.len() < MAX_CONNECTIONS {
+            return None;
+        }
+        let index = longest_waiting(&self.entries)?;
+        let Entry { connection, .. } = self.entries.remove(index);
+        Some(connection.into_stream())
     }
 
     /// Whether a connection has the token.
@@ -251,7 +298,7 @@ impl<T: Read + Write + Drop> HttpConnections<T> {
         self.remove_closed();
     }
 
-    /// Drops the connections on which no byte moved for `IDLE_MILLIS`, and those that were admitted `CONNECTION_MILLIS` ago or earlier.
+    /// Drops the connections on which no byte was sent for `IDLE_MILLIS`, and those that were admitted `CONNECTION_MILLIS` ago or earlier.
     pub fn expire(&mut self, now: u64)
         ensures { self.new ≡ in_time now self.old }
     {

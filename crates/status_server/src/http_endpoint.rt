@@ -2,7 +2,7 @@
 ghost use Rattle.std.specs.Prelude.{◌≡◌, List, [], option_copied, true};
 ghost use Rattle.status_server.specs.Answers.{AnswersSo};
 ghost use Rattle.status_server.specs.declared.http_connections.Entry.{Entry};
-ghost use Rattle.status_server.specs.Connections.{Accepts, Each, IsWoken, Serves, Turns, in_time, wait_for, wait_of};
+ghost use Rattle.status_server.specs.Connections.{Accepts, AcceptsOne, Each, IsWoken, Serves, Turns, in_time, wait_for, wait_of};
 
 use crate::http_connections::HttpConnections;
 use crate::http_sockets::{HttpAccept, HttpReady, HttpSockets};
@@ -133,17 +133,9 @@ impl<T: Read + Write + Drop> HttpEndpoint<T> {
         if !self.pending {
             return false;
         }
-        self.admit(now, sockets.accept())
-    }
-
-    /// Admits an accepted connection. If that fails, it is closed. Answers whether another may be accepted.
-    fn admit(&mut self, now: u64, accepted: HttpAccept<T>) -> bool
-        ensures accepts { Accepts now self.old.0 self.new.0 }
-        ensures failed { accepted ≡ HttpAccept.Failed → self.new ≡ self.old }
-    {
-        match accepted {
+        match sockets.accept() {
             HttpAccept::Connection { stream, token } => {
-                let _ = self.connections.admit(token, stream, now);
+                self.admit(token, stream, now, sockets);
                 true
             }
             HttpAccept::WouldBlock => {
@@ -153,6 +145,21 @@ impl<T: Read + Write + Drop> HttpEndpoint<T> {
             HttpAccept::Again => true,
             HttpAccept::Failed => false,
         }
+    }
+
+    /// Admits an accepted connection. If there are as many as there may be, the one is closed for it that has waited longest for its request. If all
+    /// are being answered, or memory runs out, the new one is closed.
+    fn admit<N: HttpSockets<T>>(&mut self, token: usize, stream: T, now: u64, sockets: &mut N)
+        ensures { AcceptsOne now self.old.0 self.new.0 }
+    {
+        let most = self.connections.len() as u64;
+        if let Some(gone) = self.connections.make_room() {
+            sockets.turn_away(gone, most);
+        }
+        if self.connections.is_full() {
+            return sockets.turn_away(stream, most);
+        }
+        let _ = self.connections.admit(token, stream, now);
     }
 
     /// Serves the busy connections, and removes those that timed out.

@@ -32,6 +32,9 @@ pub trait HttpSockets<T> {
     /// The next of what became ready.
     fn next(&mut self) -> Option<HttpReady>;
 
+    /// Reports that a connection is closed at once, or for a newer one, as there are as many as there may be. It drops its stream.
+    fn turn_away(&mut self, stream: T, connections: u64);
+
     /// Accepts a connection, and registers it.
     fn accept(&mut self) -> HttpAccept<T>;
 }

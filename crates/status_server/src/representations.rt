@@ -1,8 +1,8 @@
 //! The bodies that are made of a status, of a list, or of a validity.
-ghost use Rattle.std.specs.Prelude.{◌≡◌, ℕ, List, IsTrue, IfOk, OnOk, codes};
+ghost use Rattle.std.specs.Prelude.{◌≡◌, ℕ, List, IsTrue, IfOk, OnOk, codes, true};
 ghost use Rattle.status_pages.specs.Health.{IsHealthText};
 ghost use Rattle.http_header.specs.FieldValue.{is_visible_text};
-ghost use Rattle.status_server.specs.Answers.{IsExportHead, SendsExport, SendsHealth, SendsList, SendsReady, SendsValidityText, made_at};
+ghost use Rattle.status_server.specs.Answers.{IsExportHead, SendsExport, SendsFault, SendsHealth, SendsList, SendsReady, SendsValidityText, made_at};
 ghost use Rattle.status_server.specs.Responses.{Sends, SendsText, page_headers};
 
 use crate::responses::{JSON, add_tag, refuse_early, send, send_page, send_text};
@@ -11,8 +11,8 @@ use http::{HeaderMap, StatusCode};
 use http_server::Response;
 use prefixes::Route;
 use status_pages::{
-    Status, Validity, is_healthy, is_ready, oldest_built, served_vrps, write_export_head,
-    write_health, write_validity, write_validity_page,
+    QueryFault, Status, Validity, is_healthy, is_ready, oldest_built, served_vrps,
+    write_export_head, write_form_page, write_health, write_validity, write_validity_page,
 };
 use std::alloc::{AllocError, Global};
 
@@ -159,6 +159,26 @@ pub(crate) fn send_validity_page(
     let mut text = Vec::new(alloc);
     if write_validity_page(&mut text, route, validity, now).is_err() {
         return Err(AllocError);
+    }
+    send_page(response, shared(text)?)
+}
+
+/// Sends the page of the form: why a query names no route, or the empty form if there is no query. `now` is in seconds since 1970.
+pub(crate) fn send_form_page(
+    alloc: Global,
+    query: &str,
+    fault: QueryFault,
+    now: u64,
+    response: &mut Response,
+) -> Result<(), AllocError>
+    ensures { OnOk result (SendsFault true query.now response.old response.new) }
+{
+    let mut text = Vec::new(alloc);
+    if write_form_page(&mut text, alloc, query, fault, now).is_err() {
+        return Err(AllocError);
+    }
+    if !query.is_empty() {
+        response.status = StatusCode::BAD_REQUEST;
     }
     send_page(response, shared(text)?)
 }

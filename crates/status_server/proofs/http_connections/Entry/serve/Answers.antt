@@ -11,7 +11,7 @@ returns-then-served-clause-served g c =
       λ b. record {
         token = refl;
         came = refl;
-        moved = sym (ap (λ m. cond m c.args.now c.args.self.now.moved) (sym c.serve-served.ensures.moved ∙ c.if-served.true));
+        last_sent = sym (ap (λ m. cond m c.args.now c.args.self.now.last_sent) (sym c.serve-served.ensures.sent ∙ c.if-served.true));
         calls = c.serve-served.ensures.calls;
         answered = record { calls = answered.0; more = answered.1; each = (all_so g.S.StatusSource.shows c.args.answers.now c.serve-served.new.service answered.0 answered.2).0 };
       },
@@ -29,7 +29,7 @@ returns-else-served-clause-served g c =
       λ b. record {
         token = refl;
         came = refl;
-        moved = sym (ap (λ m. cond m c.args.now c.args.self.now.moved) (sym c.serve-served.ensures.moved ∙ c.if-served.false));
+        last_sent = sym (ap (λ m. cond m c.args.now c.args.self.now.last_sent) (sym c.serve-served.ensures.sent ∙ c.if-served.false));
         calls = c.serve-served.ensures.calls;
         answered = record { calls = answered.0; more = answered.1; each = (all_so g.S.StatusSource.shows c.args.answers.now c.serve-served.new.service answered.0 answered.2).0 };
       },

@@ -4,7 +4,7 @@ use Rattle.status_server.proofs.http_connections.HttpConnections.admit.Goals as 
 
 pub returns-clause-ok : goal.returns-clause-ok
 returns-clause-ok g c = record {
-  added = record { token = c.args.token; came = c.args.now; moved = c.args.now; progress = Busy; connection = c.new.result };
-  is_new = record { token_is = refl; came = refl; moved = refl; progress = refl; connection = c.new.ensures };
+  added = record { token = c.args.token; came = c.args.now; last_sent = c.args.now; progress = Busy; connection = c.new.result };
+  is_new = record { token_is = refl; came = refl; last_sent = refl; progress = refl; connection = c.new.ensures };
   list = search rules;
 }
