@@ -1,15 +1,23 @@
 //! The sockets over `mio`.
 use crate::connection::{Connection, is_bounded};
 use crate::system::System;
+use event_log::LogEvent;
 use mio::net::TcpStream;
 use mio::{Interest, Token};
-use rtr_daemon::{AcceptResult, PollToken, Ready, Sockets, Time, WaitLimits};
+use rtr_daemon::{AcceptResult, EventLog, PollToken, Ready, Sockets, Time, WaitLimits};
 use status_server::{HttpAccept, HttpReady, HttpSockets};
+use std::fs;
 use std::io::{self, ErrorKind, Write};
 use std::net::SocketAddr;
+use std::rt::Files;
 use std::time::{Clock, Duration};
 
-impl<'a, R: Clock + AllocGlobal, E: Write> Sockets<Connection> for System<'a, R, E> {
+/// The system's tables of TCP connections (proc(5)).
+const TCP_TABLE: &str = "/proc/self/net/tcp";
+
+const TCP6_TABLE: &str = "/proc/self/net/tcp6";
+
+impl<'a, R: Files + Clock + AllocGlobal, E: Write> Sockets<Connection> for System<'a, R, E> {
     fn wait(&mut self, millis: u64) -> io::Result<()> {
         let now = self.millis();
         let limits = WaitLimits {
@@ -45,11 +53,34 @@ impl<'a, R: Clock + AllocGlobal, E: Write> Sockets<Connection> for System<'a, R,
             Err(error) => AcceptResult::refused(error),
         }
     }
+
+    /// A system without IPv6 has no table of it.
+    fn connections(&mut self) -> io::Result<Vec<u8>> {
+        let mut table = fs::read(self.rt, TCP_TABLE)?;
+        match fs::read(self.rt, TCP6_TABLE) {
+            Ok(more) => table.extend_from_slice(more.as_slice())?,
+            // A system without IPv6 has no such file.
+            Err(error) if error.kind() == ErrorKind::NotFound => {}
+            Err(error) => return Err(error),
+        }
+        Ok(table)
+    }
 }
 
-impl<'a, R, E> HttpSockets<TcpStream> for System<'a, R, E> {
+impl<'a, R: Clock + AllocGlobal, E: Write> HttpSockets<TcpStream> for System<'a, R, E> {
     fn next(&mut self) -> Option<HttpReady> {
         self.http_ready.pop_front()
+    }
+
+    fn turn_away(&mut self, stream: TcpStream, connections: u64) {
+        if let Ok(address) = stream.peer_addr() {
+            let now = self.seconds();
+            let event = LogEvent::StatusFull {
+                address: SocketAddr::new(address.ip().to_canonical(), address.port()),
+                clients: connections,
+            };
+            self.log(now, &event);
+        }
     }
 
     fn accept(&mut self) -> HttpAccept<TcpStream> {
@@ -57,9 +88,15 @@ impl<'a, R, E> HttpSockets<TcpStream> for System<'a, R, E> {
             return HttpAccept::WouldBlock;
         };
         match listener.accept() {
-            Ok((stream, _address)) => self.register_http(stream),
+            Ok((stream, _address)) => {
+                self.is_http_failure_reported = false;
+                self.register_http(stream)
+            }
             Err(e) if e.kind() == ErrorKind::WouldBlock => HttpAccept::WouldBlock,
-            Err(_) => HttpAccept::Failed,
+            Err(error) => {
+                self.note_http_failure(&error);
+                HttpAccept::Failed
+            }
         }
     }
 }
@@ -68,6 +105,27 @@ impl<'a, R, E> System<'a, R, E> {
     /// Limits the next waits to this many milliseconds.
     pub fn wait_at_most(&mut self, millis: u64) {
         self.wait_limit = millis;
+    }
+
+    /// Reports an accept that failed at the listener of the status pages, once until a connection is accepted there.
+    fn note_http_failure(&mut self, error: &io::Error)
+    where
+        R: Clock + AllocGlobal,
+        E: Write,
+    {
+        if self.is_http_failure_reported {
+            return;
+        }
+        self.is_http_failure_reported = true;
+        let now = self.seconds();
+        let what = "accept for the status pages";
+        match error.to_string(self.rt.alloc()) {
+            Ok(reason) => {
+                let reason = reason.as_str();
+                self.log(now, &LogEvent::Failed { what, reason });
+            }
+            Err(_) => self.log(now, &LogEvent::Memory { what }),
+        }
     }
 
     /// Registers a stream under a poll token, and answers whether that succeeded.
@@ -97,6 +155,9 @@ impl<'a, R, E> System<'a, R, E> {
         stream: TcpStream,
         address: SocketAddr,
     ) -> AcceptResult<Connection> {
+        let Ok(local) = stream.local_addr() else {
+            return AcceptResult::Again;
+        };
         let Some(mut connection) = Connection::of(stream) else {
             return AcceptResult::Again;
         };
@@ -109,6 +170,7 @@ impl<'a, R, E> System<'a, R, E> {
             stream: connection,
             token,
             address: SocketAddr::new(address.ip().to_canonical(), address.port()),
+            local,
         }
     }
 }

@@ -50,6 +50,8 @@ pub struct System<'a, R, E> {
     pub(crate) listeners: Vec<TcpListener>,
     /// The listener of the status pages, if there is one.
     pub(crate) http_listener: Option<TcpListener>,
+    /// Whether a failure to accept there was reported since a connection was accepted last.
+    pub(crate) is_http_failure_reported: bool,
     pub(crate) next_token: usize,
     pub(crate) next_http_token: usize,
     /// The longest next wait that the status pages allow, in milliseconds.
@@ -90,6 +92,7 @@ impl<'a, R: Files + Net + Clock + AllocGlobal, E: Write> System<'a, R, E> {
             http_ready: VecDeque::with_capacity(rt.alloc(), EVENTS)?,
             listeners: Vec::new(rt.alloc()),
             http_listener: None,
+            is_http_failure_reported: false,
             next_token: FIRST_CONNECTION,
             next_http_token: FIRST_STATUS_CONNECTION,
             wait_limit: u64::MAX,

@@ -38,6 +38,13 @@ impl Settings {
         u64::from(self.stall) * 1000
     }
 
+    /// How long an answer may last until it has left, in milliseconds.
+    pub fn slow_millis(&self) -> u64
+        ensures { result ≡ millis_of self.now.slow }
+    {
+        u64::from(self.slow) * 1000
+    }
+
     /// The warning that routers may be notified too often, if they may.
     pub fn notify_warning(&self) -> Option<&'static str>
         ensures { option_copied result ≡ notify_warning self.now.check }

@@ -172,8 +172,20 @@ pub(crate) static GROUPS: [OptionGroup; 7] = [
                 value: "SECONDS",
                 help: &[
                     "A router that has accepted no byte for this long, although data are",
-                    "pending for it, is disconnected. The number is from 1 to 4294967295; the",
-                    "default is 120.",
+                    "pending for it, is disconnected. So is one whose host has vanished: it has",
+                    "acknowledged no byte of a notify for this long. The number is from 1 to",
+                    "4294967295; the default is 120.",
+                ],
+            },
+            OptionSpec {
+                name: "slow",
+                letter: None,
+                kind: OptionKind::Number,
+                value: "SECONDS",
+                help: &[
+                    "A router that has not accepted the whole answer to a query by this long",
+                    "after the query is disconnected. Each query has its own time. The number",
+                    "is from 60 to 86400; the default is 3600.",
                 ],
             },
         ],

@@ -43,6 +43,8 @@ pub struct Settings {
     pub clients_per_address: Option<u64>,
     /// After how many seconds a client that is blocked on writing is closed.
     pub stall: u32,
+    /// After how many seconds a client is closed whose answer has not left.
+    pub slow: u32,
     /// The address of the status pages, if there are any.
     pub status: Option<SocketAddr>,
     /// The name by which clients call the status pages, if they may call them by one.
@@ -67,6 +69,8 @@ pub struct Settings {
     ghost serves: { 1 ≤ clients },
     ghost serves_to: { clients ≤ 4294967295 },
     ghost waits: { 1 ≤ stall },
+    ghost slow_from: { 60 ≤ slow },
+    ghost slow_to: { slow ≤ 86400 },
     ghost names: { IsSome status_name → IsSome status },
     ghost ages: { stop_when_old ≡ true → IsSome max_age },
     ghost ages_within: { is_within 1 4294967295 max_age ≡ true },

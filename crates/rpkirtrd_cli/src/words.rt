@@ -186,6 +186,7 @@ fn settings(alloc: Global, found: &ArgMatches<'_>) -> Result<Settings, OptionFau
         clients: number_or(alloc, found, "clients", 1, 4_294_967_295, 256)? as usize,
         clients_per_address: number(alloc, found, "clients-per-address", 1, 4_294_967_295)?,
         stall: number_or(alloc, found, "stall", 1, 4_294_967_295, 120)?,
+        slow: number_or(alloc, found, "slow", 60, 86_400, 3600)?,
         status: address,
         status_name: name,
         log: log_format(alloc, found, "log")?,

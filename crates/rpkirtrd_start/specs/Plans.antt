@@ -10,6 +10,7 @@ plan_of s clients =
     record {
       check = millis_of s.check;
       stall = millis_of s.stall;
+      slow = millis_of s.slow;
       clients_per_address = s.clients_per_address;
       leaves_out_length_0 = s.leave_out_length_0;
       max_age = s.max_age;

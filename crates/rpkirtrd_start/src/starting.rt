@@ -105,6 +105,7 @@ fn plan_of(settings: &Settings, clients: usize) -> Plan
     Plan {
         check: settings.check_millis(),
         stall: settings.stall_millis(),
+        slow: settings.slow_millis(),
         clients_per_address: settings.clients_per_address,
         leaves_out_length_0: settings.leave_out_length_0,
         max_age: settings.max_age,

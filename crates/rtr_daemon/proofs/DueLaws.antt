@@ -1,13 +1,14 @@
 -- The parts of a turn, and what it does by the clock.
 use Rattle.std.proofs.Common.{◌≡◌, ℕ, ◌≤◌, ◌<◌, ◌⊎◌, inl, inr, subst, sym, ◌∙◌, ap, refl, arith}
-use Rattle.std.specs.Prelude.{false, IfErr, IfOk, Option, None, Some, Result, Ok, Err}
+use Rattle.std.specs.Prelude.{false, max, IfErr, IfOk, Option, None, Some, Result, Ok, Err}
 use Rattle.rtr_daemon.specs.declared.service.PublishReport.{PublishReport}
 use Rattle.rtr_daemon.specs.declared.refusal.Refusal.{Refusal}
 use Rattle.rtr_daemon.specs.declared.statistics.Failure.{Failure}
 use Rattle.session_names.specs.Runs.{may_publish}
 use Rattle.rtr_daemon.specs.Files.{FollowsEach, FollowsSlurms, names_of, paths_of}
 use Rattle.rtr_daemon.specs.DiskAnswers.{DiskAnswers}
-use Rattle.rtr_daemon.specs.Due.{DoesWhatIsDue, FailsToPublish, FailureNoted, IsBetween, IsChecked, IsKept, JudgesAges, KeepsFiles, OnlyClients, OnlyFiles, OnlyNotes, PollsAll, PublishesIfDue, SamePaths, WakesIfPublished, later_by, second_of_pace}
+use Rattle.rtr_daemon.specs.Due.{DoesWhatIsDue, FailsToPublish, FailureNoted, IsBetween, IsChecked, IsKept, JudgesAges, KeepsFiles, NextAfter, NextPoll, OnlyClients, OnlyFiles, OnlyNotes, PollsAll, PublishesIfDue, SamePaths, WakesIfPublished, later_by, second_of_pace}
+use Rattle.rtr_daemon.specs.Overdue.{LeavesNoneOverdue}
 use Rattle.rtr_daemon.specs.PointOffers.{OffersEach, points_of}
 use Rattle.rtr_daemon.specs.Queue.{WakesIfNew}
 use Rattle.rtr_daemon.specs.Serving.{IsFresh, IsOfSecond, IsReason, OnlySources, PacesSo, StaysFresh}
@@ -19,7 +20,7 @@ use Rattle.rtr_daemon.specs.declared.service.Service.{Service}
 
 -- old with the clients of new
 abbrev pub with_clients : {S T : Type 0} → Daemon S T → Daemon S T → Daemon S T
-with_clients old new = record old { service = record old.service { server = new.service.server }; clients = new.clients; listeners = new.listeners; statistics = new.statistics; has_parted = new.has_parted }
+with_clients old new = record old { service = record old.service { server = new.service.server }; clients = new.clients; listeners = new.listeners; readings = new.readings; statistics = new.statistics; has_parted = new.has_parted }
 
 -- One part after another changes only clients.
 pub only_on : {S T : Type 0} (a b c : Daemon S T) → OnlyClients a b → OnlyClients b c → OnlyClients a c
@@ -46,6 +47,18 @@ publishes_from clock ticks held a b c pace started opened (inr (inr waits)) = in
   by (inl early) = inl early
   by (inr same) = inr (rw (sym pace, sym started, sym opened) same)
 
+-- When files are polled next depends on the pace before, on the settings, and on when the daemon was opened.
+pub next_from : {S T : Type 0} (ticks : ℕ → Type 0) (time : ℕ) (a b c : Daemon S T) → b.service.pace ≡ a.service.pace → b.plan ≡ a.plan → b.started ≡ a.started → b.opened ≡ a.opened → NextPoll ticks time b c → NextPoll ticks time a c
+next_from ticks time a b c pace plan started opened (inl same) = inl (same.0 ∙ pace, same.1)
+next_from ticks time a b c pace plan started opened (inr p) = inr (record {
+  began = p.began;
+  ticked = p.ticked;
+  paced = subst (λ second. c.service.pace ≡ Some (second_of_pace second a.opened p.began)) started (subst (λ millis. c.service.pace ≡ Some (second_of_pace b.started millis p.began)) opened p.paced);
+  ended = p.ended;
+  answered = p.answered;
+  next_check = subst (λ settings. c.next_check ≡ later_by settings.check (max p.ended p.began)) plan p.next_check;
+})
+
 -- That clients are woken depends on the pace before alone.
 pub wakes_from : {S T : Type 0} (a b c : Daemon S T) → b.service.pace ≡ a.service.pace → WakesIfPublished b c → WakesIfPublished a c
 wakes_from a b c pace (inl same) = inl (same ∙ pace)
@@ -59,6 +72,15 @@ woken_by {S} {T} a new s second (Ok report) paced wakes only = by report.publish
   by (New serial) paced wakes = inr wakes.each
   by Unchanged paced wakes = inl (ap (λ d. d.service.pace) only ∙ paced)
 
+-- A publication was tried: no version is new, or the next poll is one interval later.
+pub postponed_by : {S T : Type 0} (ticks : ℕ → Type 0) (a new : Daemon S T) (s : Service S T) (began second : ℕ) (tried : Result PublishReport Refusal) → ticks began → second ≡ second_of_pace a.started a.opened began → PacesSo (Some tried) second a.service.pace s.pace
+    → IfOk tried (λ report. NextAfter ticks began report.published (record a { service = s }) new) → IfErr tried (λ refusal. new.next_check ≡ a.next_check) → OnlyNotes (record a { service = s }) new → NextPoll ticks a.next_check a new
+postponed_by ticks a new s began second (Err refusal) ticked is paced later same only = inl (ap (λ d. d.service.pace) only ∙ paced, same)
+postponed_by {S} {T} ticks a new s began second (Ok report) ticked is paced later same only = by report.published paced later where
+  by : (published : Published) → IsOfSecond published second a.service.pace s.pace → NextAfter ticks began published (record a { service = s }) new → NextPoll ticks a.next_check a new
+  by (New serial) paced after = inr (record { began = began; ticked = ticked; paced = ap (λ d. d.service.pace) only ∙ paced ∙ ap (λ n. Some n) is; ended = after.0; answered = after.1; next_check = after.2 })
+  by Unchanged paced after = inl (ap (λ d. d.service.pace) only ∙ paced, after)
+
 polls_to : {S T W : Type 0} (answers : DiskAnswers W) (clock : ℕ → Type 0) (a b c : Daemon S T) → c.service.sources ≡ b.service.sources → PollsAll answers clock a b → PollsAll answers clock a c
 polls_to answers clock a b c same p = record { followed = p.followed; excepted = p.excepted; exports = p.exports; slurms = p.slurms; points = subst (OffersEach answers clock a.points.items p.excepted) (sym same) p.points }
 
@@ -69,6 +91,8 @@ pub record Round {S T : Type 0} (clock ticks : ℕ → Type 0) (now : ℕ) (c d 
   pub round : c.next_round ≤ now → d.next_round ≡ later_by 1000 now
   pub early : now < c.next_round → d.next_round ≡ c.next_round
   pub kept : KeepsFiles c d
+  pub next : NextPoll ticks c.next_check c d
+  pub overdue : c.next_round ≤ now → LeavesNoneOverdue ticks c.plan d.clients
   pub wakes : WakesIfPublished c d
 
 -- What is due: a check, clients, and a round of publication.
@@ -85,8 +109,11 @@ due_of {S} {T} answers clock ticks now a b c d ticked polls fresh paths checked 
       publishes =
           publishes_from clock ticks now a (with_clients b c) d checked.pace checked.rest.1 checked.rest.2
           (subst (λ held. PublishesIfDue clock ticks held (with_clients b c) d) (checked.held_until is) (r.due (early_enough is)));
-      next_check = r.kept.next_check ∙ checked.next_check is;
+      next_poll =
+          next_from ticks (later_by a.plan.check now) a (with_clients b c) d checked.pace checked.rest.0 checked.rest.1 checked.rest.2
+          (subst (λ time. NextPoll ticks time (with_clients b c) d) (checked.next_check is) r.next);
       next_round = r.round (early_enough is);
+      overdue = subst (λ plan. LeavesNoneOverdue ticks plan d.clients) checked.rest.0 (r.overdue (early_enough is));
       paths = record {
         exports = ap (λ e. names_of e.items) r.kept.exports ∙ paths.exports;
         slurms = ap (λ e. paths_of e.items) r.kept.slurms ∙ paths.slurms;
@@ -104,9 +131,11 @@ due_of {S} {T} answers clock ticks now a b c d ticked polls fresh paths checked 
     between_of same = again (subst (λ z. Round clock ticks now (with_clients z c) d) same r) where
       again : Round clock ticks now (with_clients a c) d → IsBetween clock ticks now a d
       again s = record {
-        kept = record { sources = s.kept.sources; exports = s.kept.exports; slurms = s.kept.slurms; points = s.kept.points; next_check = s.kept.next_check; rest = s.kept.rest };
+        kept = record { sources = s.kept.sources; exports = s.kept.exports; slurms = s.kept.slurms; points = s.kept.points; rest = s.kept.rest };
+        next_poll = next_from ticks a.next_check a (with_clients a c) d refl refl refl refl s.next;
         publishes = λ is. publishes_from clock ticks a.held_until a (with_clients a c) d refl refl refl (s.due is);
         next_round = s.round;
+        overdue = s.overdue;
         early = s.early;
       }
 
@@ -121,14 +150,17 @@ due_after {S} {T} answers clock ticks a b c only h = again (subst (λ z. DoesWha
       polls = record { followed = p.polls.followed; excepted = p.polls.excepted; exports = p.polls.exports; slurms = p.polls.slurms; points = p.polls.points };
       fresh = p.fresh;
       publishes = publishes_from clock ticks d.now a (with_clients a b) c refl refl refl p.publishes;
-      next_check = p.next_check;
+      next_poll = next_from ticks (later_by a.plan.check d.now) a (with_clients a b) c refl refl refl refl p.next_poll;
       next_round = p.next_round;
+      overdue = p.overdue;
       paths = record { exports = p.paths.exports; slurms = p.paths.slurms; points = p.paths.points };
     };
     between = λ is. let p = d.between is in record {
-      kept = record { sources = p.kept.sources; exports = p.kept.exports; slurms = p.kept.slurms; points = p.kept.points; next_check = p.kept.next_check; rest = p.kept.rest };
+      kept = record { sources = p.kept.sources; exports = p.kept.exports; slurms = p.kept.slurms; points = p.kept.points; rest = p.kept.rest };
+      next_poll = next_from ticks a.next_check a (with_clients a b) c refl refl refl refl p.next_poll;
       publishes = λ due. publishes_from clock ticks a.held_until a (with_clients a b) c refl refl refl (p.publishes due);
       next_round = p.next_round;
+      overdue = p.overdue;
       early = p.early;
     };
     wakes = wakes_from a (with_clients a b) c refl d.wakes;
@@ -224,7 +256,6 @@ published_kept a new s same only = record {
   exports = ap (λ d. d.exports) only;
   slurms = ap (λ d. d.slurms) only;
   points = ap (λ d. d.points) only;
-  next_check = ap (λ d. d.next_check) only;
   rest = (ap (λ d. d.plan) only, ap (λ d. d.started) only, ap (λ d. d.opened) only);
 }
 
@@ -246,7 +277,7 @@ clients_fresh clock a b only fresh = subst (λ z. IsFresh clock z.service) (sym 
 pub clients_kept : {S T : Type 0} (a b c : Daemon S T) → OnlyClients a b → KeepsFiles b c → KeepsFiles a c
 clients_kept a b c only kept = again (subst (λ z. KeepsFiles z c) only kept) where
   again : KeepsFiles (with_clients a b) c → KeepsFiles a c
-  again k = record { sources = k.sources; exports = k.exports; slurms = k.slurms; points = k.points; next_check = k.next_check; rest = k.rest }
+  again k = record { sources = k.sources; exports = k.exports; slurms = k.slurms; points = k.points; rest = k.rest }
 
 -- A poll, when the next one was noted, and what has expired
 pub polled_then : {S T W : Type 0} (answers : DiskAnswers W) (clock : ℕ → Type 0) (a b c d : Daemon S T) → b ≡ record a { next_check = b.next_check; next_round = b.next_round; held_until = b.held_until } → PollsAll answers clock b c → d.service.sources ≡ c.service.sources → PollsAll answers clock a d

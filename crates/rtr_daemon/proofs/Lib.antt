@@ -2,10 +2,10 @@ pub mod ContentLaws
 pub mod DueLaws
 pub mod Expiry
 pub mod OriginLaws
+pub mod OverdueLaws
 pub mod PacingLaws
 pub mod QueueLaws
 pub mod Reasons
 pub mod ServiceLaws
-pub mod StallLaws
 pub mod StateLaws
 pub mod WakeLaws

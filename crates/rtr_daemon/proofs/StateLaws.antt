@@ -1,6 +1,6 @@
 -- The state was judged, after what is due was done: only which reasons were logged has changed.
-use Rattle.std.proofs.Common.{◌≡◌, ℕ, ◌⊎◌, inl, inr, subst, sym, ap}
-use Rattle.rtr_daemon.specs.Due.{FailsToPublish, KeepsFiles, PublishesIfDue, WakesIfPublished}
+use Rattle.std.proofs.Common.{◌≡◌, ℕ, inl, inr, subst, sym}
+use Rattle.rtr_daemon.specs.Due.{KeepsFiles, NextPoll, PublishesIfDue, WakesIfPublished}
 use Rattle.rtr_daemon.specs.declared.daemon.Daemon.{Daemon}
 use Rattle.rtr_daemon.specs.declared.unwell.UnwellReasons.{UnwellReasons}
 
@@ -22,4 +22,10 @@ judged_wakes {S} {T} a b c same wakes = subst (WakesIfPublished a) (sym same) (o
   on (inr woke) = inr woke
 
 pub judged_kept : {S T : Type 0} (a b c : Daemon S T) → c ≡ with_unwell b c.unwell → KeepsFiles a b → KeepsFiles a c
-judged_kept {S} {T} a b c same k = subst (KeepsFiles a) (sym same) (record { sources = k.sources; exports = k.exports; slurms = k.slurms; points = k.points; next_check = k.next_check; rest = k.rest })
+judged_kept {S} {T} a b c same k = subst (KeepsFiles a) (sym same) (record { sources = k.sources; exports = k.exports; slurms = k.slurms; points = k.points; rest = k.rest })
+
+pub judged_next : {S T : Type 0} (ticks : ℕ → Type 0) (time : ℕ) (a b c : Daemon S T) → c ≡ with_unwell b c.unwell → NextPoll ticks time a b → NextPoll ticks time a c
+judged_next {S} {T} ticks time a b c same next = subst (NextPoll ticks time a) (sym same) (on next) where
+  on : NextPoll ticks time a b → NextPoll ticks time a (with_unwell b c.unwell)
+  on (inl kept) = inl kept
+  on (inr p) = inr (record { began = p.began; ticked = p.ticked; paced = p.paced; ended = p.ended; answered = p.answered; next_check = p.next_check })

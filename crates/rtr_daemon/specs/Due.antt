@@ -1,12 +1,15 @@
 -- What a turn does that is due by the clock. Times are milliseconds of the monotonic clock.
-use Rattle.std.specs.Prelude.{◌≡◌, ◌⊎◌, ◌<◌, ◌≤◌, ◌+◌, ◌-◌, ◌/◌, ℕ, min, true, false, [], Option, None, Some}
+use Rattle.std.specs.Prelude.{◌≡◌, ◌⊎◌, ◌<◌, ◌≤◌, ◌+◌, ◌-◌, ◌/◌, ℕ, max, min, true, false, [], Option, None, Some}
 use Rattle.session_names.specs.Runs.{may_publish}
 use Rattle.sources.specs.declared.sources.Sources.{Sources}
 use Rattle.rtr_daemon.specs.DiskAnswers.{DiskAnswers}
 use Rattle.rtr_daemon.specs.Files.{FollowsEach, FollowsSlurms, names_of, paths_of}
+use Rattle.rtr_daemon.specs.Overdue.{LeavesNoneOverdue}
 use Rattle.rtr_daemon.specs.PointOffers.{OffersEach, points_of}
 use Rattle.rtr_daemon.specs.Queue.{AreQueued}
 use Rattle.rtr_daemon.specs.Serving.{IsFresh, IsReason}
+use Rattle.vrps.specs.declared.store.Published.{Published}
+use Rattle.vrps.specs.declared.store.Published.TheVariants.{New, Unchanged}
 use Rattle.rtr_daemon.specs.declared.daemon.Daemon.{Daemon}
 use Rattle.rtr_daemon.specs.declared.refusal.Refusal.{Refusal}
 use Rattle.rtr_daemon.specs.declared.statistics.Failure.{Failure}
@@ -14,7 +17,7 @@ use Rattle.rtr_daemon.specs.declared.statistics.Failure.{Failure}
 -- Only clients and listeners have changed, and what is counted of them.
 abbrev pub OnlyClients : {S T : Type 0} → Daemon S T → Daemon S T → Type 0
 OnlyClients old new =
-    new ≡ record old { service = record old.service { server = new.service.server }; clients = new.clients; listeners = new.listeners; statistics = new.statistics; has_parted = new.has_parted }
+    new ≡ record old { service = record old.service { server = new.service.server }; clients = new.clients; listeners = new.listeners; readings = new.readings; statistics = new.statistics; has_parted = new.has_parted }
 
 -- Only what was read of the files has changed, and what is noted of them.
 abbrev pub OnlyFiles : {S T : Type 0} → Daemon S T → Daemon S T → Type 0
@@ -32,7 +35,7 @@ OnlyFiles old new =
 
 -- Only what is noted of a publication has changed.
 abbrev pub OnlyNotes : {S T : Type 0} → Daemon S T → Daemon S T → Type 0
-OnlyNotes old new = new ≡ record old { statistics = new.statistics; clients = new.clients; is_ready = new.is_ready; held_until = new.held_until }
+OnlyNotes old new = new ≡ record old { statistics = new.statistics; clients = new.clients; is_ready = new.is_ready; next_check = new.next_check; held_until = new.held_until }
 
 -- The reason of a failure is kept.
 abbrev pub IsKept : Refusal → Option Failure → Type 0
@@ -59,13 +62,12 @@ pub record JudgesExpiry {S T : Type 0} (old new : Daemon S T) : Type 0 where
         exports = new.exports;
       }
 
--- The sources are unchanged, the paths too, and when files are polled next.
+-- The sources are unchanged, and the paths too.
 pub record KeepsFiles {S T : Type 0} (old new : Daemon S T) : Type 0 where
   pub sources : new.service.sources ≡ old.service.sources
   pub exports : new.exports ≡ old.exports
   pub slurms : new.slurms ≡ old.slurms
   pub points : new.points ≡ old.points
-  pub next_check : new.next_check ≡ old.next_check
   pub rest : (new.plan ≡ old.plan) × (new.started ≡ old.started) × (new.opened ≡ old.opened)
 
 -- a time that is later by so much, in 64 bits
@@ -75,6 +77,26 @@ later_by span millis = min (millis + span) 18446744073709551615
 -- The second of the pace at a time: the second of the start, and the seconds since, in 64 bits.
 abbrev pub second_of_pace : ℕ → ℕ → ℕ → ℕ
 second_of_pace started opened millis = min (started + (millis - opened) / 1000) 18446744073709551615
+
+-- When files are polled next after a publication that began at a time: if a version is new, one interval after that time, or after another one that
+-- the clock answered, if that is later.
+abbrev pub NextAfter : {S T : Type 0} → (ℕ → Type 0) → ℕ → Published → Daemon S T → Daemon S T → Type 0
+NextAfter ticks began (New serial) old new = (ended : ℕ) × ticks ended × (new.next_check ≡ later_by old.plan.check (max ended began))
+NextAfter ticks began Unchanged old new = new.next_check ≡ old.next_check
+
+-- A version was published at a time that the clock answered. The next poll of the files is one interval later than that, or than another time that
+-- the clock answered, if that is later (RFC 8210 section 8.2).
+pub record Postpones {S T : Type 0} (ticks : ℕ → Type 0) (old new : Daemon S T) : Type 0 where
+  pub began : ℕ
+  pub ticked : ticks began
+  pub paced : new.service.pace ≡ Some (second_of_pace old.started old.opened began)
+  pub ended : ℕ
+  pub answered : ticks ended
+  pub next_check : new.next_check ≡ later_by old.plan.check (max ended began)
+
+-- When files are polled next: at this time, or one interval after a version that was published.
+abbrev pub NextPoll : {S T : Type 0} → (ℕ → Type 0) → ℕ → Daemon S T → Daemon S T → Type 0
+NextPoll ticks time old new = ((new.service.pace ≡ old.service.pace) × (new.next_check ≡ time)) ⊎ Postpones ticks old new
 
 -- This time is not after the next poll of the files. If a version is pending and is not held back, it is not after the next round.
 pub record IsInTime {S T : Type 0} (d : Daemon S T) (millis time : ℕ) : Type 0 where
@@ -134,20 +156,23 @@ pub record IsChecked {S T : Type 0} (now : ℕ) (old new : Daemon S T) : Type 0 
   pub between : now < old.next_check → new ≡ old
 
 -- The files are polled. Then a version is pending, or the newest one is the set of the sources at a second of this poll. A pending version is
--- published. The next poll is one interval later.
+-- published. The next poll is one interval later, or one interval after a new version. No client is left that is overdue.
 pub record Polls {S T W : Type 0} (answers : DiskAnswers W) (clock ticks : ℕ → Type 0) (now : ℕ) (old new : Daemon S T) : Type 0 where
   pub polls : PollsAll answers clock old new
   pub fresh : IsFresh clock new.service
   pub publishes : PublishesIfDue clock ticks now old new
-  pub next_check : new.next_check ≡ later_by old.plan.check now
+  pub next_poll : NextPoll ticks (later_by old.plan.check now) old new
   pub next_round : new.next_round ≡ later_by 1000 now
+  pub overdue : LeavesNoneOverdue ticks old.plan new.clients
   pub paths : SamePaths old new
 
--- No file is polled. A pending version is published if it is time for that, which is each second.
+-- No file is polled. Each second a pending version is published, and the clients that are overdue are closed.
 pub record IsBetween {S T : Type 0} (clock ticks : ℕ → Type 0) (now : ℕ) (old new : Daemon S T) : Type 0 where
   pub kept : KeepsFiles old new
+  pub next_poll : NextPoll ticks old.next_check old new
   pub publishes : old.next_round ≤ now → PublishesIfDue clock ticks old.held_until old new
   pub next_round : old.next_round ≤ now → new.next_round ≡ later_by 1000 now
+  pub overdue : old.next_round ≤ now → LeavesNoneOverdue ticks old.plan new.clients
   pub early : now < old.next_round → new.next_round ≡ old.next_round
 
 -- What a turn does by the clock, at a time that the clock answered.

@@ -5,9 +5,9 @@ use Rattle.points.specs.InUse.{Points, accepted_at}
 use Rattle.points.specs.declared.file.FileIn.{FileIn}
 use Rattle.payload_commands.specs.Directories.{Supplies}
 use Rattle.payload_commands.specs.declared.directories.Directory.{Directory}
-use Rattle.slurm.specs.declared.filter.Slurm.{Slurm}
 use Rattle.sources.specs.Served.{AreUnited, IsNothing, IsTaken}
 use Rattle.sources.specs.declared.listed.Listed.{Listed}
+use Rattle.sources.specs.declared.slurms.AppliedSlurms.{AppliedSlurms}
 use Rattle.rtr_daemon.specs.DiskAnswers.{DiskAnswers, ReadsWhole}
 use Rattle.rtr_daemon.specs.Files.{AreContents, names_of, paths_of}
 use Rattle.rtr_daemon.specs.PointOffers.{points_of}
@@ -29,7 +29,7 @@ abbrev pub ExportsComeFrom : {W : Type 0} → DiskAnswers W → (ℕ → Type 0)
 ExportsComeFrom answers clock names lists = (i : ℕ) (l : Listed) → slice_get lists i ≡ Some l → IsNothing l ⊎ ((path : List ℕ) × Contains names (path, i) × ExportComesFrom answers clock path l)
 
 -- The local exceptions are what the files unite to that were read whole of these paths.
-abbrev pub ExceptionsComeFrom : {W : Type 0} → DiskAnswers W → List (List ℕ) → Option Slurm → Type 0
+abbrev pub ExceptionsComeFrom : {W : Type 0} → DiskAnswers W → List (List ℕ) → Option AppliedSlurms → Type 0
 ExceptionsComeFrom answers paths exceptions = (contents : List (List ℕ)) × AreContents answers paths contents × AreUnited contents exceptions
 
 -- What a publication point holds was offered by the directory of its name at one of these paths.

@@ -1,6 +1,6 @@
 -- The most VRPs that were served within the last 24 hours, and the routers that were turned away.
-use Rattle.std.specs.Prelude.{◌≡◌, ℕ, ◌+◌, ◌-◌, ◌^◌, min, Bool, true, false, nat_le, nat_lt, if◌then◌else◌, List, Option, None, Some}
-use Rattle.std.specs.List.{filter, fold}
+use Rattle.std.specs.Prelude.{ℕ, ◌+◌, ◌-◌, ◌^◌, min, Bool, nat_le, nat_lt, if◌then◌else◌, List, Option, None, Some}
+use Rattle.std.specs.List.{fold}
 use Rattle.status_pages.specs.declared.status.ClientLimit.{ClientLimit}
 use Rattle.status_pages.specs.declared.status.TurnedAway.{TurnedAway}
 use Rattle.status_pages.specs.declared.status.VrpPeak.{VrpPeak}

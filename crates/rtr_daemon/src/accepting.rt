@@ -3,6 +3,7 @@ ghost use Rattle.std.specs.Prelude.{◌≡◌, false};
 ghost use Rattle.rtr_daemon.specs.Due.{OnlyClients};
 ghost use Rattle.rtr_daemon.specs.Serving.{Continues};
 
+use crate::client_table::Ends;
 use crate::daemon::Daemon;
 use crate::environment::{AcceptResult, EventLog, Sockets, Time};
 use event_log::LogEvent;
@@ -10,7 +11,6 @@ use rtr_server::{AdmitFault, Stream};
 use status_pages::ClientLimit;
 use std::alloc::{AllocError, Global};
 use std::io;
-use std::net::SocketAddr;
 use vrps::VersionStore;
 
 /// How many connections are accepted from one listener in one turn.
@@ -144,9 +144,10 @@ impl<S: VersionStore, T: Stream + Drop> Daemon<S, T> {
                 stream,
                 token,
                 address,
+                local,
             } => {
                 self.listeners.is_reported = false;
-                self.admit(stream, token, address, env);
+                self.admit(stream, token, Ends { address, local }, env);
             }
             AcceptResult::WouldBlock => self.listeners.note(listener, false),
             AcceptResult::Again => {}
@@ -156,16 +157,11 @@ impl<S: VersionStore, T: Stream + Drop> Daemon<S, T> {
     }
 
     /// Admits a client, if its address is below its limit.
-    fn admit<W: Time + EventLog>(
-        &mut self,
-        stream: T,
-        token: usize,
-        address: SocketAddr,
-        env: &mut W,
-    )
+    fn admit<W: Time + EventLog>(&mut self, stream: T, token: usize, ends: Ends, env: &mut W)
         ensures goes { Continues S.holds T.remaining T.contents self.old.service self.new.service }
         ensures rest { OnlyClients self.old self.new }
     {
+        let address = ends.address;
         let clients = self.clients.of_address(address);
         match self.plan.clients_per_address {
             Some(most) if clients >= most => {
@@ -174,22 +170,17 @@ impl<S: VersionStore, T: Stream + Drop> Daemon<S, T> {
                     .count_refused_client(ClientLimit::OfAddress, now);
                 env.log(now, &LogEvent::AddressFull { address, clients });
             }
-            _ => self.admit_within(stream, token, address, env),
+            _ => self.admit_within(stream, token, ends, env),
         }
     }
 
     /// Admits a client whose address is below its limit.
-    fn admit_within<W: Time + EventLog>(
-        &mut self,
-        stream: T,
-        token: usize,
-        address: SocketAddr,
-        env: &mut W,
-    )
+    fn admit_within<W: Time + EventLog>(&mut self, stream: T, token: usize, ends: Ends, env: &mut W)
         ensures goes { Continues S.holds T.remaining T.contents self.old.service self.new.service }
         ensures rest { OnlyClients self.old self.new }
     {
         let now = env.seconds();
+        let address = ends.address;
         match self.service.admit(stream) {
             Err(AdmitFault::TooManyClients) => {
                 self.statistics.count_refused_client(ClientLimit::All, now);
@@ -198,11 +189,7 @@ impl<S: VersionStore, T: Stream + Drop> Daemon<S, T> {
             }
             Err(AdmitFault::Memory) => env.log(now, &LogEvent::Memory { what: "a client" }),
             Ok(client) => {
-                if self
-                    .clients
-                    .add(token, client, address, env.millis())
-                    .is_err()
-                {
+                if self.clients.add(token, client, ends, env.millis()).is_err() {
                     self.service.drop_client(client);
                     env.log(now, &LogEvent::Memory { what: "a client" });
                 } else {

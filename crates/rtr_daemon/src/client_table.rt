@@ -3,22 +3,53 @@ ghost use Rattle.std.specs.Prelude.{◌≡◌, [], ◌+◌, ◌≤◌, ◌↔◌
 ghost use Rattle.std.specs.VecDeque.{deque_capacity, deque_len};
 ghost use Rattle.rtr_daemon.specs.Notes.{AreNoted, unqueued};
 
+use crate::outstanding::{Outstanding, outstanding_after};
 use rtr_server::{ByteCounts, Client, Turn};
 use std::alloc::{AllocError, Global};
 use std::collections::btree_map::Values;
 use std::collections::{BTreeMap, VecDeque};
 use std::net::{IpAddr, SocketAddr};
 use std::ops::Bound;
+use tcp_table::{Endpoint, TcpLine, Unanswered, bytes_of, is_lost, unanswered_after};
+
+/// The addresses of both ends of a client's connection.
+#[derive(Clone, Copy)]
+pub(crate) struct Ends {
+    pub(crate) address: SocketAddr,
+    pub(crate) local: SocketAddr,
+}
+
+/// What a client's turn came to: its outcome, and what was counted of the client since it came.
+#[derive(Clone, Copy)]
+pub(crate) struct TurnOutcome {
+    pub(crate) turn: Turn,
+    pub(crate) carried: ByteCounts,
+    /// How many queries came whole from it.
+    pub(crate) queries: u64,
+    /// How many answers were written whole to it.
+    pub(crate) answers: u64,
+    /// How many Serial Notifies were written whole to it.
+    pub(crate) notifies: u64,
+}
 
 /// A client: its number at the server, its address, and how long its stream has been blocked.
 #[derive(Debug, Drop)]
 pub(crate) struct ClientEntry {
     pub(crate) client: Client,
     pub(crate) address: SocketAddr,
+    local: SocketAddr,
     /// When it connected, in milliseconds of the monotonic clock.
     pub(crate) came: u64,
     /// Since when no byte could be written to it, while bytes are due.
     blocked: Option<u64>,
+    /// The answer that has not left.
+    answering: Option<Outstanding>,
+    /// How many Serial Notifies were written to it.
+    notifies: u64,
+    /// Whether it was notified, and has sent nothing since.
+    is_notified: bool,
+    /// The bytes to it that are sent again, as of the last readings, while it is notified.
+    unanswered: Option<Unanswered>,
     /// The bytes that were read and written when it was served last.
     pub(crate) carried: ByteCounts,
     is_queued: bool,
@@ -31,6 +62,8 @@ pub(crate) struct ClientTable {
     queue: VecDeque<usize>,
     /// How many clients are blocked on writing.
     blocked: usize,
+    /// How many clients were notified, and have sent nothing since.
+    notified: usize,
     /// The poll tokens of clients that may not have sent a query yet, and when they connected, in order. Some of them may be closed by now.
     newcomers: VecDeque<(usize, u64)>,
     /// How many clients each address has.
@@ -41,13 +74,15 @@ pub(crate) struct ClientTable {
 
 impl ClientTable {
     ghost use Rattle.rtr_daemon.specs.Queue.{IsFirstFrom, IsQueued, OtherClients, QueuesBehind, SameClients, TakesNext, WakesAll, client_at, known_at};
-    ghost use Rattle.rtr_daemon.specs.Stalling.{is_stalled_client};
+    ghost use Rattle.rtr_daemon.specs.Losing.{is_lost_client, lines_noted};
+    ghost use Rattle.rtr_daemon.specs.Overdue.{AnswerNoted, is_slow_client, is_stalled_client};
 
     pub(crate) fn new(alloc: Global) -> ClientTable {
         ClientTable {
             by_token: BTreeMap::new(alloc),
             queue: VecDeque::new(alloc),
             blocked: 0,
+            notified: 0,
             newcomers: VecDeque::new(alloc),
             by_address: BTreeMap::new(alloc),
         }
@@ -72,17 +107,23 @@ impl ClientTable {
         &mut self,
         token: usize,
         client: Client,
-        address: SocketAddr,
+        ends: Ends,
         now: u64,
     ) -> Result<(), AllocError> {
+        let Ends { address, local } = ends;
         self.queue.reserve(self.by_token.len().saturating_add(1))?;
         self.newcomers.reserve(1)?;
         self.count(address)?;
         let entry = ClientEntry {
             client,
             address,
+            local,
             came: now,
             blocked: None,
+            answering: None,
+            notifies: 0,
+            is_notified: false,
+            unanswered: None,
             carried: ByteCounts {
                 read: 0,
                 written: 0,
@@ -227,8 +268,9 @@ impl ClientTable {
     }
 
     /// Notes the outcome of a turn. A client is blocked from the last byte that was written to it.
-    pub(crate) fn note(&mut self, token: usize, turn: Turn, carried: ByteCounts, now: u64)
+    pub(crate) fn note(&mut self, token: usize, outcome: TurnOutcome, now: u64)
         ensures client { client_at self.new token ≡ client_at self.old token }
+        ensures answering { AnswerNoted outcome.queries outcome.answers now (known_at self.old token) (known_at self.new token) }
         ensures others { OtherClients token self.old self.new }
         ensures queue { self.new.queue ≡ self.old.queue }
     {
@@ -236,14 +278,12 @@ impl ClientTable {
             return;
         };
         let was_blocked = entry.blocked.is_some();
-        entry.blocked = blocked_since(entry, turn, carried, now);
-        entry.carried = carried;
-        if was_blocked {
-            self.blocked = self.blocked.saturating_sub(1);
-        }
-        if entry.blocked.is_some() {
-            self.blocked = self.blocked.saturating_add(1);
-        }
+        let was_notified = entry.is_notified;
+        entry.note(outcome, now);
+        let is_blocked = entry.blocked.is_some();
+        let is_notified = entry.is_notified;
+        self.blocked = counted(self.blocked, was_blocked, is_blocked);
+        self.notified = counted(self.notified, was_notified, is_notified);
     }
 
     /// All clients, by poll token.
@@ -263,11 +303,14 @@ impl ClientTable {
     pub(crate) fn remove(&mut self, token: usize) -> Option<ClientEntry>
         ensures clients { OtherClients token self.old self.new }
         ensures gone { known_at self.new token ≡ None }
+        ensures none { result ≡ None → known_at self.old token ≡ None }
         ensures queue { self.new.queue ≡ self.old.queue }
     {
         let entry = self.by_token.remove(&token)?;
         let was_blocked = if entry.blocked.is_some() { 1 } else { 0 };
         self.blocked = self.blocked.saturating_sub(was_blocked);
+        let was_notified = if entry.is_notified { 1 } else { 0 };
+        self.notified = self.notified.saturating_sub(was_notified);
         self.discount(entry.address);
         Some(entry)
     }
@@ -275,6 +318,33 @@ impl ClientTable {
     /// Whether some client is blocked on writing.
     pub(crate) fn has_blocked(&self) -> bool {
         self.blocked > 0
+    }
+
+    /// Whether some client was notified, and has sent nothing since.
+    pub(crate) fn has_notified(&self) -> bool {
+        self.notified > 0
+    }
+
+    /// Notes of the client of a poll token what these lines of the system's tables show, at this time, if it was notified and has sent nothing
+    /// since.
+    pub(crate) fn note_lines(&mut self, token: usize, lines: &[TcpLine], now: u64)
+        ensures noted { known_at self.new token ≡ option_map (lines_noted lines.now now) (known_at self.old token) }
+        ensures others { OtherClients token self.old self.new }
+        ensures queue { self.new.queue ≡ self.old.queue }
+    {
+        if let Some(entry) = self.by_token.get_mut(&token) {
+            entry.note_lines(lines, now);
+        }
+    }
+
+    /// Whether the client of a poll token is lost.
+    pub(crate) fn is_lost(&self, token: usize, now: u64, stall: u64) -> bool
+        ensures { result ≡ is_lost_client (known_at self.now token) now stall }
+    {
+        match self.by_token.get(&token) {
+            Some(entry) => is_lost(entry.unanswered, now, stall),
+            None => false,
+        }
     }
 
     /// Whether the client of a poll token has been blocked for this long.
@@ -286,10 +356,63 @@ impl ClientTable {
             None => false,
         }
     }
+
+    /// Whether an answer to the client of a poll token has been outstanding for this long.
+    pub(crate) fn is_slow(&self, token: usize, now: u64, slow: u64) -> bool
+        ensures { result ≡ is_slow_client (known_at self.now token) now slow }
+    {
+        match self.by_token.get(&token) {
+            Some(entry) => entry.is_slow(now, slow),
+            None => false,
+        }
+    }
 }
 
 impl ClientEntry {
-    ghost use Rattle.rtr_daemon.specs.Stalling.{is_stalled};
+    ghost use Rattle.rtr_daemon.specs.Losing.{lines_noted};
+    ghost use Rattle.rtr_daemon.specs.Overdue.{is_slow, is_stalled, outstanding_after, with_turn};
+    ghost use Rattle.tcp_table.specs.Columns.{endpoint_of};
+    ghost use Rattle.tcp_table.specs.Tables.{bytes_of};
+
+    /// Notes the outcome of a turn.
+    fn note(&mut self, outcome: TurnOutcome, now: u64)
+        ensures answering { self.new.answering ≡ outstanding_after self.old.answering outcome.queries outcome.answers now }
+        ensures rest { self.new ≡ with_turn self.old self.new }
+    {
+        let TurnOutcome {
+            turn,
+            carried,
+            queries,
+            answers,
+            notifies,
+        } = outcome;
+        self.blocked = blocked_since(self, turn, carried, now);
+        self.is_notified = is_notified_after(self, notifies, carried.read);
+        if !self.is_notified {
+            self.unanswered = None;
+        }
+        self.notifies = notifies;
+        self.carried = carried;
+        self.answering = outstanding_after(self.answering, queries, answers, now);
+    }
+
+    /// Notes what these lines of the system's tables show, if it was notified and has sent nothing since.
+    fn note_lines(&mut self, lines: &[TcpLine], now: u64)
+        ensures { self.new ≡ lines_noted lines.now now self.old }
+    {
+        if self.is_notified {
+            let bytes = self.bytes_in(lines);
+            self.unanswered = unanswered_after(self.unanswered, bytes, now);
+        }
+    }
+
+    /// How many bytes to it are sent again by these lines.
+    fn bytes_in(&self, lines: &[TcpLine]) -> Option<u32>
+        ensures { result ≡ bytes_of (endpoint_of self.now.local) (endpoint_of self.now.address) lines.now }
+    {
+        let (local, remote) = (Endpoint::of(self.local), Endpoint::of(self.address));
+        bytes_of(lines, &local, &remote)
+    }
 
     fn is_stalled(&self, now: u64, stall: u64) -> bool
         ensures { result ≡ is_stalled self.now.blocked now stall }
@@ -298,6 +421,24 @@ impl ClientEntry {
             Some(since) => now.saturating_sub(since) >= stall,
             None => false,
         }
+    }
+
+    fn is_slow(&self, now: u64, slow: u64) -> bool
+        ensures { result ≡ is_slow self.now.answering now slow }
+    {
+        match self.answering {
+            Some(answer) => now.saturating_sub(answer.since) >= slow,
+            None => false,
+        }
+    }
+}
+
+/// A count, after one of those that it counts was or is one.
+fn counted(count: usize, was: bool, is: bool) -> usize {
+    match (was, is) {
+        (true, false) => count.saturating_sub(1),
+        (false, true) => count.saturating_add(1),
+        _ => count,
     }
 }
 
@@ -310,4 +451,9 @@ fn blocked_since(entry: &ClientEntry, turn: Turn, carried: ByteCounts, now: u64)
         (Turn::WaitsToWrite, _) => Some(now),
         _ => None,
     }
+}
+
+/// Whether a client is notified, and has sent nothing since, after a turn: a notify more was written to it, or it was so before and no byte came.
+fn is_notified_after(entry: &ClientEntry, notifies: u64, read: u64) -> bool {
+    notifies > entry.notifies || (entry.is_notified && read == entry.carried.read)
 }

@@ -1,18 +1,22 @@
 //! Serving clients.
-ghost use Rattle.std.specs.Prelude.{◌≡◌, IfSome, None, false, true, ℕ};
+ghost use Rattle.std.specs.Prelude.{◌≡◌, ◌||◌, IfSome, None, false, is_some, true, ℕ};
 ghost use Rattle.rtr_daemon.specs.Due.{OnlyClients};
 ghost use Rattle.rtr_server.specs.Clients.{has_asked, slot_at};
+ghost use Rattle.rtr_daemon.specs.Parting.{agreed_version, has_agreed, is_served, refused_version};
 ghost use Rattle.rtr_daemon.specs.Queue.{OtherClients, QueuesBehind, ServesEach, ServesNext, client_at, known_at};
 ghost use Rattle.rtr_daemon.specs.Serving.{Continues};
-ghost use Rattle.rtr_daemon.specs.Stalling.{ClosesStalled, unless_stalled};
+ghost use Rattle.rtr_daemon.specs.Overdue.{AnswersNoted, ClosesOverdue, OutcomeOf, unless_overdue};
 ghost use Rattle.rtr_daemon.specs.Turns.{HasTurn};
 
+use crate::client_table::TurnOutcome;
 use crate::daemon::Daemon;
 use crate::environment::{EventLog, Ready, Sockets, Time};
+use crate::outstanding::{answers_in, queries_in};
 use crate::status::with_counters;
 use event_log::{ClientClosed, LogEvent, PeerReport};
-use rtr_pdu::Version;
-use rtr_server::{ByteCounts, Client, CloseReason, PdusByKind, Report, Stream, Turn};
+use rtr_pdu::error_code::UNSUPPORTED_VERSION;
+use rtr_pdu::{Kind, Version};
+use rtr_server::{ByteCounts, Client, CloseReason, Parted, PdusByKind, Report, Stream, Turn};
 use std::net::SocketAddr;
 use std::str;
 use vrps::VersionStore;
@@ -84,7 +88,9 @@ impl<S: VersionStore, T: Stream + Drop> Daemon<S, T> {
     }
 
     /// The counters of the client that was closed last.
-    fn last_counters(&self) -> ClientCounters {
+    fn last_counters(&self) -> ClientCounters
+        ensures { is_some result.version ≡ has_agreed self.now.service.server.parted }
+    {
         match self.service.server().parted() {
             None => ClientCounters {
                 carried: None,
@@ -96,7 +102,7 @@ impl<S: VersionStore, T: Stream + Drop> Daemon<S, T> {
                 carried: Some(parted.carried),
                 received: Some(parted.received),
                 sent: Some(parted.sent),
-                version: parted.version,
+                version: agreed_version(&parted),
             },
         }
     }
@@ -108,19 +114,43 @@ impl<S: VersionStore, T: Stream + Drop> Daemon<S, T> {
         ensures others { OtherClients token self.old.clients self.new.clients }
         ensures queue { QueuesBehind self.old.clients.queue.items self.new.clients }
         ensures turn { HasTurn S.holds T.remaining T.contents T.answers 8 client.0.0 self.old.service.server self.new.service.server }
+        ensures notes { AnswersNoted W.can_tick (known_at self.old.clients token) (slot_at self.new.service.server.slots.items client.0.0) (known_at self.new.clients token) }
     {
         match self.service.serve(client, BUDGET) {
             None => {}
             Some(Turn::Gone(how)) => self.part(token, why(how), env),
-            Some(turn) => {
-                if let Some(carried) = self.counters(client).carried {
-                    self.clients.note(token, turn, carried, env.millis());
-                }
-                if turn == Turn::Busy {
-                    self.clients.wake(token);
-                }
-            }
+            Some(turn) => self.note_turn(token, client, turn, env),
         }
+    }
+
+    /// Notes a turn of a client that stays. It is queued again if it made all calls that it may.
+    fn note_turn<W: Time>(&mut self, token: usize, client: Client, turn: Turn, env: &mut W)
+        ensures service { self.new.service ≡ self.old.service }
+        ensures rest { OnlyClients self.old self.new }
+        ensures others { OtherClients token self.old.clients self.new.clients }
+        ensures queue { QueuesBehind self.old.clients.queue.items self.new.clients }
+        ensures notes { AnswersNoted W.can_tick (known_at self.old.clients token) (slot_at self.old.service.server.slots.items client.0.0) (known_at self.new.clients token) }
+    {
+        if let Some(outcome) = self.outcome(client, turn) {
+            self.clients.note(token, outcome, env.millis());
+        }
+        if turn == Turn::Busy {
+            self.clients.wake(token);
+        }
+    }
+
+    /// What a turn of a client came to, if there is such a client.
+    fn outcome(&self, client: Client, turn: Turn) -> Option<TurnOutcome>
+        ensures { OutcomeOf (slot_at self.now.service.server.slots.items client.0.0) result }
+    {
+        let server = self.service.server();
+        Some(TurnOutcome {
+            turn,
+            carried: server.carried(client)?,
+            queries: queries_in(server.received(client)?),
+            answers: answers_in(server.sent(client)?),
+            notifies: server.sent(client)?.of(Kind::SerialNotify),
+        })
     }
 
     /// Removes and reports the client that was closed last.
@@ -129,6 +159,7 @@ impl<S: VersionStore, T: Stream + Drop> Daemon<S, T> {
         ensures gone { known_at self.new.clients token ≡ None }
         ensures queue { self.new.clients.queue ≡ self.old.clients.queue }
         ensures service { self.new.service ≡ self.old.service }
+        ensures once { IfSome (known_at self.old.clients token) (λ _. self.new.has_parted ≡ (self.old.has_parted || has_agreed self.old.service.server.parted)) }
         ensures rest { OnlyClients self.old self.new }
     {
         let Some(entry) = self.clients.remove(token) else {
@@ -137,7 +168,9 @@ impl<S: VersionStore, T: Stream + Drop> Daemon<S, T> {
         let counters = self.last_counters();
         let carried = counters.carried.unwrap_or(entry.carried);
         self.listeners.resume_all();
-        self.has_parted = true;
+        self.has_parted = self.has_parted || counters.version.is_some();
+        self.statistics
+            .count_reports(self.service.server().parted());
         self.statistics.gone = with_counters(self.statistics.gone, &counters);
         let stayed = env.millis().saturating_sub(entry.came) / 1000;
         let now = env.seconds();
@@ -169,14 +202,18 @@ impl<S: VersionStore, T: Stream + Drop> Daemon<S, T> {
             };
             env.log(now, &LogEvent::ErrorReport(report));
         }
-        if let Some(code) = parted.sent_report {
-            let report = PeerReport {
-                address,
-                is_received: false,
-                code,
-                text: "",
-            };
-            env.log(now, &LogEvent::ErrorReport(report));
+        match (refused_version(&parted), parted.sent_report) {
+            (Some(asked), _) => env.log(now, &LogEvent::VersionRefused { address, asked }),
+            (None, Some(code)) => {
+                let report = PeerReport {
+                    address,
+                    is_received: false,
+                    code,
+                    text: "",
+                };
+                env.log(now, &LogEvent::ErrorReport(report));
+            }
+            (None, None) => {}
         }
     }
 
@@ -207,31 +244,33 @@ impl<S: VersionStore, T: Stream + Drop> Daemon<S, T> {
         }
     }
 
-    /// Closes the clients that have been blocked on writing for too long.
-    pub(crate) fn drop_stalled<W: Time + EventLog>(&mut self, env: &mut W)
+    /// Closes the clients that have been blocked on writing for too long, and those whose answer has lasted too long.
+    pub(crate) fn drop_overdue<W: Time + EventLog>(&mut self, env: &mut W)
         ensures goes { Continues S.holds T.remaining T.contents self.old.service self.new.service }
         ensures rest { OnlyClients self.old self.new }
-        ensures closed { (now : ℕ) × W.can_tick now × ClosesStalled now self.old.plan.stall self.old.clients self.new.clients }
+        ensures closed { (now : ℕ) × W.can_tick now × ClosesOverdue now self.old.plan self.old.clients self.new.clients }
         ensures queue { self.new.clients.queue ≡ self.old.clients.queue }
     {
         let now = env.millis();
         let mut at = self.clients.first();
         while let Some(token) = at {
-            self.drop_if_stalled(token, now, env);
+            self.drop_if_overdue(token, now, env);
             at = self.clients.first_after(token);
         }
     }
 
-    /// Closes the client of a poll token if it has been blocked on writing for too long.
-    fn drop_if_stalled<W: Time + EventLog>(&mut self, token: usize, now: u64, env: &mut W)
+    /// Closes the client of a poll token if it has been blocked on writing for too long, or its answer has lasted too long.
+    fn drop_if_overdue<W: Time + EventLog>(&mut self, token: usize, now: u64, env: &mut W)
         ensures goes { Continues S.holds T.remaining T.contents self.old.service self.new.service }
         ensures rest { OnlyClients self.old self.new }
         ensures others { OtherClients token self.old.clients self.new.clients }
-        ensures closed { known_at self.new.clients token ≡ unless_stalled (known_at self.old.clients token) now self.old.plan.stall }
+        ensures closed { known_at self.new.clients token ≡ unless_overdue now self.old.plan (known_at self.old.clients token) }
         ensures queue { self.new.clients.queue ≡ self.old.clients.queue }
     {
         if self.clients.is_stalled(token, now, self.plan.stall) {
             self.drop_stalled_client(token, env);
+        } else if self.clients.is_slow(token, now, self.plan.slow) {
+            self.drop_connection(token, "slow", env);
         }
     }
 
@@ -251,7 +290,12 @@ impl<S: VersionStore, T: Stream + Drop> Daemon<S, T> {
     }
 
     /// Closes the client of a poll token, for this reason.
-    fn drop_connection<W: Time + EventLog>(&mut self, token: usize, why: &str, env: &mut W)
+    pub(crate) fn drop_connection<W: Time + EventLog>(
+        &mut self,
+        token: usize,
+        why: &str,
+        env: &mut W,
+    )
         ensures goes { Continues S.holds T.remaining T.contents self.old.service self.new.service }
         ensures rest { OnlyClients self.old self.new }
         ensures others { OtherClients token self.old.clients self.new.clients }
@@ -263,6 +307,39 @@ impl<S: VersionStore, T: Stream + Drop> Daemon<S, T> {
         };
         self.service.drop_client(client);
         self.part(token, why, env);
+    }
+}
+
+/// Whether a version is served: 0 or 1 (RFC 6810, RFC 8210).
+fn is_served(version: Option<u8>) -> bool
+    ensures { result ≡ is_served version }
+{
+    match version {
+        None => false,
+        Some(version) => version <= 1,
+    }
+}
+
+/// The version on which a closed client had agreed. If it asked in one that is not served, it agreed on none (RFC 8210 section 7).
+fn agreed_version(parted: &Parted) -> Option<Version>
+    ensures { result ≡ agreed_version parted.now }
+{
+    if is_served(parted.asked) {
+        parted.version
+    } else {
+        None
+    }
+}
+
+/// The version in which a closed client asked, if it was closed because that is not served.
+fn refused_version(parted: &Parted) -> Option<u8>
+    ensures { result ≡ refused_version parted.now }
+{
+    let code = parted.sent_report?;
+    if code == UNSUPPORTED_VERSION && !is_served(parted.asked) {
+        parted.asked
+    } else {
+        None
     }
 }
 

@@ -1,15 +1,16 @@
 //! The daemon: a loop that serves what is ready, and does what is due by the clock.
 ghost use Rattle.std.specs.Prelude.{◌≡◌, ◌≤◌, ◌<◌, ℕ, IfOk};
-ghost use Rattle.rtr_daemon.specs.Due.{DoesWhatIsDue, IsChecked, IsInTime, IsWait, KeepsFiles, OnlyFiles, PollsAll, PublishesIfDue, SamePaths, WakesIfPublished, later_by};
+ghost use Rattle.rtr_daemon.specs.Due.{DoesWhatIsDue, IsChecked, IsInTime, IsWait, KeepsFiles, NextPoll, OnlyFiles, PollsAll, PublishesIfDue, SamePaths, WakesIfPublished, later_by};
 ghost use Rattle.rtr_daemon.specs.Queue.{QueuesBehind};
 ghost use Rattle.rtr_daemon.specs.Origins.{SourcesComeFrom};
 ghost use Rattle.rtr_daemon.specs.Serving.{Continues, GoesOn, IsFresh};
-ghost use Rattle.rtr_daemon.specs.Stalling.{ClosesStalled};
+ghost use Rattle.rtr_daemon.specs.Overdue.{ClosesOverdue, LeavesNoneOverdue};
 
 use crate::accepting::Listeners;
 use crate::client_table::ClientTable;
 use crate::clients::FIRST_QUERY;
 use crate::environment::{Disk, EventLog, Sockets, Time};
+use crate::losing::Readings;
 use crate::point_polling::WatchedPoint;
 use crate::refusal::Refusal;
 use crate::service::Service;
@@ -44,6 +45,8 @@ pub struct Plan {
     pub check: u64,
     /// After how long a client that is blocked on writing is closed, in milliseconds.
     pub stall: u64,
+    /// How long an answer may last until it has left, in milliseconds. Then its client is closed.
+    pub slow: u64,
     /// How many clients an address may have at once, or `None`: as many as the server admits.
     pub clients_per_address: Option<u64>,
     /// Whether records of length 0, for 0.0.0.0/0 or ::/0, are left out.
@@ -52,7 +55,7 @@ pub struct Plan {
     pub max_age: Option<u64>,
     /// Whether the daemon stops if an export is old.
     pub stops_when_old: bool,
-    /// Whether it stops when the first client is closed.
+    /// Whether it stops when the first client is closed that agreed on a version.
     pub once: bool,
     /// How many listeners there are.
     pub listeners: usize,
@@ -93,6 +96,7 @@ pub struct Daemon<S, T> {
     pub(crate) service: Service<S, T>,
     pub(crate) clients: ClientTable,
     pub(crate) listeners: Listeners,
+    pub(crate) readings: Readings,
     pub(crate) exports: Vec<WatchedExport>,
     pub(crate) slurms: Vec<WatchedFile>,
     pub(crate) points: Vec<WatchedPoint>,
@@ -103,7 +107,7 @@ pub struct Daemon<S, T> {
     pub(crate) opened: u64,
     /// Whether a version was published.
     pub(crate) is_ready: bool,
-    /// Whether a client was closed.
+    /// Whether a client was closed that had agreed on a version.
     pub(crate) has_parted: bool,
     /// Whether an export is older than the maximum age.
     pub(crate) is_old: bool,
@@ -159,6 +163,9 @@ impl<S: StepStore + Drop, T: Stream + Drop> Daemon<S, T> {
         if let Some(deadline) = self.clients.first_deadline(FIRST_QUERY) {
             next = next.min(deadline);
         }
+        if let Some(reading) = self.next_reading() {
+            next = next.min(reading);
+        }
         match self.listeners.next_try() {
             Some(next_try) if self.is_ready => next.min(next_try),
             _ => next,
@@ -166,13 +173,14 @@ impl<S: StepStore + Drop, T: Stream + Drop> Daemon<S, T> {
     }
 
     /// Does what is due by the clock.
-    fn do_what_is_due<W: Disk + Time + EventLog>(&mut self, env: &mut W)
+    fn do_what_is_due<W: Sockets<T> + Disk + Time + EventLog>(&mut self, env: &mut W)
         ensures goes { GoesOn W.can_be S.holds T.remaining T.contents self.old.service self.new.service }
         ensures due { DoesWhatIsDue W.answers W.can_be W.can_tick self.old self.new }
     {
         let now = env.millis();
         self.check(now, env);
         self.drop_silent(now, env);
+        self.drop_lost(now, env);
         self.go_round(now, env);
     }
 
@@ -208,7 +216,7 @@ impl<S: StepStore + Drop, T: Stream + Drop> Daemon<S, T> {
         self.judge_ages(env);
     }
 
-    /// Closes stalled clients and publishes a pending version, if that is due.
+    /// Closes overdue clients and publishes a pending version, if that is due. After a new version the files are polled one interval later.
     fn go_round<W: Time + EventLog>(&mut self, now: u64, env: &mut W)
         ensures goes { GoesOn W.can_be S.holds T.remaining T.contents self.old.service self.new.service }
         ensures wakes { WakesIfPublished self.old self.new }
@@ -218,14 +226,16 @@ impl<S: StepStore + Drop, T: Stream + Drop> Daemon<S, T> {
         ensures early { now < self.old.next_round → self.new.next_round ≡ self.old.next_round }
         ensures idle { now < self.old.next_round → self.new ≡ self.old }
         ensures kept { KeepsFiles self.old self.new }
-        ensures closed { self.old.next_round ≤ now → (at : ℕ) × W.can_tick at × ClosesStalled at self.old.plan.stall self.old.clients self.new.clients }
+        ensures next { NextPoll W.can_tick self.old.next_check self.old self.new }
+        ensures closed { self.old.next_round ≤ now → (at : ℕ) × W.can_tick at × ClosesOverdue at self.old.plan self.old.clients self.new.clients }
+        ensures overdue { self.old.next_round ≤ now → LeavesNoneOverdue W.can_tick self.old.plan self.new.clients }
         ensures queue { QueuesBehind self.old.clients.queue.items self.new.clients }
     {
         if now < self.next_round {
             return;
         }
         self.next_round = now.saturating_add(SOON);
-        self.drop_stalled(env);
+        self.drop_overdue(env);
         self.clients.wake_blocked();
         self.publish_and_judge(env);
     }

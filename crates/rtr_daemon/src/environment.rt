@@ -26,6 +26,8 @@ pub enum AcceptResult<L> {
         token: usize,
         /// The address of the peer.
         address: SocketAddr,
+        /// The address of this host's end.
+        local: SocketAddr,
     },
     /// No connection is pending.
     WouldBlock,
@@ -39,6 +41,11 @@ pub enum AcceptResult<L> {
 
 /// The sockets, whose connections are streams of this type.
 pub trait Sockets<L> {
+    ghost use Rattle.std.specs.Prelude.{IfOk, List, ℕ};
+
+    /// What the tables of connections may be. Contracts that cite it hold for each such relation, so they speak of tables that the system had.
+    ghost can_have: { List ℕ → Type 0 } = { λ table. Unit {0} };
+
     /// Waits until something is ready, for at most this many milliseconds.
     fn wait(&mut self, millis: u64) -> io::Result<()>;
 
@@ -47,6 +54,10 @@ pub trait Sockets<L> {
 
     /// Accepts a connection from the listener of this index.
     fn accept(&mut self, listener: usize) -> AcceptResult<L>;
+
+    /// The system's tables of TCP connections, one after the other: `/proc/self/net/tcp` and `/proc/self/net/tcp6` (proc(5)).
+    fn connections(&mut self) -> io::Result<Vec<u8>>
+        ensures { IfOk result (λ table. can_have table.items) };
 }
 
 /// What distinguishes one state of a file from another.

@@ -31,6 +31,8 @@ mod clients;
 mod daemon;
 mod environment;
 pub mod laws;
+mod losing;
+mod outstanding;
 mod peaks;
 mod point_polling;
 mod poll_token;

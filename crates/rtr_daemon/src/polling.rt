@@ -1,5 +1,5 @@
 //! Polling the exports, and loading those that have changed.
-ghost use Rattle.std.specs.Prelude.{◌≡◌, ℕ, true};
+ghost use Rattle.std.specs.Prelude.{◌≡◌, ◌↔◌, ℕ, IsTrue, true};
 ghost use Rattle.rtr_daemon.specs.Files.{Follows, FollowsEach, names_of};
 ghost use Rattle.rtr_daemon.specs.Due.{OnlyFiles};
 ghost use Rattle.rtr_daemon.specs.Serving.{Continues, LoadsExport, OnlySources, TakesSo};
@@ -11,6 +11,7 @@ use crate::service::Service;
 use crate::statistics::Statistics;
 use crate::watched_file::{Look, WatchedExport, WatchedFile};
 use event_log::LogEvent;
+use exports::Ignored;
 use rtr_server::Stream;
 use std::alloc::Global;
 use vrps::VersionStore;
@@ -163,9 +164,38 @@ fn follow_one<S: VersionStore, T: Stream + Drop, W: Disk + Time + EventLog>(
 {
     let now = env.seconds();
     let began = env.millis();
+    let before = service.sources().ignored(export.number);
     let polled = follow(export, service, alloc, now, env);
     count_poll(statistics, &polled, env.millis().saturating_sub(began));
     log_poll(alloc, export, polled, now, env);
+    let after = service.sources().ignored(export.number);
+    log_not_served(export.path(), before, after, now, env);
+}
+
+/// Whether another number of elements is not served than before.
+fn has_changed(before: Ignored, after: Ignored) -> bool
+    ensures { IsTrue result ↔ (¬ (before ≡ after)) }
+{
+    before.aspas != after.aspas || before.router_keys != after.router_keys
+}
+
+/// Reports how much of an export is not served, if that is another number than before.
+pub(crate) fn log_not_served<W: EventLog>(
+    file: &str,
+    before: Ignored,
+    after: Ignored,
+    now: u64,
+    env: &mut W,
+) {
+    if has_changed(before, after) {
+        let Ignored { aspas, router_keys } = after;
+        let event = LogEvent::NotServed {
+            file,
+            aspas,
+            router_keys,
+        };
+        env.log(now, &event);
+    }
 }
 
 /// Counts the result of a poll, which took this many milliseconds.

@@ -1,6 +1,6 @@
 //! Publishing a pending version, and what is noted of it.
 ghost use Rattle.std.specs.Prelude.{◌≡◌, IfErr, IfOk};
-ghost use Rattle.rtr_daemon.specs.Due.{FailureNoted, KeepsFiles, OnlyNotes, PublishesIfDue, WakesIfPublished};
+ghost use Rattle.rtr_daemon.specs.Due.{FailureNoted, KeepsFiles, NextAfter, NextPoll, OnlyNotes, PublishesIfDue, WakesIfPublished};
 ghost use Rattle.rtr_daemon.specs.Queue.{QueuesBehind, SameClients, WakesIfNew};
 ghost use Rattle.rtr_daemon.specs.Serving.{GoesOn, IsFresh};
 
@@ -24,6 +24,7 @@ impl<S: StepStore + Drop, T: Stream + Drop> Daemon<S, T> {
         ensures fresh { IsFresh W.can_be self.old.service → IsFresh W.can_be self.new.service }
         ensures round { self.new.next_round ≡ self.old.next_round }
         ensures kept { KeepsFiles self.old self.new }
+        ensures next { NextPoll W.can_tick self.old.next_check self.old self.new }
         ensures clients { SameClients self.old.clients self.new.clients }
         ensures queue { QueuesBehind self.old.clients.queue.items self.new.clients }
     {
@@ -39,6 +40,7 @@ impl<S: StepStore + Drop, T: Stream + Drop> Daemon<S, T> {
         ensures fresh { IsFresh W.can_be self.old.service → IsFresh W.can_be self.new.service }
         ensures round { self.new.next_round ≡ self.old.next_round }
         ensures kept { KeepsFiles self.old self.new }
+        ensures next { NextPoll W.can_tick self.old.next_check self.old self.new }
         ensures clients { SameClients self.old.clients self.new.clients }
         ensures queue { QueuesBehind self.old.clients.queue.items self.new.clients }
     {
@@ -67,6 +69,8 @@ impl<S: StepStore + Drop, T: Stream + Drop> Daemon<S, T> {
     )
         ensures rest { OnlyNotes self.old self.new }
         ensures failed { IfErr tried (λ refusal. FailureNoted refusal self.new) }
+        ensures later { IfOk tried (λ report. NextAfter W.can_tick began report.published self.old self.new) }
+        ensures same { IfErr tried (λ _. self.new.next_check ≡ self.old.next_check) }
         ensures wakes { IfOk tried (λ report. WakesIfNew report.published self.old.clients self.new.clients) }
         ensures clients { SameClients self.old.clients self.new.clients }
         ensures queue { QueuesBehind self.old.clients.queue.items self.new.clients }
@@ -77,7 +81,8 @@ impl<S: StepStore + Drop, T: Stream + Drop> Daemon<S, T> {
         }
     }
 
-    /// Notes what was published, and notifies all routers.
+    /// Notes what was published. If it is a new version, all routers are notified, and the next poll of the files is one interval later. So two
+    /// notifies are at least that far apart (RFC 8210 section 8.2).
     fn note_published<W: Time + EventLog>(
         &mut self,
         report: PublishReport,
@@ -86,6 +91,7 @@ impl<S: StepStore + Drop, T: Stream + Drop> Daemon<S, T> {
         env: &mut W,
     )
         ensures rest { OnlyNotes self.old self.new }
+        ensures later { NextAfter W.can_tick began report.published self.old self.new }
         ensures wakes { WakesIfNew report.published self.old.clients self.new.clients }
         ensures clients { SameClients self.old.clients self.new.clients }
         ensures queue { QueuesBehind self.old.clients.queue.items self.new.clients }
@@ -98,7 +104,9 @@ impl<S: StepStore + Drop, T: Stream + Drop> Daemon<S, T> {
         };
         self.note_version(serial, report, now, env);
         self.clients.wake_all();
-        let milliseconds = env.millis().saturating_sub(began);
+        let ended = env.millis().max(began);
+        self.next_check = ended.saturating_add(self.plan.check);
+        let milliseconds = ended.saturating_sub(began);
         env.log(
             now,
             &LogEvent::Published(Publication {
@@ -152,6 +160,7 @@ impl<S: StepStore + Drop, T: Stream + Drop> Daemon<S, T> {
     fn note_failure<W: EventLog>(&mut self, refusal: Refusal, now: u64, env: &mut W)
         ensures rest { OnlyNotes self.old self.new }
         ensures noted { FailureNoted refusal self.new }
+        ensures same { self.new.next_check ≡ self.old.next_check }
         ensures clients { self.new.clients ≡ self.old.clients }
     {
         self.held_until = self.next_check;

@@ -7,7 +7,8 @@ ghost use Rattle.points.specs.InUse.{no_points};
 ghost use Rattle.rtr_server.specs.Clients.{AdmitsTo, KeepsOthers, Past, Serves, ShowsServer, is_gone, slot_at};
 ghost use Rattle.sources.specs.Served.{ExportTaken, SetDropped, SetTaken, SlurmTaken, SlurmsTaken};
 ghost use Rattle.rtr_daemon.specs.PointOffers.{OffersTo};
-ghost use Rattle.rtr_daemon.specs.Serving.{Continues, GoesOn, IsFresh, IsOfSecond, IsReason, IsServedAt, Issues, NoneEnds, OnlyServer, OnlySources, PacesSo, SameExpired, ShowsService, StaysFresh, TakesSo};
+ghost use Rattle.rtr_daemon.specs.Serving.{Continues, GoesOn, IsFresh, IsOfSecond, IsReason, IsServedAt, Issues, NoneEnds};
+ghost use Rattle.rtr_daemon.specs.Serving.{OnlyServer, OnlySources, PacesSo, SameExpired, ShowsService, StaysFresh, TakesSo};
 
 use crate::refusal::Refusal;
 use crate::set_changes::{ChangeCounts, StepStore};

@@ -14,8 +14,8 @@ use crate::statistics::Statistics;
 use crate::watched_file::{FileState, WatchedFile};
 use event_log::LogEvent;
 use rtr_server::Stream;
-use slurm::UniteFault;
-use sources::SlurmSetFault;
+use slurm::{Ignored, UniteFault};
+use sources::{SlurmSetFault, Sources};
 use std::alloc::Global;
 use vrps::VersionStore;
 
@@ -63,7 +63,7 @@ fn refusal_of(
 }
 
 /// Reads and loads all files at the start.
-pub(crate) fn read_slurms<S: VersionStore, T: Stream + Drop, W: Disk>(
+pub(crate) fn read_slurms<S: VersionStore, T: Stream + Drop, W: Disk + EventLog>(
     slurms: &mut Vec<WatchedFile>,
     service: &mut Service<S, T>,
     alloc: Global,
@@ -81,6 +81,7 @@ pub(crate) fn read_slurms<S: VersionStore, T: Stream + Drop, W: Disk>(
     match take(service, slurms, &contents, alloc) {
         Ok(()) => {
             note_all_loaded(slurms, &contents, now);
+            report_not_applied(slurms, service.sources(), now, env);
             Ok(())
         }
         Err(refusal) => Err(start_fault(slurms, alloc, refusal)),
@@ -149,6 +150,7 @@ fn follow<S: VersionStore, T: Stream + Drop, W: Disk + Time + EventLog>(
         Ok(contents) => {
             statistics.count_load(env.millis().saturating_sub(began));
             report_loaded(slurms, &contents, now, env);
+            report_not_applied(slurms, service.sources(), now, env);
         }
         Err(refusal) => report_refused(slurms, refusal, statistics, alloc, now, env),
     }
@@ -245,6 +247,43 @@ fn report_one_loaded<W: EventLog>(
 {
     if contents.note_loaded(index, file, now) {
         log_taken(file, now, env);
+    }
+}
+
+/// Reports the files of which another number of entries is not applied than before.
+fn report_not_applied<W: EventLog>(
+    slurms: &mut [WatchedFile],
+    sources: &Sources,
+    now: u64,
+    env: &mut W,
+)
+    ensures { paths_of slurms.new ≡ paths_of slurms.old }
+{
+    for (at, file) in slurms.iter_mut().enumerate() {
+        report_one_not_applied(file, sources.ignored_exceptions(at), now, env);
+    }
+}
+
+/// Reports how many entries of a file are not applied, if that is another number than before.
+fn report_one_not_applied<W: EventLog>(
+    file: &mut WatchedFile,
+    count: Ignored,
+    now: u64,
+    env: &mut W,
+)
+    ensures { file.new.path ≡ file.old.path }
+{
+    if file.set_not_applied(count) {
+        let Ignored {
+            bgpsec_filters,
+            bgpsec_assertions,
+        } = count;
+        let event = LogEvent::SlurmNotServed {
+            file: file.path.as_str(),
+            bgpsec_filters,
+            bgpsec_assertions,
+        };
+        env.log(now, &event);
     }
 }
 

@@ -13,8 +13,9 @@ use crate::accepting::Listeners;
 use crate::client_table::ClientTable;
 use crate::daemon::{Daemon, Paths, Plan};
 use crate::environment::{Disk, EventLog, Time};
+use crate::losing::Readings;
 use crate::point_polling::{WatchedPoint, offer};
-use crate::polling::{log_expired, take};
+use crate::polling::{log_expired, log_not_served, take};
 use crate::refusal::{Refusal, StartFault};
 use crate::service::Service;
 use crate::slurm_polling::read_slurms;
@@ -67,6 +68,7 @@ impl<S: VersionStore + Drop, T: Stream + Drop> Daemon<S, T> {
             service,
             clients: ClientTable::new(alloc),
             listeners,
+            readings: Readings::new(),
             exports,
             slurms,
             points: offered,
@@ -161,9 +163,12 @@ fn read_export<S: VersionStore, T: Stream + Drop, W: Disk + EventLog>(
     ensures path { export.new.file.path ≡ export.old.file.path }
     ensures number { export.new.number ≡ export.old.number }
 {
+    let before = service.sources().ignored(export.number);
     match read_one(export, service, alloc, now, env) {
         Ok(expired) => {
             log_expired(export.path(), expired, now, env);
+            let after = service.sources().ignored(export.number);
+            log_not_served(export.path(), before, after, now, env);
             Ok(())
         }
         Err(refusal) => Err(StartFault::of(export.path(), alloc, refusal)),

@@ -1,15 +1,19 @@
 //! The statistics of a daemon since its start.
-ghost use Rattle.std.specs.Prelude.{◌≡◌, Some};
+ghost use Rattle.std.specs.Prelude.{◌≡◌, Some, option_map};
 ghost use Rattle.rtr_daemon.specs.Due.{IsKept};
+ghost use Rattle.rtr_daemon.specs.Parting.{and_report, and_reports};
 ghost use Rattle.rtr_daemon.specs.Peaks.{turned_away_at};
+ghost use Rattle.rtr_server.specs.Reports.{Said};
 
 use crate::peaks::{Peaks, turned_away_at};
 use crate::refusal::Refusal;
 use crate::service::PublishReport;
 use prefixes::IpPrefix;
 use rtr_pdu::Kind;
-use rtr_server::{ByteCounts, PdusByKind};
-use status_pages::{ChangeStatus, ClientLimit, PdusByType, TotalTraffic, TurnedAway};
+use rtr_server::{ByteCounts, Parted, PdusByKind, Report};
+use status_pages::{
+    ChangeStatus, ClientLimit, ErrorReports, PdusByType, ReportsByCode, TotalTraffic, TurnedAway,
+};
 use std::alloc::{AllocError, Global};
 use std::collections::VecDeque;
 use vrps::VrpSet;
@@ -169,6 +173,8 @@ pub(crate) struct Statistics {
     pub(crate) clients_refused: u64,
     /// How many clients were disconnected as they accepted no byte.
     pub(crate) clients_stalled: u64,
+    /// The last Error Reports of closed clients.
+    pub(crate) error_reports: ErrorReports,
     /// How many publications failed.
     pub(crate) failures: u64,
     /// The last publication, if it failed.
@@ -198,6 +204,7 @@ impl Statistics {
             load_millis: None,
             clients_refused: 0,
             clients_stalled: 0,
+            error_reports: ErrorReports::NONE,
             failures: 0,
             failure: None,
         })
@@ -214,6 +221,20 @@ impl Statistics {
     /// A client was disconnected as it accepted no byte.
     pub(crate) fn count_stalled_client(&mut self) {
         self.clients_stalled = self.clients_stalled.saturating_add(1);
+    }
+
+    /// Counts the last Error Reports of a client that was closed.
+    pub(crate) fn count_reports(&mut self, parted: Option<Parted>)
+        ensures { self.new ≡ record self.old { error_reports = and_reports parted self.old.error_reports } }
+    {
+        let Some(parted) = parted else {
+            return;
+        };
+        let received = code_of(&parted.received_report);
+        self.error_reports = ErrorReports {
+            received: and_report(self.error_reports.received, received),
+            sent: and_report(self.error_reports.sent, parted.sent_report),
+        };
     }
 
     /// A publication failed at this time.
@@ -295,6 +316,33 @@ impl Statistics {
         }
         Ok(found)
     }
+}
+
+/// The code of a report, if there is one.
+fn code_of(report: &Option<Report>) -> Option<u16>
+    ensures { result ≡ option_map (λ (said : Said). said.code) report.now }
+{
+    match report {
+        None => None,
+        Some(report) => Some(report.code()),
+    }
+}
+
+/// One Error Report more, if there is one.
+fn and_report(counts: ReportsByCode, code: Option<u16>) -> ReportsByCode
+    ensures { result ≡ and_report code counts }
+{
+    let Some(code) = code else {
+        return counts;
+    };
+    let mut counts = counts;
+    let place = usize::from(code);
+    if place < counts.known.len() {
+        counts.known[place] = counts.known[place].saturating_add(1);
+    } else {
+        counts.others = counts.others.saturating_add(1);
+    }
+    counts
 }
 
 /// How many PDUs there are of all types.

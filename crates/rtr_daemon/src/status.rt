@@ -1,4 +1,8 @@
 //! The status of a daemon.
+ghost use Rattle.std.specs.Prelude.{◌≡◌, IfOk, option_map, slice_get};
+ghost use Rattle.sources.specs.Served.{ignored_at, ignored_exceptions};
+ghost use Rattle.rtr_daemon.specs.NotServed.{entries_of, exceptions_of};
+
 use crate::ages::built_of;
 use crate::client_table::ClientEntry;
 use crate::clients::{ClientCounters, number_of};
@@ -7,9 +11,11 @@ use crate::point_polling::WatchedPoint;
 use crate::refusal::Refusal;
 use crate::statistics::{Failure, TrafficTotals, total};
 use crate::watched_file::{WatchedExport, WatchedFile};
+use exports::Ignored;
 use rtr_server::Stream;
+use slurm::Ignored as IgnoredExceptions;
 use status_pages::{
-    ClientStatus, ClientTraffic, FileStatus, LostLines, PublicationFailure, Status,
+    ClientStatus, ClientTraffic, FileStatus, IgnoredEntries, LostLines, PublicationFailure, Status,
 };
 use std::alloc::{AllocError, Global};
 use vrps::{Serial, VersionStore};
@@ -60,6 +66,7 @@ impl<S: VersionStore, T: Stream + Drop> Daemon<S, T> {
             clients_refused: self.statistics.clients_refused,
             turned_away: self.statistics.turned_away,
             clients_stalled: self.statistics.clients_stalled,
+            error_reports: self.statistics.error_reports,
             received: traffic.received.shown(),
             sent: traffic.sent.shown(),
             reloads_taken: self.statistics.loaded,
@@ -97,8 +104,8 @@ impl<S: VersionStore, T: Stream + Drop> Daemon<S, T> {
         for export in self.exports.iter() {
             found.push(self.export_status(export, now)?)?;
         }
-        for slurm in self.slurms.iter() {
-            found.push(slurm_status(self.alloc, slurm)?)?;
+        for (at, slurm) in self.slurms.iter().enumerate() {
+            found.push(self.slurm_status(slurm, at)?)?;
         }
         for point in self.points.iter() {
             found.push(point_status(self.alloc, point)?)?;
@@ -106,12 +113,27 @@ impl<S: VersionStore, T: Stream + Drop> Daemon<S, T> {
         Ok(found)
     }
 
-    fn export_status(&self, export: &WatchedExport, now: u64) -> Result<FileStatus, AllocError> {
-        let mut status = slurm_status(self.alloc, &export.file)?;
+    /// The status of an export.
+    fn export_status(&self, export: &WatchedExport, now: u64) -> Result<FileStatus, AllocError>
+        ensures { IfOk result (λ status. status.ignored ≡ option_map (λ _. entries_of (ignored_at (slice_get self.now.service.sources.lists.items export.now.number))) export.now.file.loaded_at) }
+    {
+        let mut status = file_status(self.alloc, &export.file)?;
         status.built = built_of(export, self.service.sources(), now);
         status.is_old = export.is_old;
         status.expired = export.all_expired();
         status.vrps = self.vrps_of(export);
+        let ignored = self.service.sources().ignored(export.number);
+        status.ignored = if_loaded(&export.file, entries_of(ignored));
+        Ok(status)
+    }
+
+    /// The status of the file of local exceptions of this index.
+    fn slurm_status(&self, slurm: &WatchedFile, index: usize) -> Result<FileStatus, AllocError>
+        ensures { IfOk result (λ status. status.ignored ≡ option_map (λ _. exceptions_of (ignored_exceptions self.now.service.sources.exceptions index)) slurm.now.loaded_at) }
+    {
+        let mut status = file_status(self.alloc, slurm)?;
+        let ignored = self.service.sources().ignored_exceptions(index);
+        status.ignored = if_loaded(slurm, exceptions_of(ignored));
         Ok(status)
     }
 
@@ -163,8 +185,38 @@ pub(crate) fn with_counters(sum: TrafficTotals, counters: &ClientCounters) -> Tr
     }
 }
 
-/// The status of a file of local exceptions, which have no age, and do not expire.
-fn slurm_status(alloc: Global, file: &WatchedFile) -> Result<FileStatus, AllocError> {
+/// The entries of an export that are not served.
+fn entries_of(ignored: Ignored) -> IgnoredEntries
+    ensures { result ≡ entries_of ignored }
+{
+    let Ignored { aspas, router_keys } = ignored;
+    IgnoredEntries::Export { aspas, router_keys }
+}
+
+/// The entries of a file of local exceptions that are not applied.
+fn exceptions_of(ignored: IgnoredExceptions) -> IgnoredEntries
+    ensures { result ≡ exceptions_of ignored }
+{
+    let IgnoredExceptions {
+        bgpsec_filters,
+        bgpsec_assertions,
+    } = ignored;
+    IgnoredEntries::Slurm {
+        bgpsec_filters,
+        bgpsec_assertions,
+    }
+}
+
+/// The entries of a file that are not served, if it was loaded.
+fn if_loaded(file: &WatchedFile, ignored: IgnoredEntries) -> Option<IgnoredEntries>
+    ensures { result ≡ option_map (λ _. ignored) file.now.loaded_at }
+{
+    let _loaded_at = file.loaded_at?;
+    Some(ignored)
+}
+
+/// The status of a file without age and expiry, as are those of local exceptions.
+fn file_status(alloc: Global, file: &WatchedFile) -> Result<FileStatus, AllocError> {
     Ok(FileStatus {
         path: file.path.clone()?,
         built: None,
@@ -174,6 +226,7 @@ fn slurm_status(alloc: Global, file: &WatchedFile) -> Result<FileStatus, AllocEr
         is_old: false,
         expired: 0,
         vrps: None,
+        ignored: None,
     })
 }
 
@@ -201,6 +254,7 @@ fn point_status(alloc: Global, point: &WatchedPoint) -> Result<FileStatus, Alloc
         is_old: false,
         expired: point.expired,
         vrps: if point.expired > 0 { Some(0) } else { None },
+        ignored: None,
     })
 }
 

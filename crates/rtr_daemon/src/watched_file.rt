@@ -1,5 +1,5 @@
 //! Watched files.
-ghost use Rattle.std.specs.Prelude.{◌≡◌, ◌⊎◌, true, false, IfErr, IfOk};
+ghost use Rattle.std.specs.Prelude.{◌≡◌, ◌⊎◌, ◌↔◌, true, false, IfErr, IfOk, IsTrue};
 ghost use Rattle.rtr_daemon.specs.Ages.{file_time, modified_by};
 ghost use Rattle.rtr_daemon.specs.DiskAnswers.{HadStamp, ReadsWhole};
 ghost use Rattle.rtr_daemon.specs.Files.{ChangesWhileRead, IsKnown, IsStateNow, IsStateOf, Looks, ReadsAfter, WasLoaded, path_of};
@@ -7,6 +7,7 @@ ghost use Rattle.rtr_daemon.specs.Files.{ChangesWhileRead, IsKnown, IsStateNow, 
 use crate::environment::{Disk, Stamp};
 use crate::refusal::Refusal;
 use crate::refusals::Refusals;
+use slurm::Ignored;
 use std::io;
 
 /// A file, and what was last read of it.
@@ -18,6 +19,8 @@ pub(crate) struct WatchedFile {
     /// When it was last loaded, in seconds since 1970.
     pub(crate) loaded_at: Option<u64>,
     pub(crate) refusals: Refusals,
+    /// How many of its entries are not applied, as was reported last, if it has local exceptions.
+    not_applied: Ignored,
 }
 
 /// The state of a file, by its stamp.
@@ -55,7 +58,23 @@ impl WatchedFile {
             loaded: None,
             loaded_at: None,
             refusals: Refusals::none(),
+            not_applied: Ignored {
+                bgpsec_filters: 0,
+                bgpsec_assertions: 0,
+            },
         }
+    }
+
+    /// Notes how many of its entries are not applied, and answers whether that is another number than before.
+    pub(crate) fn set_not_applied(&mut self, count: Ignored) -> bool
+        ensures noted { self.new ≡ record self.old { not_applied = count } }
+        ensures news { IsTrue result ↔ (¬ (self.old.not_applied ≡ count)) }
+    {
+        let before = self.not_applied;
+        let is_news = before.bgpsec_filters != count.bgpsec_filters
+            || before.bgpsec_assertions != count.bgpsec_assertions;
+        self.not_applied = count;
+        is_news
     }
 
     /// Reads the file if its stamp has changed. With `anew` it is read even if its stamp is unchanged. A file that changes while it is read is

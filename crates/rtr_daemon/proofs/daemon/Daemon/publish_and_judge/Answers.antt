@@ -1,7 +1,7 @@
 use Rattle.std.proofs.Common.{ap, subst, sym}
 use Rattle.rtr_daemon.specs.Queue.{QueuesBehind, SameClients}
 use Rattle.rtr_daemon.specs.Serving.{GoesOn, IsFresh}
-use Rattle.rtr_daemon.proofs.StateLaws.{judged_due, judged_kept, judged_wakes}
+use Rattle.rtr_daemon.proofs.StateLaws.{judged_due, judged_kept, judged_next, judged_wakes}
 use Rattle.rtr_daemon.proofs.daemon.Daemon.publish_and_judge.Goals as goal
 
 pub returns-clause-goes : goal.returns-clause-goes
@@ -28,3 +28,7 @@ returns-clause-clients g c = subst (λ t. SameClients c.args.self.now.clients t)
 
 pub returns-clause-queue : goal.returns-clause-queue
 returns-clause-queue g c = subst (λ t. QueuesBehind c.args.self.now.clients.queue.items t) (sym (ap (λ d. d.clients) c.judge_state.ensures)) c.publish_pending.ensures.queue
+
+pub returns-clause-next : goal.returns-clause-next
+returns-clause-next g c =
+    judged_next g.W.Time.can_tick c.args.self.now.next_check c.args.self.now c.publish_pending.new.self c.judge_state.new.self c.judge_state.ensures c.publish_pending.ensures.next

@@ -1,6 +1,6 @@
 use Rattle.std.proofs.Common.{ap, subst, sym}
 use Rattle.rtr_daemon.specs.Serving.{GoesOn}
-use Rattle.rtr_daemon.proofs.DueLaws.{published_fresh, published_kept, tried_due, woken_by}
+use Rattle.rtr_daemon.proofs.DueLaws.{postponed_by, published_fresh, published_kept, tried_due, woken_by}
 use Rattle.rtr_daemon.proofs.ServiceLaws.{at_clock}
 use Rattle.rtr_daemon.proofs.daemon.Daemon.publish_pending.Goals as goal
 
@@ -25,3 +25,7 @@ returns-in-Some-clause-kept g c = published_kept c.args.self.now c.note_tried.ne
 pub returns-in-Some-clause-wakes : goal.returns-in-Some-clause-wakes
 returns-in-Some-clause-wakes g c =
     woken_by c.args.self.now c.note_tried.new.self c.publish_paced.new.self c.paced-second.result c.in-Some.tried c.in-Some.ensures.pace c.note_tried.ensures.wakes c.note_tried.ensures.rest
+
+pub returns-in-Some-clause-next : goal.returns-in-Some-clause-next
+returns-in-Some-clause-next g c =
+    postponed_by g.W.Time.can_tick c.args.self.now c.note_tried.new.self c.publish_paced.new.self c.millis-began.result c.paced-second.result c.in-Some.tried c.millis-began.ensures c.paced-second.ensures c.in-Some.ensures.pace c.note_tried.ensures.later c.note_tried.ensures.same c.note_tried.ensures.rest

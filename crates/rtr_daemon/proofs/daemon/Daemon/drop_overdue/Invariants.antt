@@ -1,16 +1,17 @@
--- So far the service went on, only clients have changed, and the stalled ones before the next token are closed.
+-- So far the service went on, only clients have changed, and the overdue ones before the next token are closed.
 use Rattle.std.proofs.Common.{◌≡◌}
 use Rattle.rtr_daemon.specs.Due.{OnlyClients}
+use Rattle.rtr_daemon.specs.Overdue.{unless_overdue}
 use Rattle.rtr_daemon.specs.Serving.{Continues}
-use Rattle.rtr_daemon.proofs.StallLaws.{ClosesBefore}
+use Rattle.rtr_daemon.proofs.OverdueLaws.{ChangesBefore}
 use Rattle.rtr_daemon.proofs.WakeLaws.{left_from}
-use Rattle.rtr_daemon.proofs.daemon.Daemon.drop_stalled.Given as goal
+use Rattle.rtr_daemon.proofs.daemon.Daemon.drop_overdue.Given as goal
 
 abbrev pub invariant-loop-at : goal.invariant-loop-at
 invariant-loop-at g l = record {
   goes : Continues g.S.VersionStore.holds g.T.Stream.remaining g.T.Stream.contents l.initial.self.service l.self.service;
   rest : OnlyClients l.initial.self l.self;
-  closed : ClosesBefore l.now l.initial.self.plan.stall l.initial.self.clients l.self.clients l.at;
+  closed : ChangesBefore (unless_overdue l.now l.initial.self.plan) l.initial.self.clients l.self.clients l.at;
   queue : l.self.clients.queue ≡ l.initial.self.clients.queue;
 }
 
