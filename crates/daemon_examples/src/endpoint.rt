@@ -1,4 +1,5 @@
-//! Turns of an endpoint over a listener and streams in memory, as scripts. A connection may be idle for 30 seconds, and has ten minutes in all.
+//! Turns of an endpoint over a listener and streams in memory, as scripts. A visitor has 30 seconds for each request, and ten minutes in
+//! all.
 use crate::endpoint_play::{Script, play_each};
 use std::hash::RandomState;
 use std::test::Fail;
@@ -90,23 +91,32 @@ const OF_STREAMS: &[Script] = &[
 
 const OF_TIMES: &[Script] = &[
     (
-        "the 65th is closed, and all time out",
+        "the one that has waited longest is closed for the 65th, and all time out",
         "repeat 65 comes 1
         turns 5
         turns 1
         holds 64
-        open 63 yes
-        open 64 no
+        open 0 no
+        open 1 yes
+        open 64 yes
         turns 29998
         holds 64
         waits 1000
         comes 1
         turns 1
+        holds 2
+        open 64 yes
+        open 65 yes
+        turns 1
+        open 64 no
+        turns 29998
+        holds 1
+        turns 1
         holds 0
         waits 18446744073709551615",
     ),
     (
-        "an idle connection times out",
+        "a connection without a whole request times out",
         "comes 1
         comes 1
         turns 0
@@ -115,23 +125,32 @@ const OF_TIMES: &[Script] = &[
         turns 20000
         wakes 1
         turns 9999
+        open 0 yes
         open 1 yes
         wakes 1
         turns 1
-        open 1 no
-        turns 19999
-        open 0 yes
-        turns 1
-        open 0 no",
+        open 0 no
+        open 1 no",
     ),
     (
-        "a request that comes a byte each 20 seconds has ten minutes",
+        "a request that comes a byte each 9 seconds has 30 seconds",
         "comes 1
         turns 0
-        repeat 29 sends 0 G; wakes 0; turns 20000; open 0 yes
+        repeat 3 sends 0 G; wakes 0; turns 9000; open 0 yes
         sends 0 G
         wakes 0
-        turns 19999
+        turns 2999
+        open 0 yes
+        turns 1
+        holds 0",
+    ),
+    (
+        "each request has 30 seconds",
+        "comes 4096
+        turns 0
+        repeat 2 sends 0 HEAD; wakes 0; turns 20000; open 0 yes
+        responses 0 2 2
+        turns 29999
         open 0 yes
         turns 1
         holds 0",
@@ -140,10 +159,10 @@ const OF_TIMES: &[Script] = &[
         "a slow download has ten minutes",
         "comes 1
         sends 0 LIST
-        turns 0
-        waits 0
-        repeat 29 turns 20000; waits 0
-        turns 19999
+        repeat 6 turns 0; waits 0
+        has 0 HTTP
+        repeat 23 turns 25000; waits 0
+        turns 24999
         open 0 yes
         turns 1
         holds 0",

@@ -63,6 +63,8 @@ impl HttpSockets<Wire> for Pending {
         self.ready.pop_front()
     }
 
+    fn turn_away(&mut self, _stream: Wire, _connections: u64) {}
+
     fn accept(&mut self) -> HttpAccept<Wire> {
         match self.accepts.pop_front() {
             Some(accepted) => accepted,

@@ -1,7 +1,7 @@
-//! Examples of a daemon and of its status pages, which are the tests of `session_names`, `event_log`, `log_output`, `sd_notify`, `rtr_daemon`,
-//! `rpkirtrd_start`, `status_pages` and `status_server`. They are of its sessions and serials, their pace, its clock, the levels and the output
-//! of its log, its turns, and the turns of its pages. Sockets, files, clocks and log are in memory. `page_texts` prints the lines of the log, the
-//! command line and the texts of the pages. They are a crate of their own, as a crate with tests is proved twice.
+//! Examples of a daemon and of its status pages, which are the tests of `session_names`, `event_log`, `log_output`, `sd_notify`, `tcp_table`,
+//! `rtr_daemon`, `rpkirtrd_start`, `status_pages` and `status_server`. They are of its sessions and serials, their pace, its clock, the levels
+//! and the output of its log, its turns, and the turns of its pages. Sockets, files, clocks and log are in memory. `page_texts` prints the lines
+//! of the log, the command line and the texts of the pages. They are a crate of their own, as a crate with tests is proved twice.
 #![tactic(auto)]
 
 #[cfg(test)]
@@ -60,6 +60,10 @@ mod status_pages_example;
 mod status_server_example;
 #[cfg(test)]
 mod status_source;
+#[cfg(test)]
+mod tables;
+#[cfg(test)]
+mod tcp_table_example;
 #[cfg(test)]
 mod validities;
 #[cfg(test)]

@@ -13,6 +13,7 @@ fn file(alloc: Global, built: Option<u64>) -> FileStatus {
         is_old: false,
         expired: 0,
         vrps: None,
+        ignored: None,
     }
 }
 

@@ -3,10 +3,12 @@
 //!
 //! - `writes TEXT`: the list has this text from now on, which has a name or is spelled.
 //! - `restless yes`, `restless no`: the list is or is not rewritten with the same text at each poll from now on.
+//! - `shows TABLE`: the system's table of connections from now on, which has a name. Without one it cannot be read.
 //! - `accepts well`, `accepts no-room`, `accepts fails`: the result of each accept from now on.
 //! - `comes ROUTER`: a router connects. Routers are named by their places in the order of arrival.
 //! - `turns COUNT`: the daemon makes this many turns.
 //! - `back SECONDS`, `ahead SECONDS`: the wall clock is set back, or ahead.
+//! - `reads-for MILLISECONDS`: each read of the list lasts so long from now on.
 //! - `serves COUNT`: this many clients are connected.
 //! - `has ROUTER PDUS`: a router received these PDUs, and no others. Each has a name (`example_values::scripts`) or is spelled.
 use crate::stage::{Accepting, LIST, Stage};
@@ -35,6 +37,7 @@ const EVENING: u64 = 1_795_632_000;
 const PLAN: Plan = Plan {
     check: 60_000,
     stall: 30_000,
+    slow: 90_000,
     clients_per_address: None,
     leaves_out_length_0: false,
     max_age: None,
@@ -61,6 +64,14 @@ fn plan_of(name: &str) -> Plan {
             max_age: Some(100),
             ..PLAN
         },
+        "an answer has 30 seconds" => Plan {
+            slow: 30_000,
+            ..PLAN
+        },
+        "an answer has a minute" => Plan {
+            slow: 60_000,
+            ..PLAN
+        },
         "polls ten times a second" => Plan { check: 100, ..PLAN },
         "leaves out length 0" => Plan {
             leaves_out_length_0: true,
@@ -79,10 +90,28 @@ fn list_of(name: &'static str) -> &'static str {
     }
 }
 
+/// The system's table of connections, in which a notify to the router is sent again.
+const SENT_AGAIN: &str =
+    "  sl  local_address rem_address   st tx_queue rx_queue tr tm->when retrnsmt   uid  timeout inode\n   0: 0100007F:0CFB 00000000:0000 0A 00000000:00000000 00:00000000 00000000     0        0 1 1 0 100 0 0 10 0\n   1: 0100007F:0CFB 010200C0:00B3 01 0000000C:00000000 01:00000040 00000005     0        0 2 3 0 100 0 0 10 -1\n";
+
+/// The same while the window of the router is closed.
+const CLOSED_WINDOW: &str =
+    "   1: 0100007F:0CFB 010200C0:00B3 01 0000000C:00000000 04:00000040 00000000     0        0 2 3 0 100 0 0 10 -1\n";
+
+/// The table of this name, or none that can be read.
+fn table_of(name: &str) -> Option<&'static str> {
+    match name {
+        "SENT-AGAIN" => Some(SENT_AGAIN),
+        "CLOSED-WINDOW" => Some(CLOSED_WINDOW),
+        _ => None,
+    }
+}
+
 /// A router by its name.
 fn router_of(name: &str) -> Option<Router> {
     match name {
         "asks" => Some(Router::Asks),
+        "asks-twice" => Some(Router::AsksTwice),
         "is-silent" => Some(Router::IsSilent),
         "sends-a-header" => Some(Router::SendsHeader),
         "reads-nothing" => Some(Router::TakesNothing),
@@ -179,6 +208,7 @@ fn counts(
         "serves" => return daemon.server().clients() as u64 == number,
         "back" => stage.set_back(number),
         "ahead" => stage.set_ahead(number),
+        "reads-for" => stage.set_reading(number),
         _ => return false,
     }
     true
@@ -190,6 +220,7 @@ fn goes(daemon: &mut Daemon<VersionLog, Wire>, stage: &mut Stage, line: &'static
     match words.next() {
         "writes" => stage.write(list_of(words.rest)),
         "restless" => stage.set_restless(words.rest == "yes"),
+        "shows" => stage.set_table(table_of(words.rest)),
         "accepts" => return accepts(stage, words.rest),
         "comes" => return comes(stage, words.rest),
         "has" => return has(stage, &mut words),

@@ -75,19 +75,29 @@ fn a_daemon_starts(rt: HostRuntime) {
     assert!(rt; starts(rt.alloc(), "[") == Some(false));
 }
 
-/// The exit status of a daemon with these words, to which a silent router connects.
-fn served(alloc: Global, words: &[&str]) -> Option<u8> {
+/// The exit status of a daemon with these words, to which this router connects.
+fn served(alloc: Global, router: Router, words: &[&str]) -> Option<u8> {
     let settings = settings_of(alloc, words)?;
     let mut stage = Stage::new(alloc, BEGUN, ONE);
-    stage.connect(Router::IsSilent).ok()?;
+    stage.connect(router).ok()?;
     let mut host = host(alloc);
     serve(alloc, settings, 1024, 0, &mut host, &mut Idle, &mut stage).ok()
 }
 
-/// The silent router is closed after a minute. With `--once` the daemon ends then. Otherwise it ends once its list is old.
+/// With `--once` the daemon ends when a router that has asked is closed, as it reads nothing. One that never asked does not count: the daemon
+/// ends once its list is old.
 #[test]
 fn a_daemon_serves_until_it_stops(rt: HostRuntime) {
-    assert!(rt; served(rt.alloc(), &["--vrps", LIST, "--once"]) == Some(0));
+    let once = [
+        "--vrps",
+        LIST,
+        "--once",
+        "--max-age",
+        "600",
+        "--stop-when-old",
+    ];
+    assert!(rt; served(rt.alloc(), Router::TakesNothing, &once) == Some(0));
+    assert!(rt; served(rt.alloc(), Router::IsSilent, &once) == Some(1));
     let words = ["--vrps", LIST, "--max-age", "600", "--stop-when-old"];
-    assert!(rt; served(rt.alloc(), &words) == Some(1));
+    assert!(rt; served(rt.alloc(), Router::TakesNothing, &words) == Some(1));
 }

@@ -33,7 +33,11 @@ pub(crate) struct Stage {
     modified: u64,
     /// Whether the list is rewritten with the same text at each poll.
     is_restless: bool,
+    /// How long a read lasts, in milliseconds.
+    reading: u64,
     accepting: Accepting,
+    /// The system's table of connections, if it can be read.
+    table: Option<&'static str>,
     /// The start in seconds since 1970, and the milliseconds since.
     began: u64,
     millis: u64,
@@ -56,7 +60,9 @@ impl Stage {
             times: 0,
             modified: began,
             is_restless: false,
+            reading: 0,
             accepting: Accepting::Well,
+            table: Some(""),
             began,
             millis: 0,
             arriving: VecDeque::new(alloc),
@@ -79,9 +85,19 @@ impl Stage {
         self.is_restless = is_restless;
     }
 
+    /// Sets how long a read lasts, in milliseconds.
+    pub(crate) fn set_reading(&mut self, millis: u64) {
+        self.reading = millis;
+    }
+
     /// Sets the result of each accept from now on.
     pub(crate) fn set_accepting(&mut self, accepting: Accepting) {
         self.accepting = accepting;
+    }
+
+    /// Sets the system's table of connections.
+    pub(crate) fn set_table(&mut self, table: Option<&'static str>) {
+        self.table = table;
     }
 
     /// Sets the wall clock ahead.
@@ -152,6 +168,7 @@ impl Disk for Stage {
         if path != LIST {
             return Err(io::Error::from(ErrorKind::NotFound));
         }
+        self.millis = self.millis.saturating_add(self.reading);
         let mut bytes = Vec::new(self.alloc);
         bytes.extend_from_slice(self.list.as_bytes())?;
         Ok(bytes)
@@ -195,6 +212,16 @@ impl Sockets<Wire> for Stage {
             stream,
             token,
             address: SocketAddr::from(([192, 0, 2, 1], 179)),
+            local: SocketAddr::from(([127, 0, 0, 1], 3323)),
         }
+    }
+
+    fn connections(&mut self) -> io::Result<Vec<u8>> {
+        let Some(table) = self.table else {
+            return Err(io::Error::from(ErrorKind::NotFound));
+        };
+        let mut bytes = Vec::new(self.alloc);
+        bytes.extend_from_slice(table.as_bytes())?;
+        Ok(bytes)
     }
 }

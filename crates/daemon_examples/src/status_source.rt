@@ -1,7 +1,7 @@
 //! The source of the status pages of a small cache.
 use bytes::Bytes;
 use prefixes::Route;
-use status_pages::{LostLines, PdusByType, Status, TotalTraffic, Validity};
+use status_pages::{ErrorReports, LostLines, PdusByType, Status, TotalTraffic, Validity};
 use status_server::StatusSource;
 use std::alloc::{AllocError, Global};
 
@@ -85,6 +85,7 @@ pub(crate) fn status(alloc: Global) -> Status {
         clients_refused: 0,
         turned_away: None,
         clients_stalled: 0,
+        error_reports: ErrorReports::NONE,
         received: NONE,
         sent: NONE,
         reloads_taken: 0,

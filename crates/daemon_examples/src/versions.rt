@@ -102,6 +102,8 @@ impl HttpSockets<Wire> for LoneVisitor {
         Some(HttpReady::Listener)
     }
 
+    fn turn_away(&mut self, _stream: Wire, _connections: u64) {}
+
     fn accept(&mut self) -> HttpAccept<Wire> {
         match self.stream.take() {
             Some(stream) => HttpAccept::Connection { stream, token: 0 },

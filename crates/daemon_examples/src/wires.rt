@@ -37,6 +37,8 @@ pub(crate) enum Router {
     TakesBytes,
     /// It sends a Reset Query, and reads one byte of every other write.
     TakesSlowly,
+    /// It sends two Reset Queries, and reads one byte of every other write.
+    AsksTwice,
 }
 
 /// The bytes from a router. When none are left, a read would block.
@@ -102,6 +104,9 @@ pub(crate) type Wire = Duplex<Feed, Sink>;
 /// A Reset Query of version 1 (RFC 8210 section 5.4).
 const RESET_QUERY: &[u8] = b"\x01\x02\x00\x00\x00\x00\x00\x08";
 
+/// Two of them.
+const RESET_QUERIES: &[u8] = b"\x01\x02\x00\x00\x00\x00\x00\x08\x01\x02\x00\x00\x00\x00\x00\x08";
+
 /// The header of a Serial Query of version 1 (RFC 8210 section 5.3).
 const HEADER: &[u8] = b"\x01\x01\x12\x34\x00\x00\x00\x0c";
 
@@ -110,11 +115,12 @@ pub(crate) fn wire(output: &Shared, router: Router) -> Result<Wire, AllocError> 
     let left = match router {
         Router::IsSilent => b"".as_slice(),
         Router::SendsHeader => HEADER,
+        Router::AsksTwice => RESET_QUERIES,
         _ => RESET_QUERY,
     };
     let most = match router {
         Router::TakesNothing => 0,
-        Router::TakesSlowly | Router::TakesBytes => 1,
+        Router::TakesSlowly | Router::AsksTwice | Router::TakesBytes => 1,
         _ => usize::MAX,
     };
     Ok(Duplex {
@@ -122,7 +128,7 @@ pub(crate) fn wire(output: &Shared, router: Router) -> Result<Wire, AllocError> 
         output: Sink {
             list: output.clone()?,
             most,
-            is_slow: router == Router::TakesSlowly,
+            is_slow: router == Router::TakesSlowly || router == Router::AsksTwice,
             waits: most == 0,
         },
     })

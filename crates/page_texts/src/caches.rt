@@ -1,8 +1,8 @@
 //! Made-up caches: a function makes what it is given, a cache without a version, into another one.
 
 use status_pages::{
-    ChangeStatus, ClientStatus, ClientTraffic, FileStatus, LostLines, PdusByType,
-    PublicationFailure, Status, TotalTraffic,
+    ChangeStatus, ClientStatus, ClientTraffic, ErrorReports, FileStatus, IgnoredEntries, LostLines,
+    PdusByType, PublicationFailure, ReportsByCode, Status, TotalTraffic,
 };
 use std::alloc::{AllocError, Global};
 use std::net::{IpAddr, Ipv4Addr, Ipv6Addr, SocketAddr};
@@ -76,6 +76,7 @@ pub(crate) fn empty(alloc: Global) -> Status {
         clients_refused: 0,
         turned_away: None,
         clients_stalled: 0,
+        error_reports: ErrorReports::NONE,
         received: TotalTraffic {
             bytes: 0,
             pdus: NO_PDUS,
@@ -118,6 +119,10 @@ fn taken_file(alloc: Global) -> Result<FileStatus, AllocError> {
         is_old: false,
         expired: 12,
         vrps: Some(523_456),
+        ignored: Some(IgnoredEntries::Export {
+            aspas: 1,
+            router_keys: 1200,
+        }),
     })
 }
 
@@ -139,6 +144,7 @@ fn refused_file(alloc: Global) -> Result<FileStatus, AllocError> {
         is_old: false,
         expired: 0,
         vrps: None,
+        ignored: None,
     })
 }
 
@@ -188,6 +194,16 @@ fn put_counters(status: &mut Status) {
     status.sent = TotalTraffic {
         bytes: 1_000_000,
         pdus: SENT,
+    };
+    status.error_reports = ErrorReports {
+        received: ReportsByCode {
+            known: [61, 62, 63, 64, 65, 66, 67, 68, 69],
+            others: 70,
+        },
+        sent: ReportsByCode {
+            known: [71, 72, 73, 74, 75, 76, 77, 78, 79],
+            others: 80,
+        },
     };
     status.reloads_taken = 41;
     status.reloads_refused = 5;

@@ -50,7 +50,7 @@ fn daemon_events() -> [LogEvent<'static>; 12] {
 }
 
 /// The events of files, with names that must not break a line.
-fn file_events() -> [LogEvent<'static>; 9] {
+fn file_events() -> [LogEvent<'static>; 11] {
     [
         LogEvent::LeftOut { records: 2 },
         LogEvent::Refused {
@@ -81,11 +81,21 @@ fn file_events() -> [LogEvent<'static>; 9] {
             file: "a",
             entries: 18_446_744_073_709_551_615,
         },
+        LogEvent::NotServed {
+            file: "a b",
+            aspas: 18_446_744_073_709_551_615,
+            router_keys: 0,
+        },
+        LogEvent::SlurmNotServed {
+            file: "a",
+            bgpsec_filters: 2,
+            bgpsec_assertions: 1,
+        },
     ]
 }
 
 /// The events of clients.
-fn client_events() -> [LogEvent<'static>; 10] {
+fn client_events() -> [LogEvent<'static>; 12] {
     let at = address();
     let v6 = SocketAddr::new(IpAddr::V6(Ipv6Addr::LOCALHOST), 3323);
     [
@@ -128,6 +138,14 @@ fn client_events() -> [LogEvent<'static>; 10] {
         LogEvent::AddressFull {
             address: at,
             clients: 8,
+        },
+        LogEvent::VersionRefused {
+            address: at,
+            asked: 255,
+        },
+        LogEvent::StatusFull {
+            address: v6,
+            clients: 64,
         },
     ]
 }

@@ -6,7 +6,7 @@
 //! - `route PREFIX AS`, `route-page PREFIX AS`: the validity of a route, as JSON and as a page.
 //! - `csv CACHE`, `export CACHE`: the records of a cache as CSV, and the start of its export.
 //! - `http CACHE PIECE [NAME]`: the response to the request on standard input, in pieces of at most PIECE bytes.
-//! - `log text`, `log json`: a line for each event of the log.
+//! - `log text`, `log json`, `log systemd`: a line for each event of the log.
 //! - `times`: a line of the log at each of some times.
 //! - `settings WORD..`: the parsed command line of the daemon, or why it is refused.
 //! - `faults`, `values`: what is printed of each fault with its number, and of each other value that is printed.
