@@ -16,7 +16,7 @@ within() { # within MESSAGE WORDS WORDS
     failed=1
 }
 
-written=$(grep -ho '"rpkirtrd_[a-z0-9_]*' crates/status_pages/src/{metrics,file_metrics,router_metrics}.rt | tr -d '"')
+written=$(grep -ho '"rpkirtrd_[a-z0-9_]*' crates/status_pages/src/{metrics,file_metrics,report_metrics,router_metrics}.rt | tr -d '"')
 listed=$(sed -n '/^## 19\. Metrics/,$p' docs/FORMATS.md | grep '^|' | cut -d '|' -f 2 | grep -o 'rpkirtrd_[a-z0-9_]*')
 named=$(sed 's/#.*//; /summary:/d' docs/alerts.yml | grep -o 'rpkirtrd_[a-z0-9_]*')
 within 'metrics of the sources that FORMATS lacks' "$written" "$listed"

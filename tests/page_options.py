@@ -3,7 +3,7 @@
 DEFAULTS = (
     'Settings { vrps: ["a"], points: [], slurm: [], listen: [127.0.0.1:3323], session: None, session0: None, start: None, keep: 16, '
     "timing: Timing { refresh: 3600, retry: 600, expire: 7200 }, check: 60, max_age: None, stop_when_old: false, max_size: 1073741824, "
-    "leave_out_length_0: false, clients: 256, clients_per_address: None, stall: 120, status: None, status_name: None, log: Text, "
+    "leave_out_length_0: false, clients: 256, clients_per_address: None, stall: 120, slow: 3600, status: None, status_name: None, log: Text, "
     "log_level: Info, once: false, check_config: false }"
 )
 
@@ -38,6 +38,8 @@ READ = [
     ("--vrps a --leave-out-length-0", "leave_out_length_0: true,"),
     ("--vrps a --max-size 1099511627776", "max_size: 1099511627776,"),
     ("--vrps a --stall 4294967295", "stall: 4294967295,"),
+    ("--vrps a --slow 60", "slow: 60,"),
+    ("--vrps a --slow 86400", "slow: 86400,"),
     ("--vrps a --status [::1]:9323", "status: Some([::1]:9323),"),
     ("--vrps a --log text", "log: Text,"),
     ("--vrps a --log json", "log: Json,"),
@@ -106,6 +108,7 @@ NUMBERS = [
     ("--max-age", "from 1 to 4294967295", [" 0", " 4294967296"]),
     ("--clients", "from 1 to 4294967295", [" 0", " 4294967296"]),
     ("--stall", "from 1 to 4294967295", [" 0", " 4294967296"]),
+    ("--slow", "from 60 to 86400", [" 59", " 86401"]),
 ]
 
 # The same for addresses, and for the name of the status pages.

@@ -128,6 +128,21 @@ for accepted, kind in [
     begin = told("200 OK", "vary: Accept", f"content-type: {kind}; charset=utf-8")[:-2]
     expect(asked("GET /validity?asn=64496&prefix=192.0.2.0/24", f"Accept: {accepted}"), begin=begin, parts=["192.0.2.0/24"])
 
+# What a browser gets if a query names no route: the form with what was typed, why it is no route, and the route that was probably meant.
+for query, status, parts in [
+    ("", "200 OK", ['<label>AS <input name="asn"', "<h2>Route</h2>"]),
+    ("?asn=%2064496+&prefix=192.0.2.0/24", "400 Bad Request", ['value=" 64496 "', 'value="192.0.2.0/24"', '<p class="state bad">write the AS number', '"/validity?asn=AS64496&amp;prefix=192.0.2.0/24">192.0.2.0/24 of AS64496</a>?']),
+    ("?asn=as64496&prefix=192.0.2.7", "400 Bad Request", ['value="as64496"', '"/validity?asn=AS64496&amp;prefix=192.0.2.7/32">']),
+    ("?asn=64496&prefix=192.0.2.7/24", "400 Bad Request", ["(fault 2)", 'value="192.0.2.7/24"', '"/validity?asn=AS64496&amp;prefix=192.0.2.0/24">']),
+    ("?asn=64496&prefix=2001:db8::1", "400 Bad Request", ['"/validity?asn=AS64496&amp;prefix=2001:db8::1/128">']),
+    ("?asn=64496&prefix=2001:db8::1+/+32", "400 Bad Request", ['"/validity?asn=AS64496&amp;prefix=2001:db8::/32">']),
+    ("?asn=64496&prefix=192.0.2.0/33", "400 Bad Request", ["(fault 1)", 'value="192.0.2.0/33"']),
+    ("?prefix=%22%3E%3Cb%3E", "400 Bad Request", ['value="&quot;&gt;&lt;b&gt;"', "write ?asn=NUMBER&amp;prefix=PREFIX"]),
+    ("?asn=64496&prefix=0.0.0.1/0", "400 Bad Request", ['"/validity?asn=AS64496&amp;prefix=0.0.0.0/0">']),
+]:
+    begin = told(status, "vary: Accept", "content-type: text/html; charset=utf-8")[:-2]
+    expect(asked(f"GET /validity{query}", "Accept: text/html"), begin=begin, parts=parts)
+
 # There is no record before the first version.
 for line in (
     "GET /vrps.json",

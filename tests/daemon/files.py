@@ -1,6 +1,7 @@
 """Files: what is refused, what is read again, what expires, and how old it is."""
 import json
 import os
+import re
 import socket
 import subprocess
 import time
@@ -112,6 +113,60 @@ def exceptions(*, asserted=(), filtered=(), keys=()):
         "validationOutputFilters": {"prefixFilters": [{"prefix": it} for it in filtered], "bgpsecFilters": [{"asn": it} for it in keys]},
         "locallyAddedAssertions": {"prefixAssertions": [{"prefix": prefix, "asn": asn} for prefix, asn in asserted], "bgpsecAssertions": []},
     })
+
+
+def ignored(port, path):
+    """How many entries of a file the metrics say that are not served, by kind."""
+    named = {it: metrics_of(port).get(f'rpkirtrd_file_ignored_entries{{file="{path}",kind="{it}"}}') for it in ("aspa", "router_key", "bgpsec_filter", "bgpsec_assertion")}
+    return {kind: count for kind, count in named.items() if count is not None}
+
+
+def state_shown(port, path):
+    """The state of a file on the page, without marks."""
+    row = got(port, "/")[2].partition(f'class="name">{path}</th><td class="long">')[2].partition("</td>")[0]
+    return re.sub("<[^>]*>", "", row)
+
+
+@part
+def not_served(given):
+    """What of the files is not served is counted: a line at each load that changes the numbers, the page and a metric have them."""
+    def export(records, aspas, keys, more):
+        return json.dumps({"roas": [entry_of(*it) for it in records], "aspas": [{"customer_asid": 64496, "providers": [it]} for it in range(aspas)], "bgpsec_keys": [{"asn": it} for it in range(keys)], "routerKeys": [1] * more})
+
+    def slurm(filters, assertions):
+        text = json.loads(exceptions(keys=[64500 + it for it in range(filters)]))
+        text["locallyAddedAssertions"]["bgpsecAssertions"] = [{"asn": 64600 + it, "SKI": "", "routerPublicKey": ""} for it in range(assertions)]
+        return json.dumps(text)
+
+    put("export.json", export(FIRST, 1, 2, 1))
+    put("slurm.json", slurm(1, 0))
+    put("other.json", slurm(0, 0))
+    words = ["--vrps", "export.json", "--vrps", "list.json", "--slurm", "other.json", "--slurm", "slurm.json", "--listen", "127.0.0.1:0", "--status", "127.0.0.1:0", "--check", "1", "--log", "json"]
+    with running(given.program, *words) as daemon:
+        first = daemon.wait("not-served")
+        expect("the line of an export", [first.get(it) for it in ("file", "aspas", "router-keys", "level")], ["export.json", 1, 3, "notice"])
+        second = daemon.wait("not-served")
+        expect("the line of exceptions", [second.get(it) for it in ("file", "bgpsec-filters", "bgpsec-assertions", "level")], ["slurm.json", 1, 0, "notice"])
+        _, port = daemon.serves()
+        expect("the metric of an export", ignored(port, "export.json"), {"aspa": 1, "router_key": 3})
+        expect("the metric of a list", ignored(port, "list.json"), {"aspa": 0, "router_key": 0})
+        expect("the metric of exceptions", (ignored(port, "slurm.json"), ignored(port, "other.json")), ({"bgpsec_filter": 1, "bgpsec_assertion": 0}, {"bgpsec_filter": 0, "bgpsec_assertion": 0}))
+        shown = [state_shown(port, it) for it in ("export.json", "list.json", "slurm.json", "other.json")]
+        expect("the page", shown, ["taken, not served: 1 ASPA, 3 router keys", "taken", "taken, not served: 1 BGPsec filter", "taken"])
+        put("export.json", export(SECOND, 1, 1, 2))
+        daemon.wait("published")
+        put("slurm.json", slurm(1, 0) + " ")
+        put("export.json", "{")
+        daemon.wait("refused", file="export.json")
+        expect("loads that change no number, and a refusal", (daemon.count("not-served"), ignored(port, "export.json")), (2, {"aspa": 1, "router_key": 3}))
+        put("export.json", export(FIRST, 2, 0, 0))
+        daemon.wait("not-served", file="export.json", aspas=2, **{"router-keys": 0})
+        put("slurm.json", slurm(0, 2))
+        daemon.wait("not-served", file="slurm.json", **{"bgpsec-filters": 0, "bgpsec-assertions": 2})
+        expect("the page afterwards", [state_shown(port, it) for it in ("export.json", "slurm.json")], ["taken, not served: 2 ASPAs", "taken, not served: 2 BGPsec assertions"])
+        put("export.json", text_of(FIRST))
+        daemon.wait("not-served", file="export.json", aspas=0, **{"router-keys": 0})
+        expect("how many lines there are", (daemon.count("not-served"), ignored(port, "export.json")), (5, {"aspa": 0, "router_key": 0}))
 
 
 @part

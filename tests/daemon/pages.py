@@ -14,7 +14,7 @@ import time
 from checks import expect
 from common import PATIENCE, free_port, put
 from daemon.shared import FIRST, SECOND, Skipped, part, text_of
-from log import running
+from log import running, unescaped
 from rtr import Router
 from web import got, linted, metrics_of, raw_answer, validity
 
@@ -125,7 +125,10 @@ def strange_visitors(port):
     expect("three requests at once", raw_answer(port, request * 3).count(b"HTTP/1.1 404"), 3)
     expect("a request byte by byte", raw_answer(port, *(request[it : it + 1] for it in range(len(request)))).count(b"HTTP/1.1 404"), 1)
     silent = [socket.create_connection(("127.0.0.1", port), PATIENCE) for _ in range(80)]
-    expect("visitors too many", sum(is_closed(it) for it in silent), 16)
+    end = time.time() + PATIENCE
+    while sum(is_closed(it) for it in silent) < 16 and time.time() < end:
+        pass
+    expect("visitors too many", [is_closed(it) for it in silent], [True] * 16 + [False] * 64)
     for it in silent:
         it.close()
     end = time.time() + PATIENCE
@@ -180,6 +183,99 @@ def silent_visitor(given):
         with contextlib.closing(socket.create_connection(("127.0.0.1", port), 60)) as it, contextlib.suppress(OSError):
             it.recv(1)
         expect("how long a silent visitor stays", 29 < time.time() - began < 40, True)
+
+
+@part
+def dripping_visitor(given):
+    """A visitor that sends its request byte by byte has half a minute for it in all, also after an answer."""
+    put("drip.json", text_of(FIRST))
+    with running(given.program, "--vrps", "drip.json", "--listen", "127.0.0.1:0", "--status", "127.0.0.1:0") as daemon:
+        _, port = daemon.serves()
+        began = time.time()
+        with contextlib.closing(socket.create_connection(("127.0.0.1", port), PATIENCE)) as fresh, contextlib.closing(socket.create_connection(("127.0.0.1", port), PATIENCE)) as known:
+            known.sendall(b"GET /live HTTP/1.1\r\nHost: localhost\r\n\r\n")
+            expect("the answer before", known.recv(4096)[:15], b"HTTP/1.1 200 OK")
+            open_ones, ends = {"fresh": fresh, "known": known}, {}
+            while open_ones and time.time() - began < 45:
+                for name, it in list(open_ones.items()):
+                    with contextlib.suppress(OSError):
+                        it.sendall(b"G")
+                    if is_closed(it):
+                        ends[name] = time.time() - began
+                        del open_ones[name]
+                time.sleep(0.5)
+        expect("how long dripping visitors stay", {name: 29 < it < 36 for name, it in ends.items()}, {"fresh": True, "known": True})
+
+
+def waits_for_answer(port):
+    """A visitor that asks for the list, and reads nothing."""
+    it = socket.socket()
+    it.setsockopt(socket.SOL_SOCKET, socket.SO_RCVBUF, 4096)
+    it.settimeout(PATIENCE)
+    it.connect(("127.0.0.1", port))
+    it.sendall(b"GET /list.json HTTP/1.1\r\nHost: localhost\r\n\r\n")
+    expect("the beginning of an answer", it.recv(12), b"HTTP/1.1 200")
+    return it
+
+
+@part
+def full_pages(given):
+    """If 64 visitors are connected, the one that has waited longest for its request is closed for a newcomer. If all are being answered, the newcomer
+    is closed. Both are logged."""
+    many = [(f"10.{it // 256}.{it % 256}.0/24", 24, 64496) for it in range(60_000)]
+    put("many.json", text_of(many))
+    with running(given.program, "--vrps", "many.json", "--listen", "127.0.0.1:0", "--status", "127.0.0.1:0", "--log", "json") as daemon:
+        _, port = daemon.serves()
+        reading = waits_for_answer(port)
+        silent = []
+        for _ in range(63):
+            silent.append(socket.create_connection(("127.0.0.1", port), PATIENCE))
+            time.sleep(0.01)
+        expect("a newcomer among 64", got(port, "/live")[0], 200)
+        full = daemon.wait("full")
+        expect("the line of it", [full.get(it) for it in ("level", "address", "clients", "listener")], ["warning", "127.0.0.1:{}".format(silent[0].getsockname()[1]), 64, "status"])
+        expect("who was closed", [is_closed(it) for it in (silent[0], silent[1], silent[-1], reading)], [True, False, False, False])
+        for it in silent:
+            it.close()
+        time.sleep(2)
+        answered = [reading, *(waits_for_answer(port) for _ in range(63))]
+        newcomer = socket.create_connection(("127.0.0.1", port), PATIENCE)
+        full = daemon.wait("full")
+        expect("the address of a newcomer", full["address"], "127.0.0.1:{}".format(newcomer.getsockname()[1]))
+        expect("who was closed then", (is_closed(newcomer), any(len(it.recv(1)) == 0 for it in answered)), (True, False))
+        newcomer.close()
+        for it in answered:
+            it.close()
+        end = time.time() + PATIENCE
+        while time.time() < end and got_or_none(port) != 200:
+            time.sleep(0.1)
+        expect("a visitor afterwards", got_or_none(port), 200)
+
+
+def got_or_none(port):
+    """The status of /live, or None if the visitor is closed."""
+    with contextlib.suppress(OSError, http.client.HTTPException):
+        return got(port, "/live")[0]
+    return None
+
+
+@part
+def no_descriptor_for_pages(given):
+    """Visitors that no descriptor is left for are reported once, and accepted as soon as there is one."""
+    put("list.json", text_of(FIRST))
+    with running(given.program, "--vrps", "list.json", "--listen", "127.0.0.1:0", "--status", "127.0.0.1:0", limit=24) as daemon:
+        _, port = daemon.serves()
+        silent = [socket.create_connection(("127.0.0.1", port), PATIENCE) for _ in range(24)]
+        failed = daemon.wait("failed", what="accept for the status pages")
+        expect("why", "Too many open files" in unescaped(failed["reason"]) or "descriptor" in failed["reason"], True)
+        time.sleep(2.5)
+        expect("how often it is reported", daemon.count("failed"), 1)
+        for it in silent:
+            it.close()
+        end = time.time() + PATIENCE
+        while time.time() < end and got_or_none(port) != 200:
+            time.sleep(0.1)
+        expect("a visitor afterwards", got_or_none(port), 200)
 
 
 @part

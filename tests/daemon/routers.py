@@ -1,4 +1,5 @@
 """What routers are sent: the table in both versions, changes, notifies, and Error Reports."""
+import contextlib
 import json
 import select
 import time
@@ -136,3 +137,64 @@ def last_words(given):
         router.send(99, 0)
         report = daemon.wait("error-report", direction="sent")
         expect("a report that the cache sent", (report["code"], report["name"]), ("5", "Unsupported PDU Type"))
+
+
+VERSION_2 = bytes.fromhex("0202000000000008")
+
+
+def is_refused_in_2(port, what):
+    """A router asks in version 2 first, as BIRD 3.4 does."""
+    with contextlib.closing(Router(port)) as router:
+        router.socket.sendall(VERSION_2)
+        expect(f"the answer to version 2 {what}", router.receive(24).hex(), "010a00040000001800000008" + VERSION_2.hex() + "00000000")
+        expect(f"its end {what}", router.socket.recv(1), b"")
+
+
+@part
+def version_2(given):
+    """A router that asks in version 2 is refused, and comes again in version 1. That is no warning, and nothing was agreed on."""
+    put("list.json", text_of(FIRST))
+    with running(given.program, "--vrps", "list.json", "--listen", "127.0.0.1:0", "--status", "127.0.0.1:0", "--log", "json") as daemon:
+        at, port = daemon.serves()
+        is_refused_in_2(at, "at first")
+        report = daemon.wait("error-report")
+        expect("the line of the refusal", [report.get(it) for it in ("level", "direction", "code", "name", "asked", "text")], ["info", "sent", 4, "Unsupported Protocol Version", 2, None])
+        gone = daemon.wait("client-gone", why="ended")
+        expect("the version that was agreed on", gone["version"], None)
+        with contextlib.closing(Router(at)) as router:
+            expect("the table in version 1", router.catch_up(), set(FIRST))
+            router.socket.sendall(bytes.fromhex("0002000000000008"))
+        expect("the end in version 1", daemon.wait("client-gone")["version"], 1)
+        report = [it for it in map(values_of, list(daemon.lines)) if it.get("event") == "error-report"][1]
+        expect("the report on another version", [report.get(it) for it in ("level", "code", "asked")], ["warning", 8, None])
+        with contextlib.closing(Router(at, version=0)) as router:
+            router.catch_up()
+            router.socket.sendall(VERSION_2)
+        expect("the end in version 0", daemon.wait("client-gone")["version"], 0)
+        report = [it for it in map(values_of, list(daemon.lines)) if it.get("event") == "error-report"][2]
+        expect("the report on version 2 after version 0", [report.get(it) for it in ("level", "code", "asked")], ["warning", 4, None])
+        with contextlib.closing(Router(at)) as router:
+            router.catch_up()
+            router.socket.sendall(error_report(7, b"", b"twice"))
+            expect("the end after a report", router.socket.recv(1), b"")
+        daemon.wait("client-gone")
+        metrics = metrics_of(port)
+        wanted = {("sent", "4"): 2, ("sent", "8"): 1, ("received", "7"): 1}
+        counted = {(direction, code): metrics[f'rpkirtrd_error_reports_total{{direction="{direction}",code="{code}"}}'] for direction in ("received", "sent") for code in [*"012345678", "other"]}
+        expect("the reports by code", {key: it for key, it in counted.items() if it}, wanted)
+
+
+@part
+def once(given):
+    """With --once a connection on which no version was agreed is not the one: the router comes again, is served, and then the daemon ends."""
+    put("list.json", text_of(FIRST))
+    with running(given.program, "--vrps", "list.json", "--listen", "127.0.0.1:0", "--once") as daemon:
+        port = daemon.listens()
+        is_refused_in_2(port, "of one router")
+        daemon.wait("client-gone", version="none")
+        Router(port).close()
+        daemon.wait("client-gone", version="none")
+        with contextlib.closing(Router(port)) as router:
+            expect("the one router", router.catch_up(), set(FIRST))
+        daemon.wait("client-gone", version=1)
+        expect("the end of the daemon", daemon.status(), 0)
