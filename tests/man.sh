@@ -62,7 +62,7 @@ program=$(bash "$top/tools/start.sh" --path rpkirtrd) || exit 1
 items "$top/docs/man/rpkirtrd.8" >found
 same 'options of rpkirtrd.8 and of rpkirtrd --help' wanted found
 
-sed -n 's/^ *LogEvent::.* => "\([a-z-]*\)",$/\1/p' "$top/crates/event_log/src/entries.rt" | sort >wanted
+sed -n 's/^ *LogEvent::.* => "\([a-z-]*\)",$/\1/p' "$top/crates/event_log/src/entries.rt" | sort -u >wanted
 sed -n '/^\.Ss Log/,/^\.S[hs] [^L]/s/^\.It Cm //p' "$top/docs/man/rpkirtrd.8" | sed 's/ , /\n/' | sort >found
 same 'events of rpkirtrd.8 and of the log' wanted found
 
