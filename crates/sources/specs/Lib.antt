@@ -1,3 +1,5 @@
 pub mod Served
 pub mod ServedRows
+pub mod Shrinking
+pub mod ShrinkingRows
 pub mod TakenLaws

@@ -24,7 +24,7 @@ use Rattle.slurm.specs.declared.unite_fault.UniteFault.TheVariants as unite
 use Rattle.sources.specs.declared.fault.SlurmSetFault.{SlurmSetFault}
 use Rattle.sources.specs.declared.fault.SlurmSetFault.TheVariants.{File, Unite}
 use Rattle.sources.specs.declared.fault.TakeFault.{TakeFault}
-use Rattle.sources.specs.declared.fault.TakeFault.TheVariants.{NoSuchFile, Export}
+use Rattle.sources.specs.declared.fault.TakeFault.TheVariants.{NoSuchFile, Export, Shrank}
 use Rattle.sources.specs.declared.fault.TakeSetFault.{TakeSetFault}
 use Rattle.sources.specs.declared.fault.TakeSetFault.TheVariants as set
 use Rattle.sources.specs.declared.listed.Listed.{Listed}
@@ -128,6 +128,7 @@ pub record IsTaken (bytes : List ℕ) (now : ℕ) (expired : ℕ) (l : Listed) :
 abbrev pub IsRefused : List ℕ → ℕ → ℕ → List Listed → TakeFault → Type 0
 IsRefused bytes now i lists NoSuchFile = length lists ≤ i
 IsRefused bytes now i lists (Export fault) = (i < length lists) × HasFault bytes now fault
+IsRefused bytes now i lists (Shrank percent had has) = ⊥
 
 -- The export of a file is replaced as a whole, or nothing changes.
 abbrev pub TakesExport : List ℕ → ℕ → ℕ → Result ℕ TakeFault → List Listed → List Listed → Type 0

@@ -15,6 +15,16 @@ pub enum TakeFault {
     /// The bytes give no export.
     #[error("{0}")]
     Export(ExportFault),
+    /// The export is far shorter than what the file has given so far.
+    #[error("it has {has} VRPs, the last load had {had}: more than {percent} % fewer")]
+    Shrank {
+        /// How large a part may be gone, in percent.
+        percent: u8,
+        /// How many records of the last load still count.
+        had: u64,
+        /// How many records of this one count.
+        has: u64,
+    },
 }
 
 impl From<ExportFault> for TakeFault {

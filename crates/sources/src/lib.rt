@@ -20,9 +20,11 @@
 mod fault;
 pub mod laws;
 mod listed;
+mod shrinking;
 mod slurms;
 mod sources;
 
 pub use fault::{SlurmSetFault, TakeFault, TakeSetFault};
 pub use listed::Listed;
+pub use shrinking::is_too_short;
 pub use sources::{ServedSet, Sources};

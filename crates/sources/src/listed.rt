@@ -3,6 +3,7 @@ ghost use Rattle.std.specs.Prelude.{◌≡◌, ◌<◌, ◌++◌, ◌∷◌, [],
 ghost use Rattle.vrps.specs.VrpSet.{size};
 ghost use Rattle.exports.specs.Lasting.{counting, last_at};
 ghost use Rattle.sources.specs.Served.{CountsUntil, IsNothing, counting_at, ends_between, expired_of, is_any_before, none_ignored};
+ghost use Rattle.sources.specs.Shrinking.{left_of};
 
 use exports::Ignored;
 use prefixes::Vrp;
@@ -78,6 +79,13 @@ impl Listed {
         ensures { result ≡ expired_of now (Some self.now) }
     {
         self.lasts.iter().filter(|last| **last < now).count() as u64
+    }
+
+    /// How many records count at this moment.
+    pub(crate) fn left(&self, now: u64) -> u64
+        ensures { result ≡ left_of now (Some self.now) }
+    {
+        (self.set.len() as u64).saturating_sub(self.expired(now))
     }
 
     /// Whether a record has its last second at `from` or later, and before `to`. Until `to` it has then expired, and at `from` it has not.

@@ -5,10 +5,12 @@ ghost use Rattle.points.specs.Answers.{told_by, NewExactly, BecomesAt};
 ghost use Rattle.points.specs.InUse.{accepted_at, no_points};
 ghost use Rattle.points.specs.Offers.{Acceptable, Judged};
 ghost use Rattle.sources.specs.Served.{DropsSet, Gives, HasServed, IsServed, LeavesOut, NoneTaken, PassesLimit, TakesExport, TakesSet, TakesSlurm, TakesSlurms};
+ghost use Rattle.sources.specs.Shrinking.{TakesWithin, left_of};
 ghost use Rattle.sources.specs.Served.{built_at, ends_between, excepted_by, expired_of, has_length_0, ignored_at, ignored_exceptions, left_out_of, narrowed, records_of, with_lists};
 
 use crate::fault::{SlurmSetFault, TakeFault, TakeSetFault};
 use crate::listed::Listed;
+use crate::shrinking::shrinking;
 use crate::slurms::{AppliedSlurms, NO_EXCEPTIONS, read_applied, read_united};
 use der_lite::Moment;
 use exports::{Export, ExportCounted, ExportLasting, Ignored, read_export_counted};
@@ -132,13 +134,45 @@ impl Sources {
         ensures lists { TakesExport bytes.now now file result self.old.lists.items self.new.lists.items }
         ensures rest { (self.new.exceptions ≡ self.old.exceptions) × (self.new.repository ≡ self.old.repository) × (self.new.leaves_out ≡ self.old.leaves_out) }
     {
+        self.take_export_within(None, file, bytes, now)
+    }
+
+    /// The same, with a guard: the export is refused if more than this percentage of the records of the last load is gone, and there were 1,000 or
+    /// more. Records that have expired do not count on either side.
+    pub fn take_export_within(
+        &mut self,
+        guard: Option<u8>,
+        file: usize,
+        bytes: &[u8],
+        now: u64,
+    ) -> Result<u64, TakeFault>
+        ensures lists { TakesWithin guard bytes.now now file result self.old.lists.items self.new.lists.items }
+        ensures rest { (self.new.exceptions ≡ self.old.exceptions) × (self.new.repository ≡ self.old.repository) × (self.new.leaves_out ≡ self.old.leaves_out) }
+    {
+        let had = self.left(file, now);
         if file >= self.lists.len() {
             return Err(TakeFault::NoSuchFile);
         }
         let read = read_export_counted(self.alloc, bytes, now)?;
         let (list, expired) = listed_of(read);
-        self.lists[file] = list;
-        Ok(expired)
+        let has = list.left(now);
+        match shrinking(guard, had, has) {
+            Some(fault) => Err(fault),
+            None => {
+                self.lists[file] = list;
+                Ok(expired)
+            }
+        }
+    }
+
+    /// How many records of a file count at a moment, in seconds since 1970.
+    pub fn left(&self, file: usize, now: u64) -> u64
+        ensures { result ≡ left_of now (slice_get self.now.lists.items file) }
+    {
+        match self.lists.get(file) {
+            Some(list) => list.left(now),
+            None => 0,
+        }
     }
 
     /// Replaces the list of this number, counted from 0, by a set of another cache. Its records count at each second before `until`, in seconds
