@@ -4,3 +4,5 @@ pub mod HealthTexts
 pub mod Written
 pub mod Queries
 pub mod TextRows
+pub mod ReasonRows
+pub mod ListRows

@@ -5,6 +5,7 @@ pub mod ValidityText
 pub mod Escapes
 pub mod Csv
 pub mod Export
+pub mod Roas
 pub mod Reasons
 pub mod Health
 pub mod Made

@@ -4,6 +4,7 @@ use Rattle.std.specs.List.{list_any}
 use Rattle.status_pages.specs.declared.reasons.Reason.{Reason}
 use Rattle.status_pages.specs.declared.reasons.Reason.TheVariants as reason
 use Rattle.status_pages.specs.declared.status.FileStatus.{FileStatus}
+use Rattle.status_pages.specs.declared.status.SlowCall.{SlowCall}
 use Rattle.status_pages.specs.declared.status.Status.{Status}
 use Rattle.status_pages.specs.declared.status.TurnedAway.{TurnedAway}
 use Rattle.status_pages.specs.declared.status.VrpPeak.{VrpPeak}
@@ -31,11 +32,17 @@ abbrev pub is_long_refused : ℕ → ℕ → Option ℕ → Bool
 is_long_refused now limit None = false
 is_long_refused now limit (Some since) = nat_lt limit (now - since)
 
--- A source is the reason, with this maximum age: its data are too old, or it is refused.
+-- A single call on a file lasted longer than five seconds, within the last hour.
+abbrev pub is_slow : ℕ → Option SlowCall → Bool
+is_slow now None = false
+is_slow now (Some call) = nat_lt 5000 call.milliseconds && nat_le (now - call.at) 3600
+
+-- A source is the reason, with this maximum age: its data are too old, or it is refused, or a call on it was slow.
 abbrev pub is_blamed : ℕ → Option ℕ → Reason → FileStatus → Bool
 is_blamed now max_age reason.Old f = f.is_old || has_all_expired f
 is_blamed now max_age reason.RefusedLong f = is_long_refused now (refusal_limit max_age) f.refused_at
 is_blamed now max_age reason.Refused f = is_some f.refusal
+is_blamed now max_age reason.SlowPoll f = is_slow now f.slow
 is_blamed now max_age other f = false
 
 -- Fewer VRPs are served than four fifths of the most within the last 24 hours, from 1,000 on.
@@ -66,7 +73,7 @@ has_reason s other = list_any (is_blamed s.now s.max_age other) s.files.items
 abbrev pub all_reasons : List Reason
 all_reasons =
     reason.NoVrps ∷ reason.Publication ∷ reason.Old ∷ reason.RefusedLong ∷ reason.NoVersion ∷ reason.Refused ∷ reason.Shrank ∷ reason.TurnedAway
-    ∷ reason.Clock ∷ []
+    ∷ reason.SlowPoll ∷ reason.Clock ∷ []
 
 -- those at which an operator is woken
 abbrev pub grave_reasons : List Reason
@@ -98,4 +105,5 @@ reason_word reason.NoVersion = codes "no_version"
 reason_word reason.Refused = codes "refused"
 reason_word reason.Shrank = codes "shrank"
 reason_word reason.TurnedAway = codes "turned_away"
+reason_word reason.SlowPoll = codes "slow_poll"
 reason_word reason.Clock = codes "clock"

@@ -2,35 +2,42 @@
 ghost use Rattle.std.specs.Prelude.{◌≡◌, OnOk};
 ghost use Rattle.std.specs.Io.KnownBytes.{Appends};
 ghost use Rattle.std.specs.List.{flat_map};
-ghost use Rattle.status_pages.specs.Csv.{csv_line, csv_text};
+ghost use Rattle.status_pages.specs.Csv.{csv_line, csv_text, routinator_csv_text};
 
 use prefixes::Vrp;
 use std::io::{self, Write};
 
-/// Writes the line of a record.
+/// Writes the line of a record, with this end.
 #[tactic(auto, unfolding(crate::specs::Csv::csv_line))]
-fn write_csv_line<W: Write>(out: &mut W, vrp: &Vrp) -> io::Result<()>
-    ensures { OnOk result (Appends (W.contents out.old) (W.contents out.new) (csv_line vrp.now)) }
+fn write_csv_line<W: Write>(out: &mut W, vrp: &Vrp, end: &str) -> io::Result<()>
+    ensures { OnOk result (Appends (W.contents out.old) (W.contents out.new) (csv_line end.now vrp.now)) }
 {
     let (asn, prefix, max_len) = (vrp.asn(), vrp.prefix(), vrp.max_len());
-    write!(out, "AS{asn},{prefix},{max_len},\n")
+    write!(out, "AS{asn},{prefix},{max_len}{end}")
 }
 
-/// Writes the lines of records.
-fn write_csv_lines<W: Write>(out: &mut W, records: &[Vrp]) -> io::Result<()>
-    ensures { OnOk result (Appends (W.contents out.old) (W.contents out.new) (flat_map csv_line records.now)) }
+/// Writes the lines of records, each with this end.
+fn write_csv_lines<W: Write>(out: &mut W, records: &[Vrp], end: &str) -> io::Result<()>
+    ensures { OnOk result (Appends (W.contents out.old) (W.contents out.new) (flat_map (csv_line end.now) records.now)) }
 {
     for vrp in records {
-        write_csv_line(out, vrp)?;
+        write_csv_line(out, vrp, end)?;
     }
     Ok(())
 }
 
-/// Writes records as CSV with the columns of rpki-client and Routinator: a line of heads, and a line for each record. A cache does not know the
-/// trust anchor of a record, so that column is empty.
+/// Writes records as CSV of three columns: a line of heads, and a line for each record.
 pub fn write_csv<W: Write>(out: &mut W, records: &[Vrp]) -> io::Result<()>
     ensures { OnOk result (Appends (W.contents out.old) (W.contents out.new) (csv_text records.now)) }
 {
+    out.write_all(b"ASN,IP Prefix,Max Length\n")?;
+    write_csv_lines(out, records, "\n")
+}
+
+/// Writes records as CSV with the columns of Routinator. A cache does not know the trust anchor of a record, so that column is empty.
+pub fn write_routinator_csv<W: Write>(out: &mut W, records: &[Vrp]) -> io::Result<()>
+    ensures { OnOk result (Appends (W.contents out.old) (W.contents out.new) (routinator_csv_text records.now)) }
+{
     out.write_all(b"ASN,IP Prefix,Max Length,Trust Anchor\n")?;
-    write_csv_lines(out, records)
+    write_csv_lines(out, records, ",\n")
 }

@@ -1,7 +1,7 @@
 //! The start of an export.
 ghost use Rattle.std.specs.Prelude.{◌≡◌, OnOk};
 ghost use Rattle.std.specs.Io.KnownBytes.{Appends};
-ghost use Rattle.status_pages.specs.Export.{BeginsExport, export_head};
+ghost use Rattle.status_pages.specs.Export.{BeginsExport, BeginsRoutinator, export_head, routinator_head};
 
 use event_log::time_at;
 use std::io::{self, Write};
@@ -16,11 +16,32 @@ fn write_export_head_at<W: Write>(out: &mut W, time: &[u8], made: u64, vrps: u64
     write!(out, "\",\"generated\":{made},\"vrps\":{vrps}}},\"roas\":")
 }
 
-/// Writes the start of an export in the format of rpki-client: its metadata, and the key of its records. The records, as a payload list, and `}`
+/// Writes the start of an export in the format of rpki-client and StayRTR: its metadata, and the key of its records. The records, as a payload list, and `}`
 /// follow. `made` is when the records were made, in seconds since 1970, and `vrps` is their number.
 pub fn write_export_head<W: Write>(out: &mut W, made: u64, vrps: u64) -> io::Result<()>
     ensures { OnOk result (BeginsExport (W.contents out.old) (W.contents out.new) made vrps) }
 {
     let time = time_at(made);
     write_export_head_at(out, &time, made, vrps)
+}
+
+/// Writes the start in the format of Routinator, with the time as a text.
+fn write_routinator_head_at<W: Write>(out: &mut W, time: &[u8], made: u64) -> io::Result<()>
+    ensures { OnOk result (Appends (W.contents out.old) (W.contents out.new) (routinator_head time.now made)) }
+{
+    write!(
+        out,
+        "{{\"metadata\":{{\"generated\":{made},\"generatedTime\":\""
+    )?;
+    out.write_all(time)?;
+    out.write_all(b"\"},\"roas\":")
+}
+
+/// Writes the start of an export in the format of Routinator: its metadata, and the key of its records. The records, as Routinator writes them, and
+/// `}` follow. `made` is when the records were made, in seconds since 1970.
+pub fn write_routinator_head<W: Write>(out: &mut W, made: u64) -> io::Result<()>
+    ensures { OnOk result (BeginsRoutinator (W.contents out.old) (W.contents out.new) made) }
+{
+    let time = time_at(made);
+    write_routinator_head_at(out, &time, made)
 }

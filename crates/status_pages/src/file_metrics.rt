@@ -13,6 +13,7 @@ enum FileMetric {
     Taken,
     Refused,
     Old,
+    NearLimit,
     Expired,
     Vrps,
 }
@@ -34,6 +35,7 @@ fn file_metric(file: &FileStatus, now: u64, what: FileMetric) -> Option<u64> {
         FileMetric::Taken => file.taken,
         FileMetric::Refused => Some(u64::from(file.refusal.is_some())),
         FileMetric::Old => Some(u64::from(file.is_old)),
+        FileMetric::NearLimit => Some(u64::from(file.near_limit.is_some())),
         FileMetric::Expired => Some(file.expired),
         FileMetric::Vrps => file.vrps,
     }
@@ -99,6 +101,13 @@ pub(crate) fn write_files<W: Write>(out: &mut W, status: &Status) -> io::Result<
         "rpkirtrd_file_old",
         "Whether what a file has is older than it may be, 1, or not, 0.",
         FileMetric::Old,
+    )?;
+    write_of_files(
+        out,
+        status,
+        "rpkirtrd_file_near_limit",
+        "Whether a file has more than three quarters of the bytes that it may have, 1, or not, 0.",
+        FileMetric::NearLimit,
     )?;
     write_of_files(
         out,

@@ -39,6 +39,7 @@ mod query;
 mod query_fault;
 mod reasons;
 mod report_metrics;
+mod roas;
 mod router_metrics;
 mod status;
 mod text;
@@ -46,8 +47,8 @@ mod validity;
 mod validity_page;
 mod validity_text;
 
-pub use csv::write_csv;
-pub use export::write_export_head;
+pub use csv::{write_csv, write_routinator_csv};
+pub use export::{write_export_head, write_routinator_head};
 pub use form::write_form_page;
 pub use health::write_health;
 pub use made::oldest_built;
@@ -58,10 +59,11 @@ pub use query_fault::QueryFault;
 pub use reasons::{
     REASONS, Reason, has_reason, is_blamed, is_healthy, is_ready, is_well, served_vrps,
 };
+pub use roas::write_roas;
 pub use status::{
     ChangeStatus, ClientLimit, ClientStatus, ClientTraffic, ErrorReports, FileStatus,
-    IgnoredEntries, LostLines, PdusByType, PublicationFailure, ReportsByCode, Status, TotalTraffic,
-    TurnedAway, VrpPeak,
+    IgnoredEntries, LostLines, PdusByType, PublicationFailure, ReportsByCode, SlowCall, Status,
+    TotalTraffic, TurnedAway, VrpPeak,
 };
 pub use validity::Validity;
 pub use validity_page::write_validity_page;

@@ -1,9 +1,11 @@
 //! The state of a cache in sentences: all is well, or each reason why not.
 
 use crate::page_routers::behind_count;
-use crate::reasons::{REASONS, Reason, has_all_expired, has_reason, is_well, served_vrps};
+use crate::reasons::{
+    REASONS, Reason, has_all_expired, has_reason, is_blamed, is_well, served_vrps,
+};
 use crate::status::{ClientLimit, FileStatus, Status};
-use crate::text::{write_grouped, write_html, write_texts, write_time};
+use crate::text::{write_grouped, write_html, write_span, write_texts, write_time};
 use std::io::{self, Write};
 
 /// How many sources are refused.
@@ -28,6 +30,7 @@ fn sentence(reason: Reason) -> &'static str {
         Reason::Refused => "A source is refused. ",
         Reason::Shrank => "The table shrank. ",
         Reason::TurnedAway => "Routers were turned away. ",
+        Reason::SlowPoll => "A call on a file was slow. ",
         Reason::Clock => "The clock was set back. ",
     }
 }
@@ -88,7 +91,7 @@ fn write_refused<W: Write>(out: &mut W, file: &FileStatus) -> io::Result<()> {
     })
 }
 
-/// Writes which sources are reasons.
+/// Writes which sources are old or refused.
 fn write_sources<W: Write>(out: &mut W, status: &Status) -> io::Result<()> {
     for file in &status.files {
         write_old(out, file)?;
@@ -127,6 +130,30 @@ fn write_away<W: Write>(out: &mut W, status: &Status) -> io::Result<()> {
     out.write_all(b". ")
 }
 
+/// Writes which calls on files were slow, and how long they lasted.
+fn write_slow<W: Write>(out: &mut W, status: &Status) -> io::Result<()> {
+    for file in &status.files {
+        if is_blamed(status.now, status.max_age, Reason::SlowPoll, file) {
+            write_slow_call(out, file)?;
+        }
+    }
+    Ok(())
+}
+
+/// Writes how long the last slow call on a file lasted, if there was one.
+fn write_slow_call<W: Write>(out: &mut W, file: &FileStatus) -> io::Result<()> {
+    let Some(call) = file.slow else {
+        return Ok(());
+    };
+    out.write_all(b"A call on ")?;
+    write_html(out, &file.path)?;
+    out.write_all(b" took ")?;
+    write_span(out, call.milliseconds / 1000)?;
+    out.write_all(b" at ")?;
+    write_time(out, call.at)?;
+    out.write_all(b". ")
+}
+
 /// Writes how far the clock was set back.
 fn write_clock<W: Write>(out: &mut W, status: &Status) -> io::Result<()> {
     out.write_all(b"The clock was set back by ")?;
@@ -134,19 +161,20 @@ fn write_clock<W: Write>(out: &mut W, status: &Status) -> io::Result<()> {
     out.write_all(b" s. ")
 }
 
-/// Writes a reason that holds. Those of sources are written together.
+/// Writes a reason that holds. That sources are old or refused is written together.
 fn write_reason<W: Write>(out: &mut W, status: &Status, reason: Reason) -> io::Result<()> {
     match reason {
         Reason::Publication => write_failure(out, status),
         Reason::Shrank => write_peak(out, status),
         Reason::TurnedAway => write_away(out, status),
+        Reason::SlowPoll => write_slow(out, status),
         Reason::Clock => write_clock(out, status),
         Reason::Old | Reason::RefusedLong | Reason::Refused => Ok(()),
         Reason::NoVrps | Reason::NoVersion => out.write_all(sentence(reason).as_bytes()),
     }
 }
 
-/// Writes the reasons that hold, but for those of sources.
+/// Writes the reasons that hold, but for sources that are old or refused.
 fn write_reasons<W: Write>(out: &mut W, status: &Status) -> io::Result<()> {
     for reason in REASONS {
         if has_reason(status, reason) {

@@ -3,8 +3,10 @@
 
 /// The style sheet of the pages.
 pub(crate) const STYLE: &str = "\
-:root{color-scheme:light dark;--back:#fff;--text:#1b1f24;--dim:#57606a;--line:#d0d7de;--edge:#7d8590;--soft:#f6f8fa;--warn:#9a3412;--warnsoft:#fff1e8;--ok:#116329;--oksoft:#e6f6ea;--plot:#0b5cad}
-@media (prefers-color-scheme:dark){:root{--back:#0f1318;--text:#e6e9ed;--dim:#a3adb8;--line:#30363d;--edge:#6e7681;--soft:#171c23;--warn:#ffb077;--warnsoft:#33200f;--ok:#7ee29a;--oksoft:#12301b;--plot:#6cb2ff}}
+:root{color-scheme:light dark;--back:#fff;--text:#1b1f24;--dim:#57606a;--line:#d0d7de;--edge:#7d8590;\
+--soft:#f6f8fa;--warn:#9a3412;--warnsoft:#fff1e8;--ok:#116329;--oksoft:#e6f6ea;--plot:#0b5cad}
+@media (prefers-color-scheme:dark){:root{--back:#0f1318;--text:#e6e9ed;--dim:#a3adb8;--line:#30363d;\
+--edge:#6e7681;--soft:#171c23;--warn:#ffb077;--warnsoft:#33200f;--ok:#7ee29a;--oksoft:#12301b;--plot:#6cb2ff}}
 *{box-sizing:border-box}
 body{margin:0;padding:1rem;background:var(--back);color:var(--text);font:14px/1.45 system-ui,sans-serif;font-variant-numeric:tabular-nums}
 header,main{max-width:80rem;margin:0 auto}
@@ -51,5 +53,9 @@ svg.broken{border-bottom:2px dashed var(--dim)}
 figcaption{margin-top:.3rem}
 @media (min-width:64rem){.pair{display:grid;grid-template-columns:1fr 1fr;gap:0 2rem}.pair>*{min-width:0}}
 @media (max-width:60rem){dl{grid-template-columns:1fr 1fr}dl>div:last-child{grid-column:1/-1}}
-@media (max-width:40rem){.wide{display:none}th,td{padding:.35rem .5rem}.warn{white-space:normal}.files tr{display:block;border-top:1px solid var(--line);padding:.4rem 0}.files thead{display:none}.files td,.files th{display:block;border:0;white-space:normal;text-align:left;padding:.05rem .7rem}.files td:nth-child(3)::before{content:'data made '}.files td:nth-child(4)::before{content:'taken '}.files td:nth-child(5)::before{content:'expired entries: '}}
+@media (max-width:40rem){.wide{display:none}th,td{padding:.35rem .5rem}\
+.warn{white-space:normal}.files tr{display:block;border-top:1px solid var(--line);padding:.4rem 0}.files thead{display:none}\
+.files td,.files th{display:block;border:0;white-space:normal;text-align:left;padding:.05rem .7rem}\
+.files td:nth-child(3)::before{content:'data made '}.files td:nth-child(4)::before{content:'taken '}\
+.files td:nth-child(5)::before{content:'expired entries: '}}
 ";

@@ -89,6 +89,16 @@ fn write_how<W: Write>(out: &mut W, file: &FileStatus) -> io::Result<()> {
     out.write_all(b"<span class=\"warn\">not taken yet</span>")
 }
 
+/// Writes the size of a file, if it is near the maximum.
+fn write_size<W: Write>(out: &mut W, near_limit: Option<u64>) -> io::Result<()> {
+    let Some(size) = near_limit else {
+        return Ok(());
+    };
+    out.write_all(b", <span class=\"warn\">")?;
+    write_grouped(out, size)?;
+    out.write_all(b" bytes, near --max-size</span>")
+}
+
 /// Writes the row of a file.
 fn write_file<W: Write>(out: &mut W, now: u64, file: &FileStatus) -> io::Result<()> {
     out.write_all(b"<tr><th scope=\"row\" class=\"name\">")?;
@@ -96,6 +106,7 @@ fn write_file<W: Write>(out: &mut W, now: u64, file: &FileStatus) -> io::Result<
     out.write_all(b"</th><td class=\"long\">")?;
     write_how(out, file)?;
     write_not_served(out, file)?;
+    write_size(out, file.near_limit)?;
     out.write_all(b"</td>")?;
     write_ago_cell(out, now, file.built)?;
     write_ago_cell(out, now, file.taken)?;

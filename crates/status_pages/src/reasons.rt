@@ -1,10 +1,10 @@
 //! Why a cache is not well. One list decides what its page, its health, its metrics and its log say.
 ghost use Rattle.std.specs.Prelude.{◌≡◌};
 ghost use Rattle.std.specs.List.{list_any};
-ghost use Rattle.status_pages.specs.Reasons.{gives_none, has_all_expired, has_any, has_reason, is_blamed, is_healthy, is_long_refused, is_ready, is_recent, is_shrunk, is_well, reason_word};
-ghost use Rattle.status_pages.specs.Reasons.{refusal_limit, served_vrps};
+ghost use Rattle.status_pages.specs.Reasons.{gives_none, has_all_expired, has_any, has_reason, is_blamed, is_healthy, is_long_refused, is_ready, is_recent, is_shrunk, is_slow, is_well};
+ghost use Rattle.status_pages.specs.Reasons.{reason_word, refusal_limit, served_vrps};
 
-use crate::status::{FileStatus, Status, TurnedAway, VrpPeak};
+use crate::status::{FileStatus, SlowCall, Status, TurnedAway, VrpPeak};
 
 /// The longest time for which a source may be refused, in seconds.
 const REFUSAL_SECONDS: u64 = 3600;
@@ -14,6 +14,12 @@ const LEAST_PEAK: u64 = 1000;
 
 /// For how long it is reported that routers were turned away, in seconds.
 const RECENT: u64 = 600;
+
+/// A call on a file is slow if it lasts longer than this many milliseconds.
+const SLOW_MILLISECONDS: u64 = 5000;
+
+/// For how long it is reported that a call on a file was slow, in seconds.
+const SLOW_RECENT: u64 = 3600;
 
 /// A reason why a cache is not well.
 #[derive(Clone, Copy, Debug, PartialEq, Eq)]
@@ -34,12 +40,14 @@ pub enum Reason {
     Shrank,
     /// Routers were turned away within the last ten minutes.
     TurnedAway,
+    /// A single stat, open or read of a file lasted longer than five seconds, within the last hour.
+    SlowPoll,
     /// The clock was set back.
     Clock,
 }
 
 /// All reasons, in the order in which they are listed.
-pub const REASONS: [Reason; 9] = [
+pub const REASONS: [Reason; 10] = [
     Reason::NoVrps,
     Reason::Publication,
     Reason::Old,
@@ -48,6 +56,7 @@ pub const REASONS: [Reason; 9] = [
     Reason::Refused,
     Reason::Shrank,
     Reason::TurnedAway,
+    Reason::SlowPoll,
     Reason::Clock,
 ];
 
@@ -77,6 +86,7 @@ impl Reason {
             Reason::Refused => "refused",
             Reason::Shrank => "shrank",
             Reason::TurnedAway => "turned_away",
+            Reason::SlowPoll => "slow_poll",
             Reason::Clock => "clock",
         }
     }
@@ -119,7 +129,19 @@ fn refusal_limit(max_age: Option<u64>) -> u64
     }
 }
 
-/// Whether a source is a reason at a time, in seconds since 1970, with this maximum age in seconds. Only sources can be old or refused.
+/// Whether a single call on a file lasted longer than five seconds, within the last hour.
+fn is_slow(now: u64, call: Option<SlowCall>) -> bool
+    ensures { result ≡ is_slow now call }
+{
+    match call {
+        None => false,
+        Some(call) => {
+            SLOW_MILLISECONDS < call.milliseconds && now.saturating_sub(call.at) <= SLOW_RECENT
+        }
+    }
+}
+
+/// Whether a source is a reason at a time, in seconds since 1970, with this maximum age in seconds. Only sources can be old, refused or slow.
 pub fn is_blamed(now: u64, max_age: Option<u64>, reason: Reason, file: &FileStatus) -> bool
     ensures { result ≡ is_blamed now max_age reason file.now }
 {
@@ -127,6 +149,7 @@ pub fn is_blamed(now: u64, max_age: Option<u64>, reason: Reason, file: &FileStat
         Reason::Old => file.is_old || has_all_expired(file),
         Reason::RefusedLong => is_long_refused(now, refusal_limit(max_age), file.refused_at),
         Reason::Refused => file.refusal.is_some(),
+        Reason::SlowPoll => is_slow(now, file.slow),
         _ => false,
     }
 }
@@ -185,7 +208,7 @@ pub fn has_reason(status: &Status, reason: Reason) -> bool
         Reason::Shrank => is_shrunk(served_vrps(status), status.peak),
         Reason::TurnedAway => is_recent(status.now, status.turned_away),
         Reason::Clock => 0 < status.clock_behind,
-        Reason::Old | Reason::RefusedLong | Reason::Refused => {
+        Reason::Old | Reason::RefusedLong | Reason::Refused | Reason::SlowPoll => {
             blames_any(status.now, status.max_age, reason, &status.files)
         }
     }

@@ -154,6 +154,19 @@ pub struct FileStatus {
     pub vrps: Option<u64>,
     /// How much of it is not served, if it was loaded. A publication point has none.
     pub ignored: Option<IgnoredEntries>,
+    /// The last call on it that lasted longer than five seconds.
+    pub slow: Option<SlowCall>,
+    /// Its size in bytes when it was loaded last, if that is more than three quarters of the maximum size.
+    pub near_limit: Option<u64>,
+}
+
+/// A single stat, open or read of a file that was slow.
+#[derive(Clone, Copy, Debug, PartialEq, Eq)]
+pub struct SlowCall {
+    /// How long it lasted.
+    pub milliseconds: u64,
+    /// When it ended.
+    pub at: u64,
 }
 
 /// How many entries of a file are not served. Only payloads of ROAs are.
