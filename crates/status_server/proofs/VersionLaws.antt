@@ -1,30 +1,40 @@
 -- What is kept for a version, before and after more is made of it.
-use Rattle.std.proofs.Common.{◌≡◌, ◌∙◌, ℕ, ◌==◌, Bool, true, false, if◌then◌else◌, List, Option, Some, None, ap, option_map, refl, rules, subst, sym, inl, inr}
+use Rattle.std.proofs.Common.{◌≡◌, ◌∙◌, ℕ, ◌==◌, Bool, true, false, if◌then◌else◌, List, Option, Some, None, ap, option_map, refl, rules, subst, sym, inl, inr, IfOk, Result, Ok, Err}
 use Rattle.std.specs.Prelude.{unwrap_or}
 use Rattle.std.specs.Borrow.{Bor}
 use Rattle.vrps.specs.declared.serial.Serial.{Serial}
-use Rattle.payload_lists.specs.PayloadList.{list_text}
-use Rattle.status_pages.specs.Csv.{csv_text}
 use Rattle.vrps.specs.Instance.{NumberedSet}
 use Rattle.vrps.specs.VrpSet.{VrpSet, listing}
-use Rattle.status_server.specs.Answers.{AnswersSo, Shown}
+use Rattle.status_server.specs.Answers.{AnswersSo, IsShown, Shown, shown_list}
 use Rattle.status_server.specs.Connections.{Turns}
+use Rattle.status_server.specs.Lists.{form_text, kept_text, with_text}
 use Rattle.status_server.specs.declared.http_connections.Entry.{Entry}
-use Rattle.status_server.specs.Versions.{KeepsCsv, KeepsIndex, KeepsList, anew, is_same_serial, kept_for, serial_of, shown_in, shown_of, version_of}
+use Rattle.status_server.specs.Versions.{KeepsIndex, KeepsList, anew, is_same_serial, kept_for, list_in, serial_of, shown_in, shown_of, version_of}
+use Rattle.status_server.specs.declared.list_forms.ListForm.{ListForm}
+use Rattle.status_server.specs.declared.list_forms.ListForm.TheVariants as form
+use Rattle.status_server.specs.declared.list_forms.ListTexts.{ListTexts}
 use Rattle.status_server.specs.declared.version_cache.VersionCache.{VersionCache}
 
 -- what is answered of a version with these parts
-abbrev with_parts : Option (List ℕ) → Option (List ℕ) → Option VrpSet → Option NumberedSet → Shown
-with_parts list csv set version =
+abbrev list_with : ListForm → Option (List ℕ) → Option NumberedSet → Option (List ℕ)
+list_with f text version = option_map (λ v. unwrap_or text (form_text f (listing v.set))) version
+
+abbrev with_parts : Option (List ℕ) → Option (List ℕ) → Option (List ℕ) → Option (List ℕ) → Option VrpSet → Option NumberedSet → Shown
+with_parts payloads roas csv routinator_csv set version =
     record {
       status = None;
-      list = Some (option_map (λ v. unwrap_or list (list_text (listing v.set))) version);
-      csv = Some (option_map (λ v. unwrap_or csv (csv_text (listing v.set))) version);
+      payloads = Some (list_with form.Payloads payloads version);
+      roas = Some (list_with form.Roas roas version);
+      csv = Some (list_with form.Csv csv version);
+      routinator_csv = Some (list_with form.RoutinatorCsv routinator_csv version);
       set = Some (option_map (λ v. unwrap_or set v.set) version);
     }
 
+abbrev with_lists : ListTexts → Option VrpSet → Option NumberedSet → Shown
+with_lists lists set version = with_parts lists.payloads lists.roas lists.csv lists.routinator_csv set version
+
 abbrev shown_from : Option NumberedSet → VersionCache → Shown
-shown_from version kept = with_parts kept.list kept.csv kept.index version
+shown_from version kept = with_lists kept.lists kept.index version
 
 -- the same by the test of the serial
 abbrev picked : Bool → Option NumberedSet → VersionCache → VersionCache
@@ -61,31 +71,45 @@ keeps_by : (version : Option NumberedSet) (old new : VersionCache) → new.seria
 keeps_by version old new serial shown =
     from_same version new (subst (λ (s : Option ℕ). is_same_serial s (serial_of version) ≡ true) (sym serial) (same_kept version old)) ∙ shown
 
+-- A text that is made of the set of the version is what was answered before it was kept.
+made_is_shown : (f : ListForm) (v : NumberedSet) (t : ListTexts) (set : Option VrpSet) → kept_text f t ≡ None
+    → with_lists (with_text f (form_text f (listing v.set)) t) set (Some v) ≡ with_lists t set (Some v)
+made_is_shown form.Payloads v t set e = ap (λ (l : Option (List ℕ)). with_parts l t.roas t.csv t.routinator_csv set (Some v)) (sym e)
+made_is_shown form.Roas v t set e = ap (λ (l : Option (List ℕ)). with_parts t.payloads l t.csv t.routinator_csv set (Some v)) (sym e)
+made_is_shown form.Csv v t set e = ap (λ (l : Option (List ℕ)). with_parts t.payloads t.roas l t.routinator_csv set (Some v)) (sym e)
+made_is_shown form.RoutinatorCsv v t set e = ap (λ (l : Option (List ℕ)). with_parts t.payloads t.roas t.csv l set (Some v)) (sym e)
+
 -- To make a part of the set of the version keeps what is answered.
 module _ (v : NumberedSet) (old : VersionCache) where
   abbrev k : VersionCache
   k = kept_for (Some v) old
 
-  pub list_keeps : (new : VersionCache) → KeepsList v.set k new → shown_in (Some v) new ≡ shown_in (Some v) old
-  list_keeps new h = elim h [
+  pub list_keeps : (f : ListForm) (new : VersionCache) → KeepsList f v.set k new → shown_in (Some v) new ≡ shown_in (Some v) old
+  list_keeps f new h = elim h [
     | inl e ↦ keeps_by (Some v) old new (ap (λ (c : VersionCache). c.serial) e) (ap (λ (c : VersionCache). shown_from (Some v) c) e)
     | inr e ↦ keeps_by (Some v) old new (ap (λ (c : VersionCache). c.serial) e.1)
-        (ap (λ (c : VersionCache). shown_from (Some v) c) e.1 ∙ ap (λ (l : Option (List ℕ)). with_parts l k.csv k.index (Some v)) (sym e.0))
-  ]
-
-  pub csv_keeps : (new : VersionCache) → KeepsCsv v.set k new → shown_in (Some v) new ≡ shown_in (Some v) old
-  csv_keeps new h = elim h [
-    | inl e ↦ keeps_by (Some v) old new (ap (λ (c : VersionCache). c.serial) e) (ap (λ (c : VersionCache). shown_from (Some v) c) e)
-    | inr e ↦ keeps_by (Some v) old new (ap (λ (c : VersionCache). c.serial) e.1)
-        (ap (λ (c : VersionCache). shown_from (Some v) c) e.1 ∙ ap (λ (l : Option (List ℕ)). with_parts k.list l k.index (Some v)) (sym e.0))
+        (ap (λ (c : VersionCache). shown_from (Some v) c) e.1 ∙ made_is_shown f v k.lists k.index e.0)
   ]
 
   pub index_keeps : (new : VersionCache) → KeepsIndex v.set k new → shown_in (Some v) new ≡ shown_in (Some v) old
   index_keeps new h = elim h [
     | inl e ↦ keeps_by (Some v) old new (ap (λ (c : VersionCache). c.serial) e) (ap (λ (c : VersionCache). shown_from (Some v) c) e)
     | inr e ↦ keeps_by (Some v) old new (ap (λ (c : VersionCache). c.serial) e.1)
-        (ap (λ (c : VersionCache). shown_from (Some v) c) e.1 ∙ ap (λ (i : Option VrpSet). with_parts k.list k.csv i (Some v)) (sym e.0))
+        (ap (λ (c : VersionCache). shown_from (Some v) c) e.1 ∙ ap (λ (i : Option VrpSet). with_lists k.lists i (Some v)) (sym e.0))
   ]
+
+-- What is answered of a version in a form is what it shows.
+list_is_shown : (f : ListForm) (version : Option NumberedSet) (kept : VersionCache) (list : Option (List ℕ)) → list ≡ list_in f version kept
+    → IsShown (shown_list f (shown_in version kept)) list
+list_is_shown form.Payloads version kept list e = e
+list_is_shown form.Roas version kept list e = e
+list_is_shown form.Csv version kept list e = e
+list_is_shown form.RoutinatorCsv version kept list e = e
+
+pub answer_is_shown : {E : Type 0} (f : ListForm) (version : Option NumberedSet) (kept : VersionCache) (r : Result (Option (List ℕ)) E)
+    → IfOk r (λ list. list ≡ list_in f version kept) → IfOk r (λ list. IsShown (shown_list f (shown_in version kept)) list)
+answer_is_shown f version kept (Ok list) e = list_is_shown f version kept list e
+answer_is_shown f version kept (Err why) e = tt
 
 -- The same of a version that is lent, once what was made of another was dropped.
 module _ (found : Option (Serial × Bor VrpSet)) (serial : Serial) (set : Bor VrpSet) (old kept new : VersionCache) (is : found ≡ Some (serial, set)) (dropped : kept ≡ kept_for (version_of found) old) where
@@ -97,11 +121,8 @@ module _ (found : Option (Serial × Bor VrpSet)) (serial : Serial) (set : Bor Vr
   step P by h =
       subst (λ (f : Option (Serial × Bor VrpSet)). kept ≡ kept_for (version_of f) old → shown_in (version_of f) new ≡ shown_in (version_of f) old) (sym is) (λ e. by kept e h) dropped
 
-  pub list_step : KeepsList set.now kept new → shown_in (version_of found) new ≡ shown_in (version_of found) old
-  list_step = step (KeepsList set.now) (λ k e h. list_keeps v old new (subst (λ (c : VersionCache). KeepsList set.now c new) e h))
-
-  pub csv_step : KeepsCsv set.now kept new → shown_in (version_of found) new ≡ shown_in (version_of found) old
-  csv_step = step (KeepsCsv set.now) (λ k e h. csv_keeps v old new (subst (λ (c : VersionCache). KeepsCsv set.now c new) e h))
+  pub list_step : (f : ListForm) → KeepsList f set.now kept new → shown_in (version_of found) new ≡ shown_in (version_of found) old
+  list_step f = step (KeepsList f set.now) (λ k e h. list_keeps v old f new (subst (λ (c : VersionCache). KeepsList f set.now c new) e h))
 
   pub index_step : KeepsIndex set.now kept new → shown_in (version_of found) new ≡ shown_in (version_of found) old
   index_step = step (KeepsIndex set.now) (λ k e h. index_keeps v old new (subst (λ (c : VersionCache). KeepsIndex set.now c new) e h))

@@ -1,5 +1,6 @@
 -- The answers, by what the source answers.
 use Rattle.std.specs.Prelude.{◌≡◌, ◌⊎◌, ℕ, Bool, true, false, if◌then◌else◌, List, [], ◌∷◌, ◌++◌, codes, Option, Some, None, IfSome, Result, Ok, Err, ⊤, option_map, slice_get, length, ◌-◌, unwrap_or}
+use Rattle.std.specs.Io.KnownBytes.{Appends}
 use Rattle.event_log.specs.Clock.{IsTimeOf}
 use Rattle.http.specs.declared.request.Parts.{Parts}
 use Rattle.http_header.specs.FieldValue.{FieldValue}
@@ -8,7 +9,7 @@ use Rattle.http_server.specs.Response.{IsBlank, IsResponse}
 use Rattle.http_server.specs.declared.response.Response.{Response}
 use Rattle.http_uri.specs.Uri.{uri_path, uri_query}
 use Rattle.prefixes.specs.declared.route.Route.{Route}
-use Rattle.status_pages.specs.Export.{export_head}
+use Rattle.status_pages.specs.Export.{export_head, routinator_head}
 use Rattle.status_pages.specs.Health.{IsHealthText}
 use Rattle.status_pages.specs.Made.{oldest}
 use Rattle.status_pages.specs.Query.{Finds, FindsInPath}
@@ -20,23 +21,37 @@ use Rattle.status_pages.specs.declared.query_fault.QueryFault.TheVariants as fau
 use Rattle.status_pages.specs.declared.status.Status.{Status}
 use Rattle.status_pages.specs.declared.validity.Validity.{Validity}
 use Rattle.vrps.specs.VrpSet.{VrpSet}
+use Rattle.status_server.specs.Lists.{kind_of}
 use Rattle.status_server.specs.Plans.{IsRoute, PlansSo}
 use Rattle.status_server.specs.Resources.{route_path}
-use Rattle.status_server.specs.Responses.{IsDated, Refuses, Sends, SendsEarly, SendsText, SendsUnder, body_headers, csv_kind, export_tag, json_kind, list_tag, metrics_kind, page_headers}
+use Rattle.status_server.specs.Responses.{IsDated, Refuses, Sends, SendsEarly, SendsText, SendsUnder, body_headers, export_tag, json_kind, list_tag, metrics_kind, page_headers}
+use Rattle.status_server.specs.declared.list_forms.ExportForm.{ExportForm}
+use Rattle.status_server.specs.declared.list_forms.ExportForm.TheVariants as export
+use Rattle.status_server.specs.declared.list_forms.ListForm.{ListForm}
+use Rattle.status_server.specs.declared.list_forms.ListForm.TheVariants as form
 use Rattle.status_server.specs.declared.plan.Plan.{Plan}
 use Rattle.status_server.specs.declared.plan.Plan.TheVariants as plans
 use Rattle.status_server.specs.declared.resources.Resource.TheVariants as resources
 
--- What a source answers to each request, if that is known: its status, its payload list, its CSV, and the set whose validity it answers
+-- What a source answers to each request, if that is known: its status, its records in each form, and the set whose validity it answers
 pub record Shown : Type 0 where
   pub status : Option Status
-  pub list : Option (Option (List ℕ))
+  pub payloads : Option (Option (List ℕ))
+  pub roas : Option (Option (List ℕ))
   pub csv : Option (Option (List ℕ))
+  pub routinator_csv : Option (Option (List ℕ))
   pub set : Option (Option VrpSet)
 
 -- nothing is known
 abbrev pub nothing_shown : Shown
-nothing_shown = record { status = None; list = None; csv = None; set = None }
+nothing_shown = record { status = None; payloads = None; roas = None; csv = None; routinator_csv = None; set = None }
+
+-- the records in a form
+abbrev pub shown_list : ListForm → Shown → Option (Option (List ℕ))
+shown_list form.Payloads shown = shown.payloads
+shown_list form.Roas shown = shown.roas
+shown_list form.Csv shown = shown.csv
+shown_list form.RoutinatorCsv shown = shown.routinator_csv
 
 -- An answer is as it is known, if it is known.
 abbrev pub IsShown : {A : Type 0} → Option A → A → Type 0
@@ -58,7 +73,7 @@ SendsVersion (Some serial) (Some list) sends = sends serial list
 SendsVersion (Some serial) None sends = SendsEarly
 SendsVersion None list sends = SendsEarly
 
--- A list of the served set: the payload list, or the CSV
+-- The records of the served set in a form, by its media type
 abbrev pub SendsList : Entries FieldValue → List ℕ → Status → Option (List ℕ) → Response → Response → Type 0
 SendsList headers kind s list = SendsVersion s.serial list (λ serial list. SendsUnder headers (list_tag s.session serial) kind (λ text. text ≡ list))
 
@@ -69,17 +84,31 @@ published_at s = option_map (λ c. c.at) (slice_get s.changes.items (length s.ch
 abbrev pub made_at : Status → ℕ
 made_at s = unwrap_or (oldest s.files.items) (unwrap_or (published_at s) s.now)
 
+-- The metadata of an export: as rpki-client and StayRTR write them, or as Routinator does
+abbrev pub metadata_text : ExportForm → List ℕ → ℕ → ℕ → List ℕ
+metadata_text export.RpkiClient time made vrps = export_head time made vrps
+metadata_text export.Routinator time made vrps = routinator_head time made
+
+-- the form of its records
+abbrev pub records_of : ExportForm → ListForm
+records_of export.RpkiClient = form.Payloads
+records_of export.Routinator = form.Roas
+
 -- The start of an export, with the time at which its data were made
-abbrev pub IsExportHead : ℕ → ℕ → List ℕ → Type 0
-IsExportHead made vrps text = (time : List ℕ) × IsTimeOf made time × (text ≡ export_head time made vrps)
+abbrev pub IsExportHead : ExportForm → ℕ → ℕ → List ℕ → Type 0
+IsExportHead f made vrps text = (time : List ℕ) × IsTimeOf made time × (text ≡ metadata_text f time made vrps)
 
--- The export: the metadata, and the payload list as its records
-abbrev pub IsExport : Status → List ℕ → List ℕ → Type 0
-IsExport s list text = (head : List ℕ) × IsExportHead (made_at s) (served_vrps s) head × (text ≡ head ++ list ++ codes "}")
+-- That is appended.
+abbrev pub BeginsAs : ExportForm → Option (List ℕ) → Option (List ℕ) → ℕ → ℕ → Type 0
+BeginsAs f old new made vrps = (time : List ℕ) × IsTimeOf made time × Appends old new (metadata_text f time made vrps)
 
-abbrev pub SendsExport : Entries FieldValue → Status → Option (List ℕ) → Response → Response → Type 0
-SendsExport headers s list =
-    SendsVersion s.serial list (λ serial records. SendsUnder headers (export_tag s.session serial (made_at s)) json_kind (IsExport s records))
+-- The export: the metadata, and the records
+abbrev pub IsExport : ExportForm → Status → List ℕ → List ℕ → Type 0
+IsExport f s list text = (head : List ℕ) × IsExportHead f (made_at s) (served_vrps s) head × (text ≡ head ++ list ++ codes "}")
+
+abbrev pub SendsExport : Entries FieldValue → ExportForm → Status → Option (List ℕ) → Response → Response → Type 0
+SendsExport headers f s list =
+    SendsVersion s.serial list (λ serial records. SendsUnder headers (export_tag s.session serial (made_at s)) json_kind (IsExport f s records))
 
 -- 200 if the cache is healthy, and 503 with the reasons if it is not
 abbrev pub SendsHealth : Status → Response → Response → Type 0
@@ -114,13 +143,13 @@ SendsKnownHealth shown old new = (s : Status) × IsShown shown.status s × Sends
 abbrev pub SendsKnownReady : Shown → Response → Response → Type 0
 SendsKnownReady shown old new = (s : Status) × IsShown shown.status s × SendsReady s old new
 
-abbrev pub SendsKnownExport : Shown → Entries FieldValue → Response → Response → Type 0
-SendsKnownExport shown headers old new =
-    (s : Status) × IsShown shown.status s × ((list : Option (List ℕ)) × IsShown shown.list list × SendsExport headers s list old new)
+abbrev pub SendsKnownExport : Shown → ExportForm → Entries FieldValue → Response → Response → Type 0
+SendsKnownExport shown f headers old new =
+    (s : Status) × IsShown shown.status s × ((list : Option (List ℕ)) × IsShown (shown_list (records_of f) shown) list × SendsExport headers f s list old new)
 
-abbrev pub SendsKnownList : Option Status → Option (Option (List ℕ)) → List ℕ → Entries FieldValue → Response → Response → Type 0
-SendsKnownList status known kind headers old new =
-    (s : Status) × IsShown status s × ((list : Option (List ℕ)) × IsShown known list × SendsList headers kind s list old new)
+abbrev pub SendsKnownList : Shown → ListForm → Entries FieldValue → Response → Response → Type 0
+SendsKnownList shown f headers old new =
+    (s : Status) × IsShown shown.status s × ((list : Option (List ℕ)) × IsShown (shown_list f shown) list × SendsList headers (kind_of f) s list old new)
 
 abbrev pub SendsKnownValidity : Shown → Bool → Route → Response → Response → Type 0
 SendsKnownValidity shown is_html route old new =
@@ -162,9 +191,12 @@ CarriesOut shown p (plans.Resource resources.Metrics) old new = (text : List ℕ
 CarriesOut shown p (plans.Resource resources.Health) old new = SendsKnownHealth shown old new
 CarriesOut shown p (plans.Resource resources.Ready) old new = SendsKnownReady shown old new
 CarriesOut shown p (plans.Resource resources.Live) old new = SendsText old.status (codes "ok\n") old new
-CarriesOut shown p (plans.Resource resources.Export) old new = SendsKnownExport shown p.headers old new
-CarriesOut shown p (plans.Resource resources.List) old new = SendsKnownList shown.status shown.list json_kind p.headers old new
-CarriesOut shown p (plans.Resource resources.Csv) old new = SendsKnownList shown.status shown.csv csv_kind p.headers old new
+CarriesOut shown p (plans.Resource resources.Export) old new = SendsKnownExport shown export.RpkiClient p.headers old new
+CarriesOut shown p (plans.Resource resources.StayRtrExport) old new = SendsKnownExport shown export.RpkiClient p.headers old new
+CarriesOut shown p (plans.Resource resources.RoutinatorExport) old new = SendsKnownExport shown export.Routinator p.headers old new
+CarriesOut shown p (plans.Resource resources.List) old new = SendsKnownList shown form.Payloads p.headers old new
+CarriesOut shown p (plans.Resource resources.Csv) old new = SendsKnownList shown form.Csv p.headers old new
+CarriesOut shown p (plans.Resource resources.RoutinatorCsv) old new = SendsKnownList shown form.RoutinatorCsv p.headers old new
 CarriesOut shown p (plans.Resource resources.Validity) old new = SendsQuery shown p old new
 CarriesOut shown p plans.Route old new = SendsRoute shown (uri_path p.uri) old new
 CarriesOut shown p plan old new = Refuses plan old new

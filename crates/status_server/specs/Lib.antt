@@ -3,6 +3,7 @@ pub mod Calls
 pub mod Conditions
 pub mod Connections
 pub mod Hosts
+pub mod Lists
 pub mod Plans
 pub mod Progress
 pub mod Resources

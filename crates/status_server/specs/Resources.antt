@@ -10,8 +10,11 @@ path_of resource.Health = codes "/health"
 path_of resource.Ready = codes "/ready"
 path_of resource.Live = codes "/live"
 path_of resource.Export = codes "/vrps.json"
+path_of resource.StayRtrExport = codes "/rpki.json"
+path_of resource.RoutinatorExport = codes "/json"
 path_of resource.List = codes "/list.json"
 path_of resource.Csv = codes "/vrps.csv"
+path_of resource.RoutinatorCsv = codes "/csv"
 path_of resource.Validity = codes "/validity"
 
 -- the path of the validity of a route, as Routinator has it

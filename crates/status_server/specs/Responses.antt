@@ -82,10 +82,14 @@ IsDated seconds old new =
     ((253402300800 ≤ seconds) × Sends old.status [] [] old new)
     ⊎ ((seconds < 253402300800) × ((date : List ℕ) × IsDateOf seconds date × Sends old.status ((codes "date", date) ∷ []) [] old new))
 
+-- the paths, for those who ask for another
+abbrev pub paths_text : List ℕ
+paths_text = codes "there are /, /metrics, /health, /ready, /live, /vrps.json, /rpki.json, /json, /list.json, /vrps.csv, /csv, /validity and /api/v1/validity/NUMBER/PREFIX\n"
+
 -- what a plan refuses
 abbrev pub Refuses : Plan → Response → Response → Type 0
 Refuses plans.InvalidHost = SendsText 400 (codes "a request has one Host\n")
 Refuses plans.NotServed = SendsText 421 (codes "this name is not served here: use an address, or start rpkirtrd with --status-name NAME\n")
-Refuses plans.NotFound = SendsText 404 (codes "there are /, /metrics, /health, /ready, /live, /vrps.json, /list.json, /vrps.csv, /validity and /api/v1/validity/NUMBER/PREFIX\n")
+Refuses plans.NotFound = SendsText 404 paths_text
 Refuses plans.NotAllowed = Sends 405 ((codes "allow", codes "GET, HEAD") ∷ body_headers text_kind) (codes "only GET and HEAD are answered\n")
 Refuses plan = λ old new. ⊥

@@ -1,19 +1,20 @@
 -- What is made of a version at the first request for it, and shared by later ones.
 use Rattle.std.specs.Prelude.{◌≡◌, ◌⊎◌, ℕ, ◌==◌, Bool, true, false, if◌then◌else◌, List, Option, Some, None, option_map, unwrap_or}
 use Rattle.std.specs.Borrow.{Bor}
-use Rattle.payload_lists.specs.PayloadList.{list_text}
-use Rattle.status_pages.specs.Csv.{csv_text}
 use Rattle.vrps.specs.Instance.{NumberedSet}
 use Rattle.vrps.specs.VrpSet.{VrpSet, listing}
 use Rattle.vrps.specs.declared.serial.Serial.{Serial}
 use Rattle.status_server.specs.Answers.{AnswersSo, Shown}
 use Rattle.status_server.specs.Connections.{Turns}
+use Rattle.status_server.specs.Lists.{form_text, kept_text, no_texts, with_text}
 use Rattle.status_server.specs.declared.http_connections.Entry.{Entry}
+use Rattle.status_server.specs.declared.list_forms.ListForm.{ListForm}
+use Rattle.status_server.specs.declared.list_forms.ListForm.TheVariants as form
 use Rattle.status_server.specs.declared.version_cache.VersionCache.{VersionCache}
 
 -- Nothing was made of any version.
 abbrev pub IsUnused : VersionCache → Type 0
-IsUnused kept = (kept.serial ≡ None) × (kept.list ≡ None) × (kept.csv ≡ None) × (kept.index ≡ None)
+IsUnused kept = (kept.serial ≡ None) × (kept.lists ≡ no_texts) × (kept.index ≡ None)
 
 -- a version that is lent, as its serial and its set
 abbrev pub version_of : Option (Serial × Bor VrpSet) → Option NumberedSet
@@ -29,42 +30,49 @@ is_same_serial a b = false
 
 -- what is kept for a version: nothing of one of another serial
 abbrev pub anew : Option NumberedSet → VersionCache → VersionCache
-anew version kept = record kept { serial = serial_of version; list = None; csv = None; index = None }
+anew version kept = record kept { serial = serial_of version; lists = no_texts; index = None }
 
 abbrev pub kept_for : Option NumberedSet → VersionCache → VersionCache
 kept_for version kept = if is_same_serial kept.serial (serial_of version) then kept else anew version kept
 
 -- What is answered of a version: what is kept for it. If nothing is, it is made of its set.
-abbrev pub list_in : Option NumberedSet → VersionCache → Option (List ℕ)
-list_in version kept = option_map (λ v. unwrap_or (kept_for version kept).list (list_text (listing v.set))) version
-
-abbrev pub csv_in : Option NumberedSet → VersionCache → Option (List ℕ)
-csv_in version kept = option_map (λ v. unwrap_or (kept_for version kept).csv (csv_text (listing v.set))) version
+abbrev pub list_in : ListForm → Option NumberedSet → VersionCache → Option (List ℕ)
+list_in f version kept = option_map (λ v. unwrap_or (kept_text f (kept_for version kept).lists) (form_text f (listing v.set))) version
 
 abbrev pub set_in : Option NumberedSet → VersionCache → Option VrpSet
 set_in version kept = option_map (λ v. unwrap_or (kept_for version kept).index v.set) version
 
 abbrev pub shown_in : Option NumberedSet → VersionCache → Shown
 shown_in version kept =
-    record { status = None; list = Some (list_in version kept); csv = Some (csv_in version kept); set = Some (set_in version kept) }
+    record {
+      status = None;
+      payloads = Some (list_in form.Payloads version kept);
+      roas = Some (list_in form.Roas version kept);
+      csv = Some (list_in form.Csv version kept);
+      routinator_csv = Some (list_in form.RoutinatorCsv version kept);
+      set = Some (set_in version kept);
+    }
 
 -- Nothing is changed, or what was not there was made of a set.
-abbrev pub KeepsList : VrpSet → VersionCache → VersionCache → Type 0
-KeepsList set old new = (new ≡ old) ⊎ ((old.list ≡ None) × (new ≡ record old { list = Some (list_text (listing set)) }))
-
-abbrev pub KeepsCsv : VrpSet → VersionCache → VersionCache → Type 0
-KeepsCsv set old new = (new ≡ old) ⊎ ((old.csv ≡ None) × (new ≡ record old { csv = Some (csv_text (listing set)) }))
+abbrev pub KeepsList : ListForm → VrpSet → VersionCache → VersionCache → Type 0
+KeepsList f set old new =
+    (new ≡ old) ⊎ ((kept_text f old.lists ≡ None) × (new ≡ record old { lists = with_text f (form_text f (listing set)) old.lists }))
 
 abbrev pub KeepsIndex : VrpSet → VersionCache → VersionCache → Type 0
 KeepsIndex set old new = (new ≡ old) ⊎ ((old.index ≡ None) × (new ≡ record old { index = Some set }))
 
 -- what a version is itself
+abbrev pub list_of : ListForm → Option NumberedSet → Option (List ℕ)
+list_of f version = option_map (λ v. form_text f (listing v.set)) version
+
 abbrev pub shown_of : Option NumberedSet → Shown
 shown_of version =
     record {
       status = None;
-      list = Some (option_map (λ v. list_text (listing v.set)) version);
-      csv = Some (option_map (λ v. csv_text (listing v.set)) version);
+      payloads = Some (list_of form.Payloads version);
+      roas = Some (list_of form.Roas version);
+      csv = Some (list_of form.Csv version);
+      routinator_csv = Some (list_of form.RoutinatorCsv version);
       set = Some (option_map (λ v. v.set) version);
     }
 

@@ -4,9 +4,10 @@ ghost use Rattle.http.specs.Request.{head_of};
 ghost use Rattle.http_server.specs.Response.{IsBlank};
 ghost use Rattle.status_server.specs.Answers.{AnswersOn, AnswersSo, CarriesOut, IsPlanned, SendsJudged, SendsKnownExport};
 ghost use Rattle.status_server.specs.Answers.{SendsKnownHealth, SendsKnownList, SendsKnownReady, SendsKnownValidity, SendsQuery, SendsRoute};
-ghost use Rattle.status_server.specs.Responses.{Sends, body_headers, csv_kind, json_kind, metrics_kind, page_headers};
+ghost use Rattle.status_server.specs.Responses.{Sends, body_headers, metrics_kind, page_headers};
 
 use crate::conditions::prefers_html;
+use crate::list_forms::{ExportForm, ListForm};
 use crate::plan::{Plan, plan_of};
 use crate::representations::{
     send_export, send_form_page, send_health, send_list, send_ok, send_ready, send_validity,
@@ -14,7 +15,7 @@ use crate::representations::{
 };
 use crate::resources::{Resource, route_in};
 use crate::responses::{
-    CSV, JSON, METRICS, add_date, add_vary, refuse_early, refuse_host, refuse_method, refuse_name,
+    METRICS, add_date, add_vary, refuse_early, refuse_host, refuse_method, refuse_name,
     refuse_path, send_page, send_shared, send_text,
 };
 use crate::status_source::StatusSource;
@@ -156,47 +157,41 @@ impl<'a, S: StatusSource> Answers<'a, S> {
         send_ready(self.alloc, status, response)
     }
 
-    /// The export: the payload list as the records of an object with metadata.
-    fn export(&mut self, headers: &HeaderMap, response: &mut Response) -> Result<(), AllocError>
-        ensures sends { OnOk result (SendsKnownExport (S.shows self.old.source) headers.now response.old response.new) }
-        ensures keeps { AnswersOn S.shows self.old self.new }
-    {
-        let list = self.source.list()?;
-        self.load_status()?;
-        let Some(status) = &self.status else {
-            return Err(AllocError);
-        };
-        send_export(self.alloc, status, list, headers, response)
-    }
-
-    /// The payload list of the source.
-    fn payload_list(
+    /// An export: the records of the source in an object with metadata.
+    fn export(
         &mut self,
+        form: ExportForm,
         headers: &HeaderMap,
         response: &mut Response,
     ) -> Result<(), AllocError>
-        ensures sends { OnOk result (SendsKnownList (S.shows self.old.source).status (S.shows self.old.source).list json_kind headers.now response.old response.new) }
+        ensures sends { OnOk result (SendsKnownExport (S.shows self.old.source) form headers.now response.old response.new) }
         ensures keeps { AnswersOn S.shows self.old self.new }
     {
-        let list = self.source.list()?;
+        let list = self.source.list(form.records())?;
         self.load_status()?;
         let Some(status) = &self.status else {
             return Err(AllocError);
         };
-        send_list(self.alloc, status, list, JSON, headers, response)
+        send_export(self.alloc, form, status, list, headers, response)
     }
 
-    /// The records of the source as CSV.
-    fn csv(&mut self, headers: &HeaderMap, response: &mut Response) -> Result<(), AllocError>
-        ensures sends { OnOk result (SendsKnownList (S.shows self.old.source).status (S.shows self.old.source).csv csv_kind headers.now response.old response.new) }
+    /// The records of the source in a form.
+    fn list(
+        &mut self,
+        form: ListForm,
+        headers: &HeaderMap,
+        response: &mut Response,
+    ) -> Result<(), AllocError>
+        ensures sends { OnOk result (SendsKnownList (S.shows self.old.source) form headers.now response.old response.new) }
         ensures keeps { AnswersOn S.shows self.old self.new }
     {
-        let list = self.source.csv()?;
+        let list = self.source.list(form)?;
         self.load_status()?;
         let Some(status) = &self.status else {
             return Err(AllocError);
         };
-        send_list(self.alloc, status, list, CSV, headers, response)
+        let kind = form.media_type();
+        send_list(self.alloc, status, list, kind, headers, response)
     }
 
     /// The validity of a route, as HTML or as JSON.
@@ -281,9 +276,18 @@ impl<'a, S: StatusSource> Answers<'a, S> {
             Resource::Health => self.health(response),
             Resource::Ready => self.ready(response),
             Resource::Live => send_ok(response),
-            Resource::Export => self.export(request.headers(), response),
-            Resource::List => self.payload_list(request.headers(), response),
-            Resource::Csv => self.csv(request.headers(), response),
+            Resource::Export => self.export(ExportForm::RpkiClient, request.headers(), response),
+            Resource::StayRtrExport => {
+                self.export(ExportForm::RpkiClient, request.headers(), response)
+            }
+            Resource::RoutinatorExport => {
+                self.export(ExportForm::Routinator, request.headers(), response)
+            }
+            Resource::List => self.list(ListForm::Payloads, request.headers(), response),
+            Resource::Csv => self.list(ListForm::Csv, request.headers(), response),
+            Resource::RoutinatorCsv => {
+                self.list(ListForm::RoutinatorCsv, request.headers(), response)
+            }
             Resource::Validity => self.query(request, response),
         }
     }

@@ -45,6 +45,7 @@ mod http_connections;
 mod http_endpoint;
 mod http_sockets;
 pub mod laws;
+mod list_forms;
 mod plan;
 mod representations;
 mod resources;
@@ -60,6 +61,7 @@ pub use http_connections::{
 };
 pub use http_endpoint::HttpEndpoint;
 pub use http_sockets::{HttpAccept, HttpReady, HttpSockets};
+pub use list_forms::ListForm;
 pub use status_endpoint::{CachePlace, CacheView, StatusEndpoint};
 pub use status_source::StatusSource;
 pub use version_cache::VersionCache;

@@ -2,9 +2,10 @@
 ghost use Rattle.std.specs.Prelude.{◌≡◌, ℕ, List, IsTrue, IfOk, OnOk, codes, true};
 ghost use Rattle.status_pages.specs.Health.{IsHealthText};
 ghost use Rattle.http_header.specs.FieldValue.{is_visible_text};
-ghost use Rattle.status_server.specs.Answers.{IsExportHead, SendsExport, SendsFault, SendsHealth, SendsList, SendsReady, SendsValidityText, made_at};
+ghost use Rattle.status_server.specs.Answers.{BeginsAs, IsExportHead, SendsExport, SendsFault, SendsHealth, SendsList, SendsReady, SendsValidityText, made_at};
 ghost use Rattle.status_server.specs.Responses.{Sends, SendsText, page_headers};
 
+use crate::list_forms::ExportForm;
 use crate::responses::{JSON, add_tag, refuse_early, send, send_page, send_text};
 use bytes::{BufMut, Bytes};
 use http::{HeaderMap, StatusCode};
@@ -12,9 +13,11 @@ use http_server::Response;
 use prefixes::Route;
 use status_pages::{
     QueryFault, Status, Validity, is_healthy, is_ready, oldest_built, served_vrps,
-    write_export_head, write_form_page, write_health, write_validity, write_validity_page,
+    write_export_head, write_form_page, write_health, write_routinator_head, write_validity,
+    write_validity_page,
 };
 use std::alloc::{AllocError, Global};
+use std::io::{self, Write};
 
 /// A text that responses share.
 pub(crate) fn shared(text: Vec<u8>) -> Result<Bytes, AllocError>
@@ -88,26 +91,37 @@ fn made_at(status: &Status) -> u64
     }
 }
 
+/// Writes the start of an export whose data were made at this time, in seconds since 1970.
+fn write_head<W: Write>(out: &mut W, form: ExportForm, made: u64, vrps: u64) -> io::Result<()>
+    ensures { OnOk result (BeginsAs form (W.contents out.old) (W.contents out.new) made vrps) }
+{
+    match form {
+        ExportForm::RpkiClient => write_export_head(out, made, vrps),
+        ExportForm::Routinator => write_routinator_head(out, made),
+    }
+}
+
 /// The start of an export whose data were made at this time, in seconds since 1970.
-fn export_head(alloc: Global, made: u64, vrps: u64) -> Result<Vec<u8>, AllocError>
-    ensures { IfOk result (λ head. IsExportHead made vrps head.items) }
+fn export_head(alloc: Global, form: ExportForm, made: u64, vrps: u64) -> Result<Vec<u8>, AllocError>
+    ensures { IfOk result (λ head. IsExportHead form made vrps head.items) }
 {
     let mut head = Vec::new(alloc);
-    if write_export_head(&mut head, made, vrps).is_err() {
+    if write_head(&mut head, form, made, vrps).is_err() {
         return Err(AllocError);
     }
     Ok(head)
 }
 
-/// Sends the export: the payload list as the records of an object with metadata.
+/// Sends an export: this list as the records of an object with metadata.
 pub(crate) fn send_export(
     alloc: Global,
+    form: ExportForm,
     status: &Status,
     list: Option<Bytes>,
     headers: &HeaderMap,
     response: &mut Response,
 ) -> Result<(), AllocError>
-    ensures { OnOk result (SendsExport headers.now status.entry.now list response.old response.new) }
+    ensures { OnOk result (SendsExport headers.now form status.entry.now list response.old response.new) }
 {
     let (Some(serial), Some(list)) = (status.serial, list) else {
         return refuse_early(response);
@@ -117,13 +131,13 @@ pub(crate) fn send_export(
     if add_tag(headers, tag, JSON, response)? {
         return Ok(());
     }
-    let head = export_head(alloc, made, served_vrps(status))?;
+    let head = export_head(alloc, form, made, served_vrps(status))?;
     response.body.put_slice(&head)?;
     response.body.push(list)?;
     response.body.put_slice(b"}")
 }
 
-/// Sends a list that is made once a version: the payload list, or the records as CSV.
+/// Sends a list that is made once a version, with this media type.
 pub(crate) fn send_list(
     alloc: Global,
     status: &Status,

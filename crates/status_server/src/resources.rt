@@ -17,17 +17,23 @@ pub(crate) enum Resource {
     Live,
     /// The export.
     Export,
+    /// The export under the path of StayRTR.
+    StayRtrExport,
+    /// The export in the form of Routinator.
+    RoutinatorExport,
     /// The payload list.
     List,
     /// The records as CSV.
     Csv,
+    /// The records as CSV, in the form of Routinator.
+    RoutinatorCsv,
     /// The validity of the route of the query.
     Validity,
 }
 
 /// The paths, for those who ask for another.
 pub(crate) const PATHS: &str =
-    "there are /, /metrics, /health, /ready, /live, /vrps.json, /list.json, /vrps.csv, /validity and /api/v1/validity/NUMBER/PREFIX\n";
+    "there are /, /metrics, /health, /ready, /live, /vrps.json, /rpki.json, /json, /list.json, /vrps.csv, /csv, /validity and /api/v1/validity/NUMBER/PREFIX\n";
 
 /// The resource of a path.
 pub(crate) fn resource_at(path: &str) -> Option<Resource>
@@ -41,8 +47,11 @@ pub(crate) fn resource_at(path: &str) -> Option<Resource>
         "/ready" => Some(Resource::Ready),
         "/live" => Some(Resource::Live),
         "/vrps.json" => Some(Resource::Export),
+        "/rpki.json" => Some(Resource::StayRtrExport),
+        "/json" => Some(Resource::RoutinatorExport),
         "/list.json" => Some(Resource::List),
         "/vrps.csv" => Some(Resource::Csv),
+        "/csv" => Some(Resource::RoutinatorCsv),
         "/validity" => Some(Resource::Validity),
         _ => None,
     }

@@ -7,6 +7,7 @@ ghost use Rattle.vrps.specs.Instance.{NumberedSet};
 
 use crate::http_endpoint::{BUDGET, HttpEndpoint};
 use crate::http_sockets::HttpSockets;
+use crate::list_forms::ListForm;
 use crate::status_source::StatusSource;
 use crate::version_cache::VersionCache;
 use bytes::Bytes;
@@ -99,12 +100,8 @@ impl<V: CacheView> StatusSource for Snapshot<'_, V> {
         Ok(status)
     }
 
-    fn list(&mut self) -> Result<Option<Bytes>, AllocError> {
-        self.version_cache.list(self.version)
-    }
-
-    fn csv(&mut self) -> Result<Option<Bytes>, AllocError> {
-        self.version_cache.csv(self.version)
+    fn list(&mut self, form: ListForm) -> Result<Option<Bytes>, AllocError> {
+        self.version_cache.list(self.version, form)
     }
 
     fn validity(&mut self, route: &Route) -> Result<Option<Validity>, AllocError> {

@@ -1,7 +1,8 @@
 //! The source of the status pages.
 ghost use Rattle.std.specs.Prelude.{◌≡◌, IfOk};
-ghost use Rattle.status_server.specs.Answers.{IsShown, IsShownValidity, Shown, nothing_shown};
+ghost use Rattle.status_server.specs.Answers.{IsShown, IsShownValidity, Shown, nothing_shown, shown_list};
 
+use crate::list_forms::ListForm;
 use bytes::Bytes;
 use prefixes::Route;
 use status_pages::{Status, Validity};
@@ -21,14 +22,9 @@ pub trait StatusSource {
         ensures shown { IfOk result (λ status. IsShown (shows self.old).status status) }
         ensures keeps { shows self.new ≡ shows self.old };
 
-    /// The payload list of the served set as text, or `None` before the first version is published. All requests for one version share it.
-    fn list(&mut self) -> Result<Option<Bytes>, AllocError>
-        ensures shown { IfOk result (λ list. IsShown (shows self.old).list list) }
-        ensures keeps { shows self.new ≡ shows self.old };
-
-    /// The records of the served set as CSV, or `None` if there is none. All requests for one version share it.
-    fn csv(&mut self) -> Result<Option<Bytes>, AllocError>
-        ensures shown { IfOk result (λ list. IsShown (shows self.old).csv list) }
+    /// The records of the served set in a form, or `None` before the first version is published. All requests for one version share it.
+    fn list(&mut self, form: ListForm) -> Result<Option<Bytes>, AllocError>
+        ensures shown { IfOk result (λ list. IsShown (shown_list form (shows self.old)) list) }
         ensures keeps { shows self.new ≡ shows self.old };
 
     /// The validity of a route under the served set, or `None` before the first version is published.

@@ -1,22 +1,20 @@
 //! What is made of a version at the first request for it, and shared by later requests.
 ghost use Rattle.std.specs.Prelude.{◌≡◌, IfOk, unwrap_or};
-ghost use Rattle.payload_lists.specs.PayloadList.{list_text};
-ghost use Rattle.status_pages.specs.Csv.{csv_text};
 ghost use Rattle.status_pages.specs.Validity.{IsValidity};
 ghost use Rattle.status_server.specs.Answers.{IsValidityIn};
-ghost use Rattle.status_server.specs.Versions.{IsUnused, KeepsCsv, KeepsIndex, KeepsList, csv_in, kept_for, list_in, set_in, shown_in, version_of};
+ghost use Rattle.status_server.specs.Lists.{form_text, kept_text};
+ghost use Rattle.status_server.specs.Versions.{IsUnused, KeepsIndex, KeepsList, kept_for, list_in, set_in, shown_in, version_of};
 ghost use Rattle.vrps.specs.VrpSet.{listing};
 
-use crate::representations::shared;
+use crate::list_forms::{ListForm, ListTexts, written_list};
 use bytes::Bytes;
-use payload_lists::write_list;
 use prefixes::Route;
-use status_pages::{Validity, write_csv};
+use status_pages::Validity;
 use std::alloc::{AllocError, Global};
 use std::fmt::{self, Debug};
 use vrps::{OriginIndex, Serial, VrpSet};
 
-/// The payload list, the records as CSV and the route index of a version, each made at the first request. Each call is given the current version,
+/// The records of a version in each form, and its route index, each made at the first request. Each call is given the current version,
 /// if there is one: its serial, and its set. What was made of a version of another serial is dropped first. An error is for memory alone, and leaves
 /// what later calls answer.
 #[derive(Drop)]
@@ -24,8 +22,7 @@ pub struct VersionCache {
     alloc: Global,
     /// The serial of the version.
     serial: Option<u32>,
-    list: Option<Bytes>,
-    csv: Option<Bytes>,
+    lists: ListTexts,
     index: Option<OriginIndex>,
 }
 
@@ -44,8 +41,7 @@ impl VersionCache {
         VersionCache {
             alloc,
             serial: None,
-            list: None,
-            csv: None,
+            lists: ListTexts::new(),
             index: None,
         }
     }
@@ -60,60 +56,39 @@ impl VersionCache {
         };
         if self.serial != serial {
             self.serial = serial;
-            self.list = None;
-            self.csv = None;
+            self.lists = ListTexts::new();
             self.index = None;
         }
     }
 
-    /// The payload list of the version, as text, if there is a version.
-    pub fn list(&mut self, version: Option<(Serial, &VrpSet)>) -> Result<Option<Bytes>, AllocError>
-        ensures list { IfOk result (λ list. list ≡ list_in (version_of version.entry) self.old) }
+    /// The records of the version in a form, if there is a version.
+    pub fn list(
+        &mut self,
+        version: Option<(Serial, &VrpSet)>,
+        form: ListForm,
+    ) -> Result<Option<Bytes>, AllocError>
+        ensures list { IfOk result (λ list. list ≡ list_in form (version_of version.entry) self.old) }
         ensures keeps { shown_in (version_of version.entry) self.new ≡ shown_in (version_of version.entry) self.old }
     {
         self.drop_old(version);
         let Some((_serial, set)) = version else {
             return Ok(None);
         };
-        Ok(Some(self.list_of(set)?))
+        Ok(Some(self.list_of(set, form)?))
     }
 
-    /// The payload list of the set of the version.
-    fn list_of(&mut self, set: &VrpSet) -> Result<Bytes, AllocError>
-        ensures list { IfOk result (λ list. list ≡ unwrap_or self.old.list (list_text (listing set.now))) }
-        ensures keeps { KeepsList set.now self.old self.new }
+    /// The records of the set of the version in a form.
+    fn list_of(&mut self, set: &VrpSet, form: ListForm) -> Result<Bytes, AllocError>
+        ensures list { IfOk result (λ list. list ≡ unwrap_or (kept_text form self.old.lists) (form_text form (listing set.now))) }
+        ensures keeps { KeepsList form set.now self.old self.new }
     {
-        if let Some(list) = &self.list {
-            return list.clone();
+        if let Some(text) = self.lists.text(form) {
+            return text.clone();
         }
-        let list = Bytes::from_string(write_list(self.alloc, set.as_slice())?)?;
-        self.list = Some(list.clone()?);
-        Ok(list)
-    }
-
-    /// The records of the version as CSV, if there is a version.
-    pub fn csv(&mut self, version: Option<(Serial, &VrpSet)>) -> Result<Option<Bytes>, AllocError>
-        ensures csv { IfOk result (λ csv. csv ≡ csv_in (version_of version.entry) self.old) }
-        ensures keeps { shown_in (version_of version.entry) self.new ≡ shown_in (version_of version.entry) self.old }
-    {
-        self.drop_old(version);
-        let Some((_serial, set)) = version else {
-            return Ok(None);
-        };
-        Ok(Some(self.csv_of(set)?))
-    }
-
-    /// The records of the set of the version as CSV.
-    fn csv_of(&mut self, set: &VrpSet) -> Result<Bytes, AllocError>
-        ensures csv { IfOk result (λ csv. csv ≡ unwrap_or self.old.csv (csv_text (listing set.now))) }
-        ensures keeps { KeepsCsv set.now self.old self.new }
-    {
-        if let Some(csv) = &self.csv {
-            return csv.clone();
-        }
-        let csv = written_csv(self.alloc, set)?;
-        self.csv = Some(csv.clone()?);
-        Ok(csv)
+        let text = written_list(self.alloc, set, form)?;
+        let kept = text.clone()?;
+        self.lists.keep(form, kept);
+        Ok(text)
     }
 
     /// The validity of a route under the version, if there is one.
@@ -145,15 +120,4 @@ impl VersionCache {
         self.index = Some(index);
         validity
     }
-}
-
-/// The records of a set as CSV.
-fn written_csv(alloc: Global, set: &VrpSet) -> Result<Bytes, AllocError>
-    ensures { IfOk result (λ csv. csv ≡ csv_text (listing set.now)) }
-{
-    let mut text = Vec::new(alloc);
-    if write_csv(&mut text, set.as_slice()).is_err() {
-        return Err(AllocError);
-    }
-    shared(text)
 }
