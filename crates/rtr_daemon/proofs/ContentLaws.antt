@@ -6,13 +6,13 @@ use Rattle.std.specs.String.{string_bytes}
 use Rattle.sources.specs.declared.sources.Sources.{Sources}
 use Rattle.rtr_daemon.specs.DiskAnswers.{DiskAnswers, ReadsWhole}
 use Rattle.rtr_daemon.specs.declared.environment.Stamp.{Stamp}
-use Rattle.std.specs.Prelude.{slice_get, Some, None, Result, Ok, Err}
+use Rattle.std.specs.Prelude.{slice_get, Option, Some, None, Ok}
 use Rattle.std.proofs.Common.{inl, inr, ◌⊎◌}
 use Rattle.std.proofs.lemmas.Bool.{cases_lt}
 use Rattle.std.proofs.lemmas.List.{get_or_default}
-use Rattle.rtr_daemon.specs.Serving.{LoadsExport}
-use Rattle.rtr_daemon.specs.declared.refusal.Refusal.{Refusal}
-use Rattle.rtr_daemon.specs.Files.{AreContents, AreNumbered, Follows, FollowsEach, Loads, LoadsEach, names_of, path_of, paths_of}
+use Rattle.rtr_daemon.specs.Shrinking.{sinces_of}
+use Rattle.rtr_daemon.specs.declared.shrink_guard.ShrinkGuard.{ShrinkGuard}
+use Rattle.rtr_daemon.specs.Files.{AreContents, AreNumbered, FollowsEach, FollowsOne, Loads, LoadsEach, names_of, path_of, paths_of}
 use Rattle.rtr_daemon.specs.PointOffers.{OffersEach, OffersPoint, points_of}
 use Rattle.rtr_daemon.specs.declared.point_polling.WatchedPoint.{WatchedPoint}
 use Rattle.rtr_daemon.specs.declared.watched_file.WatchedExport.{WatchedExport}
@@ -37,21 +37,38 @@ each_more P xs i x less is last so_far k d within = by (cases_lt k i) where
       subst (λ n. P (get_or xs n d)) (sym same) (subst P (is ∙ get_or_default xs i x d less) last)
 
 -- One export more was polled.
-follows_then : {W : Type 0} (answers : DiskAnswers W) (clock : ℕ → Type 0) (exports : List WatchedExport) (last : WatchedExport) (old mid new : Sources) (now : ℕ) → clock now → FollowsEach answers clock exports old mid → Follows answers last now mid new → FollowsEach answers clock (exports ++ last ∷ []) old new
-follows_then answers clock [] last old mid new now at so_far follows = (now, new, at, subst (λ s. Follows answers last now s new) so_far follows, refl)
-follows_then answers clock (first ∷ exports) last old mid new now at so_far follows = (so_far.0, so_far.1, so_far.2, so_far.3, follows_then answers clock exports last so_far.1 mid new now at so_far.4 follows)
+follows_then : {W : Type 0} (answers : DiskAnswers W) (clock ticks : ℕ → Type 0) (guard : Option ShrinkGuard) (exports : List WatchedExport) (last : WatchedExport) (sinces : List (Option ℕ)) (since : Option ℕ) (old mid new : Sources) → FollowsEach answers clock ticks guard exports sinces old mid
+    → FollowsOne answers clock ticks guard last since mid new → FollowsEach answers clock ticks guard (exports ++ last ∷ []) (sinces ++ since ∷ []) old new
+follows_then answers clock ticks guard [] last [] since old mid new so_far follows = (new, subst (λ s. FollowsOne answers clock ticks guard last since s new) so_far follows, refl)
+follows_then answers clock ticks guard [] last (first ∷ sinces) since old mid new so_far follows = absurd so_far
+follows_then answers clock ticks guard (export ∷ exports) last [] since old mid new so_far follows = absurd so_far
+follows_then answers clock ticks guard (export ∷ exports) last (first ∷ sinces) since old mid new so_far follows =
+    (so_far.0, so_far.1, follows_then answers clock ticks guard exports last sinces since so_far.0 mid new so_far.2 follows)
 
-pub follows_more : {W : Type 0} (answers : DiskAnswers W) (clock : ℕ → Type 0) (exports : List WatchedExport) (i : ℕ) (d : WatchedExport) (old mid new : Sources) (now : ℕ) → i < length exports → clock now → FollowsEach answers clock (take i exports) old mid → Follows answers (get_or exports i d) now mid new
-    → FollowsEach answers clock (take (suc i) exports) old new
-follows_more answers clock exports i d old mid new now less at so_far follows =
-    subst (λ all. FollowsEach answers clock all old new) (sym (take-suc exports i d less)) (follows_then answers clock (take i exports) (get_or exports i d) old mid new now at so_far follows)
+-- An export is written, and since when its contents are refused.
+sinces_more : (exports : List WatchedExport) (i : ℕ) (new : WatchedExport) → i < length exports → take (suc i) (sinces_of (set exports i new)) ≡ take i (sinces_of exports) ++ new.short_since ∷ []
+sinces_more [] i new less = absurd (omega (arith, less))
+sinces_more (export ∷ exports) zero new less = refl
+sinces_more (export ∷ exports) (suc i) new less = ap (λ s. export.short_since ∷ s) (sinces_more exports i new (omega (arith, less)))
+
+pub follows_more : {W : Type 0} (answers : DiskAnswers W) (clock ticks : ℕ → Type 0) (guard : Option ShrinkGuard) (exports written : List WatchedExport) (i : ℕ) (d new_export : WatchedExport) (old mid new : Sources) → i < length exports → i < length written
+    → FollowsEach answers clock ticks guard (take i exports) (take i (sinces_of written)) old mid → FollowsOne answers clock ticks guard (get_or exports i d) new_export.short_since mid new
+    → FollowsEach answers clock ticks guard (take (suc i) exports) (take (suc i) (sinces_of (set written i new_export))) old new
+follows_more answers clock ticks guard exports written i d new_export old mid new less within so_far follows =
+    subst (λ all. FollowsEach answers clock ticks guard all (take (suc i) (sinces_of (set written i new_export))) old new) (sym (take-suc exports i d less))
+    (subst (λ all. FollowsEach answers clock ticks guard (take i exports ++ get_or exports i d ∷ []) all old new) (sym (sinces_more written i new_export within))
+    (follows_then answers clock ticks guard (take i exports) (get_or exports i d) (take i (sinces_of written)) new_export.short_since old mid new so_far follows))
+
+-- An export is written whose contents are refused since the same time.
+pub sinces_kept : (exports : List WatchedExport) (i : ℕ) (d new : WatchedExport) → new.short_since ≡ (get_or exports i d).short_since → sinces_of (set exports i new) ≡ sinces_of exports
+sinces_kept exports i d new same = map-set_same (λ e. e.short_since) exports i new d same
 
 -- One export more was loaded.
-loads_then : {W : Type 0} (answers : DiskAnswers W) (now : ℕ) (exports : List WatchedExport) (last : WatchedExport) (old mid new : Sources) (expired : ℕ) → LoadsEach answers now exports old mid → Loads answers last now (Ok expired) mid new → LoadsEach answers now (exports ++ last ∷ []) old new
-loads_then answers now [] last old mid new expired so_far loads = (expired, new, subst (λ s. Loads answers last now (Ok expired) s new) so_far loads, refl)
+loads_then : {W : Type 0} (answers : DiskAnswers W) (now : ℕ) (exports : List WatchedExport) (last : WatchedExport) (old mid new : Sources) (expired : ℕ) → LoadsEach answers now exports old mid → Loads answers None last now (Ok expired) mid new → LoadsEach answers now (exports ++ last ∷ []) old new
+loads_then answers now [] last old mid new expired so_far loads = (expired, new, subst (λ s. Loads answers None last now (Ok expired) s new) so_far loads, refl)
 loads_then answers now (first ∷ exports) last old mid new expired so_far loads = (so_far.0, so_far.1, so_far.2, loads_then answers now exports last so_far.1 mid new expired so_far.3 loads)
 
-pub loads_more : {W : Type 0} (answers : DiskAnswers W) (now : ℕ) (exports : List WatchedExport) (i : ℕ) (d : WatchedExport) (old mid new : Sources) (expired : ℕ) → i < length exports → LoadsEach answers now (take i exports) old mid → Loads answers (get_or exports i d) now (Ok expired) mid new → LoadsEach answers now (take (suc i) exports) old new
+pub loads_more : {W : Type 0} (answers : DiskAnswers W) (now : ℕ) (exports : List WatchedExport) (i : ℕ) (d : WatchedExport) (old mid new : Sources) (expired : ℕ) → i < length exports → LoadsEach answers now (take i exports) old mid → Loads answers None (get_or exports i d) now (Ok expired) mid new → LoadsEach answers now (take (suc i) exports) old new
 loads_more answers now exports i d old mid new expired less so_far loads = subst (λ all. LoadsEach answers now all old new) (sym (take-suc exports i d less)) (loads_then answers now (take i exports) (get_or exports i d) old mid new expired so_far loads)
 
 -- One publication point more was offered its directory.
@@ -63,11 +80,6 @@ pub offers_more : {W : Type 0} (answers : DiskAnswers W) (clock : ℕ → Type 0
     → OffersEach answers clock (take (suc i) points) old new
 offers_more answers clock points i d old mid new now less at so_far offers =
     subst (λ all. OffersEach answers clock all old new) (sym (take-suc points i d less)) (offers_then answers clock (take i points) (get_or points i d) old mid new now at so_far offers)
-
--- What was read is loaded or refused.
-pub loads_on : {W : Type 0} (answers : DiskAnswers W) (export : WatchedExport) (now : ℕ) (stamp : Stamp) (bytes : List ℕ) (result : Result ℕ Refusal) (old new : Sources) → ReadsWhole answers (path_of export.file) stamp bytes → LoadsExport export.number bytes now result old new → Follows answers export now old new
-loads_on answers export now stamp bytes (Ok expired) old new whole loads = inl (Ok expired, (stamp, bytes, whole, loads))
-loads_on answers export now stamp bytes (Err refusal) old new whole loads = inl (Err loads.0, (stamp, bytes, whole, loads.1))
 
 -- An export is written whose path and number are as they were.
 pub names_kept : (exports : List WatchedExport) (i : ℕ) (d new : WatchedExport) → new.file.path ≡ (get_or exports i d).file.path → new.number ≡ (get_or exports i d).number → names_of (set exports i new) ≡ names_of exports

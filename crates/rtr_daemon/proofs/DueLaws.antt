@@ -12,6 +12,7 @@ use Rattle.rtr_daemon.specs.Overdue.{LeavesNoneOverdue}
 use Rattle.rtr_daemon.specs.PointOffers.{OffersEach, points_of}
 use Rattle.rtr_daemon.specs.Queue.{WakesIfNew}
 use Rattle.rtr_daemon.specs.Serving.{IsFresh, IsOfSecond, IsReason, OnlySources, PacesSo, StaysFresh}
+use Rattle.rtr_daemon.specs.Shrinking.{sinces_of}
 use Rattle.vrps.specs.declared.store.Published.{Published}
 use Rattle.vrps.specs.declared.store.Published.TheVariants.{New, Unchanged}
 use Rattle.rtr_daemon.specs.declared.client_table.ClientTable.{ClientTable}
@@ -81,8 +82,14 @@ postponed_by {S} {T} ticks a new s began second (Ok report) ticked is paced late
   by (New serial) paced after = inr (record { began = began; ticked = ticked; paced = ap (λ d. d.service.pace) only ∙ paced ∙ ap (λ n. Some n) is; ended = after.0; answered = after.1; next_check = after.2 })
   by Unchanged paced after = inl (ap (λ d. d.service.pace) only ∙ paced, after)
 
-polls_to : {S T W : Type 0} (answers : DiskAnswers W) (clock : ℕ → Type 0) (a b c : Daemon S T) → c.service.sources ≡ b.service.sources → PollsAll answers clock a b → PollsAll answers clock a c
-polls_to answers clock a b c same p = record { followed = p.followed; excepted = p.excepted; exports = p.exports; slurms = p.slurms; points = subst (OffersEach answers clock a.points.items p.excepted) (sym same) p.points }
+polls_to : {S T W : Type 0} (answers : DiskAnswers W) (clock ticks : ℕ → Type 0) (a b c : Daemon S T) → c.service.sources ≡ b.service.sources → sinces_of c.exports.items ≡ sinces_of b.exports.items → PollsAll answers clock ticks a b → PollsAll answers clock ticks a c
+polls_to answers clock ticks a b c same sinces p = record {
+  followed = p.followed;
+  excepted = p.excepted;
+  exports = subst (λ since. FollowsEach answers clock ticks a.plan.shrink a.exports.items since a.service.sources p.followed) (sym sinces) p.exports;
+  slurms = p.slurms;
+  points = subst (OffersEach answers clock a.points.items p.excepted) (sym same) p.points;
+}
 
 -- A round of publication, after a check and a turn of clients
 pub record Round {S T : Type 0} (clock ticks : ℕ → Type 0) (now : ℕ) (c d : Daemon S T) : Type 0 where
@@ -96,7 +103,7 @@ pub record Round {S T : Type 0} (clock ticks : ℕ → Type 0) (now : ℕ) (c d 
   pub wakes : WakesIfPublished c d
 
 -- What is due: a check, clients, and a round of publication.
-pub due_of : {S T W : Type 0} (answers : DiskAnswers W) (clock ticks : ℕ → Type 0) (now : ℕ) (a b c d : Daemon S T) → ticks now → (a.next_check ≤ now → PollsAll answers clock a b) → (a.next_check ≤ now → IsFresh clock b.service) → SamePaths a b → IsChecked now a b → OnlyClients b c → Round clock ticks now c d
+pub due_of : {S T W : Type 0} (answers : DiskAnswers W) (clock ticks : ℕ → Type 0) (now : ℕ) (a b c d : Daemon S T) → ticks now → (a.next_check ≤ now → PollsAll answers clock ticks a b) → (a.next_check ≤ now → IsFresh clock b.service) → SamePaths a b → IsChecked now a b → OnlyClients b c → Round clock ticks now c d
     → DoesWhatIsDue answers clock ticks a d
 due_of {S} {T} answers clock ticks now a b c d ticked polls fresh paths checked only round = on (subst (λ z. Round clock ticks now z d) only round) where
   on : Round clock ticks now (with_clients b c) d → DoesWhatIsDue answers clock ticks a d
@@ -104,7 +111,7 @@ due_of {S} {T} answers clock ticks now a b c d ticked polls fresh paths checked 
     now = now;
     ticked = ticked;
     due = λ is. record {
-      polls = polls_to answers clock a b d r.kept.sources (polls is);
+      polls = polls_to answers clock ticks a b d r.kept.sources (ap (λ e. sinces_of e.items) r.kept.exports) (polls is);
       fresh = r.fresh (fresh is);
       publishes =
           publishes_from clock ticks now a (with_clients b c) d checked.pace checked.rest.1 checked.rest.2
@@ -191,9 +198,9 @@ pub ages_only : {S T : Type 0} (a b : Daemon S T) → JudgesAges a b → OnlyFil
 ages_only a b h = subst (λ z. z ≡ with_files a z) (sym h.rest) refl
 
 -- A poll by its parts: the clock, exports, local exceptions, publication points, and ages
-pub record Parts {S T W : Type 0} (answers : DiskAnswers W) (clock : ℕ → Type 0) (a b c d e f : Daemon S T) : Type 0 where
+pub record Parts {S T W : Type 0} (answers : DiskAnswers W) (clock ticks : ℕ → Type 0) (a b c d e f : Daemon S T) : Type 0 where
   pub judged : b ≡ record a { clock_behind = b.clock_behind }
-  pub exports : FollowsEach answers clock b.exports.items b.service.sources c.service.sources
+  pub exports : FollowsEach answers clock ticks b.plan.shrink b.exports.items (sinces_of c.exports.items) b.service.sources c.service.sources
   pub names : names_of c.exports.items ≡ names_of b.exports.items
   pub after_exports : (c.slurms ≡ b.slurms) × (c.points ≡ b.points)
   pub slurms : FollowsSlurms answers c.slurms.items c.service.sources d.service.sources
@@ -204,22 +211,25 @@ pub record Parts {S T W : Type 0} (answers : DiskAnswers W) (clock : ℕ → Typ
   pub after_points : (e.exports ≡ d.exports) × (e.slurms ≡ d.slurms)
   pub ages : JudgesAges e f
 
-pub polls_of : {S T W : Type 0} (answers : DiskAnswers W) (clock : ℕ → Type 0) (a b c d e f : Daemon S T) → Parts answers clock a b c d e f → PollsAll answers clock a f
-polls_of answers clock a b c d e f p =
-    let at_start : FollowsEach answers clock a.exports.items a.service.sources c.service.sources = subst (λ z. FollowsEach answers clock z.exports.items z.service.sources c.service.sources) p.judged p.exports in
+pub polls_of : {S T W : Type 0} (answers : DiskAnswers W) (clock ticks : ℕ → Type 0) (a b c d e f : Daemon S T) → Parts answers clock ticks a b c d e f → PollsAll answers clock ticks a f
+polls_of answers clock ticks a b c d e f p =
+    let at_start : FollowsEach answers clock ticks a.plan.shrink a.exports.items (sinces_of c.exports.items) a.service.sources c.service.sources =
+    subst (λ z. FollowsEach answers clock ticks z.plan.shrink z.exports.items (sinces_of c.exports.items) z.service.sources c.service.sources) p.judged p.exports in
+    let sinces : sinces_of f.exports.items ≡ sinces_of c.exports.items =
+    p.ages.sinces ∙ ap (λ z. sinces_of z.items) p.after_points.0 ∙ ap (λ z. sinces_of z.items) p.after_slurms.0 in
     let slurms : c.slurms ≡ a.slurms = p.after_exports.0 ∙ ap (λ z. z.slurms) p.judged in
     let points : d.points ≡ a.points = p.after_slurms.1 ∙ p.after_exports.1 ∙ ap (λ z. z.points) p.judged in
     let last : f.service.sources ≡ e.service.sources = ap (λ z. z.service.sources) p.ages.rest in
     record {
       followed = c.service.sources;
       excepted = d.service.sources;
-      exports = at_start;
+      exports = subst (λ since. FollowsEach answers clock ticks a.plan.shrink a.exports.items since a.service.sources c.service.sources) (sym sinces) at_start;
       slurms = subst (λ z. FollowsSlurms answers z.items c.service.sources d.service.sources) slurms p.slurms;
       points = subst (OffersEach answers clock a.points.items d.service.sources) (sym last) (subst (λ z. OffersEach answers clock z.items d.service.sources e.service.sources) points p.points);
     }
 
-pub same_paths_of : {S T W : Type 0} (answers : DiskAnswers W) (clock : ℕ → Type 0) (a b c d e f : Daemon S T) → Parts answers clock a b c d e f → SamePaths a f
-same_paths_of answers clock a b c d e f p = record {
+pub same_paths_of : {S T W : Type 0} (answers : DiskAnswers W) (clock ticks : ℕ → Type 0) (a b c d e f : Daemon S T) → Parts answers clock ticks a b c d e f → SamePaths a f
+same_paths_of answers clock ticks a b c d e f p = record {
   exports =
       p.ages.names ∙ ap (λ z. names_of z.items) p.after_points.0 ∙ ap (λ z. names_of z.items) p.after_slurms.0 ∙ p.names
       ∙ ap (λ z. names_of z.exports.items) p.judged;
@@ -280,7 +290,9 @@ clients_kept a b c only kept = again (subst (λ z. KeepsFiles z c) only kept) wh
   again k = record { sources = k.sources; exports = k.exports; slurms = k.slurms; points = k.points; rest = k.rest }
 
 -- A poll, when the next one was noted, and what has expired
-pub polled_then : {S T W : Type 0} (answers : DiskAnswers W) (clock : ℕ → Type 0) (a b c d : Daemon S T) → b ≡ record a { next_check = b.next_check; next_round = b.next_round; held_until = b.held_until } → PollsAll answers clock b c → d.service.sources ≡ c.service.sources → PollsAll answers clock a d
-polled_then answers clock a b c d times polls same =
-    let p = subst (λ z. PollsAll answers clock z c) times polls in
-    record { followed = p.followed; excepted = p.excepted; exports = p.exports; slurms = p.slurms; points = subst (OffersEach answers clock a.points.items p.excepted) (sym same) p.points }
+pub polled_then : {S T W : Type 0} (answers : DiskAnswers W) (clock ticks : ℕ → Type 0) (a b c d : Daemon S T) → b ≡ record a { next_check = b.next_check; next_round = b.next_round; held_until = b.held_until } → PollsAll answers clock ticks b c
+    → d.service.sources ≡ c.service.sources → sinces_of d.exports.items ≡ sinces_of c.exports.items → PollsAll answers clock ticks a d
+polled_then answers clock ticks a b c d times polls same sinces =
+    let p = subst (λ z. PollsAll answers clock ticks z c) times polls in
+    let at_start : PollsAll answers clock ticks a c = record { followed = p.followed; excepted = p.excepted; exports = p.exports; slurms = p.slurms; points = p.points } in
+    polls_to answers clock ticks a c d same sinces at_start

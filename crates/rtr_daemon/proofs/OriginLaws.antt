@@ -1,6 +1,6 @@
 -- What the sources have still comes from the paths that are watched.
 use Rattle.std.proofs.Common.{◌≡◌, ℕ, suc, ◌<◌, ◌≤◌, ◌⊎◌, List, [], ◌∷◌, inl, inr, length, subst, sym, ap, refl, ◌∙◌, arith}
-use Rattle.std.specs.Prelude.{All, slice_get, slice_set, Contains, Some, None, Result, Ok, Err}
+use Rattle.std.specs.Prelude.{All, slice_get, slice_set, Contains, Option, Some, None, Result, Ok, Err}
 use Rattle.std.specs.String.{string_bytes}
 use Rattle.std.proofs.Common.{get_or}
 use Rattle.std.specs.Option.{unwrap_or}
@@ -21,15 +21,18 @@ use Rattle.points.specs.declared.fault.Offered.TheVariants as offered
 use Rattle.points.specs.declared.fault.PointFault.{PointFault}
 use Rattle.payload_commands.specs.declared.directories.Directory.{Directory}
 use Rattle.sources.specs.Served.{IsNothing}
+use Rattle.sources.specs.declared.fault.TakeFault.{TakeFault}
 use Rattle.sources.specs.declared.listed.Listed.{Listed}
 use Rattle.sources.specs.declared.sources.Sources.{Sources}
 use Rattle.rtr_daemon.specs.DiskAnswers.{DiskAnswers}
 use Rattle.rtr_daemon.specs.Due.{DoesWhatIsDue, PollsAll}
-use Rattle.rtr_daemon.specs.Files.{Follows, FollowsEach, FollowsSlurms, LoadsEach, ReadsSlurms, names_of, path_of, paths_of}
+use Rattle.rtr_daemon.specs.Files.{Follows, FollowsEach, FollowsSlurms, Loads, LoadsEach, ReadsSlurms, names_of, path_of, paths_of}
 use Rattle.rtr_daemon.specs.Origins.{ExceptionsComeFrom, ExportComesFrom, ExportsComeFrom, PointComesFrom, PointsComeFrom, SourcesComeFrom}
 use Rattle.rtr_daemon.specs.PointOffers.{IsOffered, OffersEach, OffersPoint, points_of}
+use Rattle.rtr_daemon.specs.Shrinking.{percent_at, sinces_of}
 use Rattle.rtr_daemon.specs.declared.daemon.Daemon.{Daemon}
 use Rattle.rtr_daemon.specs.declared.point_polling.WatchedPoint.{WatchedPoint}
+use Rattle.rtr_daemon.specs.declared.shrink_guard.ShrinkGuard.{ShrinkGuard}
 use Rattle.rtr_daemon.specs.declared.watched_file.WatchedExport.{WatchedExport}
 use Rattle.rtr_daemon.specs.declared.watched_file.WatchedFile.{WatchedFile}
 
@@ -61,30 +64,46 @@ pub record KeepsRest (old new : Sources) : Type 0 where
 then_rest : (a b c : Sources) → KeepsRest a b → KeepsRest b c → KeepsRest a c
 then_rest a b c first second = record { exceptions = second.exceptions ∙ first.exceptions; repository = second.repository ∙ first.repository }
 
-follow_rest : {W : Type 0} (answers : DiskAnswers W) (export : WatchedExport) (now : ℕ) (old new : Sources) → Follows answers export now old new → KeepsRest old new
-follow_rest answers export now old new (inl (Ok expired, (stamp, bytes, whole, taken))) = record { exceptions = taken.1; repository = taken.2 }
-follow_rest answers export now old new (inl (Err fault, (stamp, bytes, whole, taken))) = record { exceptions = taken.1; repository = taken.2 }
-follow_rest answers export now old new (inr (reason, same)) = record { exceptions = ap (λ s. s.exceptions) same; repository = ap (λ s. s.repository) same }
+load_rest : {W : Type 0} (answers : DiskAnswers W) (percent : Option ℕ) (export : WatchedExport) (now : ℕ) (result : Result ℕ TakeFault) (old new : Sources) → Loads answers percent export now result old new → KeepsRest old new
+load_rest answers percent export now (Ok expired) old new (stamp, bytes, whole, taken) = record { exceptions = taken.1; repository = taken.2 }
+load_rest answers percent export now (Err fault) old new (stamp, bytes, whole, taken) = record { exceptions = taken.1; repository = taken.2 }
 
-follow_comes : {W : Type 0} (answers : DiskAnswers W) (clock : ℕ → Type 0) (names : List (List ℕ × ℕ)) (export : WatchedExport) (now : ℕ) (old new : Sources) → clock now → Contains names (path_of export.file, export.number) → Follows answers export now old new → ExportsComeFrom answers clock names old.lists.items → ExportsComeFrom answers clock names new.lists.items
-follow_comes answers clock names export now old new at among (inl (Ok expired, (stamp, bytes, whole, taken))) before =
+load_comes : {W : Type 0} (answers : DiskAnswers W) (clock : ℕ → Type 0) (names : List (List ℕ × ℕ)) (percent : Option ℕ) (export : WatchedExport) (now : ℕ) (result : Result ℕ TakeFault) (old new : Sources) → clock now → Contains names (path_of export.file, export.number)
+    → Loads answers percent export now result old new → ExportsComeFrom answers clock names old.lists.items → ExportsComeFrom answers clock names new.lists.items
+load_comes answers clock names percent export now (Ok expired) old new at among (stamp, bytes, whole, taken) before =
     let less = taken.0.0 in
     let kept = taken.0.1 in
-    subst (ExportsComeFrom answers clock names) (sym kept.2)
+    subst (ExportsComeFrom answers clock names) (sym kept.3)
     (set_comes answers clock names old.lists.items export.number kept.0 (path_of export.file) less among (record { stamp = stamp; bytes = bytes; whole = whole; now = now; answered = at; expired = expired; taken = kept.1 }) before)
-follow_comes answers clock names export now old new at among (inl (Err fault, (stamp, bytes, whole, taken))) before = subst (ExportsComeFrom answers clock names) (sym taken.0.1) before
-follow_comes answers clock names export now old new at among (inr (reason, same)) before = subst (λ s. ExportsComeFrom answers clock names s.lists.items) (sym same) before
+load_comes answers clock names percent export now (Err fault) old new at among (stamp, bytes, whole, taken) before = subst (ExportsComeFrom answers clock names) (sym taken.0.1) before
 
-each_rest : {W : Type 0} (answers : DiskAnswers W) (clock : ℕ → Type 0) (exports : List WatchedExport) (old new : Sources) → FollowsEach answers clock exports old new → KeepsRest old new
-each_rest answers clock [] old new h = record { exceptions = ap (λ s. s.exceptions) h; repository = ap (λ s. s.repository) h }
-each_rest answers clock (export ∷ exports) old new h = then_rest old h.1 new (follow_rest answers export h.0 old h.1 h.3) (each_rest answers clock exports h.1 new h.4)
+follow_rest : {W : Type 0} (answers : DiskAnswers W) (percent : Option ℕ) (export : WatchedExport) (now millis : ℕ) (since : Option ℕ) (old new : Sources) → Follows answers percent export now millis since old new → KeepsRest old new
+follow_rest answers percent export now millis since old new (inl (result, loads, after)) = load_rest answers percent export now result old new loads
+follow_rest answers percent export now millis since old new (inr (news, same)) = record { exceptions = ap (λ s. s.exceptions) same; repository = ap (λ s. s.repository) same }
 
-each_comes : {W : Type 0} (answers : DiskAnswers W) (clock : ℕ → Type 0) (names : List (List ℕ × ℕ)) (exports : List WatchedExport) (old new : Sources) → ((export : WatchedExport) → Contains exports export → Contains names (path_of export.file, export.number)) → FollowsEach answers clock exports old new
+follow_comes : {W : Type 0} (answers : DiskAnswers W) (clock : ℕ → Type 0) (names : List (List ℕ × ℕ)) (percent : Option ℕ) (export : WatchedExport) (now millis : ℕ) (since : Option ℕ) (old new : Sources) → clock now → Contains names (path_of export.file, export.number)
+    → Follows answers percent export now millis since old new → ExportsComeFrom answers clock names old.lists.items → ExportsComeFrom answers clock names new.lists.items
+follow_comes answers clock names percent export now millis since old new at among (inl (result, loads, after)) before = load_comes answers clock names percent export now result old new at among loads before
+follow_comes answers clock names percent export now millis since old new at among (inr (news, same)) before = subst (λ s. ExportsComeFrom answers clock names s.lists.items) (sym same) before
+
+each_rest : {W : Type 0} (answers : DiskAnswers W) (clock ticks : ℕ → Type 0) (guard : Option ShrinkGuard) (exports : List WatchedExport) (sinces : List (Option ℕ)) (old new : Sources) → FollowsEach answers clock ticks guard exports sinces old new → KeepsRest old new
+each_rest answers clock ticks guard [] [] old new h = record { exceptions = ap (λ s. s.exceptions) h; repository = ap (λ s. s.repository) h }
+each_rest answers clock ticks guard [] (since ∷ sinces) old new h = absurd h
+each_rest answers clock ticks guard (export ∷ exports) [] old new h = absurd h
+each_rest answers clock ticks guard (export ∷ exports) (since ∷ sinces) old new h =
+    let one = h.1 in
+    then_rest old h.0 new (follow_rest answers (percent_at guard export.short_since one.1) export one.0 one.1 since old h.0 one.4) (each_rest answers clock ticks guard exports sinces h.0 new h.2)
+
+each_comes : {W : Type 0} (answers : DiskAnswers W) (clock ticks : ℕ → Type 0) (guard : Option ShrinkGuard) (names : List (List ℕ × ℕ)) (exports : List WatchedExport) (sinces : List (Option ℕ)) (old new : Sources)
+    → ((export : WatchedExport) → Contains exports export → Contains names (path_of export.file, export.number)) → FollowsEach answers clock ticks guard exports sinces old new
     → ExportsComeFrom answers clock names old.lists.items → ExportsComeFrom answers clock names new.lists.items
-each_comes answers clock names [] old new within h before = subst (λ s. ExportsComeFrom answers clock names s.lists.items) (sym h) before
-each_comes answers clock names (export ∷ exports) old new within h before =
-    each_comes answers clock names exports h.1 new (λ e is. within e (later export e exports is)) h.4
-    (follow_comes answers clock names export h.0 old h.1 h.2 (within export (0, omega arith, refl)) h.3 before)
+each_comes answers clock ticks guard names [] [] old new within h before = subst (λ s. ExportsComeFrom answers clock names s.lists.items) (sym h) before
+each_comes answers clock ticks guard names [] (since ∷ sinces) old new within h before = absurd h
+each_comes answers clock ticks guard names (export ∷ exports) [] old new within h before = absurd h
+each_comes answers clock ticks guard names (export ∷ exports) (since ∷ sinces) old new within h before =
+    let one = h.1 in
+    each_comes answers clock ticks guard names exports sinces h.0 new (λ e is. within e (later export e exports is)) h.2
+    (follow_comes answers clock names (percent_at guard export.short_since one.1) export one.0 one.1 since old h.0 one.2 (within export (0, omega arith, refl)) one.4 before)
 
 -- The local exceptions, and what a poll of them keeps
 pub record SlurmsKeep (old new : Sources) : Type 0 where
@@ -153,14 +172,14 @@ offers_come answers clock paths (point ∷ points) old new within h before =
     (offer_comes answers paths (string_bytes point.path) h.0 old h.1 h.3 (within point (0, omega arith, refl)) before)
 
 -- A poll of all that is watched
-polled_comes : {S T W : Type 0} (answers : DiskAnswers W) (clock : ℕ → Type 0) (old new : Daemon S T) → PollsAll answers clock old new → names_of new.exports.items ≡ names_of old.exports.items → paths_of new.slurms.items ≡ paths_of old.slurms.items → points_of new.points.items ≡ points_of old.points.items
+polled_comes : {S T W : Type 0} (answers : DiskAnswers W) (clock ticks : ℕ → Type 0) (old new : Daemon S T) → PollsAll answers clock ticks old new → names_of new.exports.items ≡ names_of old.exports.items → paths_of new.slurms.items ≡ paths_of old.slurms.items → points_of new.points.items ≡ points_of old.points.items
     → SourcesComeFrom answers clock old → SourcesComeFrom answers clock new
-polled_comes answers clock old new p names slurms points before =
+polled_comes answers clock ticks old new p names slurms points before =
     let name_of : WatchedExport → List ℕ × ℕ = λ e. (path_of e.file, e.number) in
-    let followed = each_rest answers clock old.exports.items old.service.sources p.followed p.exports in
+    let followed = each_rest answers clock ticks old.plan.shrink old.exports.items (sinces_of new.exports.items) old.service.sources p.followed p.exports in
     let excepted = slurms_rest answers old.slurms.items p.followed p.excepted p.slurms in
     let offered = offers_rest answers clock old.points.items p.excepted new.service.sources p.points in
-    let exports = each_comes answers clock (names_of old.exports.items) old.exports.items old.service.sources p.followed (λ e is. contains_map name_of old.exports.items e is) p.exports before.exports in
+    let exports = each_comes answers clock ticks old.plan.shrink (names_of old.exports.items) old.exports.items (sinces_of new.exports.items) old.service.sources p.followed (λ e is. contains_map name_of old.exports.items e is) p.exports before.exports in
     let exceptions = slurms_come answers old.slurms.items p.followed p.excepted p.slurms (subst (ExceptionsComeFrom answers (paths_of old.slurms.items)) (sym followed.exceptions) before.exceptions) in
     let held = subst (PointsComeFrom answers (points_of old.points.items)) (sym (excepted.repository ∙ followed.repository)) before.points in
     let offers = offers_come answers clock (points_of old.points.items) old.points.items p.excepted new.service.sources (λ q is. contains_map (λ w. string_bytes w.path) old.points.items q is) p.points held in
@@ -178,7 +197,7 @@ polled_comes answers clock old new p names slurms points before =
 pub turn_comes : {S T W : Type 0} (answers : DiskAnswers W) (clock ticks : ℕ → Type 0) (old new : Daemon S T) → DoesWhatIsDue answers clock ticks old new → SourcesComeFrom answers clock old → SourcesComeFrom answers clock new
 turn_comes answers clock ticks old new does before = by_time (cases_lt does.now old.next_check) where
   by_time : (does.now < old.next_check) ⊎ (old.next_check ≤ does.now) → SourcesComeFrom answers clock new
-  by_time (inr due) = let p = does.due due in polled_comes answers clock old new p.polls p.paths.exports p.paths.slurms p.paths.points before
+  by_time (inr due) = let p = does.due due in polled_comes answers clock ticks old new p.polls p.paths.exports p.paths.slurms p.paths.points before
   by_time (inl early) =
       let k = (does.between early).kept in
       record {
@@ -193,11 +212,11 @@ loads_come : {W : Type 0} (answers : DiskAnswers W) (clock : ℕ → Type 0) (na
 loads_come answers clock names now [] old new at within h before = subst (λ s. ExportsComeFrom answers clock names s.lists.items) (sym h) before
 loads_come answers clock names now (export ∷ exports) old new at within h before =
     loads_come answers clock names now exports h.1 new at (λ e is. within e (later export e exports is)) h.3
-    (follow_comes answers clock names export now old h.1 at (within export (0, omega arith, refl)) (inl (Ok h.0, h.2)) before)
+    (load_comes answers clock names None export now (Ok h.0) old h.1 at (within export (0, omega arith, refl)) h.2 before)
 
 loads_rest : {W : Type 0} (answers : DiskAnswers W) (now : ℕ) (exports : List WatchedExport) (old new : Sources) → LoadsEach answers now exports old new → KeepsRest old new
 loads_rest answers now [] old new h = record { exceptions = ap (λ s. s.exceptions) h; repository = ap (λ s. s.repository) h }
-loads_rest answers now (export ∷ exports) old new h = then_rest old h.1 new (follow_rest answers export now old h.1 (inl (Ok h.0, h.2))) (loads_rest answers now exports h.1 new h.3)
+loads_rest answers now (export ∷ exports) old new h = then_rest old h.1 new (load_rest answers None export now (Ok h.0) old h.1 h.2) (loads_rest answers now exports h.1 new h.3)
 
 all_at : (lists : List Listed) → All IsNothing lists → (i : ℕ) (l : Listed) → slice_get lists i ≡ Some l → IsNothing l
 all_at lists none i l got =

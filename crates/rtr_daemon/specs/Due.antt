@@ -8,6 +8,7 @@ use Rattle.rtr_daemon.specs.Overdue.{LeavesNoneOverdue}
 use Rattle.rtr_daemon.specs.PointOffers.{OffersEach, points_of}
 use Rattle.rtr_daemon.specs.Queue.{AreQueued}
 use Rattle.rtr_daemon.specs.Serving.{IsFresh, IsReason}
+use Rattle.rtr_daemon.specs.Shrinking.{sinces_of}
 use Rattle.vrps.specs.declared.store.Published.{Published}
 use Rattle.vrps.specs.declared.store.Published.TheVariants.{New, Unchanged}
 use Rattle.rtr_daemon.specs.declared.daemon.Daemon.{Daemon}
@@ -50,11 +51,13 @@ pub record FailureNoted {S T : Type 0} (refusal : Refusal) (new : Daemon S T) : 
 -- Whether an export is old was judged.
 pub record JudgesAges {S T : Type 0} (old new : Daemon S T) : Type 0 where
   pub names : names_of new.exports.items ≡ names_of old.exports.items
+  pub sinces : sinces_of new.exports.items ≡ sinces_of old.exports.items
   pub rest : new ≡ record old { exports = new.exports; is_old = new.is_old }
 
 -- Which records have expired was judged.
 pub record JudgesExpiry {S T : Type 0} (old new : Daemon S T) : Type 0 where
   pub names : names_of new.exports.items ≡ names_of old.exports.items
+  pub sinces : sinces_of new.exports.items ≡ sinces_of old.exports.items
   pub rest :
       new
       ≡ record old {
@@ -133,10 +136,10 @@ abbrev pub WakesIfPublished : {S T : Type 0} → Daemon S T → Daemon S T → T
 WakesIfPublished old new = (new.service.pace ≡ old.service.pace) ⊎ AreQueued new.clients
 
 -- Each file and each publication point was polled, in this order: exports, local exceptions, publication points.
-pub record PollsAll {S T W : Type 0} (answers : DiskAnswers W) (clock : ℕ → Type 0) (old new : Daemon S T) : Type 0 where
+pub record PollsAll {S T W : Type 0} (answers : DiskAnswers W) (clock ticks : ℕ → Type 0) (old new : Daemon S T) : Type 0 where
   pub followed : Sources
   pub excepted : Sources
-  pub exports : FollowsEach answers clock old.exports.items old.service.sources followed
+  pub exports : FollowsEach answers clock ticks old.plan.shrink old.exports.items (sinces_of new.exports.items) old.service.sources followed
   pub slurms : FollowsSlurms answers old.slurms.items followed excepted
   pub points : OffersEach answers clock old.points.items excepted new.service.sources
 
@@ -158,7 +161,7 @@ pub record IsChecked {S T : Type 0} (now : ℕ) (old new : Daemon S T) : Type 0 
 -- The files are polled. Then a version is pending, or the newest one is the set of the sources at a second of this poll. A pending version is
 -- published. The next poll is one interval later, or one interval after a new version. No client is left that is overdue.
 pub record Polls {S T W : Type 0} (answers : DiskAnswers W) (clock ticks : ℕ → Type 0) (now : ℕ) (old new : Daemon S T) : Type 0 where
-  pub polls : PollsAll answers clock old new
+  pub polls : PollsAll answers clock ticks old new
   pub fresh : IsFresh clock new.service
   pub publishes : PublishesIfDue clock ticks now old new
   pub next_poll : NextPoll ticks (later_by old.plan.check now) old new

@@ -1,7 +1,8 @@
 -- What a poll of the files loads.
 use Rattle.std.specs.Prelude.{◌≡◌, ◌⊎◌, ℕ, All, Bool, Contains, false, List, [], ◌∷◌, ◌++◌, map, slice_get, ⊤, Option, None, Some, Result, Ok}
 use Rattle.std.specs.String.{string_bytes}
-use Rattle.sources.specs.Served.{ExportTaken, SlurmsTaken}
+use Rattle.sources.specs.Served.{SlurmsTaken}
+use Rattle.sources.specs.Shrinking.{ExportTakenWithin}
 use Rattle.sources.specs.declared.fault.SlurmSetFault.{SlurmSetFault}
 use Rattle.exports.specs.declared.fault.ExportFault.TheVariants as unread
 use Rattle.slurm.specs.declared.fault.SlurmFault.TheVariants as unapplied
@@ -9,10 +10,12 @@ use Rattle.sources.specs.declared.fault.TakeFault.{TakeFault}
 use Rattle.sources.specs.declared.fault.TakeFault.TheVariants as untaken
 use Rattle.sources.specs.declared.sources.Sources.{Sources}
 use Rattle.rtr_daemon.specs.DiskAnswers.{DiskAnswers, HadStamp, ReadsWhole}
+use Rattle.rtr_daemon.specs.Shrinking.{percent_at, since_after}
 use Rattle.rtr_daemon.specs.declared.environment.Stamp.{Stamp}
 use Rattle.rtr_daemon.specs.declared.refusal.Refusal.{Refusal}
 use Rattle.rtr_daemon.specs.declared.refusal.Refusal.TheVariants as reason
 use Rattle.rtr_daemon.specs.declared.refusals.Refused.{Refused}
+use Rattle.rtr_daemon.specs.declared.shrink_guard.ShrinkGuard.{ShrinkGuard}
 use Rattle.rtr_daemon.specs.declared.watched_file.FileState.{FileState}
 use Rattle.rtr_daemon.specs.declared.watched_file.FileState.TheVariants as state
 use Rattle.rtr_daemon.specs.declared.watched_file.Look.{Look}
@@ -24,10 +27,11 @@ use Rattle.rtr_daemon.specs.declared.watched_file.WatchedFile.{WatchedFile}
 abbrev pub path_of : WatchedFile → List ℕ
 path_of file = string_bytes file.path
 
--- An export is refused for its own bytes, at each second: memory did not run out, and the records that count now are not too many.
+-- An export is refused for its own bytes, at each second: memory did not run out, and the records that count now are neither too many nor too few.
 abbrev pub IsOfExport : TakeFault → Type 0
 IsOfExport (untaken.Export fault) = (¬ (fault ≡ unread.Memory)) × (¬ (fault ≡ unread.TooMany))
 IsOfExport untaken.NoSuchFile = ⊥
+IsOfExport (untaken.Shrank percent had has) = ⊥
 
 -- A refusal of the file's own bytes: it depends neither on other files nor on memory, nor on expiry, so the same bytes are refused again.
 abbrev pub IsOfBytes : Refusal → Type 0
@@ -82,27 +86,43 @@ Looks answers file anew (Read stamp bytes) = ReadsWhole answers (path_of file) s
 abbrev pub IsKnown : {W : Type 0} → DiskAnswers W → WatchedFile → Type 0
 IsKnown answers file = (stamp : Stamp) × HadStamp answers (path_of file) stamp × (WasLoaded file stamp ⊎ WasRefused file stamp)
 
--- Why nothing is loaded of a file: it is known, it changes while it is read, or it cannot be read.
-abbrev pub HasNoNews : {W : Type 0} → DiskAnswers W → WatchedFile → Type 0
-HasNoNews answers file = IsKnown answers file ⊎ ChangesWhileRead answers (path_of file) ⊎ answers.fails (path_of file)
+-- The file has the stamp with which it was loaded last.
+abbrev pub IsUnchanged : {W : Type 0} → DiskAnswers W → WatchedFile → Type 0
+IsUnchanged answers file = (stamp : Stamp) × HadStamp answers (path_of file) stamp × WasLoaded file stamp
 
--- Bytes that were read whole of the path of an export are loaded as this export, or refused.
-abbrev pub Loads : {W : Type 0} → DiskAnswers W → WatchedExport → ℕ → Result ℕ TakeFault → Sources → Sources → Type 0
-Loads answers export now result old new = (stamp : Stamp) × (bytes : List ℕ) × ReadsWhole answers (path_of export.file) stamp bytes × ExportTaken bytes now export.number result old new
+-- Why a file cannot be loaded: its own bytes were refused before, it changes while it is read, or it cannot be read.
+abbrev pub CannotLoad : {W : Type 0} → DiskAnswers W → WatchedFile → Type 0
+CannotLoad answers file = ((stamp : Stamp) × HadStamp answers (path_of file) stamp × WasRefused file stamp) ⊎ ChangesWhileRead answers (path_of file) ⊎ answers.fails (path_of file)
 
--- A poll of an export: what is new of it is loaded or refused, otherwise the sources are unchanged.
-abbrev pub Follows : {W : Type 0} → DiskAnswers W → WatchedExport → ℕ → Sources → Sources → Type 0
-Follows answers export now old new = ((result : Result ℕ TakeFault) × Loads answers export now result old new) ⊎ (HasNoNews answers export.file × (new ≡ old))
+-- Nothing is loaded of an export. If it is again as it was loaded, it is no longer too short.
+abbrev pub HasNoNews : {W : Type 0} → DiskAnswers W → WatchedExport → Option ℕ → Type 0
+HasNoNews answers export since = (IsUnchanged answers export.file × (since ≡ None)) ⊎ (CannotLoad answers export.file × (since ≡ export.short_since))
 
--- A poll of each export in its turn, at a second that the clock answered
-abbrev pub FollowsEach : {W : Type 0} → DiskAnswers W → (ℕ → Type 0) → List WatchedExport → Sources → Sources → Type 0
-FollowsEach answers clock [] old new = new ≡ old
-FollowsEach answers clock (export ∷ exports) old new = (now : ℕ) × (between : Sources) × clock now × Follows answers export now old between × FollowsEach answers clock exports between new
+-- Bytes that were read whole of the path of an export are loaded as this export, or refused. No more than this percentage of its records may be gone.
+abbrev pub Loads : {W : Type 0} → DiskAnswers W → Option ℕ → WatchedExport → ℕ → Result ℕ TakeFault → Sources → Sources → Type 0
+Loads answers percent export now result old new = (stamp : Stamp) × (bytes : List ℕ) × ReadsWhole answers (path_of export.file) stamp bytes × ExportTakenWithin percent bytes now export.number result old new
 
--- Each export was loaded, at the second of the start.
+-- A poll of an export at a second, and at a time of the monotonic clock: what is new of it is loaded or refused, otherwise the sources are unchanged.
+-- Then its contents are refused as too short since the last of these times, if they are.
+abbrev pub Follows : {W : Type 0} → DiskAnswers W → Option ℕ → WatchedExport → ℕ → ℕ → Option ℕ → Sources → Sources → Type 0
+Follows answers percent export now millis since old new =
+    ((result : Result ℕ TakeFault) × Loads answers percent export now result old new × (since ≡ since_after result export.short_since millis)) ⊎ (HasNoNews answers export since × (new ≡ old))
+
+-- A poll of an export with a guard, at times that the clocks answered
+abbrev pub FollowsOne : {W : Type 0} → DiskAnswers W → (ℕ → Type 0) → (ℕ → Type 0) → Option ShrinkGuard → WatchedExport → Option ℕ → Sources → Sources → Type 0
+FollowsOne answers clock ticks guard export since old new = (now : ℕ) × (millis : ℕ) × clock now × ticks millis × Follows answers (percent_at guard export.short_since millis) export now millis since old new
+
+-- A poll of each export in its turn
+abbrev pub FollowsEach : {W : Type 0} → DiskAnswers W → (ℕ → Type 0) → (ℕ → Type 0) → Option ShrinkGuard → List WatchedExport → List (Option ℕ) → Sources → Sources → Type 0
+FollowsEach answers clock ticks guard [] [] old new = new ≡ old
+FollowsEach answers clock ticks guard (export ∷ exports) (since ∷ sinces) old new =
+    (between : Sources) × FollowsOne answers clock ticks guard export since old between × FollowsEach answers clock ticks guard exports sinces between new
+FollowsEach answers clock ticks guard exports sinces old new = ⊥
+
+-- Each export was loaded, at the second of the start. There is no guard then.
 abbrev pub LoadsEach : {W : Type 0} → DiskAnswers W → ℕ → List WatchedExport → Sources → Sources → Type 0
 LoadsEach answers now [] old new = new ≡ old
-LoadsEach answers now (export ∷ exports) old new = (expired : ℕ) × (between : Sources) × Loads answers export now (Ok expired) old between × LoadsEach answers now exports between new
+LoadsEach answers now (export ∷ exports) old new = (expired : ℕ) × (between : Sources) × Loads answers None export now (Ok expired) old between × LoadsEach answers now exports between new
 
 -- The path and the number of each export
 abbrev pub names_of : List WatchedExport → List (List ℕ × ℕ)

@@ -1,4 +1,5 @@
 pub mod Ages
+pub mod Calls
 pub mod DaemonRows
 pub mod DiskAnswers
 pub mod Due
@@ -16,4 +17,6 @@ pub mod Parting
 pub mod Queue
 pub mod Running
 pub mod Serving
+pub mod Shrinking
+pub mod ShrinkingRows
 pub mod Turns

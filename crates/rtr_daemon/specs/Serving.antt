@@ -1,5 +1,5 @@
 -- The set that a service serves, and the steps from one service to another.
-use Rattle.std.specs.Prelude.{◌≡◌, ◌⊎◌, ◌<◌, ℕ, slice_get, false, true, List, [], ◌∷◌, ◌++◌, ⊤, length, Option, Some, Result, Ok, Err}
+use Rattle.std.specs.Prelude.{◌≡◌, ◌⊎◌, ◌<◌, ℕ, slice_get, false, true, List, [], ◌∷◌, ◌++◌, ⊤, length, Option, None, Some, Result, Ok, Err}
 use Rattle.der_lite.specs.Moments.{CivilMoment}
 use Rattle.der_lite.specs.Seconds.{seconds_of}
 use Rattle.event_log.specs.Clock.{last_second}
@@ -14,7 +14,8 @@ use Rattle.vrps.specs.declared.store.Published.TheVariants.{New, Unchanged}
 use Rattle.rtr_ends.specs.CacheState.{CacheCall, Open}
 use Rattle.rtr_server.specs.Clients.{Past, ShowsServer, present}
 use Rattle.points.specs.InUse.{no_points}
-use Rattle.sources.specs.Served.{ExportTaken, PassesLimit, ServesAt, SlurmsTaken, ends_between, expired_of}
+use Rattle.sources.specs.Shrinking.{ExportTakenWithin}
+use Rattle.sources.specs.Served.{PassesLimit, ServesAt, SlurmsTaken, ends_between, expired_of}
 use Rattle.sources.specs.declared.fault.SlurmSetFault.{SlurmSetFault}
 use Rattle.sources.specs.declared.fault.TakeFault.{TakeFault}
 use Rattle.sources.specs.declared.listed.Listed.{Listed}
@@ -173,10 +174,10 @@ pub record SameSources (old new : Sources) : Type 0 where
   pub repository : new.repository ≡ old.repository
   pub leaves_out : new.leaves_out ≡ old.leaves_out
 
--- An export was loaded at a time, or it was refused, and nothing changed.
+-- An export was loaded at a time, without a guard. Or it was refused, and nothing changed.
 abbrev pub LoadsExport : ℕ → List ℕ → ℕ → Result ℕ Refusal → Sources → Sources → Type 0
-LoadsExport file bytes now (Ok expired) old new = ExportTaken bytes now file (Ok expired) old new
-LoadsExport file bytes now (Err refusal) old new = (fault : TakeFault) × ExportTaken bytes now file (Err fault) old new
+LoadsExport file bytes now (Ok expired) old new = ExportTakenWithin None bytes now file (Ok expired) old new
+LoadsExport file bytes now (Err refusal) old new = (fault : TakeFault) × ExportTakenWithin None bytes now file (Err fault) old new
 
 -- The files of local exceptions were loaded together. If they were refused, nothing changed.
 abbrev pub LoadsSlurms : {E : Type 0} → List (List ℕ) → Result (Unit {0}) E → Sources → Sources → Type 0

@@ -15,6 +15,7 @@ use crate::point_polling::WatchedPoint;
 use crate::refusal::Refusal;
 use crate::service::Service;
 use crate::set_changes::StepStore;
+use crate::shrink_guard::ShrinkGuard;
 use crate::statistics::{Families, Statistics};
 use crate::unwell::UnwellReasons;
 use crate::watched_file::{WatchedExport, WatchedFile};
@@ -55,6 +56,10 @@ pub struct Plan {
     pub max_age: Option<u64>,
     /// Whether the daemon stops if an export is old.
     pub stops_when_old: bool,
+    /// The guard against exports that are far shorter than before, if there is one.
+    pub shrink: Option<ShrinkGuard>,
+    /// The limit of a file's size, in bytes.
+    pub max_size: u64,
     /// Whether it stops when the first client is closed that agreed on a version.
     pub once: bool,
     /// How many listeners there are.
@@ -188,7 +193,7 @@ impl<S: StepStore + Drop, T: Stream + Drop> Daemon<S, T> {
     fn check<W: Disk + Time + EventLog>(&mut self, now: u64, env: &mut W)
         ensures goes { Continues S.holds T.remaining T.contents self.old.service self.new.service }
         ensures fresh { self.old.next_check ≤ now → IsFresh W.can_be self.new.service }
-        ensures polls { self.old.next_check ≤ now → PollsAll W.answers W.can_be self.old self.new }
+        ensures polls { self.old.next_check ≤ now → PollsAll W.answers W.can_be W.can_tick self.old self.new }
         ensures paths { SamePaths self.old self.new }
         ensures times { IsChecked now self.old self.new }
     {
@@ -205,7 +210,7 @@ impl<S: StepStore + Drop, T: Stream + Drop> Daemon<S, T> {
     /// Polls all files and publication points, and judges the clock and the ages of the exports.
     fn poll_all<W: Disk + Time + EventLog>(&mut self, now: u64, env: &mut W)
         ensures goes { Continues S.holds T.remaining T.contents self.old.service self.new.service }
-        ensures polls { PollsAll W.answers W.can_be self.old self.new }
+        ensures polls { PollsAll W.answers W.can_be W.can_tick self.old self.new }
         ensures paths { SamePaths self.old self.new }
         ensures rest { OnlyFiles self.old self.new }
     {

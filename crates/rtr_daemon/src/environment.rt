@@ -109,6 +109,9 @@ pub trait Disk {
     fn directory<'a>(&mut self, path: &'a str) -> io::Result<Directory<'a>>
         ensures directories { IfOk result (λ directory. answers.directories path.now directory) }
         ensures fails { IfErr result (λ _. answers.fails path.now) };
+
+    /// The duration of the longest call of the system on files since this was asked last, in milliseconds, and 0 if there was none.
+    fn slowest(&mut self) -> u64;
 }
 
 /// The clocks.

@@ -44,6 +44,7 @@ mod refusals;
 mod running;
 mod service;
 mod set_changes;
+mod shrink_guard;
 mod slurm_contents;
 mod slurm_polling;
 mod start_faults;
@@ -64,4 +65,5 @@ pub use running::{
 };
 pub use service::{PublishReport, Service};
 pub use set_changes::StepStore;
+pub use shrink_guard::ShrinkGuard;
 pub use start_faults::SocketFault;

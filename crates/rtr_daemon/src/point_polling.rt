@@ -1,6 +1,7 @@
 //! Polling the publication points: their directories are offered at each poll.
 ghost use Rattle.std.specs.Prelude.{◌≡◌, ℕ};
 ghost use Rattle.std.specs.String.{string_bytes};
+ghost use Rattle.rtr_daemon.specs.Calls.{slow_after};
 ghost use Rattle.rtr_daemon.specs.Due.{OnlyFiles};
 ghost use Rattle.rtr_daemon.specs.PointOffers.{OffersEach, OffersPoint, points_of};
 ghost use Rattle.rtr_daemon.specs.Serving.{Continues, OnlySources};
@@ -12,9 +13,11 @@ use crate::refusal::Refusal;
 use crate::refusals::Refusals;
 use crate::service::Service;
 use crate::statistics::Statistics;
+use crate::watched_file::slow_after;
 use event_log::LogEvent;
 use payloads::decode_manifest;
 use rtr_server::Stream;
+use status_pages::SlowCall;
 use std::alloc::Global;
 use vrps::VersionStore;
 
@@ -35,6 +38,8 @@ pub(crate) struct WatchedPoint {
     /// How many objects of its point are past their manifest's nextUpdate, as of the last poll.
     pub(crate) expired: u64,
     pub(crate) refusals: Refusals,
+    /// The last call of the system on it that was slow.
+    pub(crate) slow: Option<SlowCall>,
 }
 
 impl WatchedPoint {
@@ -47,7 +52,15 @@ impl WatchedPoint {
             held: None,
             expired: 0,
             refusals: Refusals::none(),
+            slow: None,
         }
+    }
+
+    /// Notes the duration of the longest call of the system on it, in milliseconds, if that is slow.
+    pub(crate) fn note_slow(&mut self, millis: u64, now: u64)
+        ensures { self.new ≡ record self.old { slow = slow_after millis now self.old.slow } }
+    {
+        self.slow = slow_after(millis, now, self.slow);
     }
 
     /// It was accepted, or is what its point holds. It returns whether a refusal was reported before.
@@ -157,6 +170,7 @@ fn offer_one<S: VersionStore, T: Stream + Drop, W: Disk + Time + EventLog>(
 {
     let now = env.seconds();
     let offered = offer(service, point.path.as_str(), alloc, now, env);
+    point.note_slow(env.slowest(), now);
     note_offer(alloc, point, offered, now, statistics, env);
     if point.note_expired(now) {
         log_expired(point.path.as_str(), point.expired, now, env);

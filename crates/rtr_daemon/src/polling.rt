@@ -1,18 +1,21 @@
 //! Polling the exports, and loading those that have changed.
-ghost use Rattle.std.specs.Prelude.{◌≡◌, ◌↔◌, ℕ, IsTrue, true};
-ghost use Rattle.rtr_daemon.specs.Files.{Follows, FollowsEach, names_of};
+ghost use Rattle.std.specs.Prelude.{◌≡◌, ◌↔◌, IsTrue, true};
+ghost use Rattle.rtr_daemon.specs.Files.{Follows, FollowsEach, FollowsOne, names_of};
 ghost use Rattle.rtr_daemon.specs.Due.{OnlyFiles};
 ghost use Rattle.rtr_daemon.specs.Serving.{Continues, LoadsExport, OnlySources, TakesSo};
+ghost use Rattle.rtr_daemon.specs.Shrinking.{sinces_of};
 
-use crate::daemon::Daemon;
+use crate::daemon::{Daemon, Plan};
 use crate::environment::{Disk, EventLog, Stamp, Time};
 use crate::refusal::Refusal;
 use crate::service::Service;
+use crate::shrink_guard::{Unguarded, log_warning, percent_at};
 use crate::statistics::Statistics;
 use crate::watched_file::{Look, WatchedExport, WatchedFile};
 use event_log::LogEvent;
 use exports::Ignored;
 use rtr_server::Stream;
+use sources::TakeFault;
 use std::alloc::Global;
 use vrps::VersionStore;
 
@@ -28,7 +31,7 @@ pub(crate) enum PollResult {
     Loaded { again: bool, expired: u64 },
 }
 
-/// Loads the content of an export, and returns how many of its entries had expired. If it is refused, it returns why.
+/// Loads the content of an export at the start, and returns how many of its entries had expired. If it is refused, it returns why.
 pub(crate) fn take<S: VersionStore, T: Stream + Drop>(
     service: &mut Service<S, T>,
     number: usize,
@@ -41,7 +44,7 @@ pub(crate) fn take<S: VersionStore, T: Stream + Drop>(
     ensures loads { LoadsExport number bytes.now now result service.old.sources service.new.sources }
     ensures rest { OnlySources service.old service.new }
 {
-    match service.take_export(number, bytes, now) {
+    match service.take_export_within(None, number, bytes, now) {
         Ok(expired) => Ok(expired),
         Err(fault) => Err(Refusal::of_export(alloc, bytes, fault)),
     }
@@ -51,18 +54,24 @@ pub(crate) fn take<S: VersionStore, T: Stream + Drop>(
 fn note(
     export: &mut WatchedExport,
     stamp: Stamp,
-    taken: Result<u64, Refusal>,
+    bytes: &[u8],
+    taken: Result<u64, TakeFault>,
+    alloc: Global,
     now: u64,
 ) -> PollResult
     ensures path { export.new.file.path ≡ export.old.file.path }
     ensures number { export.new.number ≡ export.old.number }
+    ensures short { export.new.short_since ≡ export.old.short_since }
 {
     match taken {
         Ok(expired) => PollResult::Loaded {
             again: export.set_loaded(stamp, now, expired),
             expired,
         },
-        Err(refusal) => refused_if(export.file.refusals.add(Some(stamp), refusal, now)),
+        Err(fault) => {
+            let refusal = Refusal::of_export(alloc, bytes, fault);
+            refused_if(export.file.refusals.add(Some(stamp), refusal, now))
+        }
     }
 }
 
@@ -82,31 +91,44 @@ fn restored_if(was_reported: bool) -> PollResult {
     }
 }
 
-/// Polls an export, and loads it if it has changed.
+/// A time, by both clocks.
+#[derive(Clone, Copy, Debug)]
+struct PollTime {
+    /// In seconds since 1970.
+    seconds: u64,
+    /// In milliseconds of the monotonic clock.
+    millis: u64,
+}
+
+/// Polls an export, and loads it if it has changed and no more than this percentage of its records is gone.
 fn follow<S: VersionStore, T: Stream + Drop, W: Disk>(
     export: &mut WatchedExport,
     service: &mut Service<S, T>,
+    percent: Option<u8>,
     alloc: Global,
-    now: u64,
+    at: PollTime,
     env: &mut W,
 ) -> PollResult
     ensures goes { Continues S.holds T.remaining T.contents service.old service.new }
     ensures rest { OnlySources service.old service.new }
-    ensures follows { Follows W.answers export.old now service.old.sources service.new.sources }
+    ensures follows { Follows W.answers percent export.old at.seconds at.millis export.new.short_since service.old.sources service.new.sources }
     ensures path { export.new.file.path ≡ export.old.file.path }
     ensures number { export.new.number ≡ export.old.number }
 {
+    let now = at.seconds;
     let anew = export.file.is_loaded_after(now);
     match export.file.look(env, anew) {
-        Look::Unchanged => restored_if(export.file.refusals.clear()),
+        Look::Unchanged => restored_if(export.set_unchanged()),
         Look::Unstable => refused_if(export.file.refusals.add(None, Refusal::Changing, now)),
         Look::RefusedBefore => refused_if(export.file.refusals.mark_reported(now)),
         Look::Failed(error) => {
             refused_if(export.file.refusals.add(None, Refusal::Device(error), now))
         }
         Look::Read(stamp, bytes) => {
-            let taken = take(service, export.number, bytes.as_slice(), alloc, now);
-            note(export, stamp, taken, now)
+            let bytes = bytes.as_slice();
+            let taken = service.take_export_within(percent, export.number, bytes, now);
+            export.note_short(&taken, at.millis);
+            note(export, stamp, bytes, taken, alloc, now)
         }
     }
 }
@@ -116,7 +138,7 @@ impl<S: VersionStore, T: Stream + Drop> Daemon<S, T> {
     pub(crate) fn follow_all<W: Disk + Time + EventLog>(&mut self, env: &mut W)
         ensures goes { Continues S.holds T.remaining T.contents self.old.service self.new.service }
         ensures rest { OnlyFiles self.old self.new }
-        ensures follows { FollowsEach W.answers W.can_be self.old.exports.items self.old.service.sources self.new.service.sources }
+        ensures follows { FollowsEach W.answers W.can_be W.can_tick self.old.plan.shrink self.old.exports.items (sinces_of self.new.exports.items) self.old.service.sources self.new.service.sources }
         ensures names { names_of self.new.exports.items ≡ names_of self.old.exports.items }
         ensures kept { (self.new.slurms ≡ self.old.slurms) × (self.new.points ≡ self.old.points) }
     {
@@ -124,6 +146,7 @@ impl<S: VersionStore, T: Stream + Drop> Daemon<S, T> {
             &mut self.exports,
             &mut self.service,
             &mut self.statistics,
+            self.plan,
             self.alloc,
             env,
         );
@@ -135,16 +158,17 @@ fn follow_each<S: VersionStore, T: Stream + Drop, W: Disk + Time + EventLog>(
     exports: &mut Vec<WatchedExport>,
     service: &mut Service<S, T>,
     statistics: &mut Statistics,
+    plan: Plan,
     alloc: Global,
     env: &mut W,
 )
     ensures goes { Continues S.holds T.remaining T.contents service.old service.new }
     ensures rest { OnlySources service.old service.new }
-    ensures follows { FollowsEach W.answers W.can_be exports.old.items service.old.sources service.new.sources }
+    ensures follows { FollowsEach W.answers W.can_be W.can_tick plan.shrink exports.old.items (sinces_of exports.new.items) service.old.sources service.new.sources }
     ensures names { names_of exports.new.items ≡ names_of exports.old.items }
 {
     for export in exports.iter_mut() {
-        follow_one(export, service, statistics, alloc, env);
+        follow_one(export, service, statistics, plan, alloc, env);
     }
 }
 
@@ -153,23 +177,57 @@ fn follow_one<S: VersionStore, T: Stream + Drop, W: Disk + Time + EventLog>(
     export: &mut WatchedExport,
     service: &mut Service<S, T>,
     statistics: &mut Statistics,
+    plan: Plan,
     alloc: Global,
     env: &mut W,
 )
     ensures goes { Continues S.holds T.remaining T.contents service.old service.new }
     ensures rest { OnlySources service.old service.new }
-    ensures follows { (now : ℕ) × W.can_be now × Follows W.answers export.old now service.old.sources service.new.sources }
+    ensures follows { FollowsOne W.answers W.can_be W.can_tick plan.shrink export.old export.new.short_since service.old.sources service.new.sources }
     ensures path { export.new.file.path ≡ export.old.file.path }
     ensures number { export.new.number ≡ export.old.number }
 {
     let now = env.seconds();
-    let began = env.millis();
+    let millis = env.millis();
+    let percent = percent_at(plan.shrink, export.short_since, millis);
     let before = service.sources().ignored(export.number);
-    let polled = follow(export, service, alloc, now, env);
-    count_poll(statistics, &polled, env.millis().saturating_sub(began));
+    let unguarded = Unguarded::of(plan.shrink, percent, export, service.sources(), now);
+    let was_near = export.file.near_limit(plan.max_size).is_some();
+    let at = PollTime {
+        seconds: now,
+        millis,
+    };
+    let polled = follow(export, service, percent, alloc, at, env);
+    export.file.note_slow(env.slowest(), now);
+    count_poll(statistics, &polled, env.millis().saturating_sub(millis));
     log_poll(alloc, export, polled, now, env);
+    if let Some(unguarded) = unguarded {
+        unguarded.log_loaded(export, service.sources(), alloc, now, env);
+    }
+    log_near_limit(&export.file, was_near, plan.max_size, alloc, now, env);
     let after = service.sources().ignored(export.number);
     log_not_served(export.path(), before, after, now, env);
+}
+
+/// Warns if a file is near the limit of its size, and was not before.
+pub(crate) fn log_near_limit<W: EventLog>(
+    file: &WatchedFile,
+    was_near: bool,
+    limit: u64,
+    alloc: Global,
+    now: u64,
+    env: &mut W,
+) {
+    if was_near {
+        return;
+    }
+    if let Some(size) = file.near_limit(limit) {
+        let path = file.path.as_str();
+        let text = format!(in alloc;
+            "{path}: it has {size} bytes, over three quarters of {limit} (--max-size)"
+        );
+        log_warning(text.ok(), now, env);
+    }
 }
 
 /// Whether another number of elements is not served than before.

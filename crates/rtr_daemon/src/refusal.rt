@@ -87,6 +87,7 @@ impl Refusal {
     pub(crate) fn of_export(alloc: Global, bytes: &[u8], fault: TakeFault) -> Refusal {
         let words = match fault {
             TakeFault::Export(of) => exports::fault_text(alloc, bytes, of).ok(),
+            TakeFault::Shrank { .. } => format!(in alloc; "{fault} (--max-shrink)").ok(),
             TakeFault::NoSuchFile => None,
         };
         Refusal::Export(FileFault { fault, words })
@@ -172,7 +173,7 @@ fn is_of_export(fault: &TakeFault) -> bool
 {
     match fault {
         TakeFault::Export(fault) => { !matches!(fault, ExportFault::Memory | ExportFault::TooMany) }
-        TakeFault::NoSuchFile => false,
+        TakeFault::NoSuchFile | TakeFault::Shrank { .. } => false,
     }
 }
 

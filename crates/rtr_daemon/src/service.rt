@@ -6,6 +6,7 @@ ghost use Rattle.der_lite.specs.Seconds.{seconds_of};
 ghost use Rattle.points.specs.InUse.{no_points};
 ghost use Rattle.rtr_server.specs.Clients.{AdmitsTo, KeepsOthers, Past, Serves, ShowsServer, is_gone, slot_at};
 ghost use Rattle.sources.specs.Served.{ExportTaken, SetDropped, SetTaken, SlurmTaken, SlurmsTaken};
+ghost use Rattle.sources.specs.Shrinking.{ExportTakenWithin};
 ghost use Rattle.rtr_daemon.specs.PointOffers.{OffersTo};
 ghost use Rattle.rtr_daemon.specs.Serving.{Continues, GoesOn, IsFresh, IsOfSecond, IsReason, IsServedAt, Issues, NoneEnds};
 ghost use Rattle.rtr_daemon.specs.Serving.{OnlyServer, OnlySources, PacesSo, SameExpired, ShowsService, StaysFresh, TakesSo};
@@ -129,6 +130,25 @@ impl<S: VersionStore, T: Stream + Drop> Service<S, T> {
         ensures rest { OnlySources self.old self.new }
     {
         let expired = self.sources.take_export(file, bytes, now)?;
+        self.is_pending = true;
+        Ok(expired)
+    }
+
+    /// The same, with a guard: the export is refused if more than this percentage of the records of the last load is gone, and there were 1,000 or
+    /// more. Records that have expired do not count on either side.
+    pub fn take_export_within(
+        &mut self,
+        guard: Option<u8>,
+        file: usize,
+        bytes: &[u8],
+        now: u64,
+    ) -> Result<u64, TakeFault>
+        ensures goes { Continues S.holds T.remaining T.contents self.old self.new }
+        ensures takes { TakesSo result self.old self.new }
+        ensures export { ExportTakenWithin guard bytes.now now file result self.old.sources self.new.sources }
+        ensures rest { OnlySources self.old self.new }
+    {
+        let expired = self.sources.take_export_within(guard, file, bytes, now)?;
         self.is_pending = true;
         Ok(expired)
     }

@@ -63,9 +63,64 @@ pub(crate) struct SlurmRefusal {
     pub(crate) why: Refusal,
 }
 
+/// The longest call of the system on several files, which are looked at in their order.
+#[derive(Clone, Copy, Debug)]
+pub(crate) struct LongestCall {
+    /// Its duration, in milliseconds.
+    millis: u64,
+    /// The index of its file.
+    index: usize,
+    /// The index of the file that is looked at next.
+    next: usize,
+}
+
+impl LongestCall {
+    /// No call yet.
+    pub(crate) fn none() -> LongestCall {
+        LongestCall {
+            millis: 0,
+            index: 0,
+            next: 0,
+        }
+    }
+
+    /// The first file is looked at next.
+    fn start_over(&mut self) {
+        self.next = 0;
+    }
+
+    /// The longest call on the next file lasted this many milliseconds.
+    pub(crate) fn note(&mut self, millis: u64) {
+        if millis > self.millis {
+            self.millis = millis;
+            self.index = self.next;
+        }
+        self.next = self.next.saturating_add(1);
+    }
+
+    /// Notes the call at its file, if it is slow.
+    pub(crate) fn note_at(&self, slurms: &mut [WatchedFile], now: u64)
+        ensures { paths_of slurms.new ≡ paths_of slurms.old }
+    {
+        for (at, file) in slurms.iter_mut().enumerate() {
+            self.note_if_at(at, file, now);
+        }
+    }
+
+    /// Notes the call at the file of this index, if it was on that file and is slow.
+    fn note_if_at(&self, index: usize, file: &mut WatchedFile, now: u64)
+        ensures { file.new.path ≡ file.old.path }
+    {
+        if index == self.index {
+            file.note_slow(self.millis, now);
+        }
+    }
+}
+
 /// Reads all files. The error is the first that cannot be read.
 pub(crate) fn contents_of<W: Disk>(
     slurms: &[WatchedFile],
+    longest: &mut LongestCall,
     alloc: Global,
     env: &mut W,
 ) -> Result<Contents, SlurmRefusal>
@@ -73,9 +128,12 @@ pub(crate) fn contents_of<W: Disk>(
     ensures fails { IfErr result (λ _. IsOneUnread W.answers (paths_of slurms.now)) }
 {
     let mut contents = Contents::new(alloc);
+    longest.start_over();
     for file in slurms {
         let index = contents.bytes.len();
-        match add_content(&mut contents, file, env) {
+        let added = add_content(&mut contents, file, env);
+        longest.note(env.slowest());
+        match added {
             Ok(()) => {}
             Err(why) => {
                 return Err(SlurmRefusal {
@@ -108,17 +166,18 @@ fn add_content<W: Disk>(
 /// Reads all files, again if one changes while it is read, up to 16 times.
 pub(crate) fn settled_contents<W: Disk>(
     slurms: &[WatchedFile],
+    longest: &mut LongestCall,
     alloc: Global,
     env: &mut W,
 ) -> Result<Contents, SlurmRefusal>
     ensures { IfOk result (λ contents. AreContents W.answers (paths_of slurms.now) (map (λ b. b.items) contents.bytes.items)) }
 {
-    let mut last = contents_of(slurms, alloc, env);
+    let mut last = contents_of(slurms, longest, alloc, env);
     for _time in 1..TRIES {
         if !is_changing(&last) {
             return last;
         }
-        last = contents_of(slurms, alloc, env);
+        last = contents_of(slurms, longest, alloc, env);
     }
     last
 }

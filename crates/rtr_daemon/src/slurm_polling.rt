@@ -6,10 +6,10 @@ ghost use Rattle.rtr_daemon.specs.Serving.{Continues, LoadsSlurms, OnlySources, 
 
 use crate::daemon::Daemon;
 use crate::environment::{Disk, EventLog, Stamp, Time};
-use crate::polling::log_refused_file;
+use crate::polling::{log_near_limit, log_refused_file};
 use crate::refusal::{Refusal, StartFault};
 use crate::service::Service;
-use crate::slurm_contents::{Contents, SlurmRefusal, contents_of, settled_contents};
+use crate::slurm_contents::{Contents, LongestCall, SlurmRefusal, contents_of, settled_contents};
 use crate::statistics::Statistics;
 use crate::watched_file::{FileState, WatchedFile};
 use event_log::LogEvent;
@@ -66,6 +66,7 @@ fn refusal_of(
 pub(crate) fn read_slurms<S: VersionStore, T: Stream + Drop, W: Disk + EventLog>(
     slurms: &mut Vec<WatchedFile>,
     service: &mut Service<S, T>,
+    max_size: u64,
     alloc: Global,
     now: u64,
     env: &mut W,
@@ -74,17 +75,33 @@ pub(crate) fn read_slurms<S: VersionStore, T: Stream + Drop, W: Disk + EventLog>
     ensures reads { IfOk result (λ _. ReadsSlurms W.answers slurms.old.items service.old.sources service.new.sources) }
     ensures paths { paths_of slurms.new.items ≡ paths_of slurms.old.items }
 {
-    let contents = match settled_contents(slurms, alloc, env) {
+    let mut longest = LongestCall::none();
+    let contents = match settled_contents(slurms, &mut longest, alloc, env) {
         Ok(contents) => contents,
         Err(refusal) => return Err(start_fault(slurms, alloc, refusal)),
     };
     match take(service, slurms, &contents, alloc) {
         Ok(()) => {
             note_all_loaded(slurms, &contents, now);
+            longest.note_at(slurms, now);
+            warn_near_limit(slurms, max_size, alloc, now, env);
             report_not_applied(slurms, service.sources(), now, env);
             Ok(())
         }
         Err(refusal) => Err(start_fault(slurms, alloc, refusal)),
+    }
+}
+
+/// Warns of each file that is near the limit of its size.
+fn warn_near_limit<W: EventLog>(
+    slurms: &[WatchedFile],
+    max_size: u64,
+    alloc: Global,
+    now: u64,
+    env: &mut W,
+) {
+    for file in slurms {
+        log_near_limit(file, false, max_size, alloc, now, env);
     }
 }
 
@@ -122,6 +139,7 @@ impl<S: VersionStore, T: Stream + Drop> Daemon<S, T> {
             &mut self.slurms,
             &mut self.service,
             &mut self.statistics,
+            self.plan.max_size,
             self.alloc,
             env,
         );
@@ -133,6 +151,7 @@ fn follow<S: VersionStore, T: Stream + Drop, W: Disk + Time + EventLog>(
     slurms: &mut Vec<WatchedFile>,
     service: &mut Service<S, T>,
     statistics: &mut Statistics,
+    max_size: u64,
     alloc: Global,
     env: &mut W,
 )
@@ -142,14 +161,18 @@ fn follow<S: VersionStore, T: Stream + Drop, W: Disk + Time + EventLog>(
     ensures paths { paths_of slurms.new.items ≡ paths_of slurms.old.items }
 {
     let now = env.seconds();
-    if !is_any_new(slurms, env) {
+    let mut longest = LongestCall::none();
+    if !is_any_new(slurms, &mut longest, env) {
+        longest.note_at(slurms, now);
         return report_known(slurms, statistics, alloc, now, env);
     }
     let began = env.millis();
-    match load(slurms, service, alloc, env) {
+    let loaded = load(slurms, service, &mut longest, alloc, env);
+    longest.note_at(slurms, now);
+    match loaded {
         Ok(contents) => {
             statistics.count_load(env.millis().saturating_sub(began));
-            report_loaded(slurms, &contents, now, env);
+            report_loaded(slurms, &contents, max_size, alloc, now, env);
             report_not_applied(slurms, service.sources(), now, env);
         }
         Err(refusal) => report_refused(slurms, refusal, statistics, alloc, now, env),
@@ -157,11 +180,13 @@ fn follow<S: VersionStore, T: Stream + Drop, W: Disk + Time + EventLog>(
 }
 
 /// Whether some file has changed, or cannot be read.
-fn is_any_new<W: Disk>(slurms: &[WatchedFile], env: &mut W) -> bool
+fn is_any_new<W: Disk>(slurms: &[WatchedFile], longest: &mut LongestCall, env: &mut W) -> bool
     ensures { result ≡ false → All (IsKnown W.answers) slurms.now }
 {
     for file in slurms {
-        if file.is_new(env) {
+        let is_new = file.is_new(env);
+        longest.note(env.slowest());
+        if is_new {
             return true;
         }
     }
@@ -172,6 +197,7 @@ fn is_any_new<W: Disk>(slurms: &[WatchedFile], env: &mut W) -> bool
 fn load<S: VersionStore, T: Stream + Drop, W: Disk>(
     slurms: &[WatchedFile],
     service: &mut Service<S, T>,
+    longest: &mut LongestCall,
     alloc: Global,
     env: &mut W,
 ) -> Result<Contents, SlurmRefusal>
@@ -179,7 +205,7 @@ fn load<S: VersionStore, T: Stream + Drop, W: Disk>(
     ensures rest { OnlySources service.old service.new }
     ensures follows { FollowsSlurms W.answers slurms.now service.old.sources service.new.sources }
 {
-    let contents = contents_of(slurms, alloc, env)?;
+    let contents = contents_of(slurms, longest, alloc, env)?;
     take(service, slurms, &contents, alloc)?;
     Ok(contents)
 }
@@ -225,13 +251,17 @@ fn report_if_known<W: Disk + EventLog>(
 fn report_loaded<W: EventLog>(
     slurms: &mut [WatchedFile],
     contents: &Contents,
+    max_size: u64,
+    alloc: Global,
     now: u64,
     env: &mut W,
 )
     ensures { paths_of slurms.new ≡ paths_of slurms.old }
 {
     for (at, file) in slurms.iter_mut().enumerate() {
+        let was_near = file.near_limit(max_size).is_some();
         report_one_loaded(contents, at, file, now, env);
+        log_near_limit(file, was_near, max_size, alloc, now, env);
     }
 }
 

@@ -1,5 +1,5 @@
 //! The start of a daemon: all sources are read before it serves.
-ghost use Rattle.std.specs.Prelude.{◌≡◌, ℕ, IfOk, Ok, false, map};
+ghost use Rattle.std.specs.Prelude.{◌≡◌, ℕ, IfOk, None, Ok, false, map};
 ghost use Rattle.points.specs.InUse.{no_points};
 ghost use Rattle.sources.specs.Served.{NoneTaken};
 ghost use Rattle.rtr_server.specs.Clients.{Past, ShowsServer};
@@ -15,7 +15,7 @@ use crate::daemon::{Daemon, Paths, Plan};
 use crate::environment::{Disk, EventLog, Time};
 use crate::losing::Readings;
 use crate::point_polling::{WatchedPoint, offer};
-use crate::polling::{log_expired, log_not_served, take};
+use crate::polling::{log_expired, log_near_limit, log_not_served, take};
 use crate::refusal::{Refusal, StartFault};
 use crate::service::Service;
 use crate::slurm_polling::read_slurms;
@@ -56,8 +56,8 @@ impl<S: VersionStore + Drop, T: Stream + Drop> Daemon<S, T> {
         let mut exports = watched_exports(alloc, files)?;
         let mut slurms = watched_slurms(alloc, slurms)?;
         let mut offered = watched_points(alloc, points)?;
-        read_all(&mut exports, &mut service, alloc, now, env)?;
-        read_slurms(&mut slurms, &mut service, alloc, now, env)?;
+        read_all(&mut exports, &mut service, plan.max_size, alloc, now, env)?;
+        read_slurms(&mut slurms, &mut service, plan.max_size, alloc, now, env)?;
         read_points(&mut offered, &mut service, alloc, now, env)?;
         let listeners = Listeners::new(alloc, plan.listeners)?;
         let statistics = Statistics::new(alloc)?;
@@ -136,6 +136,7 @@ fn watched_points(alloc: Global, paths: Vec<String>) -> Result<Vec<WatchedPoint>
 fn read_all<S: VersionStore, T: Stream + Drop, W: Disk + EventLog>(
     exports: &mut Vec<WatchedExport>,
     service: &mut Service<S, T>,
+    max_size: u64,
     alloc: Global,
     now: u64,
     env: &mut W,
@@ -145,7 +146,7 @@ fn read_all<S: VersionStore, T: Stream + Drop, W: Disk + EventLog>(
     ensures names { IfOk result (λ _. names_of exports.new.items ≡ names_of exports.old.items) }
 {
     for export in exports.iter_mut() {
-        read_export(export, service, alloc, now, env)?;
+        read_export(export, service, max_size, alloc, now, env)?;
     }
     Ok(())
 }
@@ -154,18 +155,21 @@ fn read_all<S: VersionStore, T: Stream + Drop, W: Disk + EventLog>(
 fn read_export<S: VersionStore, T: Stream + Drop, W: Disk + EventLog>(
     export: &mut WatchedExport,
     service: &mut Service<S, T>,
+    max_size: u64,
     alloc: Global,
     now: u64,
     env: &mut W,
 ) -> Result<(), StartFault>
     ensures goes { Continues S.holds T.remaining T.contents service.old service.new }
-    ensures loads { IfOk result (λ _. (expired : ℕ) × Loads W.answers export.old now (Ok expired) service.old.sources service.new.sources) }
+    ensures loads { IfOk result (λ _. (expired : ℕ) × Loads W.answers None export.old now (Ok expired) service.old.sources service.new.sources) }
     ensures path { export.new.file.path ≡ export.old.file.path }
     ensures number { export.new.number ≡ export.old.number }
 {
     let before = service.sources().ignored(export.number);
     match read_one(export, service, alloc, now, env) {
         Ok(expired) => {
+            export.file.note_slow(env.slowest(), now);
+            log_near_limit(&export.file, false, max_size, alloc, now, env);
             log_expired(export.path(), expired, now, env);
             let after = service.sources().ignored(export.number);
             log_not_served(export.path(), before, after, now, env);
@@ -184,7 +188,7 @@ fn read_one<S: VersionStore, T: Stream + Drop, W: Disk>(
     env: &mut W,
 ) -> Result<u64, Refusal>
     ensures goes { Continues S.holds T.remaining T.contents service.old service.new }
-    ensures loads { IfOk result (λ expired. Loads W.answers export.old now (Ok expired) service.old.sources service.new.sources) }
+    ensures loads { IfOk result (λ expired. Loads W.answers None export.old now (Ok expired) service.old.sources service.new.sources) }
     ensures path { export.new.file.path ≡ export.old.file.path }
     ensures number { export.new.number ≡ export.old.number }
 {
@@ -234,6 +238,7 @@ fn read_point<S: VersionStore, T: Stream + Drop, W: Disk>(
     match offer(service, point.path.as_str(), alloc, now, env) {
         Ok(held) => {
             let _ = point.set_accepted(held, now);
+            point.note_slow(env.slowest(), now);
             Ok(())
         }
         Err(refusal) => Err(StartFault::of(point.path.as_str(), alloc, refusal)),

@@ -1,6 +1,7 @@
 //! The status of a daemon.
 ghost use Rattle.std.specs.Prelude.{◌≡◌, IfOk, option_map, slice_get};
 ghost use Rattle.sources.specs.Served.{ignored_at, ignored_exceptions};
+ghost use Rattle.rtr_daemon.specs.Calls.{near_limit};
 ghost use Rattle.rtr_daemon.specs.NotServed.{entries_of, exceptions_of};
 
 use crate::ages::built_of;
@@ -115,9 +116,11 @@ impl<S: VersionStore, T: Stream + Drop> Daemon<S, T> {
 
     /// The status of an export.
     fn export_status(&self, export: &WatchedExport, now: u64) -> Result<FileStatus, AllocError>
-        ensures { IfOk result (λ status. status.ignored ≡ option_map (λ _. entries_of (ignored_at (slice_get self.now.service.sources.lists.items export.now.number))) export.now.file.loaded_at) }
+        ensures slow { IfOk result (λ status. status.slow ≡ export.now.file.slow) }
+        ensures near { IfOk result (λ status. status.near_limit ≡ near_limit self.now.plan.max_size export.now.file.loaded) }
+        ensures ignored { IfOk result (λ status. status.ignored ≡ option_map (λ _. entries_of (ignored_at (slice_get self.now.service.sources.lists.items export.now.number))) export.now.file.loaded_at) }
     {
-        let mut status = file_status(self.alloc, &export.file)?;
+        let mut status = file_status(self.alloc, &export.file, self.plan.max_size)?;
         status.built = built_of(export, self.service.sources(), now);
         status.is_old = export.is_old;
         status.expired = export.all_expired();
@@ -129,9 +132,11 @@ impl<S: VersionStore, T: Stream + Drop> Daemon<S, T> {
 
     /// The status of the file of local exceptions of this index.
     fn slurm_status(&self, slurm: &WatchedFile, index: usize) -> Result<FileStatus, AllocError>
-        ensures { IfOk result (λ status. status.ignored ≡ option_map (λ _. exceptions_of (ignored_exceptions self.now.service.sources.exceptions index)) slurm.now.loaded_at) }
+        ensures slow { IfOk result (λ status. status.slow ≡ slurm.now.slow) }
+        ensures near { IfOk result (λ status. status.near_limit ≡ near_limit self.now.plan.max_size slurm.now.loaded) }
+        ensures ignored { IfOk result (λ status. status.ignored ≡ option_map (λ _. exceptions_of (ignored_exceptions self.now.service.sources.exceptions index)) slurm.now.loaded_at) }
     {
-        let mut status = file_status(self.alloc, slurm)?;
+        let mut status = file_status(self.alloc, slurm, self.plan.max_size)?;
         let ignored = self.service.sources().ignored_exceptions(index);
         status.ignored = if_loaded(slurm, exceptions_of(ignored));
         Ok(status)
@@ -216,7 +221,10 @@ fn if_loaded(file: &WatchedFile, ignored: IgnoredEntries) -> Option<IgnoredEntri
 }
 
 /// The status of a file without age and expiry, as are those of local exceptions.
-fn file_status(alloc: Global, file: &WatchedFile) -> Result<FileStatus, AllocError> {
+fn file_status(alloc: Global, file: &WatchedFile, max_size: u64) -> Result<FileStatus, AllocError>
+    ensures slow { IfOk result (λ status. status.slow ≡ file.now.slow) }
+    ensures near { IfOk result (λ status. status.near_limit ≡ near_limit max_size file.now.loaded) }
+{
     Ok(FileStatus {
         path: file.path.clone()?,
         built: None,
@@ -227,6 +235,8 @@ fn file_status(alloc: Global, file: &WatchedFile) -> Result<FileStatus, AllocErr
         expired: 0,
         vrps: None,
         ignored: None,
+        slow: file.slow,
+        near_limit: file.near_limit(max_size),
     })
 }
 
@@ -244,7 +254,9 @@ fn failure_status(
     }
 }
 
-fn point_status(alloc: Global, point: &WatchedPoint) -> Result<FileStatus, AllocError> {
+fn point_status(alloc: Global, point: &WatchedPoint) -> Result<FileStatus, AllocError>
+    ensures { IfOk result (λ status. status.slow ≡ point.now.slow) }
+{
     Ok(FileStatus {
         path: point.path.clone()?,
         built: None,
@@ -255,6 +267,8 @@ fn point_status(alloc: Global, point: &WatchedPoint) -> Result<FileStatus, Alloc
         expired: point.expired,
         vrps: if point.expired > 0 { Some(0) } else { None },
         ignored: None,
+        slow: point.slow,
+        near_limit: None,
     })
 }
 

@@ -10,10 +10,10 @@ use std::alloc::{AllocError, Global};
 use vrps::VersionStore;
 
 /// For each reason, in their order, whether it holds.
-type Held = [bool; 9];
+type Held = [bool; 10];
 
 /// No reason holds.
-const NONE: Held = [false; 9];
+const NONE: Held = [false; 10];
 
 /// Which reasons held at the last round: of the daemon as a whole, and then of each source.
 #[derive(Debug, Drop)]
@@ -71,7 +71,10 @@ impl UnwellReasons {
 
 /// Whether a reason is of a source.
 fn is_of_source(reason: Reason) -> bool {
-    matches!(reason, Reason::Old | Reason::RefusedLong | Reason::Refused)
+    matches!(
+        reason,
+        Reason::Old | Reason::RefusedLong | Reason::Refused | Reason::SlowPoll
+    )
 }
 
 /// The reasons of the daemon as a whole.

@@ -1,6 +1,8 @@
 //! Watched files.
-ghost use Rattle.std.specs.Prelude.{◌≡◌, ◌⊎◌, ◌↔◌, true, false, IfErr, IfOk, IsTrue};
+ghost use Rattle.std.specs.Prelude.{◌≡◌, ◌⊎◌, ◌↔◌, None, true, false, IfErr, IfOk, IsTrue};
 ghost use Rattle.rtr_daemon.specs.Ages.{file_time, modified_by};
+ghost use Rattle.rtr_daemon.specs.Calls.{near_limit, slow_after};
+ghost use Rattle.rtr_daemon.specs.Shrinking.{since_after};
 ghost use Rattle.rtr_daemon.specs.DiskAnswers.{HadStamp, ReadsWhole};
 ghost use Rattle.rtr_daemon.specs.Files.{ChangesWhileRead, IsKnown, IsStateNow, IsStateOf, Looks, ReadsAfter, WasLoaded, path_of};
 
@@ -8,7 +10,12 @@ use crate::environment::{Disk, Stamp};
 use crate::refusal::Refusal;
 use crate::refusals::Refusals;
 use slurm::Ignored;
+use sources::TakeFault;
+use status_pages::SlowCall;
 use std::io;
+
+/// A call of the system that lasts longer than this is slow, in milliseconds.
+const SLOW: u64 = 5000;
 
 /// A file, and what was last read of it.
 #[derive(Debug, Drop)]
@@ -21,6 +28,8 @@ pub(crate) struct WatchedFile {
     pub(crate) refusals: Refusals,
     /// How many of its entries are not applied, as was reported last, if it has local exceptions.
     not_applied: Ignored,
+    /// The last call of the system on it that was slow.
+    pub(crate) slow: Option<SlowCall>,
 }
 
 /// The state of a file, by its stamp.
@@ -62,6 +71,26 @@ impl WatchedFile {
                 bgpsec_filters: 0,
                 bgpsec_assertions: 0,
             },
+            slow: None,
+        }
+    }
+
+    /// Notes the duration of the longest call of the system on it, in milliseconds, if that is slow.
+    pub(crate) fn note_slow(&mut self, millis: u64, now: u64)
+        ensures { self.new ≡ record self.old { slow = slow_after millis now self.old.slow } }
+    {
+        self.slow = slow_after(millis, now, self.slow);
+    }
+
+    /// Its size in bytes when it was loaded last, if that is more than three quarters of this limit.
+    pub(crate) fn near_limit(&self, limit: u64) -> Option<u64>
+        ensures { result ≡ near_limit limit self.now.loaded }
+    {
+        let stamp = self.loaded?;
+        if stamp.len > limit.saturating_sub(limit / 4) {
+            Some(stamp.len)
+        } else {
+            None
         }
     }
 
@@ -196,6 +225,19 @@ impl WatchedFile {
     }
 }
 
+/// The last slow call, after one of this many milliseconds.
+pub(crate) fn slow_after(millis: u64, now: u64, before: Option<SlowCall>) -> Option<SlowCall>
+    ensures { result ≡ slow_after millis now before }
+{
+    if millis > SLOW {
+        return Some(SlowCall {
+            milliseconds: millis,
+            at: now,
+        });
+    }
+    before
+}
+
 /// A modification time, in seconds since 1970, or the time of the load if it is not between 1970 and that.
 fn modified_by(modified: i64, loaded_at: u64) -> u64
     ensures { result ≡ modified_by modified loaded_at }
@@ -218,6 +260,8 @@ pub(crate) struct WatchedExport {
     pub(crate) expired_since: u64,
     /// Whether its data are old.
     pub(crate) is_old: bool,
+    /// Since when its contents are refused as too short, in milliseconds of the monotonic clock, if they are.
+    pub(crate) short_since: Option<u64>,
 }
 
 impl WatchedExport {
@@ -231,6 +275,7 @@ impl WatchedExport {
             expired: 0,
             expired_since: 0,
             is_old: false,
+            short_since: None,
         }
     }
 
@@ -244,10 +289,33 @@ impl WatchedExport {
         ensures loaded { WasLoaded self.new.file stamp }
         ensures path { self.new.file.path ≡ self.old.file.path }
         ensures number { self.new.number ≡ self.old.number }
+        ensures short { self.new.short_since ≡ self.old.short_since }
     {
         self.expired = expired;
         self.expired_since = 0;
         self.file.set_loaded(stamp, now)
+    }
+
+    /// Notes since when its contents are refused as too short, after a load at this time of the monotonic clock.
+    pub(crate) fn note_short(&mut self, taken: &Result<u64, TakeFault>, millis: u64)
+        ensures { self.new ≡ record self.old { short_since = since_after taken.now self.old.short_since millis } }
+    {
+        self.short_since = match taken {
+            Ok(_) => None,
+            Err(TakeFault::Shrank { .. }) => self.short_since.or(Some(millis)),
+            Err(_) => self.short_since,
+        };
+    }
+
+    /// It is as it was loaded. It answers whether a refusal was reported before.
+    pub(crate) fn set_unchanged(&mut self) -> bool
+        ensures loaded { self.new.file.loaded ≡ self.old.file.loaded }
+        ensures path { self.new.file.path ≡ self.old.file.path }
+        ensures number { self.new.number ≡ self.old.number }
+        ensures short { self.new.short_since ≡ None }
+    {
+        self.short_since = None;
+        self.file.refusals.clear()
     }
 
     /// How many of its entries have expired, before it was loaded or since.

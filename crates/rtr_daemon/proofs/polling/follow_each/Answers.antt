@@ -1,5 +1,6 @@
-use Rattle.std.proofs.Common.{◌≡◌, ◌+◌, ◌∙◌, suc, arith, get_or, length, subst, take, ◌<◌}
-use Rattle.rtr_daemon.specs.Files.{Follows, FollowsEach}
+use Rattle.std.proofs.Common.{◌≡◌, ◌+◌, ◌∙◌, suc, arith, get_or, length, length-set, set, subst, take, ◌<◌}
+use Rattle.rtr_daemon.specs.Files.{FollowsEach, FollowsOne}
+use Rattle.rtr_daemon.specs.Shrinking.{sinces_of}
 use Rattle.rtr_daemon.proofs.ContentLaws.{follows_more, left_more, names_kept}
 use Rattle.rtr_daemon.proofs.DueLaws.{sources_on}
 use Rattle.rtr_daemon.proofs.ServiceLaws.{then_on}
@@ -13,15 +14,21 @@ loop-export-preserved g c =
     let before = c.loop-export.invariant in
     let one = c.follow_one.ensures in
     let less : i < length initial = omega (arith, c.loop-export-test.true) in
+    let within : i < length c.loop-export.export-items = omega (arith, c.loop-export-test.true, before.count) in
     let more : suc i ≡ i + 1 = omega arith in
     let here : get_or c.loop-export.export-items i item ≡ get_or initial i item = before.left i item (omega arith) in
     record {
       goes = then_on g.S.VersionStore.holds g.T.Stream.remaining g.T.Stream.contents c.args.service.now c.loop-export.service c.follow_one.new.service before.goes one.goes;
       rest = sources_on c.args.service.now c.loop-export.service c.follow_one.new.service before.rest one.rest;
       follows =
-          subst (λ n. FollowsEach g.W.Disk.answers g.W.Time.can_be (take n initial) c.args.service.now.sources c.follow_one.new.service.sources) more
-          (follows_more g.W.Disk.answers g.W.Time.can_be initial i item c.args.service.now.sources c.loop-export.service.sources c.follow_one.new.service.sources one.follows.0 less one.follows.1 before.follows
-          (subst (λ e. Follows g.W.Disk.answers e one.follows.0 c.loop-export.service.sources c.follow_one.new.service.sources) here one.follows.2));
+          subst
+          (λ n. FollowsEach g.W.Disk.answers g.W.Time.can_be g.W.Time.can_tick c.args.plan.shrink (take n initial) (take n (sinces_of (set c.loop-export.export-items i c.follow_one.new.export))) c.args.service.now.sources
+          c.follow_one.new.service.sources)
+          more
+          (follows_more g.W.Disk.answers g.W.Time.can_be g.W.Time.can_tick c.args.plan.shrink initial c.loop-export.export-items i item c.follow_one.new.export c.args.service.now.sources c.loop-export.service.sources
+          c.follow_one.new.service.sources less within before.follows
+          (subst (λ e. FollowsOne g.W.Disk.answers g.W.Time.can_be g.W.Time.can_tick c.args.plan.shrink e c.follow_one.new.export.short_since c.loop-export.service.sources c.follow_one.new.service.sources) here one.follows));
+      count = length-set c.loop-export.export-items i c.follow_one.new.export ∙ before.count;
       names = names_kept c.loop-export.export-items i item c.follow_one.new.export one.path one.number ∙ before.names;
       left = left_more c.loop-export.export-items initial i c.follow_one.new.export before.left;
     }

@@ -14,7 +14,7 @@ loop-file-preserved g c =
     let next : suc i ≡ i + 1 = omega arith in
     let less : i < length (paths_of files) = subst (λ n. i < n) (sym (length-map files path_of)) c.loop-file-test.true in
     let at : path_of file ≡ get_or (paths_of files) i (path_of file) = ap path_of c.file-item.is ∙ sym (get_or-map path_of files i file (path_of file) c.loop-file-test.true) in
-    subst (λ n. AreContents g.W.Disk.answers (take n (paths_of files)) (map (λ b. b.items) c.add_content.new.contents.bytes.items)) next
+    subst (λ n. AreContents g.W.Disk.answers (take n (paths_of files)) (map (λ b. b.items) c.add_content-added.new.contents.bytes.items)) next
     (subst (λ all. AreContents g.W.Disk.answers (take (suc i) (paths_of files)) all) (sym read.3)
     (contents_more g.W.Disk.answers (paths_of files) i (path_of file) (map (λ b. b.items) c.loop-file.contents.bytes.items) read.1 less at c.loop-file.invariant (read.0, read.2)))
 

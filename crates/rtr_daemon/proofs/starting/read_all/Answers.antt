@@ -1,5 +1,5 @@
 use Rattle.std.proofs.Common.{◌≡◌, ◌+◌, ◌<◌, ◌∙◌, suc, arith, get_or, length, subst, take}
-use Rattle.std.specs.Prelude.{Ok}
+use Rattle.std.specs.Prelude.{None, Ok}
 use Rattle.rtr_daemon.specs.Files.{Loads, LoadsEach}
 use Rattle.rtr_daemon.proofs.ContentLaws.{left_more, loads_more, names_kept}
 use Rattle.rtr_daemon.proofs.ServiceLaws.{then_on}
@@ -23,7 +23,7 @@ loop-export-preserved g c =
       loads =
           subst (λ n. LoadsEach g.W.Disk.answers c.args.now (take n initial) c.args.service.now.sources c.read_export.new.service.sources) more
           (loads_more g.W.Disk.answers c.args.now initial i item c.args.service.now.sources c.loop-export.service.sources c.read_export.new.service.sources one.loads.0 less before.loads
-          (subst (λ e. Loads g.W.Disk.answers e c.args.now (Ok one.loads.0) c.loop-export.service.sources c.read_export.new.service.sources) here one.loads.1));
+          (subst (λ e. Loads g.W.Disk.answers None e c.args.now (Ok one.loads.0) c.loop-export.service.sources c.read_export.new.service.sources) here one.loads.1));
       names = names_kept c.loop-export.export-items i item c.read_export.new.export one.path one.number ∙ before.names;
       left = left_more c.loop-export.export-items initial i c.read_export.new.export before.left;
     }

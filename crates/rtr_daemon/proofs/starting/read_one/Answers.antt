@@ -1,7 +1,7 @@
 use Rattle.std.proofs.Common.{subst, sym}
-use Rattle.std.specs.Prelude.{Ok}
+use Rattle.std.specs.Prelude.{None, Ok}
 use Rattle.std.specs.String.{string_bytes}
-use Rattle.sources.specs.Served.{ExportTaken}
+use Rattle.sources.specs.Shrinking.{ExportTakenWithin}
 use Rattle.rtr_daemon.specs.DiskAnswers.{ReadsWhole}
 use Rattle.rtr_daemon.specs.Files.{path_of}
 use Rattle.rtr_daemon.specs.Serving.{Continues}
@@ -13,8 +13,8 @@ returns-in-Read-clause-loads g c =
       c.in-Read.stamp,
       bytes,
       subst (λ p. ReadsWhole g.W.Disk.answers (string_bytes p) c.in-Read.stamp bytes) c.loop-time.invariant.path (subst (ReadsWhole g.W.Disk.answers (path_of c.loop-time.export.file) c.in-Read.stamp) (sym c.as_slice.ensures.value) c.in-Read.ensures),
-      subst (λ n. ExportTaken bytes c.args.now n (Ok c.in_ok-expired-in-Read.expired) c.args.service.now.sources c.take.new.service.sources) c.loop-time.invariant.number
-          (subst (λ s. ExportTaken bytes c.args.now c.loop-time.export.number (Ok c.in_ok-expired-in-Read.expired) s.sources c.take.new.service.sources) c.loop-time.invariant.service c.in_ok-expired-in-Read.ensures.loads),
+      subst (λ n. ExportTakenWithin None bytes c.args.now n (Ok c.in_ok-expired-in-Read.expired) c.args.service.now.sources c.take.new.service.sources) c.loop-time.invariant.number
+          (subst (λ s. ExportTakenWithin None bytes c.args.now c.loop-time.export.number (Ok c.in_ok-expired-in-Read.expired) s.sources c.take.new.service.sources) c.loop-time.invariant.service c.in_ok-expired-in-Read.ensures.loads),
     )
 
 pub returns-in-Read-clause-goes : goal.returns-in-Read-clause-goes

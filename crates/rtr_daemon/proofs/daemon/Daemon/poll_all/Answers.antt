@@ -13,7 +13,7 @@ returns-clause-goes g c =
 
 pub returns-clause-polls : goal.returns-clause-polls
 returns-clause-polls g c =
-    polls_of g.W.Disk.answers g.W.Time.can_be c.args.self.now c.judge_clock.new.self c.follow_all.new.self c.follow_slurms.new.self c.offer_all.new.self c.judge_ages.new.self
+    polls_of g.W.Disk.answers g.W.Time.can_be g.W.Time.can_tick c.args.self.now c.judge_clock.new.self c.follow_all.new.self c.follow_slurms.new.self c.offer_all.new.self c.judge_ages.new.self
     (record {
       judged = c.judge_clock.ensures;
       exports = c.follow_all.ensures.follows;
@@ -30,7 +30,7 @@ returns-clause-polls g c =
 
 pub returns-clause-paths : goal.returns-clause-paths
 returns-clause-paths g c =
-    same_paths_of g.W.Disk.answers g.W.Time.can_be c.args.self.now c.judge_clock.new.self c.follow_all.new.self c.follow_slurms.new.self c.offer_all.new.self c.judge_ages.new.self
+    same_paths_of g.W.Disk.answers g.W.Time.can_be g.W.Time.can_tick c.args.self.now c.judge_clock.new.self c.follow_all.new.self c.follow_slurms.new.self c.offer_all.new.self c.judge_ages.new.self
     (record {
       judged = c.judge_clock.ensures;
       exports = c.follow_all.ensures.follows;
