@@ -43,6 +43,8 @@ pub struct System<'a, R, E> {
     opened: VecDeque<LogEvent<'static>>,
     manager: Option<Notifier<ManagerSocket>>,
     pub(crate) max_size: u64,
+    /// The longest call of the system on files since this was asked last, in milliseconds.
+    pub(crate) slowest_call: u64,
     pub(crate) poll: Poll,
     pub(crate) events: Events,
     pub(crate) ready: VecDeque<Ready>,
@@ -86,6 +88,7 @@ impl<'a, R: Files + Net + Clock + AllocGlobal, E: Write> System<'a, R, E> {
             opened: VecDeque::new(rt.alloc()),
             manager: None,
             max_size: settings.max_size,
+            slowest_call: 0,
             poll,
             events: Events::with_capacity(rt.alloc(), EVENTS)?,
             ready: VecDeque::with_capacity(rt.alloc(), EVENTS)?,

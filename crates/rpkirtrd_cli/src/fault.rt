@@ -13,6 +13,9 @@ pub enum Wanted {
         /// The greatest number.
         most: u64,
     },
+    /// A percentage, or the word `none`.
+    #[error("a number from 1 to 99, or none,")]
+    Percentage,
     /// An IP address with a port: an IPv6 address is in brackets, and the port is in decimal digits without a leading zero.
     #[error("an address with a port, as 192.0.2.1:3323 or [2001:db8::1]:3323,")]
     Address,
@@ -65,6 +68,9 @@ pub enum OptionFault {
     /// There is `--stop-when-old` without `--max-age`.
     #[error("--stop-when-old needs --max-age")]
     NoAge,
+    /// There is `--shrink-hold` beside `--max-shrink none`.
+    #[error("--shrink-hold needs a --max-shrink other than none")]
+    NoShrink,
     /// There is `--status-name` without `--status`.
     #[error("--status-name needs --status")]
     NoStatus,

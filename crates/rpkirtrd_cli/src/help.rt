@@ -1,5 +1,5 @@
 //! The help and the version.
-use crate::options::{GROUPS, OptionKind, OptionSpec};
+use crate::options::{OptionSpec, groups};
 use std::alloc::{AllocError, Global};
 
 const HEAD: &str = "\
@@ -28,7 +28,7 @@ A cache for the routers of a network, on the host of rpki-client:
 ";
 
 /// The program's version.
-pub const VERSION: &str = "1.0.0";
+pub const VERSION: &str = "1.1.0";
 
 /// What `--version` prints: the name of the program and its version.
 pub(crate) fn version(alloc: Global) -> Result<String, AllocError> {
@@ -67,7 +67,7 @@ fn push_options(text: &mut String, options: &[OptionSpec]) -> Result<(), AllocEr
 /// The text of `--help`.
 pub(crate) fn help(alloc: Global) -> Result<String, AllocError> {
     let mut text = String::from_str(alloc, HEAD)?;
-    for group in &GROUPS {
+    for group in groups() {
         write!(&mut text, "\n{}\n", group.title)?;
         push_options(&mut text, group.options)?;
     }

@@ -35,6 +35,10 @@ pub struct Settings {
     pub stop_when_old: bool,
     /// The largest file size in bytes.
     pub max_size: u64,
+    /// How large a part of an export's records may be gone at a change, in percent, or `None` for all of them.
+    pub max_shrink: Option<u8>,
+    /// For how many seconds an export is refused that lacks more.
+    pub shrink_hold: u32,
     /// Whether records of length 0, for 0.0.0.0/0 or ::/0, are left out.
     pub leave_out_length_0: bool,
     /// How many clients there may be at once.
@@ -66,6 +70,9 @@ pub struct Settings {
     ghost looks: { 1 ≤ check },
     ghost reads: { 1 ≤ max_size },
     ghost reads_to: { max_size ≤ 1099511627776 },
+    ghost shrinks_within: { is_within 1 99 max_shrink ≡ true },
+    ghost holds_from: { 60 ≤ shrink_hold },
+    ghost holds_to: { shrink_hold ≤ 31536000 },
     ghost serves: { 1 ≤ clients },
     ghost serves_to: { clients ≤ 4294967295 },
     ghost waits: { 1 ≤ stall },

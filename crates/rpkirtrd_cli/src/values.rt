@@ -1,7 +1,8 @@
 //! The values of options.
-ghost use Rattle.std.specs.Prelude.{◌≡◌, ◌≤◌, false, true, IfOk, IfSome, string_bytes};
+ghost use Rattle.std.specs.Prelude.{◌≡◌, ◌≤◌, false, true, IfOk, IfSome, option_copied, string_bytes};
 ghost use Rattle.rpkirtrd_cli.specs.Decimals.{ReadsBetween, ReadsNumber};
 ghost use Rattle.rpkirtrd_cli.specs.Bounds.{is_within};
+ghost use Rattle.rpkirtrd_cli.specs.Shrinks.{ReadsMaxShrink, ReadsPercentage, ReadsShrinkHold};
 ghost use Rattle.rpkirtrd_cli.specs.Urls.{is_url};
 
 use crate::fault::{OptionFault, Wanted};
@@ -9,6 +10,12 @@ use clap::ArgMatches;
 use event_log::{LogFormat, LogLevel};
 use std::alloc::Global;
 use std::net::SocketAddr;
+
+/// The default of `--max-shrink`, in percent.
+const MAX_SHRINK: u8 = 90;
+
+/// The default of `--shrink-hold`, in seconds.
+const SHRINK_HOLD: u32 = 86_400;
 
 /// The fault of a value that does not have the required form.
 fn wrong(alloc: Global, option: &'static str, value: &str, wanted: Wanted) -> OptionFault {
@@ -89,6 +96,40 @@ pub(crate) fn number_or(
         return Ok(default);
     };
     Ok(number as u32)
+}
+
+/// The percentage of a text, or `None` for the word `none`.
+fn percentage_in(alloc: Global, option: &'static str, text: &str) -> Result<Option<u8>, OptionFault>
+    ensures { ReadsPercentage text.now result }
+{
+    if text == "none" {
+        return Ok(None);
+    }
+    match decimal(text) {
+        Some(number) if 1 <= number && number <= 99 => Ok(Some(number as u8)),
+        _ => Err(wrong(alloc, option, text, Wanted::Percentage)),
+    }
+}
+
+/// How large a part of an export's records may be gone at a change, in percent, or `None` for all of them.
+pub(crate) fn max_shrink(alloc: Global, text: Option<&str>) -> Result<Option<u8>, OptionFault>
+    ensures { ReadsMaxShrink (option_copied text.entry) result }
+{
+    match text {
+        Some(text) => percentage_in(alloc, "max-shrink", text),
+        None => Ok(Some(MAX_SHRINK)),
+    }
+}
+
+/// For how many seconds an export is refused of which more is gone.
+pub(crate) fn shrink_hold(alloc: Global, text: Option<&str>) -> Result<u32, OptionFault>
+    ensures { ReadsShrinkHold (option_copied text.entry) result }
+{
+    let Some(text) = text else {
+        return Ok(SHRINK_HOLD);
+    };
+    let seconds = number_in(alloc, "shrink-hold", text, 60, 31_536_000)?;
+    Ok(seconds as u32)
 }
 
 /// The number of 32 bits of an option, or `None` if there is no such option.

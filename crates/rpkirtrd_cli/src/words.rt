@@ -7,8 +7,8 @@ use crate::help::{help, version};
 use crate::options::command_line;
 use crate::settings::Settings;
 use crate::values::{
-    address, addresses, host_name, log_format, log_level, number, number_16, number_32, number_or,
-    paths,
+    address, addresses, host_name, log_format, log_level, max_shrink, number, number_16, number_32,
+    number_or, paths, shrink_hold,
 };
 use clap::error::ErrorKind;
 use clap::{ArgMatches, Error};
@@ -160,6 +160,33 @@ fn max_size(alloc: Global, found: &ArgMatches<'_>) -> Result<u64, OptionFault>
     }
 }
 
+/// The guard against an export that shrinks.
+#[derive(Clone, Copy)]
+struct Shrinking {
+    percent: Option<u8>,
+    hold: u32,
+    ghost percent_within: { is_within 1 99 percent ≡ true },
+    ghost hold_from: { 60 ≤ hold },
+    ghost hold_to: { hold ≤ 31536000 },
+}
+
+/// The guard of two options, each of which may be absent.
+fn shrink(
+    alloc: Global,
+    percent: Option<&str>,
+    hold: Option<&str>,
+) -> Result<Shrinking, OptionFault>
+    ensures { IfOk result (λ guard. IsSome hold.entry → IsSome guard.percent) }
+{
+    let is_held = hold.is_some();
+    let percent = max_shrink(alloc, percent)?;
+    if is_held && percent.is_none() {
+        return Err(OptionFault::NoShrink);
+    }
+    let hold = shrink_hold(alloc, hold)?;
+    Ok(Shrinking { percent, hold })
+}
+
 /// The settings of a run.
 fn settings(alloc: Global, found: &ArgMatches<'_>) -> Result<Settings, OptionFault> {
     let SourcePaths { vrps, points } = to_serve(alloc, found)?;
@@ -168,6 +195,8 @@ fn settings(alloc: Global, found: &ArgMatches<'_>) -> Result<Settings, OptionFau
         stop_when_old,
     } = age(alloc, found)?;
     let StatusAddress { address, name } = status(alloc, found)?;
+    let (percent, hold) = (found.get_str("max-shrink"), found.get_str("shrink-hold"));
+    let Shrinking { percent, hold } = shrink(alloc, percent, hold)?;
     Ok(Settings {
         vrps,
         points,
@@ -182,6 +211,8 @@ fn settings(alloc: Global, found: &ArgMatches<'_>) -> Result<Settings, OptionFau
         max_age,
         stop_when_old,
         max_size: max_size(alloc, found)?,
+        max_shrink: percent,
+        shrink_hold: hold,
         leave_out_length_0: found.get_flag("leave-out-length-0"),
         clients: number_or(alloc, found, "clients", 1, 4_294_967_295, 256)? as usize,
         clients_per_address: number(alloc, found, "clients-per-address", 1, 4_294_967_295)?,

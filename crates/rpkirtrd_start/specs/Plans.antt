@@ -1,8 +1,18 @@
 -- The plan of a daemon, from its settings.
-use Rattle.std.specs.Prelude.{ℕ, length}
+use Rattle.std.specs.Prelude.{ℕ, length, Option, None, Some}
 use Rattle.rpkirtrd_cli.specs.Derived.{millis_of}
 use Rattle.rpkirtrd_cli.specs.declared.settings.Settings.{Settings}
 use Rattle.rtr_daemon.specs.declared.daemon.Plan.{Plan}
+use Rattle.rtr_daemon.specs.declared.shrink_guard.ShrinkGuard.{ShrinkGuard}
+
+-- a guard of this time, if there is a percentage
+abbrev pub guard_of : ℕ → Option ℕ → Option ShrinkGuard
+guard_of hold None = None
+guard_of hold (Some percent) = Some (record { percent = percent; hold = hold })
+
+-- the guard of these settings against exports that shrink
+abbrev pub shrink_of : Settings → Option ShrinkGuard
+shrink_of s = guard_of s.shrink_hold s.max_shrink
 
 -- The plan of these settings, for at most this number of clients
 abbrev pub plan_of : Settings → ℕ → Plan
@@ -15,6 +25,8 @@ plan_of s clients =
       leaves_out_length_0 = s.leave_out_length_0;
       max_age = s.max_age;
       stops_when_old = s.stop_when_old;
+      shrink = shrink_of s;
+      max_size = s.max_size;
       once = s.once;
       listeners = length s.listen.items;
       clients = clients;

@@ -4,14 +4,14 @@ ghost use Rattle.std.specs.declared.io.Error.{Error};
 ghost use Rattle.rtr_daemon.specs.Origins.{SourcesComeFrom};
 ghost use Rattle.rtr_daemon.specs.Running.{clients_within, exit_status};
 ghost use Rattle.rtr_daemon.specs.declared.daemon.StopReason.{StopReason};
-ghost use Rattle.rpkirtrd_start.specs.Plans.{plan_of};
+ghost use Rattle.rpkirtrd_start.specs.Plans.{plan_of, shrink_of};
 
 use crate::paths::paths_of;
 use event_log::LogEvent;
 use rpkirtrd_cli::{Settings, session_warning};
 use rtr_daemon::{
-    AfterTurn, Daemon, Disk, EventLog, Plan, Sockets, StartFault, Time, clients_within,
-    report_check, report_end, report_limit, run, wait_for_clock,
+    AfterTurn, Daemon, Disk, EventLog, Plan, ShrinkGuard, Sockets, StartFault, Time,
+    clients_within, report_check, report_end, report_limit, run, wait_for_clock,
 };
 use rtr_ends::Cache;
 use rtr_server::{Server, Stream};
@@ -98,6 +98,15 @@ fn server_of<T: Stream + Drop>(
     Ok(Server::new(alloc, cache, clients))
 }
 
+/// The guard of these settings against exports that shrink, if there is one.
+fn shrink_of(settings: &Settings) -> Option<ShrinkGuard>
+    ensures { result ≡ shrink_of settings.now }
+{
+    let percent = settings.max_shrink?;
+    let hold = u64::from(settings.shrink_hold);
+    Some(ShrinkGuard { percent, hold })
+}
+
 /// The plan of these settings, for at most this many clients.
 fn plan_of(settings: &Settings, clients: usize) -> Plan
     ensures { result ≡ plan_of settings.now clients }
@@ -110,6 +119,8 @@ fn plan_of(settings: &Settings, clients: usize) -> Plan
         leaves_out_length_0: settings.leave_out_length_0,
         max_age: settings.max_age,
         stops_when_old: settings.stop_when_old,
+        shrink: shrink_of(settings),
+        max_size: settings.max_size,
         once: settings.once,
         listeners: settings.listen.len(),
         clients,
