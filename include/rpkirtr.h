@@ -218,7 +218,7 @@ rpkirtr_status rpkirtr_end_name(uint8_t end, rpkirtr_text *text);
 /* Tells in English what is at fault in a payload, by the number of the fault. Any number may be asked for. OK */
 rpkirtr_status rpkirtr_fault_name(uint32_t fault, rpkirtr_text *text);
 
-/* Tells the version of the release: "1.0.0". OK */
+/* Tells the version of the release: "1.1.0". OK */
 rpkirtr_status rpkirtr_version(rpkirtr_text *text);
 
 /* The version of this header. It changes if a program that was compiled with an older header no longer works. */

@@ -46,7 +46,7 @@ pub enum End {
     OutOfMemory,
     /// The committed version expired.
     Expired,
-    /// An answer has more than 16,777,215 records.
+    /// An answer with more records than the router may hold.
     TooMany,
 }
 

@@ -206,7 +206,7 @@ fn states_links_ends_and_faults_have_names() {
 
 #[test]
 fn the_library_has_a_version() {
-    assert_eq!(rpkirtr::version(), "1.0.0");
+    assert_eq!(rpkirtr::version(), "1.1.0");
 }
 
 #[test]

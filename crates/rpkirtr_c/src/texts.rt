@@ -8,7 +8,7 @@ ghost use Rattle.rpkirtr_c.specs.declared.status.Status.TheVariants.{Done};
 use crate::status::Status;
 
 /// The version of the release.
-const VERSION: &[u8] = b"1.0.0";
+const VERSION: &[u8] = b"1.1.0";
 
 /// The version of the header. It changes if a program that was compiled with an older header no longer works.
 const ABI_VERSION: u32 = 0;
@@ -102,7 +102,7 @@ pub extern "C" fn rpkirtr_strerror(status: i32, text: &mut CText) -> i32
 /// Writes the version of the release.
 #[unsafe(no_mangle)]
 pub extern "C" fn rpkirtr_version(text: &mut CText) -> i32
-    ensures text { text.new ≡ in_room (codes "1.0.0") }
+    ensures text { text.new ≡ in_room (codes "1.1.0") }
     ensures answer { result ≡ number Done }
 {
     *text = in_room(VERSION);
