@@ -49,6 +49,10 @@ mod sd_notify_example;
 #[cfg(test)]
 mod session_names_example;
 #[cfg(test)]
+mod sheets;
+#[cfg(test)]
+mod shrinking;
+#[cfg(test)]
 mod sinks;
 #[cfg(test)]
 mod stage;

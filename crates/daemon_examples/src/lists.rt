@@ -14,6 +14,8 @@ fn file(alloc: Global, built: Option<u64>) -> FileStatus {
         expired: 0,
         vrps: None,
         ignored: None,
+        slow: None,
+        near_limit: None,
     }
 }
 

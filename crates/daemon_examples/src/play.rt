@@ -1,7 +1,9 @@
 //! A daemon over files and sockets in memory, and one function that plays scripts of what happens at it. Each line is a step: a word, and
 //! what belongs to it.
 //!
-//! - `writes TEXT`: the list has this text from now on, which has a name or is spelled.
+//! - `writes TEXT`: the list has this text from now on, which has a name or is spelled. `COUNT` is a list of this many records, and
+//!   `COUNT EXPIRING SECONDS` is one in which the first `EXPIRING` of them expire these seconds after the start.
+//! - `other TEXT`: the same for the other file, which is there if a script's list begins with its text and a bar: `OTHER | LIST`.
 //! - `restless yes`, `restless no`: the list is or is not rewritten with the same text at each poll from now on.
 //! - `shows TABLE`: the system's table of connections from now on, which has a name. Without one it cannot be read.
 //! - `accepts well`, `accepts no-room`, `accepts fails`: the result of each accept from now on.
@@ -11,10 +13,10 @@
 //! - `reads-for MILLISECONDS`: each read of the list lasts so long from now on.
 //! - `serves COUNT`: this many clients are connected.
 //! - `has ROUTER PDUS`: a router received these PDUs, and no others. Each has a name (`example_values::scripts`) or is spelled.
-use crate::stage::{Accepting, LIST, Stage};
+use crate::stage::{Accepting, Stage};
 use crate::wires::{Router, Wire};
 use example_values::scripts::{Words, units_in};
-use rtr_daemon::{Daemon, Paths, Plan};
+use rtr_daemon::{Daemon, Plan, ShrinkGuard};
 use rtr_ends::{Cache, Timing};
 use rtr_server::Server;
 use session_names::SessionIds;
@@ -22,7 +24,7 @@ use std::alloc::{AllocGlobal, Global};
 use std::process::Abort;
 use vrps::VersionLog;
 
-/// A name, the name of the settings, the text of the list at the start, what happens, and the log.
+/// A name, the name of the settings, the texts of the files at the start, what happens, and the log.
 pub(crate) type Script = (
     &'static str,
     &'static str,
@@ -42,6 +44,8 @@ const PLAN: Plan = Plan {
     leaves_out_length_0: false,
     max_age: None,
     stops_when_old: false,
+    shrink: None,
+    max_size: 1_073_741_824,
     once: false,
     listeners: 1,
     clients: 2,
@@ -70,6 +74,13 @@ fn plan_of(name: &str) -> Plan {
         },
         "an answer has a minute" => Plan {
             slow: 60_000,
+            ..PLAN
+        },
+        "a tenth of an export must be left for 120 seconds" => Plan {
+            shrink: Some(ShrinkGuard {
+                percent: 90,
+                hold: 120,
+            }),
             ..PLAN
         },
         "polls ten times a second" => Plan { check: 100, ..PLAN },
@@ -138,20 +149,9 @@ fn server(alloc: Global) -> Option<Server<VersionLog, Wire>> {
     Some(Server::new(alloc, cache, 2))
 }
 
-/// The list is the only source.
-fn paths(alloc: Global) -> Option<Paths> {
-    let mut files = Vec::new(alloc);
-    files.push(String::from_str(alloc, LIST).ok()?).ok()?;
-    Some(Paths {
-        files,
-        slurms: Vec::new(alloc),
-        points: Vec::new(alloc),
-    })
-}
-
-/// A daemon that polls the list.
+/// A daemon that polls the files.
 fn opened(alloc: Global, plan: Plan, stage: &mut Stage) -> Option<Daemon<VersionLog, Wire>> {
-    let paths = paths(alloc)?;
+    let paths = stage.paths().ok()?;
     let server = server(alloc)?;
     Daemon::open(alloc, plan, NAMES, server, paths, stage).ok()
 }
@@ -219,6 +219,7 @@ fn goes(daemon: &mut Daemon<VersionLog, Wire>, stage: &mut Stage, line: &'static
     let mut words = Words { rest: line };
     match words.next() {
         "writes" => stage.write(list_of(words.rest)),
+        "other" => stage.write_other(words.rest),
         "restless" => stage.set_restless(words.rest == "yes"),
         "shows" => stage.set_table(table_of(words.rest)),
         "accepts" => return accepts(stage, words.rest),
@@ -247,9 +248,21 @@ fn opens_and_goes(stage: &mut Stage, alloc: Global, plan: Plan, steps: &'static 
     }
 }
 
+/// The environment of a script's files.
+fn stage_of(alloc: Global, files: &'static str) -> Stage {
+    match files.split_once(" | ") {
+        None => Stage::new(alloc, EVENING, list_of(files)),
+        Some((other, list)) => {
+            let mut stage = Stage::new(alloc, EVENING, list_of(list));
+            stage.write_other(other);
+            stage
+        }
+    }
+}
+
 /// Whether a script goes as it has to.
-fn is_played(alloc: Global, &(_, settings, list, steps, log): &Script) -> bool {
-    let mut stage = Stage::new(alloc, EVENING, list_of(list));
+fn is_played(alloc: Global, &(_, settings, files, steps, log): &Script) -> bool {
+    let mut stage = stage_of(alloc, files);
     opens_and_goes(&mut stage, alloc, plan_of(settings), steps)
         && stage.log.as_slice() == log.as_bytes()
 }

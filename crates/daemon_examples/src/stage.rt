@@ -1,17 +1,21 @@
 //! Sockets, files, clocks and log in memory.
+use crate::sheets::Sheet;
 use crate::wires::{Router, Shared, Wire, is_list, shared, wire};
 use event_log::{LogEvent, LogFormat, write_event};
 use payload_commands::Directory;
 use rpkirtrd_start::Addresses;
-use rtr_daemon::{AcceptResult, Disk, EventLog, Ready, Sockets, Stamp, Time};
+use rtr_daemon::{AcceptResult, Disk, EventLog, Paths, Ready, Sockets, Stamp, Time};
 use std::alloc::{AllocError, Global};
 use std::collections::VecDeque;
-use std::io;
 use std::io::ErrorKind;
 use std::net::SocketAddr;
+use std::{io, mem};
 
-/// The path of the one file.
+/// The path of the list.
 pub(crate) const LIST: &str = "list.json";
+
+/// The path of the other file.
+const OTHER: &str = "other.json";
 
 /// The result of an accept.
 #[derive(Clone, Copy, PartialEq, Eq)]
@@ -27,14 +31,15 @@ pub(crate) enum Accepting {
 #[derive(Drop)]
 pub(crate) struct Stage {
     alloc: Global,
-    /// The text of the list, how often it was written, and when, in seconds since 1970.
-    list: &'static str,
-    times: u64,
-    modified: u64,
+    list: Sheet,
+    /// The other file, if there is one.
+    other: Option<Sheet>,
     /// Whether the list is rewritten with the same text at each poll.
     is_restless: bool,
     /// How long a read lasts, in milliseconds.
     reading: u64,
+    /// The longest read since this was asked last, in milliseconds.
+    slowest: u64,
     accepting: Accepting,
     /// The system's table of connections, if it can be read.
     table: Option<&'static str>,
@@ -52,15 +57,15 @@ pub(crate) struct Stage {
 }
 
 impl Stage {
-    /// An environment at a time in seconds since 1970, whose list has this text.
+    /// An environment at a time in seconds since 1970, whose list has this text, or this many records.
     pub(crate) fn new(alloc: Global, began: u64, list: &'static str) -> Stage {
         Stage {
             alloc,
-            list,
-            times: 0,
-            modified: began,
+            list: Sheet::new(64496, list, began),
+            other: None,
             is_restless: false,
             reading: 0,
+            slowest: 0,
             accepting: Accepting::Well,
             table: Some(""),
             began,
@@ -74,10 +79,46 @@ impl Stage {
     }
 
     /// Rewrites the list.
-    pub(crate) fn write(&mut self, list: &'static str) {
-        self.list = list;
-        self.times = self.times.saturating_add(1);
-        self.modified = self.seconds();
+    pub(crate) fn write(&mut self, text: &'static str) {
+        let now = self.seconds();
+        self.list.write(text, self.began, now);
+    }
+
+    /// Writes the other file.
+    pub(crate) fn write_other(&mut self, text: &'static str) {
+        let now = self.seconds();
+        let mut other = match self.other {
+            Some(other) => other,
+            None => Sheet::new(64497, text, now),
+        };
+        other.write(text, self.began, now);
+        self.other = Some(other);
+    }
+
+    /// The paths of its files.
+    pub(crate) fn paths(&self) -> Result<Paths, AllocError> {
+        let alloc = self.alloc;
+        let mut files = Vec::new(alloc);
+        files.push(String::from_str(alloc, LIST)?)?;
+        if self.other.is_some() {
+            files.push(String::from_str(alloc, OTHER)?)?;
+        }
+        Ok(Paths {
+            files,
+            slurms: Vec::new(alloc),
+            points: Vec::new(alloc),
+        })
+    }
+
+    /// The file of a path, if there is one.
+    fn sheet(&self, path: &str) -> io::Result<Sheet> {
+        if path == LIST {
+            return Ok(self.list);
+        }
+        match self.other {
+            Some(other) if path == OTHER => Ok(other),
+            _ => Err(io::Error::from(ErrorKind::NotFound)),
+        }
     }
 
     /// Sets whether the list is rewritten at each poll.
@@ -150,32 +191,25 @@ impl EventLog for Stage {
 
 impl Disk for Stage {
     fn stamp(&mut self, path: &str) -> io::Result<Stamp> {
-        if path != LIST {
-            return Err(io::Error::from(ErrorKind::NotFound));
-        }
         if self.is_restless {
-            self.times = self.times.saturating_add(1);
+            self.list.rewrite();
         }
-        Ok(Stamp {
-            len: self.list.len() as u64,
-            inode: self.times,
-            modified: (i64::try_from(self.modified).unwrap_or(i64::MAX), 0),
-            changed: (0, 0),
-        })
+        Ok(self.sheet(path)?.stamp())
     }
 
     fn read(&mut self, path: &str) -> io::Result<Vec<u8>> {
-        if path != LIST {
-            return Err(io::Error::from(ErrorKind::NotFound));
-        }
+        let sheet = self.sheet(path)?;
         self.millis = self.millis.saturating_add(self.reading);
-        let mut bytes = Vec::new(self.alloc);
-        bytes.extend_from_slice(self.list.as_bytes())?;
-        Ok(bytes)
+        self.slowest = self.slowest.max(self.reading);
+        Ok(sheet.bytes(self.alloc)?)
     }
 
     fn directory<'a>(&mut self, _path: &'a str) -> io::Result<Directory<'a>> {
         Err(io::Error::from(ErrorKind::NotFound))
+    }
+
+    fn slowest(&mut self) -> u64 {
+        mem::take(&mut self.slowest)
     }
 }
 

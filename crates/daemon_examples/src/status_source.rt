@@ -2,7 +2,7 @@
 use bytes::Bytes;
 use prefixes::Route;
 use status_pages::{ErrorReports, LostLines, PdusByType, Status, TotalTraffic, Validity};
-use status_server::StatusSource;
+use status_server::{ListForm, StatusSource};
 use std::alloc::{AllocError, Global};
 
 /// A cache with an empty list.
@@ -29,12 +29,11 @@ impl StatusSource for Source {
         Ok(status(self.alloc))
     }
 
-    fn list(&mut self) -> Result<Option<Bytes>, AllocError> {
-        Ok(Some(Bytes::from_static(b"[]")))
-    }
-
-    fn csv(&mut self) -> Result<Option<Bytes>, AllocError> {
-        Ok(None)
+    fn list(&mut self, form: ListForm) -> Result<Option<Bytes>, AllocError> {
+        match form {
+            ListForm::Payloads | ListForm::Roas => Ok(Some(Bytes::from_static(b"[]"))),
+            ListForm::Csv | ListForm::RoutinatorCsv => Ok(None),
+        }
     }
 
     fn validity(&mut self, _route: &Route) -> Result<Option<Validity>, AllocError> {

@@ -6,7 +6,8 @@ use example_values::sets::set_in;
 use prefixes::{IpPrefix, Route};
 use status_pages::{LostLines, Status};
 use status_server::{
-    CachePlace, CacheView, HttpAccept, HttpReady, HttpSockets, StatusEndpoint, VersionCache,
+    CachePlace, CacheView, HttpAccept, HttpReady, HttpSockets, ListForm, StatusEndpoint,
+    VersionCache,
 };
 use std::alloc::{AllocError, Global};
 use std::hash::RandomState;
@@ -15,7 +16,22 @@ use vrps::{OriginState, Serial, VrpSet};
 
 const LIST: &[u8] = b"[{\"asn\":64496,\"maxLength\":24,\"prefix\":\"192.0.2.0/24\"}]";
 
-const CSV: &[u8] = b"ASN,IP Prefix,Max Length,Trust Anchor\nAS64496,192.0.2.0/24,24,\n";
+/// The text of the record in each form.
+const TEXTS: &[(ListForm, &[u8])] = &[
+    (ListForm::Payloads, LIST),
+    (
+        ListForm::Roas,
+        b"[{\"asn\":\"AS64496\",\"prefix\":\"192.0.2.0/24\",\"maxLength\":24,\"ta\":\"\"}]",
+    ),
+    (
+        ListForm::Csv,
+        b"ASN,IP Prefix,Max Length\nAS64496,192.0.2.0/24,24\n",
+    ),
+    (
+        ListForm::RoutinatorCsv,
+        b"ASN,IP Prefix,Max Length,Trust Anchor\nAS64496,192.0.2.0/24,24,\n",
+    ),
+];
 
 /// The set of one record.
 fn one(alloc: Global) -> Option<VrpSet> {
@@ -30,17 +46,24 @@ fn has_bytes(text: Result<Option<Bytes>, AllocError>, bytes: &[u8]) -> bool {
     }
 }
 
-/// Whether a cache of texts has the list and the CSV of a version, also at the second request, and none without a version.
-fn is_shown(alloc: Global, set: &VrpSet) -> bool {
-    let mut texts = VersionCache::new(alloc);
-    for _time in 0..2u8 {
-        let version = Some((Serial(5), set));
-        if !has_bytes(texts.list(version), LIST) || !has_bytes(texts.csv(version), CSV) {
+/// Whether a cache of texts has each form of a version.
+fn has_forms(texts: &mut VersionCache, set: &VrpSet) -> bool {
+    for &(form, bytes) in TEXTS {
+        if !has_bytes(texts.list(Some((Serial(5), set)), form), bytes) {
             return false;
         }
     }
+    true
+}
+
+/// Whether a cache of texts has each form of a version, also at the second request, and none without a version.
+fn is_shown(alloc: Global, set: &VrpSet) -> bool {
+    let mut texts = VersionCache::new(alloc);
+    if !has_forms(&mut texts, set) || !has_forms(&mut texts, set) {
+        return false;
+    }
     texts.drop_old(None);
-    matches!(texts.list(None), Ok(None))
+    matches!(texts.list(None, ListForm::Payloads), Ok(None))
 }
 
 /// The state of the record's route of AS 64496 under a version.
@@ -56,7 +79,7 @@ fn state(alloc: Global, set: &VrpSet) -> Option<OriginState> {
     }
 }
 
-/// Whether a version has its list and its CSV, and judges a route.
+/// Whether a version has its records in each form, and judges a route.
 fn has_texts(alloc: Global) -> bool {
     match one(alloc) {
         Some(set) => is_shown(alloc, &set) && state(alloc, &set) == Some(OriginState::Valid),

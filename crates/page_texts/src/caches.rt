@@ -123,6 +123,8 @@ fn taken_file(alloc: Global) -> Result<FileStatus, AllocError> {
             aspas: 1,
             router_keys: 1200,
         }),
+        slow: None,
+        near_limit: None,
     })
 }
 
@@ -145,6 +147,8 @@ fn refused_file(alloc: Global) -> Result<FileStatus, AllocError> {
         expired: 0,
         vrps: None,
         ignored: None,
+        slow: None,
+        near_limit: None,
     })
 }
 

@@ -2,7 +2,7 @@
 
 use crate::caches::{NOW, put_failure};
 use anyhow::{Result, bail};
-use status_pages::{ClientLimit, FileStatus, Status, TurnedAway, VrpPeak};
+use status_pages::{ClientLimit, FileStatus, SlowCall, Status, TurnedAway, VrpPeak};
 use std::alloc::Global;
 
 /// Makes the changes, one after the other.
@@ -59,9 +59,20 @@ fn put_file_change(alloc: Global, what: &str, value: u64, status: &mut Status) -
         "vrps" => file.vrps = Some(value),
         "never-loaded" => file.taken = None,
         "refused" => put_refusal(alloc, value, file)?,
+        "slow" => file.slow = Some(slow_call(5001, value)),
+        "slow-for" => file.slow = Some(slow_call(value, 0)),
+        "near-limit" => file.near_limit = Some(value),
         _ => bail!("there is no such change"),
     }
     Ok(())
+}
+
+/// A slow call of this many milliseconds, this many seconds ago.
+fn slow_call(milliseconds: u64, ago: u64) -> SlowCall {
+    SlowCall {
+        milliseconds,
+        at: NOW.saturating_sub(ago),
+    }
 }
 
 /// The file has been refused for this many seconds.

@@ -4,7 +4,8 @@
 //! - `reasons CACHE`: the reasons why a cache is not well, and whether it is well, healthy and ready.
 //!   A CACHE is also `with WHAT VALUE..`: a cache that is well, with the changes of `changes.rt`.
 //! - `route PREFIX AS`, `route-page PREFIX AS`: the validity of a route, as JSON and as a page.
-//! - `csv CACHE`, `export CACHE`: the records of a cache as CSV, and the start of its export.
+//! - `csv [small]`, `routinator-csv [small]`, `roas [small]`: no record, or those of a small list, as CSV and as Routinator writes them.
+//! - `export`, `routinator-export`: the start of an export.
 //! - `http CACHE PIECE [NAME]`: the response to the request on standard input, in pieces of at most PIECE bytes.
 //! - `log text`, `log json`, `log systemd`: a line for each event of the log.
 //! - `times`: a line of the log at each of some times.
@@ -29,7 +30,8 @@ use std::io::Write;
 
 /// The first words.
 const FORMS: &str = "\
-page\nmetrics\nhealth\nreasons\nroute\nroute-page\ncsv\nexport\nhttp\nlog\ntimes\nsettings\nfaults\nvalues\n";
+page\nmetrics\nhealth\nreasons\nroute\nroute-page\ncsv\nroutinator-csv\nroas\nexport\nroutinator-export\n\
+http\nlog\ntimes\nsettings\nfaults\nvalues\n";
 
 fn main(rt: HostRuntime) -> Result<()> {
     let words: Vec<String> = env::args(&rt)?.skip(1).collect(rt.alloc())?;
@@ -44,7 +46,13 @@ fn main(rt: HostRuntime) -> Result<()> {
 fn print<W: Write>(alloc: Global, form: &str, words: &[String], out: &mut W) -> Result<()> {
     match form {
         "page" | "metrics" | "health" | "reasons" => statuses::print(alloc, form, words, out),
-        "route" | "route-page" | "csv" | "export" => routes::print(alloc, form, words, out),
+        "route"
+        | "route-page"
+        | "csv"
+        | "routinator-csv"
+        | "roas"
+        | "export"
+        | "routinator-export" => routes::print(alloc, form, words, out),
         "log" | "times" => events::print(form, words, out),
         "settings" => settings::print(alloc, words, out),
         "faults" => faults::print(out),

@@ -5,7 +5,7 @@ use anyhow::{Result, bail};
 use bytes::Bytes;
 use prefixes::{Asn, IpPrefix, Route, Vrp};
 use status_pages::{Status, Validity};
-use status_server::{HttpConnections, StatusSource};
+use status_server::{HttpConnections, ListForm, StatusSource};
 use std::alloc::{AllocError, Global};
 use std::hash::RandomState;
 use std::io::{self, ErrorKind, Read, Write};
@@ -45,12 +45,15 @@ impl StatusSource for Source {
         Ok(status)
     }
 
-    fn list(&mut self) -> Result<Option<Bytes>, AllocError> {
-        Ok(self.text(b"[{\"asn\":64496,\"maxLength\":24,\"prefix\":\"192.0.2.0/24\"}]"))
-    }
-
-    fn csv(&mut self) -> Result<Option<Bytes>, AllocError> {
-        Ok(self.text(b"ASN,IP Prefix,Max Length,Trust Anchor\nAS64496,192.0.2.0/24,24,\n"))
+    fn list(&mut self, form: ListForm) -> Result<Option<Bytes>, AllocError> {
+        Ok(self.text(match form {
+            ListForm::Payloads => b"[{\"asn\":64496,\"maxLength\":24,\"prefix\":\"192.0.2.0/24\"}]",
+            ListForm::Roas =>
+                b"[{\"asn\":\"AS64496\",\"prefix\":\"192.0.2.0/24\",\"maxLength\":24,\"ta\":\"\"}]",
+            ListForm::Csv => b"ASN,IP Prefix,Max Length\nAS64496,192.0.2.0/24,24\n",
+            ListForm::RoutinatorCsv =>
+                b"ASN,IP Prefix,Max Length,Trust Anchor\nAS64496,192.0.2.0/24,24,\n",
+        }))
     }
 
     fn validity(&mut self, route: &Route) -> Result<Option<Validity>, AllocError> {

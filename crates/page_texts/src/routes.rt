@@ -3,7 +3,10 @@
 use crate::caches::NOW;
 use anyhow::{Result, bail};
 use prefixes::{Asn, IpPrefix, Route, Vrp};
-use status_pages::{Validity, write_csv, write_export_head, write_validity, write_validity_page};
+use status_pages::{
+    Validity, write_csv, write_export_head, write_roas, write_routinator_csv,
+    write_routinator_head, write_validity, write_validity_page,
+};
 use std::alloc::Global;
 use std::io::{self, Write};
 use vrps::{OriginIndex, VrpSet};
@@ -52,8 +55,9 @@ pub(crate) fn print<W: Write>(
     out: &mut W,
 ) -> Result<()> {
     match form {
-        "csv" => print_csv(alloc, words, out),
+        "csv" | "routinator-csv" | "roas" => print_list(alloc, form, words, out),
         "export" => Ok(write_export_head(out, NOW, 523_456)?),
+        "routinator-export" => Ok(write_routinator_head(out, NOW)?),
         _ => {
             let route = route(words)?;
             let validity = validity(alloc, &route)?;
@@ -62,12 +66,21 @@ pub(crate) fn print<W: Write>(
     }
 }
 
-fn print_csv<W: Write>(alloc: Global, words: &[String], out: &mut W) -> Result<()> {
+/// Prints the records of the small list in a form, or none if no word follows.
+fn print_list<W: Write>(alloc: Global, form: &str, words: &[String], out: &mut W) -> Result<()> {
     if words.is_empty() {
-        return Ok(write_csv(out, &[])?);
+        return Ok(write_list(form, &[], out)?);
     }
     let list = records(alloc, LISTED)?;
-    Ok(write_csv(out, list.as_slice())?)
+    Ok(write_list(form, list.as_slice(), out)?)
+}
+
+fn write_list<W: Write>(form: &str, list: &[Vrp], out: &mut W) -> io::Result<()> {
+    match form {
+        "csv" => write_csv(out, list),
+        "routinator-csv" => write_routinator_csv(out, list),
+        _ => write_roas(out, list),
+    }
 }
 
 fn write<W: Write>(form: &str, route: &Route, validity: &Validity, out: &mut W) -> io::Result<()> {
