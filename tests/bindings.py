@@ -17,6 +17,7 @@ import subprocess
 import sys
 import tempfile
 
+sys.path.insert(0, f"{os.path.dirname(os.path.abspath(__file__))}/lib")
 from common import put
 import log
 

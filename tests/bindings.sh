@@ -3,7 +3,7 @@
 # it: --routes 100000 judges more. What is not installed is left out; without the library it is skipped.
 set -u
 top=$(cd "$(dirname "${BASH_SOURCE[0]}")/.." && pwd) || exit 1
-. "$top/tests/library.bash" || exit 1
+. "$top/tests/lib/library.bash" || exit 1
 out=$(mktemp -d) || exit 1
 trap 'rm -rf "$out"' EXIT
 copy_library

@@ -4,7 +4,7 @@
 # and built here first, with the Rattle kit, if none is delivered of these sources, and in ./test --all.
 set -u
 top=$(cd "$(dirname "${BASH_SOURCE[0]}")/.." && pwd) || exit 1
-. "$top/tests/library.bash" || exit 1
+. "$top/tests/lib/library.bash" || exit 1
 python3 "$top/tests/c_library.py" || exit 1
 for tool in gcc g++ nm objcopy; do
     command -v "$tool" >/dev/null 2>&1 || { echo "$tool is not installed"; exit 77; }

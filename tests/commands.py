@@ -14,6 +14,7 @@ import sys
 import tempfile
 from concurrent.futures import ThreadPoolExecutor
 
+sys.path.insert(0, f"{os.path.dirname(os.path.abspath(__file__))}/lib")
 import cases
 from cases.shared import FULL, Case
 from common import clashes, load_modules

@@ -8,7 +8,7 @@ The parts are functions of the modules in tests/daemon. Without names all of the
 the seconds of each are printed. A part waits for a line of the daemon's log or for bytes of a connection, never for a time. A failure names
 the part, the file and the line, and shows the last lines of the log.
 
-The soak changes the list for --seconds, with what --seed draws. --shim names what tests/refusing.c was compiled to: each request for memory
+The soak changes the list for --seconds, with what --seed draws. --shim names what tests/lib/refusing.c was compiled to: each request for memory
 of a daemon is then refused in turn. --rpkirtr names the other program: the states of --routes random routes are then compared with its
 command `route`. The last line says how many parts passed, failed and were skipped. The exit status is 0 if none failed; 1 if one did, none
 passed, or two parts have one name; and 2 if a name is unknown, or a part that was named needs an option that is missing."""
@@ -19,6 +19,7 @@ import random
 import sys
 import time
 
+sys.path.insert(0, f"{os.path.dirname(os.path.abspath(__file__))}/lib")
 import checks
 import daemon
 from common import clashes, load_modules

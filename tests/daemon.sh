@@ -9,7 +9,7 @@ rpkirtr=$(bash "$top/tools/start.sh" --path rpkirtr) || exit 1
 rpkirtrd=$(bash "$top/tools/start.sh" --path rpkirtrd) || exit 1
 shim=()
 if command -v cc >/dev/null 2>&1; then
-    cc -O2 -Wall -Wextra -Werror -shared -fPIC -o "$folder/refusing.so" "$top/tests/refusing.c" -ldl || exit 1
+    cc -O2 -Wall -Wextra -Werror -shared -fPIC -o "$folder/refusing.so" "$top/tests/lib/refusing.c" -ldl || exit 1
     shim=(--shim "$folder/refusing.so")
 elif [ -n "${CI:-}" ]; then
     exit 1

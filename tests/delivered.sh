@@ -204,6 +204,15 @@ if [ "$compared" = 'the same bytes as built here' ] && same_linkers; then
     bash repo/tools/proved.sh note-library "$(bash repo/tools/proved.sh library)" || fail 'tools/proved.sh failed'
     deliver 0 "rpkirtrd $version"
     diff -r "$top/dist" repo/dist >&2 || fail 'tools/deliver.sh makes another dist/ of the same programs'
+    # Under a released version the same bytes are delivered, and no others.
+    echo "## [$version] - 2026-01-01" >repo/CHANGELOG.md
+    in_git add -A
+    in_git commit -m released
+    deliver 0 "rpkirtrd $version"
+    sed -i "s/^\(rpkiobject .* \)[0-9a-f]*$/\1$(printf '%064d' 0)/" repo/dist/x86_64-linux/SOURCES
+    in_git commit -am 'other bytes'
+    deliver 1 "CHANGELOG.md has version $version as released, and this is not the rpkiobject that was delivered under it"
+    in_git reset --hard HEAD~1
     spoil repo/crates/rpkirtr/out/rpkirtr 100000
     deliver 1 'crates/rpkirtr/out/rpkirtr is not the program that the gate built'
     cp -p "$top/crates/rpkirtr/out/rpkirtr" repo/crates/rpkirtr/out

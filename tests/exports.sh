@@ -3,7 +3,7 @@
 # out in Python what must come of them. They drive the tests of a crate, which the gate builds; without these, this is skipped.
 set -u
 top=$(cd "$(dirname "${BASH_SOURCE[0]}")/.." && pwd) || exit 1
-. "$top/tests/built.bash"
+. "$top/tests/lib/built.bash"
 failed=0
 
 # Runs a driver on the tests of the crate.

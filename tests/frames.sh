@@ -6,7 +6,7 @@ top=$(cd "$(dirname "${BASH_SOURCE[0]}")/.." && pwd) || exit 1
 folder=$(mktemp -d) || exit 1
 trap 'rm -rf "$folder"' EXIT
 cd "$top/crates" || exit 1
-. "$top/tests/built.bash"
+. "$top/tests/lib/built.bash"
 if ! mkfifo "$folder/asked" "$folder/answered"; then
     echo 'frames: no FIFO can be made in the folder for temporary files' >&2
     [ -z "${CI:-}" ] && exit 77

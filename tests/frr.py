@@ -24,6 +24,7 @@ import tempfile
 import threading
 import time
 
+sys.path.insert(0, f"{os.path.dirname(os.path.abspath(__file__))}/lib")
 from common import free_port, put, write
 
 BGPD = "/usr/lib/frr/bgpd"

@@ -12,13 +12,15 @@ for name in "${programs[@]}"; do
     bash "$top/tools/start.sh" --path $name >/dev/null || exit 1
 done
 test=install
-. "$top/tests/installed.bash" || exit 1
+. "$top/tests/lib/installed.bash" || exit 1
 
 # The programs below a folder start, and print what they are.
 run_all() { # run_all FOLDER
     [ "$("$1/rpkirtrd" --version)" = "rpkirtrd $version" ] || fail "$1/rpkirtrd --version prints something else"
     "$1/rpkirtr" 2>errors
     [ $? -eq 2 ] && [ "$(cat errors)" = 'rpkirtr: bad words' ] || fail "$1/rpkirtr does not refuse to do nothing"
+    "$1/rpkirtrd-fetch" '' list 2>errors
+    [ $? -eq 2 ] && grep -q '^rpkirtrd-fetch: there is no URL: set URL in /.*etc/default/rpkirtrd-fetch$' errors || fail "$1/rpkirtrd-fetch does not refuse to fetch nothing"
     "$1/rpkiobject" "$top/crates/rpkiobject/data/a.roa" | grep -q '^digest and signature hold' || fail "$1/rpkiobject does not print an object"
 }
 
@@ -34,7 +36,8 @@ install_it() { # install_it STATUS WORD..
 
 # What is installed below a prefix, but for the list of it.
 wanted_files() { # wanted_files PREFIX OPTIONS
-    printf '%s\n' "$2" "$1/bin/rpkirtr" "$1/bin/rpkirtrd" "$1/bin/rpkiobject" "$1/lib/systemd/system/rpkirtrd.service"
+    printf '%s\n' "$2/rpkirtrd" "$2/rpkirtrd-fetch" "$1"/bin/{rpkirtr,rpkirtrd,rpkiobject,rpkirtrd-fetch} \
+        "$1"/lib/systemd/system/rpkirtrd{.service,-fetch.service,-fetch.timer}
     (cd "$top" && ls README.md CHANGELOG.md SECURITY.md docs/*.md docs/alerts.yml docs/grafana.json docs/Containerfile && find samples examples docs/figures -type f) | sed "s|^|$1/share/doc/rpkirtr/|"
 }
 
@@ -51,8 +54,8 @@ links_lead() { # links_lead FOLDER
 
 # Below /usr/local, where a folder was there, and stays with what it holds.
 over_others() {
-    { wanted_files usr/local etc/default/rpkirtrd
-        printf 'usr/local/share/%s\n' man/man1/rpkirtr.1 man/man1/rpkiobject.1 man/man8/rpkirtrd.8 doc/rpkirtr/LICENSE doc/rpkirtr/installed; } >wanted
+    { wanted_files usr/local etc/default
+        printf 'usr/local/share/%s\n' man/man1/rpkirtr.1 man/man1/rpkiobject.1 man/man8/rpkirtrd.8 man/man8/rpkirtrd-fetch.8 doc/rpkirtr/LICENSE doc/rpkirtr/installed; } >wanted
     mkdir -p tree/usr/local/bin && echo other >tree/usr/local/bin/other
     install_it 0 --destdir tree
     echo usr/local/bin/other >>wanted
@@ -62,12 +65,13 @@ over_others() {
     cmp -s "$top/tools/rpkirtrd.service" tree/usr/local/lib/systemd/system/rpkirtrd.service || fail 'the unit below /usr/local is another'
     # Again, over what is there, with options that were changed: they stay.
     echo 'OPTIONS=--once' >tree/etc/default/rpkirtrd
+    echo 'URL=https://localhost/' >tree/etc/default/rpkirtrd-fetch
     install_it 0 --destdir tree/
     holds tree wanted
     install_it 0 --destdir tree --remove
-    printf '%s\n' usr/local/bin/other etc/default/rpkirtrd >wanted
+    printf '%s\n' usr/local/bin/other etc/default/rpkirtrd etc/default/rpkirtrd-fetch >wanted
     holds tree wanted
-    rm tree/etc/default/rpkirtrd
+    rm tree/etc/default/rpkirtrd tree/etc/default/rpkirtrd-fetch
     rmdir tree/etc/default tree/etc && [ "$(find tree | sort | tr '\n' ' ')" = 'tree tree/usr tree/usr/local tree/usr/local/bin tree/usr/local/bin/other ' ] ||
         fail 'folders are left'
 }
@@ -76,11 +80,13 @@ over_others() {
 below_another() {
     install_it 0 --destdir other --prefix /opt/rpkirtr
     run_all other/opt/rpkirtr/bin
-    { wanted_files opt/rpkirtr opt/rpkirtr/etc/default/rpkirtrd
-        printf 'opt/rpkirtr/share/%s\n' man/man1/rpkirtr.1 man/man1/rpkiobject.1 man/man8/rpkirtrd.8 doc/rpkirtr/LICENSE doc/rpkirtr/installed; } >wanted
+    { wanted_files opt/rpkirtr opt/rpkirtr/etc/default
+        printf 'opt/rpkirtr/share/%s\n' man/man1/rpkirtr.1 man/man1/rpkiobject.1 man/man8/rpkirtrd.8 man/man8/rpkirtrd-fetch.8 doc/rpkirtr/LICENSE doc/rpkirtr/installed; } >wanted
     holds other wanted
     grep -q '^ExecStart=/usr/bin/env --ignore-signal=[A-Z0-9,]* /opt/rpkirtr/bin/rpkirtrd \$OPTIONS$' other/opt/rpkirtr/lib/systemd/system/rpkirtrd.service || fail 'the unit starts another program'
     grep -q '^EnvironmentFile=-/opt/rpkirtr/etc/default/rpkirtrd$' other/opt/rpkirtr/lib/systemd/system/rpkirtrd.service || fail 'the unit reads other options'
+    grep -q '^ExecStart=/opt/rpkirtr/bin/rpkirtrd-fetch ' other/opt/rpkirtr/lib/systemd/system/rpkirtrd-fetch.service || fail 'the other unit starts another program'
+    grep -q '^EnvironmentFile=-/opt/rpkirtr/etc/default/rpkirtrd-fetch$' other/opt/rpkirtr/lib/systemd/system/rpkirtrd-fetch.service || fail 'the other unit reads other options'
     install_it 0 --prefix /opt/rpkirtr/ --destdir other --remove
     [ ! -e other ] || fail 'something is left below another prefix'
 }
@@ -103,12 +109,13 @@ refusals() {
 as_package() {
     local package
     mkdir root made || exit 1
+    unset DEBEMAIL DEBFULLNAME
     package=$(bash "$top/tools/package.sh" made) || fail 'no package was made'
     [ "$package" = "$folder/made/rpkirtr_${version}_$(dpkg --print-architecture).deb" ] || fail "the package is called $package"
     [ "$(dpkg-deb --field "$package" Package Version Maintainer | tr '\n' ' ')" = \
-        "Package: rpkirtr Version: $version Maintainer: rpkirtr developers <rpkirtr@example.net> " ] || fail 'the package is described otherwise'
-    { wanted_files usr etc/default/rpkirtrd
-        printf 'usr/share/%s\n' man/man1/rpkirtr.1.gz man/man1/rpkiobject.1.gz man/man8/rpkirtrd.8.gz doc/rpkirtr/copyright doc/rpkirtr/changelog.gz; } >wanted
+        "Package: rpkirtr Version: $version Maintainer: rpkirtr maintainers <root@localhost> " ] || fail 'the package is described otherwise'
+    { wanted_files usr etc/default
+        printf 'usr/share/%s\n' man/man1/rpkirtr.1.gz man/man1/rpkiobject.1.gz man/man8/rpkirtrd.8.gz man/man8/rpkirtrd-fetch.8.gz doc/rpkirtr/copyright doc/rpkirtr/changelog.gz lintian/overrides/rpkirtr; } >wanted
     dpkg-deb --contents "$package" >contents || fail 'the contents of the package cannot be listed'
     grep -q -v ' root/root ' contents && fail 'the package has files of another user'
     [[ $(head -n 1 contents) == 'drwxr-xr-x root/root '*' ./' ]] || fail 'the package closes the root to others'
@@ -116,6 +123,10 @@ as_package() {
     holds tree.deb wanted
     links_lead tree.deb/usr/share/doc/rpkirtr
     run_all tree.deb/usr/bin
+    if command -v lintian >/dev/null 2>&1; then
+        lintian "$package" >found 2>errors
+        ! grep '^[EW]: ' found >&2 || fail 'lintian finds something wrong with the package'
+    fi
     if [ "$(id -u)" -eq 0 ]; then
         install_package "$package"
     fi
@@ -138,7 +149,7 @@ install_package() { # install_package FILE
             sort wanted | cmp -s - found || fail 'dpkg installs other files'
             run_all root/usr/bin
             ;;
-        -r*) [ -e root/etc/default/rpkirtrd ] && [ ! -e root/usr ] || fail 'dpkg -r leaves something, or removes options' ;;
+        -r*) [ -e root/etc/default/rpkirtrd ] && [ -e root/etc/default/rpkirtrd-fetch ] && [ ! -e root/usr ] || fail 'dpkg -r leaves something, or removes options' ;;
         -P*) [ -z "$(find root -path root/var/lib/dpkg -prune -o ! -type d -print)" ] || fail 'dpkg -P leaves something' ;;
         esac
     done

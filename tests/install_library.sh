@@ -16,7 +16,7 @@ folder=$(mktemp -d) || exit 1
 trap 'rm -rf "$folder"' EXIT
 cd "$folder" || exit 1
 test=install_library
-. "$top/tests/installed.bash" || exit 1
+. "$top/tests/lib/installed.bash" || exit 1
 
 # The library's own calls, in a program that is built with what a folder holds.
 builds() { # builds FOLDER LIBDIR
@@ -59,6 +59,7 @@ lib=usr/lib/x86_64-linux-gnu
     printf "$lib/%s\n" librpkirtr.a librpkirtr.so librpkirtr.so.0 librpkirtr.so.0.0.0 pkgconfig/rpkirtr.pc
     printf '%s\n' usr/include/rpkirtr.h usr/share/man/man3/rpkirtr.3.gz usr/lib/python3/dist-packages/rpkirtr.py
     printf 'usr/share/doc/%s\n' {librpkirtr0,librpkirtr-dev,python3-rpkirtr}/{copyright,changelog.gz}
+    printf 'usr/share/lintian/overrides/%s\n' librpkirtr0 librpkirtr-dev python3-rpkirtr
     # shellcheck disable=SC2086
     printf 'usr/share/doc/librpkirtr-dev/%s\n' $examples
 } >wanted

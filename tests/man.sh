@@ -1,8 +1,8 @@
 #!/usr/bin/env bash
 # The manual pages say what the programs take: each option of the daemon with its value, its range and its default, each command of the page
 # of commands with its options, in the same order and no other, and each event of the log. Where mandoc is there, it finds nothing to warn of.
-# The page of the library for C is that of its header. The unit on the page of operating is the one that is installed, and the options that
-# count without a file are told in that file.
+# The page of the library for C is that of its header. The unit on the page of operating is the one that is installed, and the file for
+# options has the unit's and the pages. The page of rpkirtrd-fetch has its variables with their defaults. The page of the commands is made of docs/COMMANDS.md.
 set -u
 top=$(cd "$(dirname "${BASH_SOURCE[0]}")/.." && pwd) || exit 1
 folder=$(mktemp -d) || exit 1
@@ -73,10 +73,16 @@ same 'commands of rpkirtr.1 and of docs/COMMANDS.md' wanted found
 awk '/^```ini$/ { on = 1; next } /^```$/ { on = 0 } on' "$top/docs/OPERATING.md" >wanted
 same 'docs/OPERATING.md and tools/rpkirtrd.service' wanted "$top/tools/rpkirtrd.service"
 sed -n 's/^Environment="\(OPTIONS=.*\)"$/\1/p' wanted >options
-sed -n 's/^#\(OPTIONS=\)"\(.*\)"$/\1\2/p' "$top/tools/rpkirtrd.default" >found
-same 'options of tools/rpkirtrd.service and of tools/rpkirtrd.default' options found
+sed -n 's/^\(OPTIONS=\)"\(.*\) --status 127\.0\.0\.1:9323\( .*\)"$/\1\2\3/p' "$top/tools/rpkirtrd.default" >found
+same 'options of tools/rpkirtrd.service and, but for --status, of tools/rpkirtrd.default' options found
+
+grep -o '\${[A-Z_]*:-[0-9]*}' "$top/tools/rpkirtrd-fetch" | tr -d '${}' | sed 's/:-/ /' >wanted
+awk '/^\.It Ev / { name = $3 } name != "" && /[Tt]he default is [0-9]/ { sub(/^.*he default is /, ""); sub(/[^0-9].*$/, ""); print name, $0; name = "" }' \
+    "$top/docs/man/rpkirtrd-fetch.8" >found
+same 'variables of rpkirtrd-fetch.8 and of tools/rpkirtrd-fetch' wanted found
 
 python3 "$top/tools/library_page.py" --check || failed=1
+python3 "$top/tools/commands_page.py" --check || failed=1
 
 if command -v mandoc >/dev/null 2>&1; then
     mandoc -T lint -W warning "$top"/docs/man/*.[138] >&2 || failed=1

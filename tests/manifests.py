@@ -8,10 +8,12 @@ that comes twice among many, are judged within seconds.
 """
 
 import datetime
+import os
 import random
 import re
 import sys
 
+sys.path.insert(0, f"{os.path.dirname(os.path.abspath(__file__))}/lib")
 from der import Judge, element
 from pyasn1.codec.der import decoder, encoder
 from pyasn1.type import char, namedtype, tag, univ, useful

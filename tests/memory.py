@@ -3,7 +3,7 @@
 
 usage: tests/memory.py PROGRAM SHIM [TESTS]
 
-SHIM is what tests/refusing.c was compiled to, and TESTS the program of those runs; without it the commands alone are run. Each run is made with the first request refused, then
+SHIM is what tests/lib/refusing.c was compiled to, and TESTS the program of those runs; without it the commands alone are run. Each run is made with the first request refused, then
 with the second, and so on, until one meets no refusal: that one gives the answer of ample memory, and each other gives it too or tells
 the want of memory, the state that stands then, and after another try the answer. What takes no memory gives its answer with every
 request refused. It exits with 1 where an answer is another, and says which."""

@@ -11,9 +11,9 @@ if ! command -v cc >/dev/null 2>&1; then
     [ -z "${CI:-}" ] && exit 77
     exit 1
 fi
-cc -O2 -Wall -Wextra -Werror -shared -fPIC -o "$folder/refusing.so" "$top/tests/refusing.c" -ldl || exit 1
+cc -O2 -Wall -Wextra -Werror -shared -fPIC -o "$folder/refusing.so" "$top/tests/lib/refusing.c" -ldl || exit 1
 rpkirtr=$(bash "$top/tools/start.sh" --path rpkirtr) || exit 1
-. "$top/tests/built.bash"
+. "$top/tests/lib/built.bash"
 runs=$top/crates/memory_examples/out/memory_examples_tests
 why=$(built memory_examples memory_examples_tests rt test)
 case $? in

@@ -17,6 +17,7 @@ import sys
 import tempfile
 import time
 
+sys.path.insert(0, f"{os.path.dirname(os.path.abspath(__file__))}/lib")
 from der import element, integer
 
 ENTRY = '{"asn":64496,"maxLength":24,"prefix":"192.0.2.0/24"}'

@@ -3,7 +3,7 @@
 DEFAULTS = (
     'Settings { vrps: ["a"], points: [], slurm: [], listen: [127.0.0.1:3323], session: None, session0: None, start: None, keep: 16, '
     "timing: Timing { refresh: 3600, retry: 600, expire: 7200 }, check: 60, max_age: None, stop_when_old: false, max_size: 1073741824, "
-    "leave_out_length_0: false, clients: 256, clients_per_address: None, stall: 120, slow: 3600, status: None, status_name: None, log: Text, "
+    "max_shrink: Some(90), shrink_hold: 86400, leave_out_length_0: false, clients: 256, clients_per_address: None, stall: 120, slow: 3600, status: None, status_name: None, log: Text, "
     "log_level: Info, once: false, check_config: false }"
 )
 
@@ -37,6 +37,11 @@ READ = [
     ("--vrps a --max-size 1", "max_size: 1,"),
     ("--vrps a --leave-out-length-0", "leave_out_length_0: true,"),
     ("--vrps a --max-size 1099511627776", "max_size: 1099511627776,"),
+    ("--vrps a --max-shrink 1", "max_shrink: Some(1), shrink_hold: 86400,"),
+    ("--vrps a --max-shrink 99", "max_shrink: Some(99), shrink_hold: 86400,"),
+    ("--vrps a --max-shrink none", "max_shrink: None, shrink_hold: 86400,"),
+    ("--vrps a --shrink-hold 60", "max_shrink: Some(90), shrink_hold: 60,"),
+    ("--vrps a --max-shrink 50 --shrink-hold 31536000", "max_shrink: Some(50), shrink_hold: 31536000,"),
     ("--vrps a --stall 4294967295", "stall: 4294967295,"),
     ("--vrps a --slow 60", "slow: 60,"),
     ("--vrps a --slow 86400", "slow: 86400,"),
@@ -55,9 +60,9 @@ READ = [
     ("-h --once", "Usage: rpkirtrd "),
     ("--help --keep 0", "Usage: rpkirtrd "),
     ("--version --help", "Usage: rpkirtrd "),
-    ("--version --vrps a", "rpkirtrd 1.0.0"),
-    ("--version", "rpkirtrd 1.0.0"),
-    ("-V", "rpkirtrd 1.0.0"),
+    ("--version --vrps a", "rpkirtrd 1.1.0"),
+    ("--version", "rpkirtrd 1.1.0"),
+    ("-V", "rpkirtrd 1.1.0"),
 ]
 
 NOT_URL = 'a path, not a URL (see "A list from another machine, over HTTPS" in OPERATING.md), is required'
@@ -80,6 +85,9 @@ REFUSED = [
     ("--vrps a --retry 7200", "--expire 7200 must be greater than --refresh (3600) and --retry (7200)"),
     ("--vrps a --refresh 7200", "--expire 7200 must be greater than --refresh (7200) and --retry (600)"),
     ("--vrps a --stop-when-old", "--stop-when-old needs --max-age"),
+    ("--vrps a --max-shrink none --shrink-hold 86400", "--shrink-hold needs a --max-shrink other than none"),
+    ("--vrps a --max-shrink 90 --max-shrink 90", "the argument '--max-shrink <PERCENT>' cannot be used multiple times"),
+    ("--vrps a --max-shrink", "a value is required for '--max-shrink <PERCENT>' but none was supplied"),
     ("--vrps a --log xml", '--log "xml": text, json or systemd is required'),
     ("--vrps a --log Systemd", '--log "Systemd": text, json or systemd is required'),
     ("--vrps", "a value is required for '--vrps <FILE>' but none was supplied"),
@@ -109,6 +117,7 @@ NUMBERS = [
     ("--clients", "from 1 to 4294967295", [" 0", " 4294967296"]),
     ("--stall", "from 1 to 4294967295", [" 0", " 4294967296"]),
     ("--slow", "from 60 to 86400", [" 59", " 86401"]),
+    ("--shrink-hold", "from 60 to 31536000", [" 59", " 31536001", " none", " 060", "="]),
 ]
 
 # The same for addresses, and for the name of the status pages.
@@ -127,6 +136,8 @@ ADDRESSES = [
     "--status 9323",
 ]
 
+PERCENTAGES = [" 0", " 100", " 90%", " 090", " +90", " -90", " 89.5", " None", " off", "="]
+
 NAMES = ["--status-name=", "--status-name cache.example.net:9323", "--status-name cache..net", "--status-name cache.example.net."]
 
 
@@ -136,6 +147,8 @@ def refused():
     for option, span, words in NUMBERS:
         for word in words:
             yield f"--vrps a {option}{word}", f'{option} "{word[1:]}": a number {span} is required'
+    for word in PERCENTAGES:
+        yield f"--vrps a --max-shrink{word}", f'--max-shrink "{word[1:]}": a number from 1 to 99, or none, is required'
     for words in ADDRESSES:
         option, address = words.replace("=", " ", 1).split(" ")
         yield f"--vrps a {words}", f'{option} "{address}": an address with a port, as 192.0.2.1:3323 or [2001:db8::1]:3323, is required'

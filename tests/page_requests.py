@@ -60,7 +60,12 @@ def route(origin, prefix, state, reason, **records):
 RECORD = ("AS64496", "192.0.2.0/24", "24")
 LIST = '[{"asn":64496,"maxLength":24,"prefix":"192.0.2.0/24"}]'
 EXPORT = '{"metadata":{"buildtime":"2026-11-26T00:27:00Z","generated":1795652820,"vrps":523456},"roas":' + LIST + "}"
-CSV = "ASN,IP Prefix,Max Length,Trust Anchor\nAS64496,192.0.2.0/24,24,\n"
+CSV = "ASN,IP Prefix,Max Length\nAS64496,192.0.2.0/24,24\n"
+ROUTINATOR_CSV = "ASN,IP Prefix,Max Length,Trust Anchor\nAS64496,192.0.2.0/24,24,\n"
+ROUTINATOR = (
+    '{"metadata":{"generated":1795652820,"generatedTime":"2026-11-26T00:27:00Z"},'
+    '"roas":[{"asn":"AS64496","prefix":"192.0.2.0/24","maxLength":24,"ta":""}]}'
+)
 OF_LIST = 'etag: "4660-1795653120"'
 OF_EXPORT = 'etag: "4660-1795653120-1795652820"'
 EITHER = (4096, 1)
@@ -83,6 +88,8 @@ REFUSED = (
 expect(asked("GET /health"), told("503 Service Unavailable", PLAIN, *ALWAYS, body=AGED + REFUSED), cache="old")
 expect(asked("GET /ready"), told("200 OK", PLAIN, *ALWAYS, body="ok\n"), cache="old")
 expect(asked("GET /vrps.json"), told("200 OK", OF_EXPORT, JSON, *ALWAYS, body=EXPORT), pieces=EITHER)
+expect(asked("GET /rpki.json"), told("200 OK", OF_EXPORT, JSON, *ALWAYS, body=EXPORT))
+expect(asked("GET /json"), told("200 OK", OF_EXPORT, JSON, *ALWAYS, body=ROUTINATOR), pieces=EITHER)
 expect(asked("GET /list.json"), told("200 OK", OF_LIST, JSON, *ALWAYS, body=LIST))
 expect(asked("HEAD /list.json"), told("200 OK", OF_LIST, JSON, *ALWAYS, length=54), pieces=EITHER)
 expect(
@@ -98,7 +105,10 @@ HOW = "write ?asn=NUMBER&prefix=PREFIX, each of the two keys once and no other, 
 expect(asked("GET /validity"), told("400 Bad Request", "vary: Accept", PLAIN, *ALWAYS, body=HOW), pieces=EITHER)
 PATH = "write /api/v1/validity/NUMBER/PREFIX, as in /api/v1/validity/AS64496/192.0.2.0/24\n"
 expect(asked("GET /api/v1/validity/64496"), told("400 Bad Request", PLAIN, *ALWAYS, body=PATH))
-WHERE = "there are /, /metrics, /health, /ready, /live, /vrps.json, /list.json, /vrps.csv, /validity and /api/v1/validity/NUMBER/PREFIX\n"
+WHERE = (
+    "there are /, /metrics, /health, /ready, /live, /vrps.json, /rpki.json, /json, /list.json, /vrps.csv, /csv, /validity and "
+    "/api/v1/validity/NUMBER/PREFIX\n"
+)
 expect(asked("GET /status"), told("404 Not Found", PLAIN, *ALWAYS, body=WHERE), pieces=EITHER)
 expect(
     asked("POST /metrics", "content-length: 0"),
@@ -109,11 +119,14 @@ expect(
 # What a client has already (RFC 9110 section 13.1.2).
 expect(asked("GET /vrps.json", 'If-None-Match: "4660-1795653120-1795652820"'), told("304 Not Modified", OF_EXPORT, ALWAYS[0]))
 expect(asked("GET /list.json", 'If-None-Match: "a", W/"4660-1795653120"'), told("304 Not Modified", OF_LIST, ALWAYS[0]))
+expect(asked("GET /json", 'If-None-Match: "4660-1795653120-1795652820"'), told("304 Not Modified", OF_EXPORT, ALWAYS[0]))
 expect(asked("GET /vrps.csv", "If-None-Match: *"), told("304 Not Modified", OF_LIST, ALWAYS[0]))
-expect(
-    asked("GET /vrps.csv", 'If-None-Match: "4660-1795653119"'),
-    told("200 OK", OF_LIST, "content-type: text/csv; charset=utf-8; header=present", *ALWAYS, body=CSV),
-)
+expect(asked("GET /csv", 'If-None-Match: "4660-1795653120"'), told("304 Not Modified", OF_LIST, ALWAYS[0]))
+for path, lines in ("/vrps.csv", CSV), ("/csv", ROUTINATOR_CSV):
+    expect(
+        asked(f"GET {path}", 'If-None-Match: "4660-1795653119"'),
+        told("200 OK", OF_LIST, "content-type: text/csv; charset=utf-8; header=present", *ALWAYS, body=lines),
+    )
 
 # What a client accepts (RFC 9110 section 12.5.1), and whether it gets HTML.
 for accepted, kind in [
@@ -146,8 +159,11 @@ for query, status, parts in [
 # There is no record before the first version.
 for line in (
     "GET /vrps.json",
+    "GET /rpki.json",
+    "GET /json",
     "GET /list.json",
     "GET /vrps.csv",
+    "GET /csv",
     "GET /api/v1/validity/64496/192.0.2.0/24",
     "GET /validity?asn=64496&prefix=192.0.2.0/24",
 ):

@@ -38,8 +38,14 @@ WHOLE = {
 
 # Words, with the whole text.
 SHORT = {
-    "csv": "ASN,IP Prefix,Max Length,Trust Anchor\n",
-    "csv small": "ASN,IP Prefix,Max Length,Trust Anchor\nAS64496,192.0.2.0/24,25,\nAS4294967295,2001:db8::/32,48,\n",
+    "csv": "ASN,IP Prefix,Max Length\n",
+    "csv small": "ASN,IP Prefix,Max Length\nAS64496,192.0.2.0/24,25\nAS4294967295,2001:db8::/32,48\n",
+    "routinator-csv": "ASN,IP Prefix,Max Length,Trust Anchor\n",
+    "routinator-csv small": "ASN,IP Prefix,Max Length,Trust Anchor\nAS64496,192.0.2.0/24,25,\nAS4294967295,2001:db8::/32,48,\n",
+    "roas": "[]",
+    "roas small":
+        '[{"asn":"AS64496","prefix":"192.0.2.0/24","maxLength":25,"ta":""},{"asn":"AS4294967295","prefix":"2001:db8::/32","maxLength":48,"ta":""}]',
+    "routinator-export": '{"metadata":{"generated":1795653420,"generatedTime":"2026-11-26T00:37:00Z"},"roas":',
     "export": '{"metadata":{"buildtime":"2026-11-26T00:37:00Z","generated":1795653420,"vrps":523456},"roas":',
 }
 
@@ -103,8 +109,14 @@ REASONS = {
     "with peak 999 ipv4 1 ipv6 0": "well healthy ready\n",
     "with away 600": "turned_away unwell healthy ready\n",
     "with away 601": "well healthy ready\n",
+    "with slow 3600": "slow_poll unwell healthy ready\n",
+    "with slow 3601": "well healthy ready\n",
+    "with slow-for 5000": "well healthy ready\n",
+    "with slow-for 5001": "slow_poll unwell healthy ready\n",
+    "with near-limit 900000000": "well healthy ready\n",
     "with behind 1": "clock unwell healthy ready\n",
-    "with behind 1 away 0 refused 3601 old 1 failing 0": "publication old refused_long refused turned_away clock unwell ill unready\n",
+    "with behind 1 slow 0 away 0 refused 3601 old 1 failing 0":
+        "publication old refused_long refused turned_away slow_poll clock unwell ill unready\n",
 }
 
 # The state of a router: for how many seconds it is connected, how many seconds ago the last version was published, and how many versions it
@@ -183,9 +195,14 @@ def compare_status(texts):
         page = texts.run(["page", *words.split(" ")])[0]
         texts.check(f"page {words}", state in page, f"no {state}")
         texts.check(f"page {words}", ("1 of 1 router is behind. " in page) == ("warn" in state), "what is told of routers that are behind")
+    page = texts.run(["page", "with", "slow-for", "7000", "near-limit", "900000000"])[0]
+    slow = "A call on /var/db/rpki-client/json took 7\u202fs at <time "
+    near = ', <span class="warn">900\u202f000\u202f000 bytes, near --max-size</span></td>'
+    texts.check("page with slow-for", slow in page and near in page, "no call that took long, or no size near the maximum")
     page = texts.run(["page", "empty"])[0]
     texts.check("page empty", "<script" not in page and "http:" not in page, "it asks for something else")
     metrics = texts.run(["metrics", "crowded"])[0]
+    texts.check("metrics with near-limit", '\nrpkirtrd_file_near_limit{file="/var/db/rpki-client/json"} 1\n' in texts.run(["metrics", "with", "near-limit", "1"])[0])
     for line in ("rpkirtrd_publication_failing 1", "rpkirtrd_clients 300", "rpkirtrd_routers_without_metrics 44"):
         texts.check("metrics crowded", f"\n{line}\n" in metrics, f"no {line}")
     texts.check("metrics crowded", metrics.count("rpkirtrd_router_serial{") == 255, "the number of routers")

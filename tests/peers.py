@@ -22,6 +22,7 @@ import sys
 import tempfile
 import time
 
+sys.path.insert(0, f"{os.path.dirname(os.path.abspath(__file__))}/lib")
 import log
 import repository
 from common import free_port, put, write

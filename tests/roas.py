@@ -7,9 +7,11 @@ and then the lines are to be those of the value.
 """
 
 import ipaddress
+import os
 import random
 import sys
 
+sys.path.insert(0, f"{os.path.dirname(os.path.abspath(__file__))}/lib")
 from der import Judge, element, integer
 from pyasn1.codec.der import decoder, encoder
 from pyasn1.type import namedtype, tag, univ

@@ -4,7 +4,7 @@
 usage: tests/router_over_tcp.py CLIENT RPKIRTRD [SHIM] [--changes N]
 
 The parts run one after another, each in a folder of its own with its own port. A part waits for lines of the client, never for a time. A
-cache in Python speaks version 0 alone. StayRTR and FORT are caches too, if they are installed. SHIM is what tests/hurrying.c was compiled to:
+cache in Python speaks version 0 alone. StayRTR and FORT are caches too, if they are installed. SHIM is what tests/lib/hurrying.c was compiled to:
 data then expire, by a clock that runs fast. N is how many changes of each cache are followed (6 unless said otherwise). The last line says
 how many parts passed and failed; the exit status is 0 if none failed."""
 import argparse
@@ -20,6 +20,7 @@ import subprocess
 import sys
 import threading
 
+sys.path.insert(0, f"{os.path.dirname(os.path.abspath(__file__))}/lib")
 import checks
 from checks import expect
 from common import PATIENCE, free_port, put, received
@@ -35,7 +36,7 @@ UNSUPPORTED_VERSION = 4
 POOL = [(f"10.{place}.0.0/16", 16 + place % 9, 64496 + place) for place in range(50)]
 
 
-# What the repository of tests/signed.py gives.
+# What the repository of tests/lib/signed.py gives.
 FORT = [("192.0.2.0/24", 24, 64496), ("198.51.100.0/24", 26, 64497), ("2001:db8::/32", 48, 64497)]
 
 
@@ -224,7 +225,7 @@ def put_slurm(records):
 
 def fort(client, *_):
     """FORT over a small repository, which restarts with one local assertion more. (It validates once a minute at most.)"""
-    subprocess.run([sys.executable, f"{os.path.dirname(os.path.abspath(__file__))}/signed.py", os.getcwd()], check=True)
+    subprocess.run([sys.executable, f"{os.path.dirname(os.path.abspath(__file__))}/lib/signed.py", os.getcwd()], check=True)
     port, folder, added = free_port(), os.getcwd(), ("10.0.0.0/8", 8, 64500)
     put_slurm([])
     with client_of(client, port) as it:

@@ -6,12 +6,12 @@ set -u
 top=$(cd "$(dirname "${BASH_SOURCE[0]}")/.." && pwd) || exit 1
 folder=$(mktemp -d) || exit 1
 trap 'rm -rf "$folder"' EXIT
-. "$top/tests/built.bash"
+. "$top/tests/lib/built.bash"
 built router_over_tcp router_over_tcp bash -c 'rt run -- $(cat args)' || exit
 rpkirtrd=$(bash "$top/tools/start.sh" --path rpkirtrd) || exit 1
 shim=()
 if command -v cc >/dev/null 2>&1; then
-    cc -O2 -Wall -Wextra -Werror -shared -fPIC -o "$folder/hurrying.so" "$top/tests/hurrying.c" -ldl || exit 1
+    cc -O2 -Wall -Wextra -Werror -shared -fPIC -o "$folder/hurrying.so" "$top/tests/lib/hurrying.c" -ldl || exit 1
     shim=("$folder/hurrying.so")
 elif [ -n "${CI:-}" ]; then
     exit 1

@@ -21,6 +21,7 @@ import tempfile
 from cryptography.hazmat.primitives import hashes
 from cryptography.hazmat.primitives.asymmetric import padding, rsa
 
+sys.path.insert(0, f"{os.path.dirname(os.path.abspath(__file__))}/lib")
 from ber import Forms, Refused, to_der
 from der import element, integer
 

@@ -3,7 +3,7 @@
 
 usage: tests/sockets.py PROGRAM [SHIM]
 
-SHIM is what tests/accepting.c was compiled to; without it no call for a connection fails. The other end of each connection is a function
+SHIM is what tests/lib/accepting.c was compiled to; without it no call for a connection fails. The other end of each connection is a function
 here, or the program itself. It exits with 1 if something differs, and prints the part and the line."""
 import errno
 import os
@@ -15,6 +15,7 @@ import tempfile
 import threading
 import time
 
+sys.path.insert(0, f"{os.path.dirname(os.path.abspath(__file__))}/lib")
 import checks
 from cases.shared import ANNOUNCEMENT, BAD, CACHE_RESPONSE, DEVICE, END_OF_DATA, ENTRY, LIST, RESET_QUERY, SERIAL_QUERY
 from checks import expect

@@ -8,7 +8,7 @@ trap 'rm -rf "$folder"' EXIT
 shim=()
 if command -v cc >/dev/null 2>&1; then
     shim=("$folder/accepting.so")
-    cc -O2 -Wall -Wextra -Werror -shared -fPIC -o "${shim[0]}" "$top/tests/accepting.c" -ldl || exit 1
+    cc -O2 -Wall -Wextra -Werror -shared -fPIC -o "${shim[0]}" "$top/tests/lib/accepting.c" -ldl || exit 1
 else
     echo 'sockets: there is no C compiler cc, so no call for a connection fails' >&2
     [ -z "${CI:-}" ] || exit 1

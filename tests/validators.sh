@@ -1,5 +1,5 @@
 #!/usr/bin/env bash
-# What validators and caches of Debian's packages write of a small signed repository (tests/signed.py), compared with the samples of the same
+# What validators and caches of Debian's packages write of a small signed repository (tests/lib/signed.py), compared with the samples of the same
 # names; and rpkirtrd serves the samples' list of each. A program that is not installed is left out, and said so; without any this is skipped.
 #
 #   tests/validators.sh             compares
@@ -15,7 +15,7 @@ if ! command -v rpki-client >/dev/null && ! command -v fort >/dev/null; then
     echo 'validators: neither rpki-client nor fort is installed (Debian: rpki-client, fort-validator, stayrtr)' >&2
     exit 77
 fi
-python3 "$top/tests/signed.py" "$folder" && mkdir written || exit 1
+python3 "$top/tests/lib/signed.py" "$folder" && mkdir written || exit 1
 
 missing() {
     echo "validators: $1 is not installed, so its sample is not compared"

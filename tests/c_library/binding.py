@@ -79,7 +79,7 @@ with rpkirtr.Router() as router:
     router.receive(ANSWER, 101)
     assert router.committed() == (1, 258, 7, 101, 60, 600, 7200)
 
-assert rpkirtr.version() == "1.0.0"
+assert rpkirtr.version() == "1.1.0"
 assert [rpkirtr.state_name(it) for it in rpkirtr.State] == ["not-found", "valid", "invalid"]
 assert [rpkirtr.link_name(it) for it in rpkirtr.LinkState] == ["closed", "idle", "asked", "answering", "ended"]
 assert (rpkirtr.end_name(rpkirtr.End.EXPIRED), rpkirtr.end_name(9)) == ("the committed version expired", "no such end")

@@ -86,7 +86,7 @@ static void texts(void)
         for (j = strlen(means[k].text); j < sizeof text.text; j++)
             EXPECT(text.text[j] == 0);
     }
-    EXPECT(rpkirtr_version(&text) == RPKIRTR_OK && strcmp(text.text, "1.0.0") == 0);
+    EXPECT(rpkirtr_version(&text) == RPKIRTR_OK && strcmp(text.text, "1.1.0") == 0);
     EXPECT(rpkirtr_abi_version() == RPKIRTR_ABI_VERSION);
 }
 

@@ -91,8 +91,12 @@ def chained(given):
     with running(given.program, "--vrps", "list.json", "--listen", "127.0.0.1:0", "--status", "127.0.0.1:0") as daemon:
         _, port = daemon.serves()
         put("export.json", got(port, "/vrps.json")[2])
-        lines = got(port, "/vrps.csv")[2].splitlines()
-    expect("the CSV", (lines[0], sorted(lines[1:])), ("ASN,IP Prefix,Max Length,Trust Anchor", sorted(f"AS{asn},{prefix},{most}," for prefix, most, asn in FIRST)))
+        expect("the export under the path of StayRTR", got(port, "/rpki.json")[2], got(port, "/vrps.json")[2])
+        roas = json.loads(got(port, "/json")[2])["roas"]
+        tables = [got(port, path)[2].splitlines() for path in ("/vrps.csv", "/csv")]
+    expect("the records of Routinator", sorted((it["prefix"], it["maxLength"], it["asn"]) for it in roas), sorted((prefix, most, f"AS{asn}") for prefix, most, asn in FIRST))
+    for lines, heads, end in zip(tables, ("ASN,IP Prefix,Max Length", "ASN,IP Prefix,Max Length,Trust Anchor"), ("", ",")):
+        expect("the CSV", (lines[0], sorted(lines[1:])), (heads, sorted(f"AS{asn},{prefix},{most}{end}" for prefix, most, asn in FIRST)))
     with running(given.program, "--vrps", "export.json", "--max-age", "3600", "--listen", "127.0.0.1:0") as daemon:
         expect("the table from rpkirtrd", Router(daemon.listens()).catch_up(), set(FIRST))
     if shutil.which("stayrtr"):

@@ -10,7 +10,7 @@ from log import running
 from rtr import Router
 from web import got, metrics_of
 
-REASONS = ("no_vrps", "publication", "old", "refused_long", "no_version", "refused", "shrank", "turned_away", "clock")
+REASONS = ("no_vrps", "publication", "old", "refused_long", "no_version", "refused", "shrank", "turned_away", "slow_poll", "clock")
 
 
 def told(port):

@@ -12,6 +12,11 @@ import re
 import sys
 
 TOP = os.path.realpath(f"{os.path.dirname(os.path.abspath(__file__))}/../..")
+sys.path.insert(0, f"{TOP}/tools")
+
+import crates_txt  # noqa: E402
+
+LIBRARIES = crates_txt.libraries()
 
 # The names that were replaced, by crate, each with the name in its place.
 REPLACED = {
@@ -55,6 +60,8 @@ REPLACED = {
 SHARED = {
     "Command": "the parsed command line of each program",
     "Ignored": "how much of an export, and of a file of local exceptions, is not served",
+    "Service": "the daemon's service, and the cache behind a handle of the library for C, which no crate here uses",
+    "Status": "the state that pages show, and the result of a call of the library for C, which no crate here uses",
 }
 
 # Comments, texts in quotes, and characters in quotes.
@@ -69,12 +76,6 @@ PUBLIC = re.compile(r"(?m)^pub (?:struct|enum|trait|type) (\w+)")
 def read(path):
     with open(path, encoding="utf-8") as it:
         return it.read()
-
-
-def libraries():
-    """The crates of crates.txt but those of examples."""
-    names = [it.split(":")[0] for it in read(f"{TOP}/crates.txt").splitlines() if ":" in it]
-    return [it for it in names if not it.endswith(("_examples", "_over_frames")) and it not in ("example_values", "frames")]
 
 
 def files(crate):
@@ -113,7 +114,7 @@ def replaced(crate):
 def declared_twice():
     """Findings: public type names of two libraries that are not in the table."""
     crates = collections.defaultdict(set)
-    for crate in libraries():
+    for crate in LIBRARIES:
         for path in glob.glob(f"{TOP}/crates/{crate}/src/**/*.rt", recursive=True):
             for name in PUBLIC.findall(code(path)):
                 crates[name].add(crate)
@@ -123,7 +124,7 @@ def declared_twice():
 
 
 def main():
-    found = [f"{crate}: crates.txt has no such crate" for crate in REPLACED if crate not in libraries()]
+    found = [f"{crate}: crates.txt has no such crate" for crate in REPLACED if crate not in LIBRARIES]
     for crate in REPLACED:
         found += replaced(crate)
     found += declared_twice()

@@ -1,13 +1,13 @@
 #!/usr/bin/env python3
-"""Counts in the pages, and in the comments of sources and definitions, turns of phrase that a reader stumbles over, and sentences of more
-than 30 words.
+"""Counts in the pages, in the comments of sources and definitions, and in those of the header for C, turns of phrase that a reader stumbles
+over, and sentences of more than 30 words.
 
 usage: tests/gate/prose.py [--list [PAGE]]
 
-The pages are README.md, SECURITY.md, examples/README.md, docs/*.md but the generated DEFINITIONS.md, and the manual pages. The comments are
-those of crates/*/src and crates/*/specs. Code, examples and output do not count. The status is 1 if a count over all pages, or over all
-comments, is above its bound. With --list each place is printed: of all pages and comments, of one page, or of the comments of one file or
-crate."""
+The pages are README.md, SECURITY.md, CHANGELOG.md, those of examples/, samples/ and tests/, docs/*.md, and the manual pages. That of the
+library for C is made of the header. The comments are those of crates/*/src and crates/*/specs. Code, examples and output do not count. The
+status is 1 if a count over all pages, over all comments, or over the header is above its bound. With --list each place is printed: of all
+pages and comments, of one page, or of the comments of one file or crate."""
 import glob
 import os
 import re
@@ -37,6 +37,9 @@ TURNS = [
 ]
 SENTENCES, LONG_IN_COMMENTS = 6, 16
 
+# How often a turn is in the header for C. Whoever changes the header, which is a source of the delivered library, lowers these.
+IN_HEADER = {"told, tells": 44, "take, taken": 9, "is to be": 6}
+
 # A comment that has its line for itself: its indent with its mark, and its words.
 COMMENT = re.compile(r"( *(?://[/!]?|--))(?: +(.*)|)$")
 
@@ -47,9 +50,8 @@ def read(path):
 
 
 def pages():
-    found = [f"{TOP}/{it}" for it in ("README.md", "SECURITY.md", "examples/README.md")]
-    found += sorted(glob.glob(f"{TOP}/docs/*.md")) + sorted(glob.glob(f"{TOP}/docs/man/*.[18]"))
-    return [it for it in found if not it.endswith("/DEFINITIONS.md")]
+    found = [f"{TOP}/{it}" for it in ("README.md", "SECURITY.md", "CHANGELOG.md", "examples/README.md", "samples/README.md", "tests/README.md")]
+    return found + sorted(glob.glob(f"{TOP}/docs/*.md")) + sorted(glob.glob(f"{TOP}/docs/man/*.[18]"))
 
 
 def commented():
@@ -75,6 +77,15 @@ def of_comments(text):
         if said and on and not is_fence:
             block.append(said)
     return [plain(it) for it in [*parts, " ".join(block)] if it.strip(" -|")]
+
+
+def of_header(text):
+    """The paragraphs and list items of a C header's comments."""
+    parts = []
+    for comment in re.findall(r"/\*(.*?)\*/", text, re.S):
+        lines = re.sub(r"(?m)^ *\* ?", "", comment)
+        parts += re.split(r"\n\s*\n|\n(?=- )", lines)
+    return [plain(" ".join(it.split())) for it in parts if it.strip(" -\n")]
 
 
 def of_markdown(text):
@@ -128,7 +139,7 @@ def words(sentence):
 
 def parts_of(path):
     """The texts of a page or of a file's comments."""
-    kinds = {".md": of_markdown, ".rt": of_comments, ".antt": of_comments}
+    kinds = {".md": of_markdown, ".rt": of_comments, ".antt": of_comments, ".h": of_header}
     return kinds.get(os.path.splitext(path)[1], of_manual)(read(path))
 
 
@@ -166,7 +177,9 @@ def is_over(what, paths, bounds, listed, only):
 def main(listed, only):
     in_pages = {name: bound for name, _pattern, bound, _comments in TURNS} | {None: SENTENCES}
     in_comments = {name: bound for name, _pattern, _pages, bound in TURNS} | {None: LONG_IN_COMMENTS}
+    in_header = {name: IN_HEADER.get(name, 0) for name in in_pages}
     over = [is_over("pages", pages(), in_pages, listed, only), is_over("comments", commented(), in_comments, listed, only)]
+    over.append(is_over("include/rpkirtr.h", [f"{TOP}/include/rpkirtr.h"], in_header, listed, only))
     return 1 if any(over) else 0
 
 

@@ -1,7 +1,7 @@
 #!/usr/bin/env python3
 """A small signed repository, for validators to read: one trust anchor, its CRL, its manifest, and ROAs (RFC 6487, 6488, 9286, 9582).
 
-usage: tests/signed.py FOLDER. It writes FOLDER/test.tal and FOLDER/repository/rpki.example.net/repo/, with the samples' ROAs. Keys are made
+usage: tests/lib/signed.py FOLDER. It writes FOLDER/test.tal and FOLDER/repository/rpki.example.net/repo/, with the samples' ROAs. Keys are made
 anew at each run, by openssl, and all is valid from a day ago to the year 2100, so that what validators write does not expire."""
 import datetime
 import hashlib

@@ -7,7 +7,7 @@ import traceback
 
 import log
 
-TOP = os.path.dirname(os.path.dirname(os.path.abspath(__file__)))
+TOP = os.path.realpath(f"{os.path.dirname(os.path.abspath(__file__))}/../..")
 
 # The part that this process plays, what it compared, and what failed.
 part, compared, failures = "", [], []
@@ -39,7 +39,7 @@ def fail(message, place, daemon=None):
 
 def raised(fault):
     """Prints the exception that ended a part, and counts it. Its place is the innermost line outside the shared modules."""
-    shared = {f"{TOP}/tests/{it}.py" for it in ("checks", "common", "log", "rtr", "web")}
+    shared = {f"{TOP}/tests/lib/{it}.py" for it in ("checks", "common", "log", "rtr", "web")}
     frames = [(it.filename, it.lineno) for it in traceback.extract_tb(fault.__traceback__) if it.filename.startswith(f"{TOP}/tests/")]
     while len(frames) > 1 and frames[-1][0] in shared:
         frames.pop()
