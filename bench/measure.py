@@ -22,7 +22,7 @@ import threading
 import time
 
 TOP = os.path.realpath(f"{os.path.dirname(os.path.abspath(__file__))}/..")
-sys.path.insert(0, f"{TOP}/tests")
+sys.path.insert(0, f"{TOP}/tests/lib")
 import common
 import rtr
 from common import free_port, write

@@ -1,6 +1,7 @@
 #!/usr/bin/env bash
 # Makes dist/ of the programs that the gate has just built: tools/deliver.sh, after ./test has proved them. Commit dist/ then. A program is
 # delivered if the gate proved and built it of the sources that stand here and are committed, and if it is still the same, byte for byte.
+# Under a version that CHANGELOG.md has as released, with a date, only the bytes are delivered that dist/ has under it already.
 # The status is 0 where dist/ is written, 1 where something is refused, 2 where the words are wrong, and 3 where a file failed.
 set -u
 umask 022
@@ -18,6 +19,16 @@ refuse() { # refuse MESSAGE
 fail() { # fail MESSAGE
     say "deliver: $1"
     exit 3
+}
+
+# Whether the changelog has a version with the date of its release.
+is_released() { # is_released VERSION
+    grep -q "^## \[${1//./\\.}\] - [0-9]" "$top/CHANGELOG.md" 2>/dev/null
+}
+
+# Whether the committed dist/ has this file under this version.
+was_delivered() { # was_delivered NAME VERSION SUM
+    git -C "$top" show "HEAD:./${delivery#"$top/"}/SOURCES" 2>/dev/null | grep -q "^$1 ${2//./\\.} [0-9a-f]* $3\$"
 }
 
 changed=$(git -C "$top" status --porcelain -- . ':!dist') || fail 'git status failed'
@@ -42,6 +53,9 @@ for name in "${programs[@]}" "${libraries[@]}"; do
     built_path "$name"
     file_sum "$built" || fail "$name is not built"
     [ "$sum" = "$noted" ] || refuse "${built#"$top/"} is not the program that the gate built: run ./test again"
+    if is_released "$version" && ! was_delivered "$name" "$version" "$sum"; then
+        refuse "CHANGELOG.md has version $version as released, and this is not the $name that was delivered under it: raise the version"
+    fi
     lines_of_programs+=("$name $version $sources $sum")
 done
 

@@ -10,6 +10,8 @@ import os
 import re
 import sys
 
+import crates_txt
+
 TOP = os.path.realpath(f"{os.path.dirname(os.path.abspath(__file__))}/..")
 
 # The line above an example, and an example as it stands in a page.
@@ -24,9 +26,8 @@ def read(path):
 
 def libraries():
     """The libraries of crates.txt with code of their own: those that are no program, hold more than tests, and are no part of an example."""
-    heads = [line.split(":")[0].split() for line in read(f"{TOP}/crates.txt").splitlines() if line.split("#")[0].strip()]
-    # (no crate can stand on a static library: its example is in C. The start of the daemon's program needs a whole system: rpkirtrd shows it)
-    names = [head[0] for head in heads if "staticlib" not in head and head[0] != "rpkirtrd_start"]
+    # (no crate can use a static library: its example is in C. The start of the daemon's program needs a whole system: rpkirtrd shows it)
+    names = [it for it in crates_txt.named() if not crates_txt.is_static(it) and it != "rpkirtrd_start"]
     return [it for it in names if "example" not in it and it != "frames" and os.path.isfile(f"{TOP}/crates/{it}/src/lib.rt")]
 
 

@@ -1,5 +1,5 @@
 #!/usr/bin/env bash
-# Installs the programs, their manual pages, the systemd unit, the pages that a user reads, the samples and the licence: tools/install.sh
+# Installs the programs, their manual pages, the systemd units, the pages that a user reads, the samples and the licence: tools/install.sh
 # below /usr/local, or below another folder with --prefix. With --dev it installs the library for C in their place: header, static and shared
 # library, pkg-config file, manual page and examples; --libdir names the folder of the library. With --destdir all goes below that folder, as a
 # package wants it. With --remove what was installed there is removed again, and so are the folders that were made for it, where they are empty.
@@ -47,12 +47,12 @@ case $destdir in
 *$'\n'*) usage ;;
 esac
 
-options_file=$prefix/etc/default/rpkirtrd
+options=$prefix/etc/default
 case $prefix in
-/usr | /usr/local) options_file=/etc/default/rpkirtrd ;;
+/usr | /usr/local) options=/etc/default ;;
 esac
 pages=$prefix/share/doc/rpkirtr
-unit=$prefix/lib/systemd/system/rpkirtrd.service
+units=$prefix/lib/systemd/system
 [ $dev = no ] || pages=$prefix/share/doc/librpkirtr
 record=$pages/installed
 made=()
@@ -86,34 +86,34 @@ put() { # put MODE SOURCE TARGET
 }
 
 # The same for a text that is changed by `sed`.
-put_text() { # put_text SOURCE TARGET COMMAND..
-    local text source=$1 target=$2 command commands=()
-    shift 2
+put_text() { # put_text MODE SOURCE TARGET COMMAND..
+    local text mode=$1 source=$2 target=$3 command commands=()
+    shift 3
     for command in "$@"; do
         commands+=(-e "$command")
     done
     text=$(mktemp) || fail 'no temporary file could be made'
     sed "${commands[@]}" "$source" >"$text" || fail "$source could not be read"
-    put 644 "$text" "$target"
+    put "$mode" "$text" "$target"
     rm -f "$text"
 }
 
-# The unit names the place of the programs and of the options.
-put_unit() { # put_unit SOURCE TARGET
-    put_text "$1" "$2" "s|/usr/local/bin/|$prefix/bin/|" "s|/etc/default/rpkirtrd|$options_file|"
+# The units and the script name the place of the programs and of the options.
+put_placed() { # put_placed MODE SOURCE TARGET
+    put_text "$1" "$2" "$3" "s|/usr/local/bin/|$prefix/bin/|" "s|/etc/default/|$options/|"
 }
 
 # A page is read where there are no sources: what leads to them is a name there, and no link. The programs have their installed names.
 put_page() { # put_page SOURCE TARGET
-    put_text "$1" "$2" 's|\[\([^]]*\)\]([./]*crates/[^)]*)|\1|g' 's|\./\(rpkirtrd\|rpkiobject\)\b|\1|g' 's|\./run\b|rpkirtr|g'
+    put_text 644 "$1" "$2" 's|\[\([^]]*\)\]([./]*crates/[^)]*)|\1|g' 's|\./\(rpkirtrd\|rpkiobject\)\b|\1|g' 's|\./run\b|rpkirtr|g'
 }
 
 # The options are the user's: where the file is there already, it stays.
-put_options() {
-    if [ -e "$destdir$options_file" ]; then
-        cmp -s "$top/tools/rpkirtrd.default" "$destdir$options_file" || echo "kept $destdir$options_file, which was there"
+put_options() { # put_options NAME
+    if [ -e "$destdir$options/$1" ]; then
+        cmp -s "$top/tools/$1.default" "$destdir$options/$1" || echo "kept $destdir$options/$1, which was there"
     else
-        put 644 "$top/tools/rpkirtrd.default" "$options_file"
+        put 644 "$top/tools/$1.default" "$options/$1"
     fi
 }
 
@@ -125,9 +125,13 @@ put_all() {
     done
     put 644 "$top/docs/man/rpkirtr.1" "$prefix/share/man/man1/rpkirtr.1"
     put 644 "$top/docs/man/rpkiobject.1" "$prefix/share/man/man1/rpkiobject.1"
-    put 644 "$top/docs/man/rpkirtrd.8" "$prefix/share/man/man8/rpkirtrd.8"
-    put_unit "$top/tools/rpkirtrd.service" "$unit"
-    put_options
+    put_placed 755 "$top/tools/rpkirtrd-fetch" "$prefix/bin/rpkirtrd-fetch"
+    for name in rpkirtrd rpkirtrd-fetch; do
+        put 644 "$top/docs/man/$name.8" "$prefix/share/man/man8/$name.8"
+        put_placed 644 "$top/tools/$name.service" "$units/$name.service"
+        put_options "$name"
+    done
+    put_placed 644 "$top/tools/rpkirtrd-fetch.timer" "$units/rpkirtrd-fetch.timer"
     put 644 "$top/LICENSE" "$pages/LICENSE"
     while IFS= read -r name; do
         put_page "$top/$name" "$pages/$name"
@@ -153,7 +157,7 @@ put_dev() {
     put 644 "${ready[librpkirtr.so.0.0.0]}" "$libdir/librpkirtr.so.0.0.0"
     put_link librpkirtr.so.0.0.0 "$libdir/librpkirtr.so.0"
     put_link librpkirtr.so.0 "$libdir/librpkirtr.so"
-    put_text "$top/tools/librpkirtr/rpkirtr.pc.in" "$libdir/pkgconfig/rpkirtr.pc" "s|@prefix@|$prefix|; s|@libdir@|$libdir|; s|@version@|$version|"
+    put_text 644 "$top/tools/librpkirtr/rpkirtr.pc.in" "$libdir/pkgconfig/rpkirtr.pc" "s|@prefix@|$prefix|; s|@libdir@|$libdir|; s|@version@|$version|"
     put 644 "$top/docs/man/rpkirtr.3" "$prefix/share/man/man3/rpkirtr.3"
     while IFS= read -r name; do
         put 644 "$top/$name" "$pages/$name"
@@ -184,14 +188,14 @@ install_all() {
         return
     fi
     case $prefix in
-    /usr | /usr/local) echo "next: systemctl daemon-reload && systemctl enable --now rpkirtrd (its options: $options_file)" ;;
-    *) echo "next: systemctl enable --now $unit (its options: $options_file)" ;;
+    /usr | /usr/local) echo "next: systemctl daemon-reload && systemctl enable --now rpkirtrd (its options: $options/rpkirtrd)" ;;
+    *) echo "next: systemctl enable --now $units/rpkirtrd.service (its options: $options/rpkirtrd)" ;;
     esac
 }
 
 # Removes a file, and counts it.
 remove_file() { # remove_file FILE
-    if [ "$1" = "$options_file" ] && [ -f "$destdir$1" ] && ! cmp -s "$top/tools/rpkirtrd.default" "$destdir$1"; then
+    if [ "${1%/*}" = "$options" ] && [ -f "$destdir$1" ] && ! cmp -s "$top/tools/${1##*/}.default" "$destdir$1"; then
         echo "kept $destdir$1, which was changed"
     elif rm -f "$destdir$1"; then
         removed=$((removed + 1))

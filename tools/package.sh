@@ -19,9 +19,11 @@ version=${printed#rpkirtrd }
 # Makes of the tree what Debian wants of each package (Debian policy, sections 12.1, 12.5 and 12.7).
 for_debian() {
     gzip -9n usr/share/man/man1/*.1 usr/share/man/man8/*.8 &&
-        mv usr/share/doc/rpkirtr/LICENSE usr/share/doc/rpkirtr/copyright &&
-        gzip -9nc usr/share/doc/rpkirtr/CHANGELOG.md >usr/share/doc/rpkirtr/changelog.gz &&
-        mkdir DEBIAN &&
+        rm usr/share/doc/rpkirtr/LICENSE &&
+        debian_copyright >usr/share/doc/rpkirtr/copyright &&
+        debian_changelog rpkirtr "$version" | gzip -9nc >usr/share/doc/rpkirtr/changelog.gz &&
+        mkdir -p DEBIAN usr/share/lintian/overrides &&
+        lintian_overrides rpkirtr >usr/share/lintian/overrides/rpkirtr &&
         find etc usr -type f -exec md5sum {} + | sort -k 2 >DEBIAN/md5sums
 }
 
@@ -34,9 +36,10 @@ cat >DEBIAN/control <<CONTROL
 Package: rpkirtr
 Version: $version
 Architecture: $architecture
-Maintainer: rpkirtr developers <rpkirtr@example.net>
+Maintainer: $maintainer
 Installed-Size: $size
 Depends: libc6${glibc:+ (>= $glibc)}
+Recommends: curl, ca-certificates
 Suggests: rpki-client, bird2, stunnel4
 Section: net
 Priority: optional
@@ -45,33 +48,36 @@ Description: proved RPKI-to-Router cache, and commands for RPKI data
  (RFC 8210, and RFC 6810), from the files that a validator such as
  rpki-client writes. It follows these files and applies local exceptions
  (RFC 8416). It runs under systemd as a user that systemd makes for it.
+ rpkirtrd-fetch follows a file over HTTPS.
  .
  rpkirtr shows what ROAs and manifests say, how routes are judged (RFC 6811)
  and what a cache sends. rpkiobject verifies the digest and the signature of
  a signed object, and prints what it says. All are proved against their
  contracts.
 CONTROL
-echo /etc/default/rpkirtrd >DEBIAN/conffiles
+printf '%s\n' /etc/default/rpkirtrd /etc/default/rpkirtrd-fetch >DEBIAN/conffiles
 
-# The unit is neither enabled nor started; where it was, it stays so, and an upgrade starts a daemon that runs anew. No user is made: the
-# unit has DynamicUser=yes. Below another root (DPKG_ROOT), and where systemd does not run, no daemon is looked for.
+# The units are neither enabled nor started; where they were, they stay so, and an upgrade starts a daemon that runs anew. No user is made: the
+# daemon's unit has DynamicUser=yes. Below another root (DPKG_ROOT), and where systemd does not run, no daemon is looked for.
 cat >DEBIAN/postinst <<'POSTINST'
 #!/bin/sh
 set -e
 if [ "$1" = configure ] || [ "$1" = abort-upgrade ] || [ "$1" = abort-deconfigure ] || [ "$1" = abort-remove ]; then
     if command -v deb-systemd-helper >/dev/null; then
-        if deb-systemd-helper debian-installed rpkirtrd.service; then
-            deb-systemd-helper unmask rpkirtrd.service >/dev/null || true
-            if deb-systemd-helper --quiet was-enabled rpkirtrd.service; then
-                deb-systemd-helper enable rpkirtrd.service >/dev/null || true
+        for unit in rpkirtrd.service rpkirtrd-fetch.timer; do
+            if deb-systemd-helper debian-installed $unit; then
+                deb-systemd-helper unmask $unit >/dev/null || true
+                if deb-systemd-helper --quiet was-enabled $unit; then
+                    deb-systemd-helper enable $unit >/dev/null || true
+                fi
             fi
-        fi
-        deb-systemd-helper update-state rpkirtrd.service >/dev/null || true
+            deb-systemd-helper update-state $unit >/dev/null || true
+        done
     fi
     if [ -z "${DPKG_ROOT:-}" ] && [ -d /run/systemd/system ]; then
         systemctl --system daemon-reload >/dev/null || true
         if [ -n "$2" ]; then
-            deb-systemd-invoke try-restart rpkirtrd.service >/dev/null || true
+            deb-systemd-invoke try-restart rpkirtrd.service rpkirtrd-fetch.timer >/dev/null || true
         fi
     fi
 fi
@@ -80,14 +86,17 @@ cat >DEBIAN/prerm <<'PRERM'
 #!/bin/sh
 set -e
 if [ "$1" = remove ] && [ -z "${DPKG_ROOT:-}" ] && [ -d /run/systemd/system ]; then
-    deb-systemd-invoke stop rpkirtrd.service >/dev/null || true
+    deb-systemd-invoke stop rpkirtrd-fetch.timer rpkirtrd-fetch.service rpkirtrd.service >/dev/null || true
 fi
 PRERM
 cat >DEBIAN/postrm <<'POSTRM'
 #!/bin/sh
 set -e
-if [ "$1" = purge ] && command -v deb-systemd-helper >/dev/null; then
-    deb-systemd-helper purge rpkirtrd.service >/dev/null || true
+if [ "$1" = purge ]; then
+    if command -v deb-systemd-helper >/dev/null; then
+        deb-systemd-helper purge rpkirtrd.service rpkirtrd-fetch.timer >/dev/null || true
+    fi
+    rm -rf "${DPKG_ROOT:-}/var/lib/rpkirtrd-fetch"
 fi
 if [ "$1" = remove ] && [ -z "${DPKG_ROOT:-}" ] && [ -d /run/systemd/system ]; then
     systemctl --system daemon-reload >/dev/null || true

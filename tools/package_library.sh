@@ -30,18 +30,19 @@ move() { # move PACKAGE PATH..
 documents() { # documents PACKAGE
     local pages=$work/$1/usr/share/doc/$1
     mkdir -p "$pages" "$work/$1/DEBIAN" && chmod 755 "$work/$1" "$work/$1/DEBIAN" || fail 'a folder could not be made'
-    { cat "$top/LICENSE" && [ "$1" = python3-rpkirtr ] || printf '\n%s\n' \
+    { debian_copyright && [ "$1" = python3-rpkirtr ] || printf '\n%s\n' \
         'The memory allocation of the Rattle kit (liblibc_c.a), which calls malloc, realloc and free of the C library, is linked in.'
     } >"$pages/copyright"
-    gzip -9nc "$top/CHANGELOG.md" >"$pages/changelog.gz" || fail 'the changelog could not be packed'
+    debian_changelog "$1" "$version" | gzip -9nc >"$pages/changelog.gz" || fail 'the changelog could not be packed'
+    mkdir -p "$work/$1/usr/share/lintian/overrides" && lintian_overrides "$1" >"$work/$1/usr/share/lintian/overrides/$1" || fail 'a file could not be written'
 }
 
 # Makes a package of its tree. The rest of its control file is read from standard input.
 pack() { # pack PACKAGE ARCHITECTURE
     local tree=$work/$1 package=$target/$1_${version}_$2.deb
     documents "$1"
-    { printf 'Package: %s\nVersion: %s\nArchitecture: %s\nMaintainer: rpkirtr developers <rpkirtr@example.net>\nInstalled-Size: %s\nPriority: optional\n' \
-        "$1" "$version" "$2" "$(du -k -s --apparent-size "$tree/usr" | cut -f 1)" && cat; } >"$tree/DEBIAN/control" || fail 'the control file could not be written'
+    { printf 'Package: %s\nVersion: %s\nArchitecture: %s\nMaintainer: %s\nInstalled-Size: %s\nPriority: optional\n' \
+        "$1" "$version" "$2" "$maintainer" "$(du -k -s --apparent-size "$tree/usr" | cut -f 1)" && cat; } >"$tree/DEBIAN/control" || fail 'the control file could not be written'
     (cd "$tree" && find usr -type f -exec md5sum {} + | sort -k 2) >"$tree/DEBIAN/md5sums" || fail 'the sums could not be written'
     dpkg-deb --build --root-owner-group "$tree" "$package" >/dev/null || fail "$package could not be made"
     echo "$package"

@@ -1,16 +1,20 @@
 #!/usr/bin/env python3
-"""Makes the pages of docs/ that are read off the sources: DEFINITIONS.md, BELIEVE.md and STANDARDS.md.
+"""Makes the pages of docs/ that are read off the sources: BELIEVE.md and STANDARDS.md.
 
-usage: tools/pages.py [--check | --calls [CRATE]]
+usage: tools/pages.py [--check | --calls [CRATE] | definitions]
 
-Without an argument the pages are written. With --check they are compared with what would be written: the status is 1 if one differs, and its
-name is printed. With --calls nothing is written: each public call with a contract is printed, of all crates or of one, with the definitions
-that its clauses name, and how many definitions and lines they rest on in all."""
+Without an argument the pages are written. With --check they are compared with what would be written, and the words of four pages are counted:
+the status is 1 if one differs, or if they are too long together, and each finding is printed. With --calls nothing is written: each public call
+with a contract is printed, of all crates or of one, with the definitions that its clauses name, and how many definitions and lines they rest
+on in all. The word `definitions` writes out/DEFINITIONS.md, which is not kept: each definition with its comment, the laws, and the files of
+worked rows."""
 import collections
 import glob
 import os
 import re
 import sys
+
+import crates_txt
 
 TOP = os.path.realpath(f"{os.path.dirname(os.path.abspath(__file__))}/..")
 WORD = re.compile(r"[^\s(){}\[\],;:`=]+")
@@ -30,6 +34,17 @@ PROMISES = [
     ("What validators export", ["exports::read_export"]),
     ("Local exceptions", ["slurm::read_slurm", "slurm::apply", "slurm::laws::one_reading", "slurm::laws::applied_twice"]),
     ("What the daemon publishes, from what, and when", ["rtr_daemon::Daemon::open", "rtr_daemon::Daemon::turn", "rtr_daemon::laws::versions_are_paced"]),
+    ("Restarts", ["session_names::laws::restart_is_later"]),
+    ("Lost routers", ["tcp_table::unanswered", "tcp_table::unanswered_after", "tcp_table::is_lost"]),
+    ("The log", ["event_log::write_event", "log_output::Log::add", "log_output::Log::write_to", "log_output::laws::each_is_one_line"]),
+    ("The service manager", ["sd_notify::socket_address", "sd_notify::Notifier::signal", "sd_notify::Watchdog::is_signalled"]),
+    ("Status pages and metrics", ["status_server::StatusEndpoint::turn", "status_pages::Validity::of_route", "status_pages::write_validity", "status_pages::is_healthy", "status_pages::write_csv"]),
+    ("DER and moments", ["der_lite::laws::reads_exactly", "der_lite::laws::one_spelling", "der_lite::laws::reads_times_exactly"]),
+    ("Signatures", ["rsa_sha256::PublicKey::new", "rsa_sha256::PublicKey::verify"]),
+    ("Signed objects", ["signed_objects::read_signed_object", "signed_objects::read_der_object", "signed_objects::laws::one_fault", "signed_objects::laws::one_object"]),
+    ("A router of another cache, and chains of caches", ["upstreams::Upstream::poll", "upstreams::laws::each_holds", "relays::laws::chain"]),
+    ("The library for C", ["rpkirtr_c::rpkirtr_router_receive", "rpkirtr_c::rpkirtr_router_state", "rpkirtr_c::rpkirtr_index_new", "rpkirtr_c::rpkirtr_cache_receive", "rpkirtr_c::rpkirtr_cache_publish", "rpkirtr_c::rpkirtr_roa_new", "rpkirtr_c::rpkirtr_manifest_new"]),
+    ("What the commands print", ["payload_commands::print_roa", "payload_commands::print_manifest", "payload_commands::print_state", "rtr_commands::print_units", "rtr_commands::answer_lines"]),
 ]
 
 
@@ -38,19 +53,14 @@ def read(path):
         return it.read()
 
 
-def named():
-    """All crates, as crates.txt has them, lowest first."""
-    return [it.split(":")[0] for it in read(f"{TOP}/crates.txt").splitlines() if ":" in it]
+def crates():
+    """The crates that have definitions or contracts."""
+    return crates_txt.libraries()
 
 
 def examples():
-    """The crates of examples, the programs that are some too, and the crate of the values which these share."""
-    return [it for it in named() if it.endswith(("_examples", "_over_frames")) or it in ("example_values", "frames")]
-
-
-def crates():
-    """The crates that have definitions or contracts."""
-    return [it for it in named() if it not in examples()]
+    """The crates of examples."""
+    return crates_txt.examples()
 
 
 class Definition:
@@ -134,7 +144,7 @@ class Code:
                     act(path, owner[len("Model for ") :], lines[at:end], names)
             elif line == "}":
                 owner = ""
-            elif function := re.match(r"\s*(pub )?(?:const )?(?:unsafe )?fn (\w+)", line):
+            elif function := re.match(r"\s*(pub )?(?:const )?(?:unsafe )?(?:extern \"C\" )?fn (\w+)", line):
                 if function.group(1) or " for " in owner or owner.startswith(tuple("ABCDEFGHIJKLMNOPQRSTUVWXYZ")) and "trait" in lines[at - 1]:
                     end = next((k for k in range(at, len(lines)) if re.match(r"\s*(\{.*|.*\{|.*\{\})$", lines[k]) and "ensures" not in lines[k] and "requires" not in lines[k]), at)
                     act(path, (owner, function.group(2), self.comment(lines, at)), lines[at : end + 1], names)
@@ -166,7 +176,7 @@ class Code:
         if isinstance(owner, str):
             return
         text = "\n".join(lines)
-        clauses = re.findall(r"(?:ensures|requires)\b.*", text)
+        clauses = re.findall(r"(?:ensures|requires)\b.*(?:\n\s*(?!ensures|requires|\{$).+)*", text)
         if not clauses:
             return
         roots = self.resolved("\n".join(clauses), names)
@@ -174,7 +184,7 @@ class Code:
             roots |= self.meanings.get(word, set())
         of = re.sub(r"<.*?>", "", owner[0].split(" for ")[-1]).strip()
         stem = os.path.basename(path)[:-3]
-        if self.shown is not None and stem not in self.shown and (of or owner[1]) not in self.shown:
+        if self.shown is not None and stem not in self.shown and (of or owner[1]) not in self.shown and 'extern "C"' not in text:
             return
         place = [self.crate] + (["laws"] if stem == "laws" else []) + ([of] if of else []) + [owner[1]]
         self.calls.append(Call(self.crate, os.path.relpath(path, TOP), "::".join(place), owner[2], roots))
@@ -228,7 +238,7 @@ def link(path):
 
 
 def definitions_page(house):
-    out = ["# Definitions", "", "Made from the sources by `tools/pages.py`. The contracts of this repository are stated in these terms. They are in reading order: a crate after those below it, a file after those that it uses. A reader has to believe them and nothing else. Names in one entry share one comment in their file."]
+    out = ["# Definitions", "", "Made from the sources by `tools/pages.py`. The contracts of this repository are stated in these terms. They are in reading order: a crate after those below it, a file after those that it uses. A reader has to believe those that [BELIEVE.md](../docs/BELIEVE.md) lists, and nothing else. Names in one entry share one comment in their file."]
     total = [it for file in house.sources for it in file.definitions]
     out += ["", f"{len(total)} definitions of {lines_of(total)} lines. `docs/BELIEVE.md` says on which of them each promise rests, `docs/STANDARDS.md` where a section of a standard is defined."]
     crate = ""
@@ -267,9 +277,17 @@ def rows():
     return out
 
 
+def said_of(file, fresh, seen):
+    """The fresh definitions of a file by their names, or that they are all, or all that were not seen."""
+    names = [it.name for it in file.definitions if it in fresh]
+    if len(names) > 1 and all(it in fresh or it in seen for it in file.definitions):
+        return f"{'all' if len(names) == len(file.definitions) else 'the other'} {len(names)}"
+    return ", ".join(f"`{name}`" for name in names)
+
+
 def believe_page(house):
     named = {call.name: call for call in house.calls}
-    out = ["# What has to be believed", "", "Made from the sources by `tools/pages.py`. A contract is proved. That it says what was meant, a reader has to check. For each promise this page lists the definitions on which its clauses rest, and their lines without comments. Definitions listed under an earlier promise are not repeated. Those of the kit's library (lists, numbers, options) are not counted.", "", "`tools/pages.py --calls` prints the same for each public call. [DEFINITIONS.md](DEFINITIONS.md) has what each definition is, and what each law says.", ""]
+    out = ["# What has to be believed", "", "Made from the sources by `tools/pages.py`. A contract is proved. That it says what was meant, a reader has to check. For each promise this page lists the definitions on which its clauses rest, and their lines without comments. Definitions listed under an earlier promise are not repeated. `All N` is each definition of a file, `the other N` are those not listed before. Those of the kit's library (lists, numbers, options) are not counted.", "", "`tools/pages.py --calls` prints the same for each public call. `tools/pages.py definitions` writes `out/DEFINITIONS.md`: what each definition is, and what each law says.", ""]
     seen = set()
     for promise, calls in PROMISES:
         missing = [it for it in calls if it not in named]
@@ -279,11 +297,8 @@ def believe_page(house):
         fresh = [it for it in rest if it not in seen]
         beside = f"; {len(fresh)} of them, {lines_of(fresh)} lines, are not among those above" if seen else ""
         out += [f"## {promise}", "", f"By {', '.join(f'`{it}`' for it in calls)}: {len(rest)} definitions, {lines_of(rest)} lines{beside}.", ""]
+        out += [f"- {link(file.path)}: {said_of(file, set(fresh), seen)}" for file in dict.fromkeys(it.file for it in fresh)] + [""]
         seen.update(fresh)
-        by_file = collections.OrderedDict()
-        for it in fresh:
-            by_file.setdefault(it.file.path, []).append(it.name)
-        out += [f"- {link(path)}: {', '.join(f'`{name}`' for name in names)}" for path, names in by_file.items()] + [""]
     return out
 
 
@@ -388,24 +403,48 @@ def by_file(places):
     return [link(path) + (f": {', '.join(names)}" if names else "") for path, names in files.items()]
 
 
-def main():
+# The pages that a reader of the proofs goes through, and the most words that they may have together.
+READ_THROUGH, MOST_WORDS = ("ARCHITECTURE.md", "PROMISES.md", "BELIEVE.md", "CONTRIBUTING.md"), 12_000
+
+
+def text_of(lines):
+    return re.sub(r"\n{3,}", "\n\n", "\n".join(lines).strip()) + "\n"
+
+
+def write(path, text):
+    os.makedirs(os.path.dirname(path), exist_ok=True)
+    with open(path, "w", encoding="utf-8") as it:
+        it.write(text)
+
+
+def findings(pages):
+    """What is wrong with the pages that are kept: they are not those of the sources, or too long."""
+    found = [f"docs/{name} differs from the sources: tools/pages.py makes it anew" for name, text in pages.items() if not os.path.exists(f"{TOP}/docs/{name}") or read(f"{TOP}/docs/{name}") != text]
+    count = sum(len(read(f"{TOP}/docs/{name}").split()) for name in READ_THROUGH)
+    return found + ([f"{', '.join(READ_THROUGH)} have {count} words together, and at most {MOST_WORDS} are allowed"] if count > MOST_WORDS else [])
+
+
+def main(words):
     house = House()
-    if sys.argv[1:2] == ["--calls"]:
-        print_calls(house, "".join(sys.argv[2:3]))
+    if words[:1] == ["--calls"]:
+        print_calls(house, "".join(words[1:2]))
         return 0
-    pages = {"DEFINITIONS.md": definitions_page(house), "BELIEVE.md": believe_page(house), "STANDARDS.md": standards_page(house)}
-    status = 0
-    for name, lines in pages.items():
-        path = f"{TOP}/docs/{name}"
-        text = re.sub(r"\n{3,}", "\n\n", "\n".join(lines).strip()) + "\n"
-        if "--check" not in sys.argv[1:]:
-            with open(path, "w", encoding="utf-8") as it:
-                it.write(text)
-        elif not os.path.exists(path) or read(path) != text:
-            print(f"docs/{name} differs from the sources: tools/pages.py makes it anew")
-            status = 1
-    return status
+    if words == ["definitions"]:
+        write(f"{TOP}/out/DEFINITIONS.md", text_of(definitions_page(house)))
+        print("out/DEFINITIONS.md")
+        return 0
+    pages = {"BELIEVE.md": text_of(believe_page(house)), "STANDARDS.md": text_of(standards_page(house))}
+    if words == ["--check"]:
+        found = findings(pages)
+        print("\n".join(found), end="\n" if found else "")
+        return 1 if found else 0
+    if words:
+        print("usage: tools/pages.py [--check | --calls [CRATE] | definitions]", file=sys.stderr)
+        return 2
+    for name, text in pages.items():
+        write(f"{TOP}/docs/{name}", text)
+    return 0
 
 
 if __name__ == "__main__":
-    sys.exit(main())
+    sys.exit(main(sys.argv[1:]))
