@@ -1,5 +1,5 @@
 #!/usr/bin/env python3
-"""Writes the example with which a library's first page begins: the body of the one test of NAME_example.rt in a crate of examples, with what
+"""Writes the example with which a library's first page begins: the body of the one test of NAME_example.rt in a crate of tests, with what
 it uses. So what the page shows is what the gate proves and runs.
 
 usage: tools/examples.py [--check]
@@ -28,12 +28,12 @@ def libraries():
     """The libraries of crates.txt with code of their own: those that are no program, hold more than tests, and are no part of an example."""
     # (no crate can use a static library: its example is in C. The start of the daemon's program needs a whole system: rpkirtrd shows it)
     names = [it for it in crates_txt.named() if not crates_txt.is_static(it) and it != "rpkirtrd_start"]
-    return [it for it in names if "example" not in it and it != "frames" and os.path.isfile(f"{TOP}/crates/{it}/src/lib.rt")]
+    return [it for it in names if not it.endswith("_tests") and not it.startswith(("example_", "test_")) and os.path.isfile(f"{TOP}/crates/{it}/src/lib.rt")]
 
 
 def file_of(name):
     """The file of a library's example, in the one crate of examples that has it."""
-    found = glob.glob(f"{TOP}/crates/*_examples/src/{name}_example.rt")
+    found = glob.glob(f"{TOP}/crates/*_tests/src/{name}_example.rt")
     return found[0] if len(found) == 1 else None
 
 
@@ -59,7 +59,7 @@ def main(check):
         path = f"{TOP}/crates/{name}/src/lib.rt"
         file = file_of(name)
         if file is None:
-            wrong.append(f"{name} has no example: no crate of examples, or more than one, has {name}_example.rt")
+            wrong.append(f"{name} has no example: no crate of tests, or more than one, has {name}_example.rt")
             continue
         page = read(path)
         made = with_example(page, example_of(file))

@@ -1,5 +1,0 @@
-use Rattle.std.proofs.Common.{length}
-use Rattle.server_examples.proofs.streams.ScriptStream.read.Goals as goal
-
-pub returns-then-is_bad-clause-within : goal.returns-then-is_bad-clause-within
-returns-then-is_bad-clause-within c = c.bad_progress.ensures (length c.args.buf.now)
