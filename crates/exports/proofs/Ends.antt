@@ -9,7 +9,9 @@ use Rattle.prefixes.proofs.Basics.{lt_true}
 use Rattle.serde_json.specs.Data.{Data, null, boolean, number, string, array, object, Items}
 use Rattle.serde_json.specs.Find.{as_array}
 use Rattle.std.specs.Str.{IsUtf8}
+use Rattle.exports.specs.Anchors.{IsExportAnchored, anchors_in}
 use Rattle.exports.specs.Ignored.{IsExportCounted}
+use Rattle.exports.specs.Numbering.{Anchors, AreNumbers}
 use Rattle.exports.specs.PlainForm.{HasElements, ReadsParts, TellsEntries}
 use Rattle.exports.specs.declared.fault.ExportFault.TheVariants.{NotJson, NoRoas, Entry, TooMany, Memory, Repeated}
 use Rattle.exports.specs.declared.streaming.Entries.{Entries}
@@ -29,6 +31,7 @@ use Rattle.exports.specs.declared.ignored.Elements.{Elements}
 use Rattle.exports.specs.declared.export.TimedExport.{TimedExport}
 use Rattle.exports.specs.declared.fault.ExportFault.{ExportFault}
 use Rattle.exports.specs.declared.gathered.EntryRecords.{EntryRecords}
+use Rattle.exports.proofs.Anchoring.{is_anchored}
 use Rattle.exports.proofs.Elements.{ignored_of}
 use Rattle.exports.proofs.Lasts.{counting_current}
 
@@ -122,7 +125,7 @@ pub record Made (g : EntryRecords) (built : Option ℕ) (x : ExportLasting) : Ty
 later_counts : (now t : ℕ) (es : List ExportEntry) (g : EntryRecords) → Gathers now es g → now ≤ t → t < 2 ^ 64 → counting t g.records.items g.lasts.items ≡ current t es
 later_counts now t es g is later small = (λ i. counting t (is.records i) (is.lasts i)) ∙ counting_current now t es later small
 
-pub is_made : (bytes : List ℕ) (now : ℕ) (d : Data) (g : EntryRecords) (built : Option ℕ) (x : ExportLasting) → ReadsOnce bytes d → (es : List ExportEntry) × Lists d es × Gathers now es g → IsBuilt (generated d) (buildtime d) built → Made g built x → IsExportLasting bytes now x
+pub is_made : (bytes : List ℕ) (now : ℕ) (d : Data) (g : EntryRecords) (built : Option ℕ) (x : ExportLasting) → ReadsOnce bytes d → (es : List ExportEntry) × Lists d es × Gathers now es g × Anchors now es (anchors_in d) g → IsBuilt (generated d) (buildtime d) built → Made g built x → IsExportLasting bytes now x
 is_made bytes now d g built x reads found is made = record {
   export = record {
     value = d;
@@ -141,7 +144,7 @@ is_made bytes now d g built x reads found is made = record {
 }
 
 -- If there is no set of what was gathered, the bytes have that fault.
-pub set_fails : (bytes : List ℕ) (now : ℕ) (d : Data) (g : EntryRecords) (f : ExportFault) → ReadsOnce bytes d → (es : List ExportEntry) × Lists d es × Gathers now es g → SetFails g.records.items f → HasFault bytes now f
+pub set_fails : (bytes : List ℕ) (now : ℕ) (d : Data) (g : EntryRecords) (f : ExportFault) → ReadsOnce bytes d → (es : List ExportEntry) × Lists d es × Gathers now es g × Anchors now es (anchors_in d) g → SetFails g.records.items f → HasFault bytes now f
 set_fails bytes now d g NotJson reads found fails = absurd fails
 set_fails bytes now d g NoRoas reads found fails = absurd fails
 set_fails bytes now d g (Entry i w) reads found fails = absurd fails
@@ -161,10 +164,15 @@ entries_of text now p e utf8 told once has = (
 )
 
 -- With what is not served of them
-pub is_counted : (bytes : List ℕ) (now : ℕ) (d : Data) (e : Elements) (g : EntryRecords) (built : Option ℕ) (x : ExportCounted) → ReadsOnce bytes d → (es : List ExportEntry) × Lists d es × Gathers now es g → IsBuilt (generated d) (buildtime d) built
+pub is_counted : (bytes : List ℕ) (now : ℕ) (d : Data) (e : Elements) (g : EntryRecords) (built : Option ℕ) (x : ExportCounted) → ReadsOnce bytes d → (es : List ExportEntry) × Lists d es × Gathers now es g × Anchors now es (anchors_in d) g → IsBuilt (generated d) (buildtime d) built
     → HasElements d e → Made g built x.lasting → x.ignored.aspas ≡ e.aspas → x.ignored.router_keys ≡ e.bgpsec_keys + e.router_keys → IsExportCounted bytes now x
 is_counted bytes now d e g built x reads found is has made aspas keys =
     record { lasting = is_made bytes now d g built x.lasting reads found is made; value = d; reads = reads.0; ignored = ignored_of d e x.ignored has aspas keys }
+
+-- With its trust anchors
+pub with_anchors : (bytes : List ℕ) (now : ℕ) (d : Data) (g : EntryRecords) (x : ExportCounted) → ReadsOnce bytes d → (es : List ExportEntry) × Lists d es × Gathers now es g × Anchors now es (anchors_in d) g
+    → AreNumbers g.records.items g.anchors.items x.lasting.export.set x.anchors.of_each.items × (x.anchors.names ≡ g.names.names) → IsExportAnchored bytes now x
+with_anchors bytes now d g x reads found made = is_anchored bytes now d found.0 g x reads found.1 found.2 found.3 made.0 made.1
 
 -- With its last seconds forgotten
 pub forgotten : (bytes : List ℕ) (now : ℕ) (x : ExportLasting) → IsExportLasting bytes now x → IsExportUntil bytes now (record { export = x.export; until = x.until })

@@ -5,12 +5,15 @@ use Rattle.std.proofs.lemmas.List.{map-append}
 use Rattle.std.proofs.lemmas.List.Elements.{filter-append, filter_map-append}
 use Rattle.std.proofs.lemmas.List.Sums.{sum_by-append}
 use Rattle.serde_json.specs.Data.{Data, Items}
+use Rattle.exports.specs.Anchors.{anchors_in}
 use Rattle.exports.specs.Entry.{counts_at, current, expired}
 use Rattle.exports.specs.Export.{Lists, lasting}
 use Rattle.exports.specs.Gathering.{Gathers, IsLasting}
 use Rattle.exports.specs.Lasting.{last_seconds}
+use Rattle.exports.specs.Numbering.{Anchors}
 use Rattle.exports.specs.Until.{IsFirst, endings}
 use Rattle.exports.specs.declared.entry.ExportEntry.{ExportEntry}
+use Rattle.exports.proofs.Anchoring.{list_anchors}
 use Rattle.exports.proofs.Lasts.{last_seconds-append, last_seconds-lasting}
 use Rattle.exports.specs.declared.gathered.EntryRecords.{EntryRecords}
 use Rattle.prefixes.specs.Payload.{Payload}
@@ -54,7 +57,7 @@ first_of_none ts None h none = none
 first_of_none ts (Some t) h none = absurd (cc)
 
 -- What was gathered of a payload list are its entries.
-pub gather_list : (d : Data) (ds : Items) (now : ℕ) (g : EntryRecords) → Some ds ≡ as_array d → lists.AreEntries ds g.records.items → IsLasting g → (es : List ExportEntry) × Lists d es × Gathers now es g
+pub gather_list : (d : Data) (ds : Items) (now : ℕ) (g : EntryRecords) → Some ds ≡ as_array d → lists.AreEntries ds g.records.items → IsLasting g → (es : List ExportEntry) × Lists d es × Gathers now es g × Anchors now es (anchors_in d) g
 gather_list d ds now g array are for_ever = (
   map lasting g.records.items,
   inl (record { items = ds; is_array = sym array; payloads = g.records.items; listed = are; entries_are = refl }),
@@ -64,4 +67,5 @@ gather_list d ds now g array are for_ever = (
     expired = for_ever.expired ∙ sym (expired-lasting now g.records.items);
     until = first_of_none (endings now (map lasting g.records.items)) g.until for_ever.until (endings-lasting now g.records.items);
   },
+  list_anchors now d ds g array for_ever,
 )

@@ -1,5 +1,8 @@
+pub mod Naming
+pub mod Anchoring
 pub mod Items
 pub mod Lasts
+pub mod Places
 pub mod Ends
 pub mod Times
 pub mod PlainSteps

@@ -13,6 +13,8 @@ use Rattle.serde_json.specs.Read.{converted, number_of, of_items, of_json, of_me
 use Rattle.serde_json.proofs.Views.{get_member-put, get_member-put_other}
 use Rattle.payload_lists.specs.PayloadList.{text_at, whole_at}
 use Rattle.exports.specs.Built.{IsBuilt}
+use Rattle.exports.specs.Numbering.{Anchors}
+use Rattle.exports.proofs.Anchoring.{anchors_before}
 use Rattle.exports.specs.Entry.{AreEntries, FailsAt, IsEntry, IsNoEntry, Said, SaysEntry, SaysFault, said, whole}
 use Rattle.exports.specs.PlainForm.{AreListed, FailsIn, IsRawEntry, IsJudged, IsMetadata, IsScalar, ReadsEntries, ReadsNone, ReadsRoas, ReadsSome, TellsBuilt, TellsItems, TellsListed, TellsRoas, before}
 use Rattle.exports.proofs.PlainSteps.{array_read}
@@ -42,54 +44,72 @@ expiry_kept k d ms other = ap (option_map whole) (get_member-put_other (codes "e
 
 -- ---- an entry
 
-pub found_nothing : IsRawEntry no_members (record { asn_number = None; asn_text = None; prefix = None; max_len = None; expires = None })
-found_nothing = refl
+pub found_nothing : IsRawEntry no_members (record { asn_number = None; asn_text = None; prefix = None; max_len = None; expires = None; ta = None })
+found_nothing = (refl, refl)
 
 pub found_asn : (ms : Members) (d : Data) (f : RawEntry) (s : Scalar) → IsRawEntry ms f → IsScalar d s → IsRawEntry (put (codes "asn") d ms) (record f { asn_number = s.number; asn_text = s.text })
 found_asn ms d f s is scalar =
     let n = number_put (codes "asn") d ms ∙ scalar.0 in
     let t = text_put (codes "asn") d ms ∙ scalar.1 in
-    let p = text_kept (codes "prefix") (codes "asn") d ms (λ e. cc) ∙ ap (λ x. x.prefix) is in
-    let m = number_kept (codes "maxLength") (codes "asn") d ms (λ e. cc) ∙ ap (λ x. x.max_len) is in
-    let e = expiry_kept (codes "asn") d ms (λ e. cc) ∙ ap (λ x. x.expires) is in
-    λ i. record { asn_number = n i; asn_text = t i; prefix = p i; max_len = m i; expires = e i }
+    let p = text_kept (codes "prefix") (codes "asn") d ms (λ e. cc) ∙ ap (λ x. x.prefix) is.0 in
+    let m = number_kept (codes "maxLength") (codes "asn") d ms (λ e. cc) ∙ ap (λ x. x.max_len) is.0 in
+    let e = expiry_kept (codes "asn") d ms (λ e. cc) ∙ ap (λ x. x.expires) is.0 in
+    (λ i. record { asn_number = n i; asn_text = t i; prefix = p i; max_len = m i; expires = e i }, text_kept (codes "ta") (codes "asn") d ms (λ e. cc) ∙ is.1)
 
 pub found_prefix : (ms : Members) (d : Data) (f : RawEntry) (s : Scalar) → IsRawEntry ms f → IsScalar d s → IsRawEntry (put (codes "prefix") d ms) (record f { prefix = s.text })
 found_prefix ms d f s is scalar =
-    let n = number_kept (codes "asn") (codes "prefix") d ms (λ e. cc) ∙ ap (λ x. x.asn_number) is in
-    let t = text_kept (codes "asn") (codes "prefix") d ms (λ e. cc) ∙ ap (λ x. x.asn_text) is in
+    let n = number_kept (codes "asn") (codes "prefix") d ms (λ e. cc) ∙ ap (λ x. x.asn_number) is.0 in
+    let t = text_kept (codes "asn") (codes "prefix") d ms (λ e. cc) ∙ ap (λ x. x.asn_text) is.0 in
     let p = text_put (codes "prefix") d ms ∙ scalar.1 in
-    let m = number_kept (codes "maxLength") (codes "prefix") d ms (λ e. cc) ∙ ap (λ x. x.max_len) is in
-    let e = expiry_kept (codes "prefix") d ms (λ e. cc) ∙ ap (λ x. x.expires) is in
-    λ i. record { asn_number = n i; asn_text = t i; prefix = p i; max_len = m i; expires = e i }
+    let m = number_kept (codes "maxLength") (codes "prefix") d ms (λ e. cc) ∙ ap (λ x. x.max_len) is.0 in
+    let e = expiry_kept (codes "prefix") d ms (λ e. cc) ∙ ap (λ x. x.expires) is.0 in
+    (λ i. record { asn_number = n i; asn_text = t i; prefix = p i; max_len = m i; expires = e i }, text_kept (codes "ta") (codes "prefix") d ms (λ e. cc) ∙ is.1)
 
 pub found_max_len : (ms : Members) (d : Data) (f : RawEntry) (s : Scalar) → IsRawEntry ms f → IsScalar d s → IsRawEntry (put (codes "maxLength") d ms) (record f { max_len = s.number })
 found_max_len ms d f s is scalar =
-    let n = number_kept (codes "asn") (codes "maxLength") d ms (λ e. cc) ∙ ap (λ x. x.asn_number) is in
-    let t = text_kept (codes "asn") (codes "maxLength") d ms (λ e. cc) ∙ ap (λ x. x.asn_text) is in
-    let p = text_kept (codes "prefix") (codes "maxLength") d ms (λ e. cc) ∙ ap (λ x. x.prefix) is in
+    let n = number_kept (codes "asn") (codes "maxLength") d ms (λ e. cc) ∙ ap (λ x. x.asn_number) is.0 in
+    let t = text_kept (codes "asn") (codes "maxLength") d ms (λ e. cc) ∙ ap (λ x. x.asn_text) is.0 in
+    let p = text_kept (codes "prefix") (codes "maxLength") d ms (λ e. cc) ∙ ap (λ x. x.prefix) is.0 in
     let m = number_put (codes "maxLength") d ms ∙ scalar.0 in
-    let e = expiry_kept (codes "maxLength") d ms (λ e. cc) ∙ ap (λ x. x.expires) is in
-    λ i. record { asn_number = n i; asn_text = t i; prefix = p i; max_len = m i; expires = e i }
+    let e = expiry_kept (codes "maxLength") d ms (λ e. cc) ∙ ap (λ x. x.expires) is.0 in
+    (λ i. record { asn_number = n i; asn_text = t i; prefix = p i; max_len = m i; expires = e i }, text_kept (codes "ta") (codes "maxLength") d ms (λ e. cc) ∙ is.1)
 
 pub found_expires : (ms : Members) (d : Data) (f : RawEntry) (s : Scalar) → IsRawEntry ms f → IsScalar d s → IsRawEntry (put (codes "expires") d ms) (record f { expires = Some s.number })
 found_expires ms d f s is scalar =
-    let n = number_kept (codes "asn") (codes "expires") d ms (λ e. cc) ∙ ap (λ x. x.asn_number) is in
-    let t = text_kept (codes "asn") (codes "expires") d ms (λ e. cc) ∙ ap (λ x. x.asn_text) is in
-    let p = text_kept (codes "prefix") (codes "expires") d ms (λ e. cc) ∙ ap (λ x. x.prefix) is in
-    let m = number_kept (codes "maxLength") (codes "expires") d ms (λ e. cc) ∙ ap (λ x. x.max_len) is in
+    let n = number_kept (codes "asn") (codes "expires") d ms (λ e. cc) ∙ ap (λ x. x.asn_number) is.0 in
+    let t = text_kept (codes "asn") (codes "expires") d ms (λ e. cc) ∙ ap (λ x. x.asn_text) is.0 in
+    let p = text_kept (codes "prefix") (codes "expires") d ms (λ e. cc) ∙ ap (λ x. x.prefix) is.0 in
+    let m = number_kept (codes "maxLength") (codes "expires") d ms (λ e. cc) ∙ ap (λ x. x.max_len) is.0 in
     let e = ap (option_map whole) (get_member-put (codes "expires") d ms) ∙ ap Some scalar.0 in
-    λ i. record { asn_number = n i; asn_text = t i; prefix = p i; max_len = m i; expires = e i }
+    (λ i. record { asn_number = n i; asn_text = t i; prefix = p i; max_len = m i; expires = e i }, text_kept (codes "ta") (codes "expires") d ms (λ e. cc) ∙ is.1)
 
-pub found_other : (k : List ℕ) (ms : Members) (d : Data) (f : RawEntry) → (k ≡ codes "asn" → ⊥) → (k ≡ codes "prefix" → ⊥) → (k ≡ codes "maxLength" → ⊥) → (k ≡ codes "expires" → ⊥)
+pub found_ta : (ms : Members) (d : Data) (f : RawEntry) (s : Scalar) → IsRawEntry ms f → IsScalar d s → IsRawEntry (put (codes "ta") d ms) (record f { ta = s.text })
+found_ta ms d f s is scalar =
+    let n = number_kept (codes "asn") (codes "ta") d ms (λ e. cc) ∙ ap (λ x. x.asn_number) is.0 in
+    let t = text_kept (codes "asn") (codes "ta") d ms (λ e. cc) ∙ ap (λ x. x.asn_text) is.0 in
+    let p = text_kept (codes "prefix") (codes "ta") d ms (λ e. cc) ∙ ap (λ x. x.prefix) is.0 in
+    let m = number_kept (codes "maxLength") (codes "ta") d ms (λ e. cc) ∙ ap (λ x. x.max_len) is.0 in
+    let e = expiry_kept (codes "ta") d ms (λ e. cc) ∙ ap (λ x. x.expires) is.0 in
+    (λ i. record { asn_number = n i; asn_text = t i; prefix = p i; max_len = m i; expires = e i }, text_put (codes "ta") d ms ∙ scalar.1)
+
+pub found_other : (k : List ℕ) (ms : Members) (d : Data) (f : RawEntry) → (k ≡ codes "asn" → ⊥) → (k ≡ codes "prefix" → ⊥) → (k ≡ codes "maxLength" → ⊥) → (k ≡ codes "expires" → ⊥) → (k ≡ codes "ta" → ⊥)
     → IsRawEntry ms f → IsRawEntry (put k d ms) f
-found_other k ms d f asn prefix max_len expires is =
-    let n = number_kept (codes "asn") k d ms (λ e. asn (sym e)) ∙ ap (λ x. x.asn_number) is in
-    let t = text_kept (codes "asn") k d ms (λ e. asn (sym e)) ∙ ap (λ x. x.asn_text) is in
-    let p = text_kept (codes "prefix") k d ms (λ e. prefix (sym e)) ∙ ap (λ x. x.prefix) is in
-    let m = number_kept (codes "maxLength") k d ms (λ e. max_len (sym e)) ∙ ap (λ x. x.max_len) is in
-    let e = expiry_kept k d ms (λ e. expires (sym e)) ∙ ap (λ x. x.expires) is in
-    λ i. record { asn_number = n i; asn_text = t i; prefix = p i; max_len = m i; expires = e i }
+found_other k ms d f asn prefix max_len expires ta is =
+    let n = number_kept (codes "asn") k d ms (λ e. asn (sym e)) ∙ ap (λ x. x.asn_number) is.0 in
+    let t = text_kept (codes "asn") k d ms (λ e. asn (sym e)) ∙ ap (λ x. x.asn_text) is.0 in
+    let p = text_kept (codes "prefix") k d ms (λ e. prefix (sym e)) ∙ ap (λ x. x.prefix) is.0 in
+    let m = number_kept (codes "maxLength") k d ms (λ e. max_len (sym e)) ∙ ap (λ x. x.max_len) is.0 in
+    let e = expiry_kept k d ms (λ e. expires (sym e)) ∙ ap (λ x. x.expires) is.0 in
+    (λ i. record { asn_number = n i; asn_text = t i; prefix = p i; max_len = m i; expires = e i }, text_kept (codes "ta") k d ms (λ e. ta (sym e)) ∙ is.1)
+
+-- What is no object has no text.
+pub no_text : (k : List ℕ) (d : Data) → is_some (as_object d) ≡ false → text_at k d ≡ None
+no_text k null other = refl
+no_text k (boolean b) other = refl
+no_text k (number n) other = refl
+no_text k (string s) other = refl
+no_text k (array ds) other = refl
+no_text k (object ms) other = absurd (let yes : true ≡ false = other in cc)
 
 -- ---- metadata
 
@@ -144,7 +164,7 @@ fails_all (d ∷ ds) zero w h = h
 fails_all (d ∷ ds) (suc i) w h = (h.0, fails_all ds i w h.1)
 
 pub told_all : (now : ℕ) (ds : List Data) (entries : Entries) → TellsListed now ds entries → TellsItems now (before ds no_items) entries
-told_all now ds (Whole g) h = (h.0, are_all ds h.0 h.1, h.2)
+told_all now ds (Whole g) h = (h.0, are_all ds h.0 h.1, h.2, subst (λ names. Anchors now h.0 names g) (anchors_before ds) h.3)
 told_all now ds (Broken i w) h = fails_all ds i w h
 
 -- the entries so far

@@ -16,6 +16,7 @@ use Rattle.exports.specs.Built.{IsBuilt, buildtime, generated}
 use Rattle.exports.specs.Export.{roas}
 use Rattle.exports.specs.Gathering.{IsLasting}
 use Rattle.exports.specs.ListForm.{ReadsRecords, Records}
+use Rattle.exports.specs.Numbering.{Anchors}
 use Rattle.exports.specs.Ignored.{element_count}
 use Rattle.exports.specs.PlainForm.{HasElements, HasEntries, HasParts, IsScalar, ReadsBuilt, ReadsCounted, ReadsForm, ReadsListParts, ReadsMembers, ReadsNoItems, ReadsNoMembers, ReadsNone, ReadsPart, ReadsParts, ReadsRoas, ReadsSome, TellsBuilt, TellsEntries, TellsParts, TellsRoas, before}
 use Rattle.exports.specs.Repeating.{ExportMet, export_repeats, export_twice, member_repeats, members_repeat, metadata_repeat, roas_repeat}
@@ -29,6 +30,7 @@ use Rattle.exports.specs.declared.streaming.ExportMembers.{ExportMembers}
 use Rattle.exports.specs.declared.streaming.Scalar.{Scalar}
 use Rattle.exports.proofs.Deciding.{names_differ, of_tree}
 use Rattle.exports.proofs.Elements as counts
+use Rattle.exports.proofs.Anchoring.{anchors_in_roas}
 use Rattle.exports.proofs.Items.{gather_list}
 use Rattle.exports.proofs.PlainParts.{no_array_here, no_object_here, object_first, or_false, or_more}
 use Rattle.exports.proofs.PlainSteps.{Unread, array_read, no_array, no_object, object_read, other, unread}
@@ -134,7 +136,7 @@ more_than_json text Is reader rest later t whole some more =
 
 told_some : (now : ℕ) (ms : Members) (o : Option Entries) → HasEntries now (object ms) o → TellsEntries now (object ms) o
 told_some now ms None h = (h, λ es l. let no : None ≡ Some l.items = l.is_array in absurd (cc))
-told_some now ms (Some (Whole g)) h = (h.2.0, inr (record { items = h.0; roas_are = h.1; entries = h.2.1 }), h.2.2)
+told_some now ms (Some (Whole g)) h = (h.2.0, inr (record { items = h.0; roas_are = h.1; entries = h.2.1 }), h.2.2, subst (λ names. Anchors now h.2.0 names g) (anchors_in_roas (object ms) h.0 h.1) h.2.3)
 told_some now ms (Some (Broken i w)) h = (h.0, h.1, h.2)
 
 pub object_form : {E : Type 0} (now : ℕ) (old ts new : List Token) (r : Result (Option ExportMembers) E) → old ≡ Token.begin_object ∷ ts

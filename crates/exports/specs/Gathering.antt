@@ -28,9 +28,11 @@ pub record Gathers (now : ℕ) (es : List ExportEntry) (g : EntryRecords) : Type
   pub expired : g.expired ≡ expired now es
   pub until : IsFirst (endings now es) g.until
 
--- This was gathered of entries that have no expiry.
+-- This was gathered of entries that have no expiry and no trust anchor.
 pub record IsLasting (g : EntryRecords) : Type 0 where
   pub lasts : g.lasts.items ≡ replicate (length g.records.items) 18446744073709551615
+  pub anchors : g.anchors.items ≡ replicate (length g.records.items) 255
+  pub names : length g.names.names.items ≡ 0
   pub expired : g.expired ≡ 0
   pub until : g.until ≡ None
 

@@ -7,6 +7,9 @@ pub mod Export
 pub mod Until
 pub mod Lasting
 pub mod Ignored
+pub mod Anchors
+pub mod Names
+pub mod Numbering
 pub mod Gathering
 pub mod Repeating
 pub mod PlainForm
@@ -14,4 +17,5 @@ pub mod ListForm
 pub mod ExportRows
 pub mod LastingRows
 pub mod IgnoredRows
+pub mod AnchorRows
 pub mod ExportLaws

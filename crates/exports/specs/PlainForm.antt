@@ -1,6 +1,6 @@
 -- Steps of reading an export token by token. A text nests 127 deep at most, so the members of an export 126, entries 125, and their
 -- members 124.
-use Rattle.std.specs.Prelude.{◌≡◌, ◌||◌, Bool, false, MatchBool, ℕ, zero, suc, ◌<◌, List, [], ◌∷◌, length, Option, Some, None, Result, Ok, Err, is_some, option_map, codes, ⊤}
+use Rattle.std.specs.Prelude.{◌≡◌, ◌||◌, Bool, false, MatchBool, ℕ, zero, suc, ◌<◌, List, [], ◌∷◌, length, map, Option, Some, None, Result, Ok, Err, is_some, option_map, codes, ⊤}
 use Rattle.json.specs.Token.{Token}
 use Rattle.json.specs.Json as json
 use Rattle.json.specs.Json.{Json, items, members, value}
@@ -8,11 +8,13 @@ use Rattle.serde_json.specs.Data.{Data, array, object, Items, no_items, item, Me
 use Rattle.serde_json.specs.Find.{as_array, as_object, as_str}
 use Rattle.serde_json.specs.Read.{of_items, of_json, of_members, converted, read}
 use Rattle.payload_lists.specs.PayloadList.{text_at, whole_at}
+use Rattle.exports.specs.Anchors.{anchor_of, anchors_in, anchors_of}
 use Rattle.exports.specs.Built.{IsBuilt, buildtime, generated}
 use Rattle.exports.specs.Entry.{AreEntries, FailsAt, IsEntry, IsNoEntry, said, whole}
 use Rattle.exports.specs.Export.{IsList, Lists, roas}
 use Rattle.exports.specs.Gathering.{Gathers, said_by}
 use Rattle.exports.specs.Ignored.{element_count, elements_at}
+use Rattle.exports.specs.Numbering.{Anchors}
 use Rattle.exports.specs.Repeating.{entry_repeats, export_repeats, items_repeat, member_repeats, metadata_repeat, roas_repeat}
 use Rattle.exports.specs.Repeats.{Repeats}
 use Rattle.exports.specs.declared.entry.RawEntry.{RawEntry}
@@ -24,6 +26,7 @@ use Rattle.exports.specs.declared.fault.ExportFault.TheVariants.{NotJson, NoRoas
 use Rattle.exports.specs.declared.streaming.Entries.{Entries}
 use Rattle.exports.specs.declared.streaming.Entries.TheVariants.{Whole, Broken}
 use Rattle.exports.specs.declared.streaming.Metadata.{Metadata}
+use Rattle.exports.specs.declared.streaming.ReadEntry.{ReadEntry}
 use Rattle.exports.specs.declared.streaming.ExportMembers.{ExportMembers}
 use Rattle.exports.specs.declared.streaming.Scalar.{Scalar}
 
@@ -70,7 +73,7 @@ IsScalar d s =
 
 -- what was found in an entry of these members
 abbrev pub IsRawEntry : Members → RawEntry → Type 0
-IsRawEntry ms f = said (object ms) ≡ said_by f
+IsRawEntry ms f = (said (object ms) ≡ said_by f) × (text_at (codes "ta") (object ms) ≡ option_map (λ s. s.now) f.ta)
 
 -- what metadata of these members say
 abbrev pub IsMetadata : Members → Metadata → Type 0
@@ -92,6 +95,10 @@ abbrev pub IsJudged : Data → Result ExportEntry EntryFault → Type 0
 IsJudged d (Ok e) = IsEntry d e
 IsJudged d (Err w) = IsNoEntry d w
 
+-- This was read of a value as an entry.
+abbrev pub IsReadEntry : Data → ReadEntry → Type 0
+IsReadEntry d r = IsJudged d r.listed × (text_at (codes "ta") d ≡ option_map (λ s. s.now) r.ta)
+
 -- The first of the data that is no entry has this index, and this is wrong with it.
 abbrev pub FailsIn : List Data → ℕ → EntryFault → Type 0
 FailsIn [] i w = ⊥
@@ -100,17 +107,17 @@ FailsIn (d ∷ ds) (suc i) w = ((e : ExportEntry) × IsEntry d e) × FailsIn ds 
 
 -- This was read of these data as entries ..
 abbrev pub TellsListed : ℕ → List Data → Entries → Type 0
-TellsListed now ds (Whole g) = (es : List ExportEntry) × AreListed ds es × Gathers now es g
+TellsListed now ds (Whole g) = (es : List ExportEntry) × AreListed ds es × Gathers now es g × Anchors now es (map anchor_of ds) g
 TellsListed now ds (Broken i w) = FailsIn ds i w
 
 -- .. and of the items of an array.
 abbrev pub TellsItems : ℕ → Items → Entries → Type 0
-TellsItems now ds (Whole g) = (es : List ExportEntry) × AreEntries ds es × Gathers now es g
+TellsItems now ds (Whole g) = (es : List ExportEntry) × AreEntries ds es × Gathers now es g × Anchors now es (anchors_of ds) g
 TellsItems now ds (Broken i w) = FailsAt ds i w
 
 -- An entry was read, and whether a name is repeated in it.
-abbrev pub ReadsEntry : List Token → List Token → Result ExportEntry EntryFault × Bool → Type 0
-ReadsEntry old new r = ReadsSome 125 (λ j d. IsJudged d r.0 × (r.1 ≡ entry_repeats j)) old new
+abbrev pub ReadsEntry : List Token → List Token → ReadEntry → Type 0
+ReadsEntry old new r = ReadsSome 125 (λ j d. IsReadEntry d r × (r.repeat ≡ entry_repeats j)) old new
 
 -- These entries were read to the end of their array, and whether a name is repeated in one of them.
 abbrev pub ReadsEntries : ℕ → List Token → List Token → Entries × Bool → Type 0
@@ -156,7 +163,7 @@ ReadsPart now name before after old new =
 -- The entries of a value in either form
 abbrev pub TellsEntries : ℕ → Data → Option Entries → Type 0
 TellsEntries now d None = (roas d ≡ None) × ((es : List ExportEntry) → ¬ (IsList d es))
-TellsEntries now d (Some (Whole g)) = (es : List ExportEntry) × Lists d es × Gathers now es g
+TellsEntries now d (Some (Whole g)) = (es : List ExportEntry) × Lists d es × Gathers now es g × Anchors now es (anchors_in d) g
 TellsEntries now d (Some (Broken i w)) = (ds : Items) × (roas d ≡ Some ds) × FailsAt ds i w
 
 -- What was read of a value in either form

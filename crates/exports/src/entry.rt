@@ -17,7 +17,7 @@ pub struct ExportEntry {
 }
 
 /// What was found in an entry: under each key its whole number or its text, if it has one. The value of `expires` may
-/// be no whole number.
+/// be no whole number. The text `ta` names a trust anchor.
 #[derive(Clone, Copy, Debug)]
 pub struct RawEntry<'a> {
     pub(crate) asn_number: Option<u64>,
@@ -25,6 +25,7 @@ pub struct RawEntry<'a> {
     pub(crate) prefix: Option<&'a str>,
     pub(crate) max_len: Option<u64>,
     pub(crate) expires: Option<Option<u64>>,
+    pub(crate) ta: Option<&'a str>,
 }
 
 /// The AS number of an entry.

@@ -4,12 +4,13 @@ ghost use Rattle.serde_json.specs.Data.{Data, Members, object, put};
 ghost use Rattle.exports.specs.Ignored.{element_count};
 ghost use Rattle.exports.specs.PlainForm.{HasElements};
 
-/// How many elements of an export are not served.
+/// The number of elements of an export that are not served.
 #[derive(Clone, Copy, Debug, Drop, PartialEq, Eq)]
 pub struct Ignored {
-    /// The elements of the array `aspas`: each has a customer AS and its providers.
+    /// The number of elements of the array `aspas`. Each has a customer AS and its providers.
     pub aspas: u64,
-    /// The elements of the arrays `bgpsec_keys` (rpki-client, StayRTR) and `routerKeys` (Routinator): keys of routers for BGPsec (RFC 8635).
+    /// The number of elements of the arrays `bgpsec_keys` (rpki-client, StayRTR) and `routerKeys` (Routinator): router keys for BGPsec (RFC
+    /// 8635).
     pub router_keys: u64,
 }
 

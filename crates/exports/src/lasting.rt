@@ -6,7 +6,9 @@ ghost use Rattle.prefixes.specs.Payload.{vrp_cmp};
 ghost use Rattle.vrps.specs.VrpSet.{has, listing, set_of, size};
 ghost use Rattle.exports.specs.Gathering.{SetFails};
 ghost use Rattle.exports.specs.Lasting.{AreLasts, last_at};
+ghost use Rattle.exports.specs.Numbering.{AreNumbers, number_at};
 
+use crate::anchors::NO_ANCHOR;
 use crate::fault::ExportFault;
 use prefixes::Vrp;
 use std::alloc::{AllocError, Global};
@@ -60,24 +62,38 @@ fn last_at(lasts: &[u64], index: usize) -> u64
     }
 }
 
-/// For each member of the set of these records the greatest of its last seconds.
+/// The number of a trust anchor at a place; past the end none.
+fn number_at(numbers: &[u8], index: usize) -> u8
+    ensures { result ≡ number_at numbers.now index }
+{
+    match numbers.get(index) {
+        Some(number) => *number,
+        None => NO_ANCHOR,
+    }
+}
+
+/// For each member of the set of these records the greatest of its last seconds, and the number of one of its trust anchors.
 fn lasts_of(
     alloc: Global,
     members: &[Vrp],
     records: &[Vrp],
     lasts: &[u64],
-) -> Result<Vec<u64>, AllocError>
+    numbers: &[u8],
+) -> Result<(Vec<u64>, Vec<u8>), AllocError>
     requires { members.now ≡ listing (set_of records.now) }
-    ensures { IfOk result (λ found. AreLasts records.now lasts.now (set_of records.now) found.items) }
+    ensures lasts { IfOk result (λ r. AreLasts records.now lasts.now (set_of records.now) r.0.items) }
+    ensures numbers { IfOk result (λ r. AreNumbers records.now numbers.now (set_of records.now) r.1.items) }
 {
     let mut found = vec![in alloc; 0u64; members.len()]?;
+    let mut of_each = vec![in alloc; NO_ANCHOR; members.len()]?;
     let mut guess = 0usize;
     for (index, vrp) in records.iter().enumerate() {
         let place = place_of(members, vrp, guess);
         found[place] = found[place].max(last_at(lasts, index));
+        of_each[place] = number_at(numbers, index);
         guess = place + 1;
     }
-    Ok(found)
+    Ok((found, of_each))
 }
 
 /// Whether all of these last seconds are the last there is.
@@ -87,22 +103,48 @@ fn ends_never(lasts: &[u64]) -> bool
     lasts.iter().all(|last| *last == u64::MAX)
 }
 
-/// The set of these records, and the last second of each of its members.
+/// Whether no record has a trust anchor.
+fn has_no_anchor(numbers: &[u8]) -> bool
+    ensures { result ≡ list_all (λ number. number == 255) numbers.now }
+{
+    numbers.iter().all(|number| *number == NO_ANCHOR)
+}
+
+/// A set, and for each of its members its last second and the number of its trust anchor.
+#[derive(Debug, Drop)]
+pub struct SetLasting {
+    pub(crate) set: VrpSet,
+    pub(crate) lasts: Vec<u64>,
+    pub(crate) anchors: Vec<u8>,
+}
+
+/// The set of these records, and the last second and the trust anchor of each of its members.
 pub(crate) fn set_lasting(
     alloc: Global,
     records: Vec<Vrp>,
     lasts: &[u64],
-) -> Result<(VrpSet, Vec<u64>), ExportFault>
-    ensures set { IfOk result (λ made. (made.0 ≡ set_of records.items) × (size made.0 ≤ 16777215)) }
-    ensures lasts { IfOk result (λ made. AreLasts records.items lasts.now made.0 made.1.items) }
+    numbers: &[u8],
+) -> Result<SetLasting, ExportFault>
+    ensures set { IfOk result (λ made. (made.set ≡ set_of records.items) × (size made.set ≤ 16777215)) }
+    ensures lasts { IfOk result (λ made. AreLasts records.items lasts.now made.set made.lasts.items) }
+    ensures anchors { IfOk result (λ made. AreNumbers records.items numbers.now made.set made.anchors.items) }
     ensures fault { IfErr result (λ fault. SetFails records.items fault) }
 {
-    if ends_never(lasts) {
+    if ends_never(lasts) && has_no_anchor(numbers) {
         let set = set_from(records)?;
-        let never = vec![in alloc; u64::MAX; set.len()]?;
-        return Ok((set, never));
+        let lasts = vec![in alloc; u64::MAX; set.len()]?;
+        let anchors = vec![in alloc; NO_ANCHOR; set.len()]?;
+        return Ok(SetLasting {
+            set,
+            lasts,
+            anchors,
+        });
     }
     let set = set_of_copy(alloc, records.as_slice())?;
-    let found = lasts_of(alloc, set.as_slice(), records.as_slice(), lasts)?;
-    Ok((set, found))
+    let (lasts, anchors) = lasts_of(alloc, set.as_slice(), records.as_slice(), lasts, numbers)?;
+    Ok(SetLasting {
+        set,
+        lasts,
+        anchors,
+    })
 }

@@ -4,7 +4,7 @@ ghost use Rattle.exports.specs.ExportLaws.{LaterExports, NoFaultOfExports, OneEx
 use prefix_texts::laws::one_saying;
 use prefixes::laws::one_reading;
 
-/// What bytes are an export of, at a moment, is one thing.
+/// Law: bytes are at most one export at a given second, counted since 1970.
 pub fn one_export()
     ensures { OneExport }
 {
@@ -12,7 +12,8 @@ pub fn one_export()
     one_saying();
 }
 
-/// Bytes that are an export, at a moment, have no fault; so `read_export` refuses them only if memory runs out.
+/// Law: bytes that are an export at a given second have no fault but `Memory`.
+/// So `read_export` refuses them only if memory runs out.
 pub fn no_fault_of_exports()
     ensures { NoFaultOfExports }
 {
@@ -20,7 +21,7 @@ pub fn no_fault_of_exports()
     one_saying();
 }
 
-/// Bytes that are no export have one fault: the first.
+/// Law: bytes have at most one fault other than `Memory` at a given second, counted since 1970.
 pub fn one_fault()
     ensures { OneFault }
 {
@@ -28,7 +29,8 @@ pub fn one_fault()
     one_saying();
 }
 
-/// What bytes are an export of at a moment they are at each later one before its end, and at none from then on.
+/// Law: let bytes be an export at one second, with an `until` as in `TimedExport`.
+/// They are the same export at each later second before `until`, and not from `until` on. If `until` is `None`, they stay the same.
 pub fn same_until()
     ensures { SameUntil }
 {
@@ -36,7 +38,8 @@ pub fn same_until()
     one_saying();
 }
 
-/// Bytes that are an export stay one. At each later second below 2^64 its set is what counts then, by the last seconds, of the first.
+/// Law: bytes that are an export at one second are an export at each later second below 2^64, counted since 1970.
+/// The later set has exactly those VRPs of the first set whose last second is not past.
 pub fn later_exports()
     ensures { LaterExports }
 {

@@ -1,7 +1,5 @@
 //! Exports: the JSON in which validators write what they validated. [`read_export`] reads a payload list, or an object with an array
-//! `roas`, as rpki-client, Routinator, FORT, StayRTR and rtrdump write it. [`read_export_until`] says besides until when it is the same
-//! export, and [`read_export_lasting`] how long each record counts. [`read_export_counted`] adds how many ASPAs and router keys it has, which
-//! are not served.
+//! `roas`, as rpki-client, Routinator, FORT, StayRTR and rtrdump write it.
 //!
 //! For example, where `rt` is the runtime that `main` is handed:
 //!
@@ -16,8 +14,13 @@
 //! assert!(rt; export.expired == 1);
 //! assert!(rt; export.built == Some(1_700_000_000));
 //! ```
+//!
+//! [`read_export_until`] also returns the second until which the export stays the same. [`read_export_lasting`] also returns the last second at
+//! which each record counts. [`read_export_counted`] adds the number of ASPAs and router keys, which are not served, and the trust anchor of
+//! each record.
 #![tactic(auto)]
 
+mod anchors;
 mod built;
 mod counting;
 mod entry;
@@ -38,6 +41,7 @@ mod text;
 mod walk;
 mod words;
 
+pub use anchors::{ExportAnchors, NO_ANCHOR};
 pub use export::{
     Export, ExportCounted, ExportLasting, TimedExport, read_export, read_export_counted,
     read_export_lasting, read_export_until,

@@ -5,7 +5,8 @@ ghost use Rattle.json.specs.Reads.{token_of};
 ghost use Rattle.json.specs.Token.{Token as SpecToken};
 ghost use Rattle.serde_json.specs.Data.{Data, Members, put};
 ghost use Rattle.exports.specs.Repeating.{entry_twice, export_twice, two_twice};
-ghost use Rattle.exports.specs.PlainForm.{HasParts, IsRawEntry, IsJudged, IsMetadata, IsScalar, PassesItems, PassesMembers, ReadsBuilt, ReadsEntries, ReadsEntry, ReadsMembers, ReadsNoItems, ReadsNoMembers, ReadsNone, ReadsPart, ReadsRoas, ReadsSome, TellsListed};
+ghost use Rattle.exports.specs.PlainForm.{HasParts, IsRawEntry, IsReadEntry, IsMetadata, IsScalar, PassesItems, PassesMembers};
+ghost use Rattle.exports.specs.PlainForm.{ReadsBuilt, ReadsEntries, ReadsEntry, ReadsMembers, ReadsNoItems, ReadsNoMembers, ReadsNone, ReadsPart, ReadsRoas, ReadsSome, TellsListed};
 
 use crate::built::built;
 use crate::counting::count_elements;
@@ -188,6 +189,10 @@ fn with_member<'a>(found: RawEntry<'a>, name: &str, scalar: Scalar<'a>) -> RawEn
             expires: Some(scalar.number),
             ..found
         },
+        "ta" => RawEntry {
+            ta: scalar.text,
+            ..found
+        },
         _ => found,
     }
 }
@@ -202,6 +207,7 @@ fn plain_members<'a>(reader: &mut Reader<'a>) -> Option<(RawEntry<'a>, bool)>
         prefix: None,
         max_len: None,
         expires: None,
+        ta: None,
     };
     let mut names = EntryNames::NONE;
     loop {
@@ -222,17 +228,34 @@ pub(crate) fn begins_object(token: &Token<'_>) -> bool
     matches!(token, Token::BeginObject)
 }
 
-/// Reads an entry: what it lists, or what of it cannot be read, and whether a name that is read is repeated.
-fn plain_entry(reader: &mut Reader<'_>) -> Option<(Result<ExportEntry, EntryFault>, bool)>
+/// What was read of an entry: what it lists, or what of it cannot be read, the name of its trust anchor, and whether a name that is read is
+/// repeated.
+#[derive(Clone, Copy, Debug)]
+pub struct ReadEntry<'a> {
+    listed: Result<ExportEntry, EntryFault>,
+    ta: Option<&'a str>,
+    repeat: bool,
+}
+
+/// Reads an entry.
+fn plain_entry<'a>(reader: &mut Reader<'a>) -> Option<ReadEntry<'a>>
     ensures { MatchOption result (ReadsNone 125 reader.old) (λ r. ReadsEntry reader.old reader.new r) }
 {
     let token = reader.next()?;
     if !begins_object(&token) {
         let _passed = read_rest(reader, token, NESTING - 2)?;
-        return Some((Err(EntryFault::NoObject), false));
+        return Some(ReadEntry {
+            listed: Err(EntryFault::NoObject),
+            ta: None,
+            repeat: false,
+        });
     }
     let (found, repeat) = plain_members(reader)?;
-    Some((judged(&found), repeat))
+    Some(ReadEntry {
+        listed: judged(&found),
+        ta: found.ta,
+        repeat,
+    })
 }
 
 /// When an export says that it was made.
@@ -302,25 +325,26 @@ pub enum Entries {
 
 /// The same with one entry more, which has this index. `AllocError`: 2^64 entries do not count, which no memory holds.
 fn with_entry(
+    alloc: Global,
     entries: Entries,
-    entry: Result<ExportEntry, EntryFault>,
+    entry: &ReadEntry<'_>,
     index: usize,
     now: u64,
 ) -> Result<Entries, AllocError>
-    ensures { IfOk result (λ after. (ds : List Data) (d : Data) → length ds ≡ index → TellsListed now ds entries → IsJudged d entry → TellsListed now (ds ++ d ∷ []) after) }
+    ensures { IfOk result (λ after. (ds : List Data) (d : Data) → length ds ≡ index → TellsListed now ds entries → IsReadEntry d entry.now → TellsListed now (ds ++ d ∷ []) after) }
 {
     let mut gathered = match entries {
         Entries::Whole(gathered) => gathered,
         Entries::Broken(first, what) => return Ok(Entries::Broken(first, what)),
     };
-    let listed = match entry {
+    let listed = match entry.listed {
         Ok(listed) => listed,
         Err(what) => return Ok(Entries::Broken(index, what)),
     };
     if gathered.is_full() {
         return Err(AllocError);
     }
-    gathered.add(&listed, now)?;
+    gathered.add(alloc, &listed, entry.ta, now)?;
     Ok(Entries::Whole(gathered))
 }
 
@@ -339,11 +363,11 @@ fn gather_entries(
         if index == usize::MAX {
             return Err(AllocError);
         }
-        let Some((entry, twice)) = plain_entry(reader) else {
+        let Some(entry) = plain_entry(reader) else {
             return Ok(None);
         };
-        entries = with_entry(entries, entry, index, now)?;
-        repeat |= twice;
+        entries = with_entry(alloc, entries, &entry, index, now)?;
+        repeat |= entry.repeat;
         index += 1;
     }
     Ok(Some((entries, repeat)))

@@ -182,9 +182,12 @@ fn joined(alloc: Global, place: &str, why: &str, fault: ExportFault) -> Result<S
     format!(in alloc; "{place}{why} (fault {})", fault.number())
 }
 
-/// A fault of these bytes in words. It names the entry, counted from 0, the member and its value; or the name that is repeated. If the bytes
-/// are not JSON, it gives the line and the column, or says that they are compressed or begin with a byte order mark. A value is shown as JSON;
-/// if that has over 80 bytes, only its first 80. The bytes are read again, token by token; a tree is built of one entry at most.
+/// Returns the text of a fault that a read of `bytes` reported. It names the entry, counted from 0, the member and its value, or the
+/// repeated name.
+/// For `NotJson` it has the line and column, or says that the bytes are compressed or begin with a byte order mark.
+/// A value is shown as JSON, at most its first 80 bytes. An error means that memory runs out.
+///
+/// The bytes are read again, token by token. At most one entry is built as a tree.
 pub fn fault_text(alloc: Global, bytes: &[u8], fault: ExportFault) -> Result<String, AllocError>
     ensures { IfOk result (λ text. (why : List ℕ) × (string_bytes text ≡ place fault ++ why ++ number_text fault)) }
 {

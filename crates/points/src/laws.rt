@@ -1,13 +1,13 @@
-//! What holds of the definitions of offers. Nothing here runs.
+//! Laws of offers to publication points. The functions do nothing: each states a law, which is proved.
 
 ghost use Rattle.points.specs.PointLaws.{NewWhereAcceptable, OneJudgement};
 
-/// An offer to a point is judged New exactly if it is acceptable.
+/// Law: an offer to a point is judged `New` if and only if it is acceptable.
 pub fn new_where_acceptable()
     ensures { NewWhereAcceptable }
 {}
 
-/// No offer has two judgements.
+/// Law: an offer has at most one judgement: `New`, `Same`, or one refusal.
 pub fn one_judgement()
     ensures { OneJudgement }
 {}

@@ -11,7 +11,7 @@ use der_lite::Moment;
 use std::alloc::Global;
 use std::marker::Model;
 
-/// A publication point: nothing, or what was accepted last.
+/// A publication point. It holds the manifest accepted last with its ROAs, or nothing.
 #[derive(Debug, Drop)]
 pub struct Point {
     alloc: Global,
@@ -30,7 +30,7 @@ impl Model for Point {
 }
 
 impl Point {
-    /// A point that has accepted nothing. It allocates no memory.
+    /// Returns a point that has accepted nothing. It allocates no memory.
     pub fn new(alloc: Global) -> Point
         ensures { result ≡ None }
     {
@@ -40,14 +40,14 @@ impl Point {
         }
     }
 
-    /// Offers a manifest with the files that were fetched with it, all verified by the caller.
-    /// `now` is the moment of the offer, in UTC. The offer is accepted as a whole, or refused, and
-    /// then the point holds what it held (RFC 9286 section 6).
+    /// Offers a manifest payload with the files that were fetched with it. The caller has verified all signatures.
+    /// `now` is the time of the offer, in UTC. The offer is accepted as a whole, or refused as a whole (RFC 9286 section 6).
     ///
-    /// The first that holds decides: `Manifest`, `NotYet`, `Stale`, `Same`, `OldNumber`, `OldTime`,
-    /// `FileTwice` at the least file supplied, and at the least file listed `Missing`,
-    /// `HashDiffers`, `Roa`. `Same` means the bytes that were accepted last; the files are not
-    /// looked at then. `Memory` may come wherever memory is asked for.
+    /// `New`: the point now holds the offer. `Same`: the manifest has the bytes that were accepted last, and the files are not checked.
+    /// Err: the offer is refused, and the point is unchanged.
+    ///
+    /// The first case in this order decides: `Manifest`, `NotYet`, `Stale`, `Same`, `OldNumber`, `OldTime`, `FileTwice`.
+    /// Then file by file of the manifest: `Missing`, `HashDiffers`, `Roa`. `Memory` may come at any step.
     pub fn offer(
         &mut self,
         manifest: &[u8],

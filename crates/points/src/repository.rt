@@ -19,8 +19,7 @@ use std::alloc::{AllocError, Global};
 use std::collections::BTreeMap;
 use std::marker::Model;
 
-/// Publication points by their names. A name that was never accepted at counts as a point that holds
-/// nothing.
+/// Publication points by their names. A name without an accepted offer counts as a point that holds nothing.
 #[derive(Debug, Drop)]
 pub struct Repository {
     alloc: Global,
@@ -40,7 +39,7 @@ impl Model for Repository {
 }
 
 impl Repository {
-    /// A repository without points. It allocates no memory.
+    /// Returns a repository without points. It allocates no memory.
     pub fn new(alloc: Global) -> Repository
         ensures { result ≡ no_points }
     {
@@ -50,8 +49,7 @@ impl Repository {
         }
     }
 
-    /// Offers to the point of this name, as [`Point::offer`](crate::Point::offer) does. No other
-    /// point changes.
+    /// Makes an offer to the point `name`, with the results of [`Point::offer`](crate::Point::offer). No other point changes.
     pub fn offer(
         &mut self,
         name: &str,
@@ -75,8 +73,8 @@ impl Repository {
         }
     }
 
-    /// What is in use at a moment, strictly ascending: the payloads of the ROAs of all points whose
-    /// manifest has its nextUpdate not before the moment.
+    /// Returns the VRPs in use at the time `now`, in UTC: those of the ROAs of each point whose nextUpdate is not before `now`.
+    /// They ascend strictly, so each is listed once. An error means that memory runs out.
     pub fn payloads(&self, now: Moment) -> Result<Vec<Vrp>, AllocError>
         ensures { IfOk result (λ vrps. Lists vrps.items self.now now) }
     {

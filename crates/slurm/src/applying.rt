@@ -52,8 +52,9 @@ fn matched(alloc: Global, filters: &[PrefixFilter], set: &VrpSet) -> Result<VrpS
     Ok(VrpSet::from_list(records).unwrap())
 }
 
-/// The members of the set that no filter matches, together with the assertions, on which filters do not act.
-/// `TooMany`: these are more than a set may have. `Memory`: out of memory.
+/// Returns the members of `set` that no filter of `slurm` matches, together with its assertions. Filters do not act on the assertions.
+///
+/// `Err(TooMany)`: the result has over 16,777,215 VRPs, which is more than a set may have. `Err(Memory)`: out of memory.
 pub fn apply(slurm: &Slurm, alloc: Global, set: &VrpSet) -> Result<VrpSet, SetFault>
     ensures ok { IfOk result (λ t. (t ≡ excepted (exceptions_of slurm.now) set.now) × (size t ≤ 16777215)) }
     ensures members { IfOk result (IsExcepted (exceptions_of slurm.now) set.now) }

@@ -5,7 +5,7 @@ use std::alloc::AllocError;
 use std::fmt::{self, Display};
 use thiserror::Error;
 
-/// The arrays of a file (RFC 8416 section 3.2).
+/// The four arrays of a SLURM file (RFC 8416 section 3.2).
 #[derive(Clone, Copy, Debug, PartialEq, Eq)]
 pub enum SlurmArray {
     /// `prefixFilters` (section 3.3.1).
@@ -21,7 +21,7 @@ pub enum SlurmArray {
 impl SlurmArray {
     ghost use Rattle.slurm.specs.Telling.{array_key, object_of};
 
-    /// Its key.
+    /// The key of the array in the file, such as `prefixFilters`.
     pub fn key(self) -> &'static str
         ensures { result.now ≡ array_key self }
     {
@@ -84,13 +84,13 @@ impl Display for SlurmObject {
     }
 }
 
-/// Why an entry of an array cannot be read. If there are several reasons, the first of these is reported.
+/// Why an entry of an array cannot be read. If there are several reasons, the first one in the order below is reported.
 #[derive(Clone, Copy, Debug, PartialEq, Eq, Error)]
 pub enum SlurmEntryFault {
-    /// It is not an object.
+    /// The entry is not a JSON object.
     #[error("not an object")]
     NoObject,
-    /// It has a key that no such entry has.
+    /// The entry has a member that its array does not allow.
     #[error("a key that is not known")]
     OtherKey,
     /// A filter has neither a prefix nor an AS.
@@ -119,13 +119,13 @@ pub enum SlurmEntryFault {
     MaxLength,
 }
 
-/// Why bytes give no exceptions. The numbers are fixed.
+/// Why bytes are not a SLURM file. The fault numbers never change.
 #[derive(Clone, Copy, Debug, PartialEq, Eq, Error)]
 pub enum SlurmFault {
-    /// The bytes are not a JSON text.
+    /// The bytes are not a JSON text, or not UTF-8.
     #[error("not JSON (fault 1)")]
     NotJson,
-    /// This is not a JSON object, or its members are not exactly the required ones.
+    /// This part of the file is not a JSON object, or its members are not exactly the required ones.
     #[error("{0} is not an object of exactly its members (fault 2)")]
     Members(SlurmObject),
     /// `slurmVersion` is not 1.
@@ -134,16 +134,16 @@ pub enum SlurmFault {
     /// This member is not an array.
     #[error("{0} is not an array (fault 4)")]
     NoArray(SlurmArray),
-    /// The entry of this index, from 0 on, cannot be read; it is the first one.
+    /// The first entry that cannot be read: its array, its index from 0, and why.
     #[error("{0}[{1}]: {2} (fault 5)")]
     Entry(SlurmArray, usize, SlurmEntryFault),
-    /// Over 16,777,215 different assertions.
+    /// The file has over 16,777,215 different prefix assertions.
     #[error("more than 16777215 different assertions (fault 6)")]
     TooMany,
     /// Out of memory.
     #[error("out of memory (fault 7)")]
     Memory,
-    /// A name is repeated in an object, at any depth.
+    /// An object at any depth repeats a name.
     #[error("a name is repeated in an object (fault 8)")]
     Repeated,
 }
@@ -151,7 +151,7 @@ pub enum SlurmFault {
 impl SlurmFault {
     ghost use Rattle.slurm.specs.Faults.{slurm_fault_number};
 
-    /// The number by which the fault is printed.
+    /// The number of the fault, from 1 to 8. Messages contain it as `(fault 1)`.
     pub fn number(self) -> u8
         ensures { result ≡ slurm_fault_number self }
     {

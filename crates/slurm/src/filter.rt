@@ -4,20 +4,21 @@ ghost use Rattle.std.specs.Prelude.{◌≡◌};
 use prefixes::{Asn, IpPrefix, Vrp};
 use vrps::VrpSet;
 
-/// A prefix filter (RFC 8416 section 3.3.1). It matches a record whose prefix is this prefix or is covered by it, if there is one, and
-/// whose AS is this AS, if there is one.
+/// A prefix filter (RFC 8416 section 3.3.1). It matches a VRP if both of its conditions hold.
+/// - If it has a prefix, the VRP's prefix is equal to it or covered by it.
+/// - If it has an AS, the VRP has this AS.
 #[derive(Clone, Copy, Debug, PartialEq, Eq)]
 pub struct PrefixFilter {
-    /// The prefix that it reaches, with all that it covers; none for every prefix.
+    /// The prefix that matches, together with all prefixes that it covers. `None`: every prefix matches.
     pub prefix: Option<IpPrefix>,
-    /// The AS that it reaches; none for every AS.
+    /// The AS that matches. `None`: every AS matches.
     pub asn: Option<Asn>,
 }
 
 impl PrefixFilter {
     ghost use Rattle.slurm.specs.Exceptions.{is_of_as, is_within, matches};
 
-    /// Whether the filter matches the record.
+    /// Returns whether the filter matches the VRP.
     pub fn matches(&self, vrp: &Vrp) -> bool
         ensures { result ≡ matches self.now vrp.now }
     {
@@ -45,11 +46,12 @@ impl PrefixFilter {
     }
 }
 
-/// Local exceptions: the records that match a filter are left out, and the assertions are there in any case.
+/// Local exceptions. [`apply`](crate::apply) removes the VRPs that a filter matches, and adds the assertions. Filters do not act on the
+/// assertions.
 #[derive(Debug, Drop)]
 pub struct Slurm {
     /// The prefix filters, in the order of the file.
     pub filters: Vec<PrefixFilter>,
-    /// The prefix assertions as records (RFC 8416 section 3.4.1).
+    /// The prefix assertions as VRPs (RFC 8416 section 3.4.1).
     pub assertions: VrpSet,
 }

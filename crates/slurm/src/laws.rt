@@ -6,62 +6,62 @@ ghost use Rattle.slurm.specs.Scoped.{OneScopedReading, ReadsScopedExactly, Scope
 ghost use Rattle.slurm.specs.SlurmFile.{OneReading};
 ghost use Rattle.slurm.specs.Uniting.{AnyOrder, OneIsApart, SharesAddress, UnitedApplied};
 
-/// Applying exceptions twice gives what applying them once gives.
+/// Law: applying exceptions twice gives the same set as applying them once.
 pub fn applied_twice()
     ensures { AppliedTwice }
 {}
 
-/// Filters do not act on assertions.
+/// Law: each assertion is in the result, even if a filter matches it.
 pub fn assertions_stay()
     ensures { AssertionsStay }
 {}
 
-/// Bytes say one thing: the exceptions of a file, or its first fault.
+/// Law: for any bytes there is one result of reading: the exceptions of the file, or its first fault.
 pub fn one_reading()
     ensures { OneReading }
 {}
 
-/// Exceptions are read of bytes if and only if these are a SLURM file of them.
+/// Law: `ReadsSlurm` accepts exactly the files that `IsSlurmFile` describes, with the same exceptions.
 pub fn reads_exactly()
     ensures { ReadsExactly }
 {}
 
-/// A file with its scope is read of bytes if and only if these are such a file.
+/// Law: `ReadsScoped` accepts exactly the files that `IsScopedFile` describes, with the same scope.
 pub fn reads_scoped_exactly()
     ensures { ReadsScopedExactly }
 {}
 
-/// Bytes say one file with its scope, or its first fault.
+/// Law: for any bytes there is one result of reading with the scope: the file with its scope, or its first fault.
 pub fn one_scoped_reading()
     ensures { OneScopedReading }
 {}
 
-/// The readings with the scope and without it say the same, faults included.
+/// Law: reading with the scope and reading without it give the same exceptions, or the same fault.
 pub fn scopes_are_kept()
     ensures { ScopesAreKept }
 {}
 
-/// The scope of a file counts the entries that are not applied, as the arrays of the file have them.
+/// Law: the scope of a file counts the entries that are not applied. These are the elements of its two BGPsec arrays.
 pub fn scopes_count()
     ensures { ScopesCount }
 {}
 
-/// United files leave out of a set what a filter of any file matches, and add what any file asserts.
+/// Law: the united files remove from a set what a filter of any file matches. They add what any file asserts.
 pub fn united_applied()
     ensures { UnitedApplied }
 {}
 
-/// The order of the files changes nothing of what they make of a set.
+/// Law: the order of the files does not change the set that results.
 pub fn any_order()
     ensures { AnyOrder }
 {}
 
-/// One file overlaps with nothing.
+/// Law: if there is only one file, there is no overlap between files.
 pub fn one_is_apart()
     ensures { OneIsApart }
 {}
 
-/// One prefix covers the other exactly if they share an address.
+/// Law: one of two prefixes covers the other if and only if they have a common address.
 pub fn shares_an_address()
     ensures { SharesAddress }
 {}

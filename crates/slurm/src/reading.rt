@@ -125,8 +125,9 @@ fn read(alloc: Global, bytes: &[u8]) -> Result<ScopedSlurm, SlurmFault>
     }
 }
 
-/// A SLURM file with its scope: the exceptions that [`read_slurm`] reads, with the ASes of the entries on BGPsec. The faults are those of
-/// [`read_slurm`], in the same order.
+/// Reads a SLURM file with its scope. It returns the exceptions that [`read_slurm`] returns, and the ASes of the BGPsec entries.
+///
+/// `Err`: the faults of [`read_slurm`], in the same order.
 pub fn read_slurm_scoped(alloc: Global, bytes: &[u8]) -> Result<ScopedSlurm, SlurmFault>
     ensures reads { UnlessMemory (ReadsScoped bytes.now) (seen scoped_of result) }
     ensures file { IfOk result (λ s. IsScopedFile bytes.now (scoped_of s)) }
@@ -135,15 +136,24 @@ pub fn read_slurm_scoped(alloc: Global, bytes: &[u8]) -> Result<ScopedSlurm, Slu
     read(alloc, bytes)
 }
 
-/// The exceptions that a SLURM file says: an object with exactly the members `slurmVersion`, which is 1, `validationOutputFilters` and
-/// `locallyAddedAssertions`, which have exactly the arrays `prefixFilters` and `bgpsecFilters`, `prefixAssertions` and
-/// `bgpsecAssertions` (RFC 8416 section 3.2). The entries of each have exactly their members (sections 3.3 and 3.4); those of the two arrays on
-/// BGPsec have no effect, and whether an `SKI` or a `routerPublicKey` is Base64 is not judged. No name is repeated in an object.
+/// Reads a SLURM file (RFC 8416). No name may repeat in an object, and each object has exactly the members that are listed here.
+/// - The file: `slurmVersion` (1), `validationOutputFilters` and `locallyAddedAssertions` (section 3.2).
+/// - The filters: the arrays `prefixFilters` and `bgpsecFilters` (section 3.3).
+/// - The assertions: the arrays `prefixAssertions` and `bgpsecAssertions` (section 3.4).
 ///
-/// The first fault is reported: `NotJson`; `Repeated`; `Members` of the file, and `Version`; `Members` of the filters' object and then of the
-/// assertions'; `NoArray` of the four arrays in this order; `Entry` of the first entry, in this order of the arrays, that cannot be read,
-/// with its array, its index from 0 on, and its own first fault; `TooMany` if over 16,777,215 different records are asserted. `Memory`:
-/// memory ran out.
+/// BGPsec entries have no effect. Their `SKI` and `routerPublicKey` are not checked to be Base64.
+///
+/// `Err` is the first fault, in this order:
+/// - `NotJson`: the bytes are not a JSON text.
+/// - `Repeated`: an object repeats a name.
+/// - `Members` of the file, then `Version`: the members are wrong, or `slurmVersion` is not 1.
+/// - `Members` of the filters, then of the assertions.
+/// - `NoArray`: one of the four arrays is not an array. They are checked in the order of the list above.
+/// - `Entry`: the first entry that cannot be read, in the same order of the arrays. It has the array, the index from 0 and the entry's first
+///   fault.
+/// - `TooMany`: the file asserts over 16,777,215 different VRPs.
+///
+/// `Memory` (out of memory) can occur at any point.
 pub fn read_slurm(alloc: Global, bytes: &[u8]) -> Result<Slurm, SlurmFault>
     ensures reads { UnlessMemory (ReadsSlurm bytes.now) (seen exceptions_of result) }
     ensures file { IfOk result (λ s. IsSlurmFile bytes.now (exceptions_of s)) }

@@ -4,24 +4,24 @@ ghost use Rattle.std.specs.Prelude.{◌≡◌};
 use crate::filter::Slurm;
 use prefixes::Asn;
 
-/// A SLURM file as it was read: the exceptions that it says, and the ASes in its entries on BGPsec. Its scope is the prefixes of its prefix
-/// filters and prefix assertions, and these ASes (RFC 8416 section 4.2).
+/// A SLURM file with its scope: the exceptions, and the ASes of its BGPsec entries. The scope is these ASes and the prefixes of its prefix
+/// filters and prefix assertions (RFC 8416 section 4.2).
 #[derive(Debug, Drop)]
 pub struct ScopedSlurm {
     /// The exceptions.
     pub slurm: Slurm,
-    /// The AS of each filter on BGPsec, if it has one, in the order of the file (section 3.3.2).
+    /// The AS of each BGPsec filter, in the order of the file (section 3.3.2). `None`: the filter has no AS.
     pub bgpsec_filters: Vec<Option<Asn>>,
-    /// The AS of each assertion on BGPsec, in the order of the file (section 3.4.2).
+    /// The AS of each BGPsec assertion, in the order of the file (section 3.4.2).
     pub bgpsec_assertions: Vec<Asn>,
 }
 
-/// How many entries of a SLURM file are not applied, as router keys are not served.
+/// The numbers of entries of a SLURM file that are not applied: the BGPsec entries. This cache serves no router keys.
 #[derive(Clone, Copy, Debug, Drop, PartialEq, Eq)]
 pub struct Ignored {
-    /// The elements of the array `bgpsecFilters` (RFC 8416 section 3.3.2).
+    /// The number of elements of the array `bgpsecFilters` (RFC 8416 section 3.3.2).
     pub bgpsec_filters: u64,
-    /// The elements of the array `bgpsecAssertions` (section 3.4.2).
+    /// The number of elements of the array `bgpsecAssertions` (section 3.4.2).
     pub bgpsec_assertions: u64,
 }
 
@@ -30,7 +30,7 @@ impl ScopedSlurm {
     ghost use Rattle.slurm.specs.Ignored.{ignored_of};
     ghost use Rattle.slurm.specs.Scoped.{scoped_of};
 
-    /// The exceptions alone. It allocates no memory.
+    /// Returns the exceptions without the ASes of the BGPsec entries. It allocates no memory.
     pub fn into_exceptions(self) -> Slurm
         ensures { exceptions_of result ≡ exceptions_of self.slurm }
     {
@@ -38,7 +38,7 @@ impl ScopedSlurm {
         slurm
     }
 
-    /// How many entries of the file are not applied. It allocates no memory.
+    /// The numbers of entries that are not applied. It allocates no memory.
     pub fn ignored(&self) -> Ignored
         ensures { result ≡ ignored_of (scoped_of self.now) }
     {

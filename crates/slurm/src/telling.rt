@@ -324,9 +324,14 @@ fn joined(alloc: Global, place: &str, why: &str, fault: SlurmFault) -> Result<St
     format!(in alloc; "{place}{why} (fault {})", fault.number())
 }
 
-/// A fault of these bytes in words. It names the member that is missing, unknown or repeated, or else the array, the index from 0, the member
-/// and its value. The value is shown as JSON; if that has over 80 bytes, only its first 80. If the bytes are not JSON, it gives the line and the
-/// column, or says that they are compressed or begin with a byte order mark.
+/// Formats a fault of a SLURM file as a message. `bytes` is the file that [`read_slurm`](crate::read_slurm) refused with `fault`.
+///
+/// - The message names a member that is missing, unknown or repeated. Otherwise it names the array, the index from 0, the member and its value.
+/// - The value is shown as JSON. If that has over 80 bytes, only the first 80 are shown.
+/// - If the bytes are not JSON, the message gives the line and the column. Or it says that they are compressed or begin with a byte order mark.
+/// - The message ends in the fault number, such as `(fault 1)`.
+///
+/// `Err`: out of memory.
 pub fn fault_text(alloc: Global, bytes: &[u8], fault: SlurmFault) -> Result<String, AllocError>
     ensures { IfOk result (λ text. (why : List ℕ) × (string_bytes text ≡ place fault ++ why ++ number_text fault)) }
 {

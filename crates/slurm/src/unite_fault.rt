@@ -6,12 +6,12 @@ use std::alloc::AllocError;
 use std::fmt::{self, Display};
 use thiserror::Error;
 
-/// The place of an overlap of two files.
+/// Where two SLURM files overlap.
 #[derive(Clone, Copy, Debug, PartialEq, Eq)]
 pub enum Overlap {
-    /// A prefix of the first file and one of the second share an address: they are equal, or one covers the other.
+    /// A prefix of the first file and a prefix of the second share an address: they are equal, or one covers the other.
     Prefixes(IpPrefix, IpPrefix),
-    /// Both files have entries on BGPsec of this AS.
+    /// Both files have BGPsec entries of this AS.
     Bgpsec(Asn),
 }
 
@@ -25,20 +25,20 @@ impl Display for Overlap {
     }
 }
 
-/// Why several files are not used together. If there are several reasons, the first of these is reported.
+/// Why several SLURM files cannot be united. If there are several reasons, the first one in the order below is reported.
 #[derive(Clone, Copy, Debug, PartialEq, Eq, Error)]
 pub enum UniteFault {
-    /// Two files overlap: on prefixes, or if no two do, on ASes for BGPsec.
+    /// Two files overlap. ASes of BGPsec entries are compared only if no prefixes overlap.
     #[error("{what} of another SLURM file (RFC 8416 section 4.2)")]
     Overlap {
-        /// The index of the first of the two files, from 0 on.
+        /// The index of the earlier file, from 0.
         first: usize,
-        /// The index of the second, which is larger.
+        /// The index of the later file. It is larger than `first`.
         second: usize,
-        /// The place of the overlap.
+        /// Where they overlap.
         what: Overlap,
     },
-    /// The files together assert over 16,777,215 different records.
+    /// The files together assert over 16,777,215 different VRPs.
     #[error("more than 16777215 different assertions")]
     TooMany,
     /// Out of memory.

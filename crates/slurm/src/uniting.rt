@@ -79,12 +79,16 @@ fn united(alloc: Global, files: &[ScopedSlurm]) -> Result<Slurm, UniteFault>
     }
 }
 
-/// Several files as one: the prefix filters of all, one file after the other, and the union of their assertions (RFC 8416 section 4.2).
-/// The entries of one file may overlap each other, those of two files may not. If there are no files, there are no exceptions.
+/// Unites several SLURM files (RFC 8416 section 4.2). The result has the prefix filters of all files, in their order, and the union of their
+/// assertions. If there are no files, there are no exceptions.
 ///
-/// `Overlap`: two files overlap. Prefixes are judged before the ASes of the entries on BGPsec. A filter without a prefix, or on BGPsec without
-/// an AS, overlaps with nothing. `TooMany`: no two overlap, and over 16,777,215 different records are asserted. `Memory`: memory ran out.
-/// The time is that of sorting all entries.
+/// Entries of one file may overlap each other. Entries of two files may not. A filter without a prefix, or a BGPsec filter without an AS,
+/// overlaps with nothing.
+///
+/// `Err` is the first fault, in this order. `Overlap`: two files overlap; prefixes are compared before the ASes of BGPsec entries.
+/// `TooMany`: the files assert over 16,777,215 different VRPs. `Memory` (out of memory) can occur at any point.
+///
+/// The running time is that of sorting all entries.
 pub fn unite(alloc: Global, files: &[ScopedSlurm]) -> Result<Slurm, UniteFault>
     ensures { Unites (map scoped_of files.now) (seen exceptions_of result) }
 {

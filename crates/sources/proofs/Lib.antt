@@ -4,4 +4,5 @@ pub mod Ends
 pub mod Shrinks
 pub mod Stays
 pub mod Until
+pub mod Tallies
 pub mod Files

@@ -1,6 +1,6 @@
 -- An export that is too short is refused.
 use Rattle.std.proofs.Common.{◌≡◌, ℕ, List}
-use Rattle.std.specs.Prelude.{Option, None, Some, Result, Ok, Err}
+use Rattle.std.specs.Prelude.{None, Some, Result, Ok, Err}
 use Rattle.sources.specs.Served.{TakesExport}
 use Rattle.sources.specs.Shrinking.{TakesWithin}
 use Rattle.sources.specs.declared.fault.TakeFault.{TakeFault}

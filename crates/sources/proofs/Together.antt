@@ -1,6 +1,6 @@
 -- What is made of several sets.
 use Rattle.std.specs.Prelude.{◌≡◌, ◌≤◌, ◌<◌, ℕ, Bool, true, false, not, ◌&&◌, ◌||◌, List, [], ◌∷◌, ◌++◌, filter, Option, Some, None, Result, Ok, Err, refl, length}
-use Rattle.std.proofs.Common.{arith, inl, inr, ap, subst, sym, ◌∙◌, IfOk, get_or}
+use Rattle.std.proofs.Common.{arith, ap, subst, sym, ◌∙◌, IfOk, get_or}
 use Rattle.std.proofs.Math.Bool.{or-true}
 use Rattle.std.specs.List.{list_any}
 use Rattle.der_lite.specs.Moments.{CivilMoment}

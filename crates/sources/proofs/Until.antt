@@ -10,6 +10,7 @@ use Rattle.vrps.specs.VrpSet.{VrpSet, empty, listing, set_of, size}
 use Rattle.vrps.proofs.Listed.{size_of_listing}
 use Rattle.vrps.proofs.SetLaws.{set_of-listing}
 use Rattle.exports.specs.Lasting.{counting}
+use Rattle.sources.specs.ByAnchor.{HasNoAnchors}
 use Rattle.sources.specs.Served.{CountsUntil, IsNothing, counting_at, expired_of, none_ignored}
 use Rattle.sources.specs.TakenLaws.{NothingCounts}
 use Rattle.sources.specs.declared.listed.Listed.{Listed}
@@ -28,6 +29,7 @@ pub record HasOneEnd (s : VrpSet) (last : ℕ) (l : Listed) : Type 0 where
   pub lasts_are : l.lasts.items ≡ replicate (size s) last
   pub built_is : l.built ≡ None
   pub ignored_is : l.ignored ≡ none_ignored
+  pub anchors_are : HasNoAnchors l.anchors
 
 whole : (s : VrpSet) (b : Bool) → set_of (cond b (listing s) []) ≡ cond b s empty
 whole s true = set_of-listing s
@@ -54,6 +56,7 @@ without_end s l is = record {
   expired = λ at small. either_way at 18446744073709551615 s l is;
   built_is = is.built_is;
   ignored_is = is.ignored_is;
+  anchors_are = is.anchors_are;
 }
 
 one_before : (at end : ℕ) → 0 < end → (b : Bool) → nat_lt at end ≡ b → nat_le at (end - 1) ≡ b
@@ -67,6 +70,7 @@ with_end s end l some is = record {
   expired = λ at small. either_way at (end - 1) s l is;
   built_is = is.built_is;
   ignored_is = is.ignored_is;
+  anchors_are = is.anchors_are;
 }
 
 -- nothing counts of nothing
@@ -92,16 +96,17 @@ over_at_once s end l over is = record {
       omega (arith, both, (nothing_counts l is at).1);
   built_is = is.built;
   ignored_is = is.ignored;
+  anchors_are = is.anchors;
 }
 
 -- what was made for each of these
 abbrev Made : VrpSet → ℕ → Result Listed AllocError → Type 0
-Made s last r = IfOk r (λ l. (l.set ≡ s) × (l.built ≡ None) × (l.ignored ≡ none_ignored)) × IfOk r (λ l. l.lasts.items ≡ replicate (size s) last)
+Made s last r = IfOk r (λ l. (l.set ≡ s) × (l.built ≡ None) × (l.ignored ≡ none_ignored) × HasNoAnchors l.anchors) × IfOk r (λ l. l.lasts.items ≡ replicate (size s) last)
 
 pub made_without_end : (s : VrpSet) (until : Option ℕ) (r : Result Listed AllocError) → until ≡ None → Made s 18446744073709551615 r → IfOk r (CountsUntil s until)
-made_without_end s until (Ok l) is h = subst (λ u. CountsUntil s u l) (sym is) (without_end s l (record { set_is = h.0.0; lasts_are = h.1; built_is = h.0.1; ignored_is = h.0.2 }))
+made_without_end s until (Ok l) is h = subst (λ u. CountsUntil s u l) (sym is) (without_end s l (record { set_is = h.0.0; lasts_are = h.1; built_is = h.0.1; ignored_is = h.0.2; anchors_are = h.0.3 }))
 made_without_end s until (Err e) is h = tt
 
 pub made_with_end : (s : VrpSet) (until : Option ℕ) (end : ℕ) (r : Result Listed AllocError) → until ≡ Some end → ¬ (end ≡ 0) → Made s (end - 1) r → IfOk r (CountsUntil s until)
-made_with_end s until end (Ok l) is some h = subst (λ u. CountsUntil s u l) (sym is) (with_end s end l (omega (arith, some)) (record { set_is = h.0.0; lasts_are = h.1; built_is = h.0.1; ignored_is = h.0.2 }))
+made_with_end s until end (Ok l) is some h = subst (λ u. CountsUntil s u l) (sym is) (with_end s end l (omega (arith, some)) (record { set_is = h.0.0; lasts_are = h.1; built_is = h.0.1; ignored_is = h.0.2; anchors_are = h.0.3 }))
 made_with_end s until end (Err e) is some h = tt

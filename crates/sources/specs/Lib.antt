@@ -1,5 +1,7 @@
+pub mod ByAnchor
 pub mod Served
 pub mod ServedRows
 pub mod Shrinking
 pub mod ShrinkingRows
+pub mod AnchorRows
 pub mod TakenLaws

@@ -1,10 +1,11 @@
 -- What is served: what all sources have together, with local exceptions.
-use Rattle.std.specs.Prelude.{◌≡◌, ◌⊎◌, ◌<◌, ◌≤◌, ℕ, ◌+◌, ◌^◌, cond, nat_le, nat_lt, length, map, take, unwrap_or, count_by, filter, slice_set, Bool, true, false, not, ◌&&◌, ◌||◌, ◌==◌, List, [], ◌∷◌, Option, Some, None, Result, Ok, Err, ⊤}
+use Rattle.std.specs.Prelude.{◌≡◌, ◌⊎◌, ◌<◌, ◌≤◌, ℕ, ◌+◌, ◌^◌, cond, nat_le, nat_lt, length, map, take, unwrap_or, count_by, filter, slice_set, Bool, true, false, not, ◌&&◌, ◌||◌, ◌==◌, List, [], ◌∷◌, Option, Some, None, Result, Ok, Err, string_bytes, ⊤}
 use Rattle.std.specs.List.{All, list_any, slice_get}
 use Rattle.der_lite.specs.Moments.{CivilMoment}
 use Rattle.der_lite.specs.Seconds.{seconds_of}
 use Rattle.prefixes.specs.Payload.{Payload, block_of}
 use Rattle.vrps.specs.VrpSet.{VrpSet, empty, has, listing, set_of, size, union, without}
+use Rattle.exports.specs.Anchors.{IsExportAnchored}
 use Rattle.exports.specs.Export.{HasFault}
 use Rattle.exports.specs.Ignored.{IsExportCounted}
 use Rattle.exports.specs.Lasting.{IsExportLasting, counting}
@@ -21,6 +22,7 @@ use Rattle.slurm.specs.declared.fault.SlurmFault.{SlurmFault}
 use Rattle.slurm.specs.declared.fault.SlurmFault.TheVariants.{Memory}
 use Rattle.slurm.specs.declared.scoped.Ignored.{Ignored as IgnoredExceptions}
 use Rattle.slurm.specs.declared.unite_fault.UniteFault.TheVariants as unite
+use Rattle.sources.specs.ByAnchor.{AreLeft, HasNoAnchors}
 use Rattle.sources.specs.declared.fault.SlurmSetFault.{SlurmSetFault}
 use Rattle.sources.specs.declared.fault.SlurmSetFault.TheVariants.{File, Unite}
 use Rattle.sources.specs.declared.fault.TakeFault.{TakeFault}
@@ -112,7 +114,8 @@ pub record HasServed (points : Points) (lists : List Listed) (exceptions : Optio
 abbrev pub is_any_before : ℕ → List ℕ → Bool
 is_any_before at lasts = list_any (λ last. nat_lt last at) lasts
 
--- What is kept of a file is the set of its export at the moment, with the last second of each payload, and how much of its value is not served.
+-- What is kept of a file: the set of its export at the moment, the last second and the trust anchor of each payload, and how many of its
+-- entries are not served.
 pub record IsTaken (bytes : List ℕ) (now : ℕ) (expired : ℕ) (l : Listed) : Type 0 where
   pub read : ExportLasting
   pub is : IsExportLasting bytes now read
@@ -123,6 +126,9 @@ pub record IsTaken (bytes : List ℕ) (now : ℕ) (expired : ℕ) (l : Listed) :
   pub counted : ExportCounted
   pub is_counted : IsExportCounted bytes now counted
   pub ignored_is : l.ignored ≡ counted.ignored
+  pub is_anchored : IsExportAnchored bytes now counted
+  pub is_read : counted.lasting ≡ read
+  pub anchors_are : l.anchors ≡ counted.anchors
 
 -- Why an export is refused: there is no such file, or its bytes have a fault.
 abbrev pub IsRefused : List ℕ → ℕ → ℕ → List Listed → TakeFault → Type 0
@@ -185,6 +191,7 @@ pub record IsNothing (l : Listed) : Type 0 where
   pub lasts : l.lasts.items ≡ []
   pub built : l.built ≡ None
   pub ignored : l.ignored ≡ none_ignored
+  pub anchors : HasNoAnchors l.anchors
 
 -- .. nor of any of these files.
 abbrev pub NoneTaken : ℕ → List Listed → Type 0
@@ -215,6 +222,16 @@ abbrev pub ignored_at : Option Listed → Ignored
 ignored_at None = none_ignored
 ignored_at (Some l) = l.ignored
 
+-- the names of a file's trust anchors
+abbrev pub anchors_at : Option Listed → List (List ℕ)
+anchors_at None = []
+anchors_at (Some l) = map string_bytes l.anchors.names.items
+
+-- For each of these names this many payloads of the file count at a moment and have it.
+abbrev pub AreLeftOf : ℕ → Option Listed → List ℕ → Type 0
+AreLeftOf now None counts = counts ≡ []
+AreLeftOf now (Some l) counts = AreLeft now (length l.anchors.names.items) l.lasts.items l.anchors.of_each.items counts
+
 -- how many entries of a file of local exceptions are not applied
 abbrev pub ignored_exceptions : Option AppliedSlurms → ℕ → IgnoredExceptions
 ignored_exceptions None i = record { bgpsec_filters = 0; bgpsec_assertions = 0 }
@@ -232,6 +249,7 @@ pub record CountsUntil (set : VrpSet) (end : Option ℕ) (l : Listed) : Type 0 w
   pub expired : (at : ℕ) → at < 2 ^ 64 → size (counting_at at l) + expired_of at (Some l) ≡ size (counting_at 0 l)
   pub built_is : l.built ≡ None
   pub ignored_is : l.ignored ≡ none_ignored
+  pub anchors_are : HasNoAnchors l.anchors
 
 -- A list is replaced by a set as a whole, or nothing changes.
 abbrev pub TakesSet : VrpSet → Option ℕ → ℕ → Result (Unit {0}) TakeSetFault → List Listed → List Listed → Type 0

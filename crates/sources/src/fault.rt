@@ -6,23 +6,23 @@ use slurm::{SlurmFault, UniteFault};
 use std::alloc::AllocError;
 use thiserror::Error;
 
-/// Why the export of a file is refused.
+/// Why the export of a file is refused. The file then keeps what it had.
 #[derive(Clone, Copy, Debug, Drop, PartialEq, Eq, Error)]
 pub enum TakeFault {
-    /// No file has this number, counted from 0.
+    /// There is no file of this index. Indexes count from 0.
     #[error("no file has this number")]
     NoSuchFile,
-    /// The bytes give no export.
+    /// The bytes are not an export.
     #[error("{0}")]
     Export(ExportFault),
-    /// The export is far shorter than what the file has given so far.
+    /// The export has far fewer VRPs than the last one (see [`is_too_short`](crate::is_too_short)).
     #[error("it has {has} VRPs, the last load had {had}: more than {percent} % fewer")]
     Shrank {
-        /// How large a part may be gone, in percent.
+        /// The largest part of the VRPs that may be gone, in percent.
         percent: u8,
-        /// How many records of the last load still count.
+        /// The number of VRPs of the last export that still count now.
         had: u64,
-        /// How many records of this one count.
+        /// The number of VRPs of this export that count now.
         has: u64,
     },
 }
@@ -37,10 +37,10 @@ impl From<ExportFault> for TakeFault {
     }
 }
 
-/// Why a list is not replaced by a set.
+/// Why a list cannot be replaced by a set.
 #[derive(Clone, Copy, Debug, PartialEq, Eq, Error)]
 pub enum TakeSetFault {
-    /// No list has this number, counted from 0.
+    /// There is no list of this index. Indexes count from 0.
     #[error("no list has this number")]
     NoSuchList,
     /// Out of memory.
@@ -58,18 +58,18 @@ impl From<AllocError> for TakeSetFault {
     }
 }
 
-/// Why several files of local exceptions are refused.
+/// Why several SLURM files are refused.
 #[derive(Clone, Copy, Debug, PartialEq, Eq, Error)]
 pub enum SlurmSetFault {
-    /// A file cannot be read; it is the first one that cannot.
+    /// A file cannot be read. It is the first such file.
     #[error("{fault}")]
     File {
-        /// The index of the file, from 0 on.
+        /// The index of the file, from 0.
         index: usize,
         /// Why it cannot be read.
         fault: SlurmFault,
     },
-    /// All files can be read, and they are not used together.
+    /// All files can be read, but they cannot be used together. Or memory ran out.
     #[error("{0}")]
     Unite(UniteFault),
 }

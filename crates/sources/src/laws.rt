@@ -3,29 +3,29 @@ ghost use Rattle.sources.specs.TakenLaws.{CountsExpired, NothingCounts, NothingE
 
 use exports::laws::later_exports;
 
-/// At each later second the records of a file that count are exactly the set that its bytes export then.
+/// Law: at each later second, the records of a file that count are exactly the set that its bytes export at that second.
 pub fn stays_taken()
     ensures { StaysTaken }
 {
     later_exports();
 }
 
-/// At each second a record of a file counts or is among those that `expired` counts.
+/// Law: at each second, a record of a file either counts or is one of those that `expired` counts.
 pub fn counts_expired()
     ensures { CountsExpired }
 {}
 
-/// Nothing counts of a list that has nothing, and nothing of it has expired.
+/// Law: if a list has no records, none of them counts at any second and none has expired.
 pub fn nothing_counts()
     ensures { NothingCounts }
 {}
 
-/// If no record of a file ends between two seconds, as many have expired at each second from the first to the last.
+/// Law: if no record of a file ends between two seconds, the number of expired records is the same at each second from the first to the last.
 pub fn nothing_ends()
     ensures { NothingEnds }
 {}
 
-/// One file of local exceptions gives the same by itself, and as the only one of several.
+/// Law: one SLURM file gives the same exceptions by `take_slurm` and as the only file of `take_slurms`.
 pub fn one_slurm()
     ensures { OneSlurm }
 {}

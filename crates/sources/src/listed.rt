@@ -1,27 +1,39 @@
 //! What one source says: the export of a file as it was read last, or the set of another cache.
-ghost use Rattle.std.specs.Prelude.{◌≡◌, ◌<◌, ◌++◌, ◌∷◌, [], cond, nat_le, IfOk, IsErrOf, None, OnOk, Some, replicate};
+ghost use Rattle.std.specs.Prelude.{◌≡◌, ℕ, ◌+◌, ◌^◌, ◌<◌, ◌++◌, ◌∷◌, [], cond, length, nat_le, slice_get, IfOk, IsErrOf, None, OnOk, Some, replicate};
 ghost use Rattle.vrps.specs.VrpSet.{size};
 ghost use Rattle.exports.specs.Lasting.{counting, last_at};
 ghost use Rattle.sources.specs.Served.{CountsUntil, IsNothing, counting_at, ends_between, expired_of, is_any_before, none_ignored};
+ghost use Rattle.sources.specs.ByAnchor.{AreLeft, HasNoAnchors, raised};
 ghost use Rattle.sources.specs.Shrinking.{left_of};
 
-use exports::Ignored;
+use exports::{ExportAnchors, Ignored};
 use prefixes::Vrp;
 use std::alloc::{AllocError, Global};
 use vrps::{SetFault, VrpSet};
 
-/// The export of a file as it was read last, or the set of another cache: the records that counted then, and how long each of them counts.
-/// Moments are in seconds since 1970.
+/// The last export of a file, or the set of another cache: its records, and when each of them ends. Times are in seconds since 1970 (UTC).
 #[derive(Debug, Drop)]
 pub struct Listed {
-    /// The records.
+    /// The records that counted when the export or set was loaded.
     pub set: VrpSet,
-    /// For each record, in the set's order, the last second at which it counts; `u64::MAX` if it does not end.
+    /// For each record, in the order of `set`: the last second at which it counts. `u64::MAX`: it does not end.
     pub lasts: Vec<u64>,
-    /// When the export was made, if it says so.
+    /// When the export was made, in seconds since 1970. `None`: the export does not say so.
     pub built: Option<u64>,
-    /// How many elements of the export are not served.
+    /// The numbers of elements of the export that are not served.
     pub ignored: Ignored,
+    /// The trust anchors of the records. It is empty for a set of another cache.
+    pub anchors: ExportAnchors,
+}
+
+/// No trust anchors.
+fn no_anchors(alloc: Global) -> ExportAnchors
+    ensures { HasNoAnchors result }
+{
+    ExportAnchors {
+        names: Vec::new(alloc),
+        of_each: Vec::new(alloc),
+    }
 }
 
 /// Nothing is left out.
@@ -31,7 +43,7 @@ const NONE_IGNORED: Ignored = Ignored {
 };
 
 impl Listed {
-    /// No record yet. It allocates nothing.
+    /// Returns a list without records. It allocates nothing.
     pub fn empty(alloc: Global) -> Listed
         ensures { IsNothing result }
     {
@@ -40,6 +52,7 @@ impl Listed {
             lasts: Vec::new(alloc),
             built: None,
             ignored: NONE_IGNORED,
+            anchors: no_anchors(alloc),
         }
     }
 
@@ -62,7 +75,7 @@ impl Listed {
 
     /// A set whose records all have the same last second.
     fn to_one_second(alloc: Global, set: &VrpSet, last: u64) -> Result<Listed, AllocError>
-        ensures set { IfOk result (λ l. (l.set ≡ set.now) × (l.built ≡ None) × (l.ignored ≡ none_ignored)) }
+        ensures set { IfOk result (λ l. (l.set ≡ set.now) × (l.built ≡ None) × (l.ignored ≡ none_ignored) × HasNoAnchors l.anchors) }
         ensures lasts { IfOk result (λ l. l.lasts.items ≡ replicate (size set.now) last) }
     {
         let lasts = vec![in alloc; last; set.len()]?;
@@ -71,6 +84,7 @@ impl Listed {
             lasts,
             built: None,
             ignored: NONE_IGNORED,
+            anchors: no_anchors(alloc),
         })
     }
 
@@ -79,6 +93,15 @@ impl Listed {
         ensures { result ≡ expired_of now (Some self.now) }
     {
         self.lasts.iter().filter(|last| **last < now).count() as u64
+    }
+
+    /// For each name of a trust anchor how many records count at this moment and have it.
+    pub(crate) fn left_of_anchors(&self, alloc: Global, now: u64) -> Result<Vec<u64>, AllocError>
+        ensures { IfOk result (λ counts. AreLeft now (length self.now.anchors.names.items) self.now.lasts.items self.now.anchors.of_each.items counts.items) }
+    {
+        let names = self.anchors.names.len();
+        let numbers = self.anchors.of_each.as_slice();
+        left_of_anchors(alloc, names, self.lasts.as_slice(), numbers, now)
     }
 
     /// How many records count at this moment.
@@ -144,4 +167,46 @@ fn counting(alloc: Global, records: &[Vrp], lasts: &[u64], now: u64) -> Result<V
         push_if(&mut left, vrp, is_counting(lasts, index, now))?;
     }
     Ok(left)
+}
+
+/// The number at a place, if there is one and it counts.
+fn number_at(numbers: &[u8], index: usize, counts: bool) -> Option<usize>
+    ensures { result ≡ cond counts (slice_get numbers.now index) None }
+{
+    if !counts {
+        return None;
+    }
+    match numbers.get(index) {
+        Some(number) => Some(usize::from(*number)),
+        None => None,
+    }
+}
+
+/// Adds one to the count at a place, if there is one.
+fn raise(counts: &mut Vec<u64>, place: Option<usize>)
+    requires { (i n : ℕ) → slice_get counts.old.items i ≡ Some n → n + 1 < 2 ^ 64 }
+    ensures { counts.new.items ≡ raised place counts.old.items }
+{
+    if let Some(place) = place {
+        if place < counts.len() {
+            counts[place] += 1;
+        }
+    }
+}
+
+/// For each of this many trust anchors how many places have its number and a last second that is not before a moment.
+fn left_of_anchors(
+    alloc: Global,
+    names: usize,
+    lasts: &[u64],
+    numbers: &[u8],
+    now: u64,
+) -> Result<Vec<u64>, AllocError>
+    ensures { IfOk result (λ counts. AreLeft now names lasts.now numbers.now counts.items) }
+{
+    let mut counts = vec![in alloc; 0u64; names]?;
+    for (index, last) in lasts.iter().enumerate() {
+        raise(&mut counts, number_at(numbers, index, now <= *last));
+    }
+    Ok(counts)
 }

@@ -20,8 +20,9 @@ pub(crate) fn shrinking(guard: Option<u8>, had: u64, has: u64) -> Option<TakeFau
     None
 }
 
-/// Whether an export is too short: there were `had` records of its file, 1,000 or more, and more than this percentage of them is gone, if `has` are
-/// left.
+/// Returns whether an export has too few records. `had` is the number of records before, and `has` the number now.
+///
+/// It is true if `had` is 1,000 or more, and more than `percent` percent of them are gone.
 pub fn is_too_short(percent: u8, had: u64, has: u64) -> bool
     ensures { result ≡ is_too_short percent had has }
 {

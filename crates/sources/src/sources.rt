@@ -1,11 +1,12 @@
 //! Sources, and the set that is made of them.
-ghost use Rattle.std.specs.Prelude.{◌≡◌, ◌<◌, IfOk, IfSome, IsErrOf, None, false, length, map, slice_get, true};
+ghost use Rattle.std.specs.Prelude.{◌≡◌, ◌<◌, IfOk, IfSome, IsErrOf, None, false, length, map, slice_get, string_bytes, true};
 ghost use Rattle.vrps.specs.VrpSet.{empty, size, union};
 ghost use Rattle.points.specs.Answers.{told_by, NewExactly, BecomesAt};
 ghost use Rattle.points.specs.InUse.{accepted_at, no_points};
 ghost use Rattle.points.specs.Offers.{Acceptable, Judged};
 ghost use Rattle.sources.specs.Served.{DropsSet, Gives, HasServed, IsServed, LeavesOut, NoneTaken, PassesLimit, TakesExport, TakesSet, TakesSlurm, TakesSlurms};
 ghost use Rattle.sources.specs.Shrinking.{TakesWithin, left_of};
+ghost use Rattle.sources.specs.Served.{AreLeftOf, anchors_at};
 ghost use Rattle.sources.specs.Served.{built_at, ends_between, excepted_by, expired_of, has_length_0, ignored_at, ignored_exceptions, left_out_of, narrowed, records_of, with_lists};
 
 use crate::fault::{SlurmSetFault, TakeFault, TakeSetFault};
@@ -20,7 +21,7 @@ use slurm::{Ignored as IgnoredExceptions, SlurmFault, apply};
 use std::alloc::{AllocError, Global};
 use vrps::{Change, SetFault, VrpSet};
 
-/// The last good content of each source, and the set that is made of all.
+/// The last good content of each source: files, publication points and SLURM files. [`Sources::served`] makes one set of them.
 #[derive(Debug, Drop)]
 pub struct Sources {
     alloc: Global,
@@ -31,19 +32,20 @@ pub struct Sources {
     leaves_out: bool,
 }
 
-/// What is served, and what it was made of.
+/// The set that is served, and the numbers of payloads that it was made of.
 #[derive(Debug, Drop)]
 pub struct ServedSet {
-    /// The set.
+    /// The set that is served.
     pub set: VrpSet,
-    /// How many payloads the files and publication points give together, before local exceptions are applied.
+    /// The number of payloads of the files and publication points together, before local exceptions are applied.
     pub given: u64,
-    /// How many payloads of length 0 are not in it, as they are left out.
+    /// The number of payloads of length 0 (for `0.0.0.0/0` or `::/0`) that are left out of the set.
     pub left_out: u64,
 }
 
 impl Sources {
-    /// Sources of this number of files, none of which was read yet, without exceptions and publication points. No payload is left out.
+    /// Creates sources with this number of files, each without records. There are no local exceptions and no publication points. Payloads of
+    /// length 0 are not left out.
     pub fn new(alloc: Global, files: usize) -> Result<Sources, AllocError>
         ensures { IfOk result (λ s. (s.exceptions ≡ None) × (s.repository ≡ no_points) × NoneTaken files s.lists.items × (s.leaves_out ≡ false)) }
     {
@@ -60,7 +62,7 @@ impl Sources {
         })
     }
 
-    /// Payloads of length 0, for 0.0.0.0/0 or ::/0, are left out from now on: some routers end at them.
+    /// Leaves out payloads of length 0 (for `0.0.0.0/0` or `::/0`) from now on. Some routers fail at them. This cannot be undone.
     pub fn leave_out_length_0(&mut self)
         ensures leaves { self.new.leaves_out ≡ true }
         ensures rest { (self.new.lists ≡ self.old.lists) × (self.new.exceptions ≡ self.old.exceptions) × (self.new.repository ≡ self.old.repository) }
@@ -68,14 +70,16 @@ impl Sources {
         self.leaves_out = true;
     }
 
-    /// How many files there are.
+    /// The number of files.
     pub fn files(&self) -> usize
         ensures { result ≡ length self.now.lists.items }
     {
         self.lists.len()
     }
 
-    /// How many records that counted when their file was read have expired at a moment, in seconds since 1970.
+    /// The number of records of a file that have expired since the file was read. `now` is in seconds since 1970.
+    ///
+    /// It is 0 if there is no such file.
     pub fn expired(&self, file: usize, now: u64) -> u64
         ensures { result ≡ expired_of now (slice_get self.now.lists.items file) }
     {
@@ -85,7 +89,10 @@ impl Sources {
         }
     }
 
-    /// Whether a record of a file ends between two seconds: it still counts at `from`, in seconds since 1970, and no longer at `to`.
+    /// Returns whether a record of a file ends between two seconds: it still counts at `from` and no longer at `to`. Both are in seconds since
+    /// 1970.
+    ///
+    /// It is false if there is no such file.
     pub fn ends_between(&self, file: usize, from: u64, to: u64) -> bool
         ensures { result ≡ ends_between from to (slice_get self.now.lists.items file) }
     {
@@ -95,7 +102,8 @@ impl Sources {
         }
     }
 
-    /// How many records of a file counted when it was read. It includes those that have expired since.
+    /// The number of records of a file that counted when it was read. It includes those that have expired since. It is 0 if there is no such
+    /// file.
     pub fn records(&self, file: usize) -> u64
         ensures { result ≡ records_of (slice_get self.now.lists.items file) }
     {
@@ -105,7 +113,7 @@ impl Sources {
         }
     }
 
-    /// When the export of a file was made, if it says so.
+    /// When the last export of a file was made, in seconds since 1970. `None`: the export does not say so, or there is no such file.
     pub fn built(&self, file: usize) -> Option<u64>
         ensures { result ≡ built_at (slice_get self.now.lists.items file) }
     {
@@ -115,7 +123,8 @@ impl Sources {
         }
     }
 
-    /// How many elements of the export of a file are not served, as it was read last: ASPAs and router keys. None of a set of another cache.
+    /// The numbers of elements of a file's last export that are not served: ASPAs and router keys. They are 0 for a set of another cache, or if
+    /// there is no such file.
     pub fn ignored(&self, file: usize) -> Ignored
         ensures { result ≡ ignored_at (slice_get self.now.lists.items file) }
     {
@@ -128,8 +137,33 @@ impl Sources {
         }
     }
 
-    /// Replaces the export of a file, counted from 0, by what these bytes are at a moment, in seconds since 1970. It returns how many of their
-    /// entries had expired. If there is no such file, or the bytes are no export, nothing changes.
+    /// The names of the trust anchors in a file's last export, in the order of their first entries. It is empty for a set of another cache, or
+    /// if there is no such file.
+    pub fn anchors(&self, file: usize) -> &[String]
+        ensures { map string_bytes result.now ≡ anchors_at (slice_get self.now.lists.items file) }
+    {
+        match self.lists.get(file) {
+            Some(list) => list.anchors.names.as_slice(),
+            None => &[],
+        }
+    }
+
+    /// Returns how many records of each trust anchor have not expired, in the order of [`Sources::anchors`]. `file` is its index, from 0.
+    ///
+    /// `now` is in seconds since 1970. A record has expired if its last second is before `now`. Records without a trust anchor are in none of
+    /// the counts. The result is empty for a set of another cache, or if there is no such file. `Err`: out of memory.
+    pub fn left_of_anchors(&self, file: usize, now: u64) -> Result<Vec<u64>, AllocError>
+        ensures { IfOk result (λ counts. AreLeftOf now (slice_get self.now.lists.items file) counts.items) }
+    {
+        match self.lists.get(file) {
+            Some(list) => list.left_of_anchors(self.alloc, now),
+            None => Ok(Vec::new(self.alloc)),
+        }
+    }
+
+    /// Replaces the export of `file` (from 0) by the export in `bytes`, read at `now`, in seconds since 1970.
+    ///
+    /// `Ok`: the number of entries that had expired. `Err`: there is no such file, or the bytes are not an export. Then nothing changes.
     pub fn take_export(&mut self, file: usize, bytes: &[u8], now: u64) -> Result<u64, TakeFault>
         ensures lists { TakesExport bytes.now now file result self.old.lists.items self.new.lists.items }
         ensures rest { (self.new.exceptions ≡ self.old.exceptions) × (self.new.repository ≡ self.old.repository) × (self.new.leaves_out ≡ self.old.leaves_out) }
@@ -137,8 +171,13 @@ impl Sources {
         self.take_export_within(None, file, bytes, now)
     }
 
-    /// The same, with a guard: the export is refused if more than this percentage of the records of the last load is gone, and there were 1,000 or
-    /// more. Records that have expired do not count on either side.
+    /// Replaces the export of `file` as [`Sources::take_export`] does, but refuses one with far fewer records. `guard` is the largest part that
+    /// may be gone, in percent.
+    ///
+    /// `Err(Shrank)`: the last export has 1,000 or more records, and more than `guard` percent of them are gone. Records that have expired at
+    /// `now` count on neither side.
+    ///
+    /// `guard` of `None`: no export is refused for this reason.
     pub fn take_export_within(
         &mut self,
         guard: Option<u8>,
@@ -165,7 +204,7 @@ impl Sources {
         }
     }
 
-    /// How many records of a file count at a moment, in seconds since 1970.
+    /// The number of records of a file that count at `now`, in seconds since 1970. It is 0 if there is no such file.
     pub fn left(&self, file: usize, now: u64) -> u64
         ensures { result ≡ left_of now (slice_get self.now.lists.items file) }
     {
@@ -175,9 +214,11 @@ impl Sources {
         }
     }
 
-    /// Replaces the list of this number, counted from 0, by a set of another cache. Its records count at each second before `until`, in seconds
-    /// since 1970, and none of them at `until` or later. So a router's records end with the Expire Interval (RFC 8210 section 6). Without
-    /// `until` they count until the list is replaced or dropped. If there is no such list, or memory runs out, nothing changes.
+    /// Replaces `list` (from 0) by a set of another cache. The records count at each second before `until`, and at none from then on. `until` is
+    /// in seconds since 1970. So the records end with the Expire Interval (RFC 8210 section 6). `None`: they count until the list is replaced or
+    /// dropped.
+    ///
+    /// `Err`: there is no such list, or memory ran out. Then nothing changes.
     pub fn take_set(
         &mut self,
         list: usize,
@@ -195,8 +236,7 @@ impl Sources {
         Ok(())
     }
 
-    /// Empties the list of this number, counted from 0: no record of it counts at any second. It returns whether there is such a list; if there
-    /// is none, nothing changes. It allocates nothing.
+    /// Empties `list` (from 0): it then has no records. It returns whether there is such a list. If not, nothing changes. It allocates nothing.
     pub fn drop_set(&mut self, list: usize) -> bool
         ensures lists { DropsSet list result self.old.lists.items self.new.lists.items }
         ensures rest { (self.new.exceptions ≡ self.old.exceptions) × (self.new.repository ≡ self.old.repository) × (self.new.leaves_out ≡ self.old.leaves_out) }
@@ -208,7 +248,7 @@ impl Sources {
         true
     }
 
-    /// Replaces the local exceptions. If the bytes are no SLURM file, nothing changes.
+    /// Replaces the local exceptions by those of one SLURM file. `Err`: the bytes are not a SLURM file, or memory ran out. Then nothing changes.
     pub fn take_slurm(&mut self, bytes: &[u8]) -> Result<(), SlurmFault>
         ensures exceptions { TakesSlurm bytes.now result self.old.exceptions self.new.exceptions }
         ensures rest { (self.new.lists ≡ self.old.lists) × (self.new.repository ≡ self.old.repository) × (self.new.leaves_out ≡ self.old.leaves_out) }
@@ -218,9 +258,10 @@ impl Sources {
         Ok(())
     }
 
-    /// Replaces the local exceptions by those of several files together, of which no two may overlap (RFC 8416 section 4.2). Without a file there
-    /// are none from then on. `File`: a file is no SLURM file, the first one that is none. `Unite`: all are, and they are not used together. If it
-    /// fails, nothing changes.
+    /// Replaces the local exceptions by those of several SLURM files together. No two of them may overlap (RFC 8416 section 4.2). If `files` is
+    /// empty, there are no exceptions from then on.
+    ///
+    /// `Err(File)`: a file cannot be read. `Err(Unite)`: the files cannot be used together, or memory ran out. On an error nothing changes.
     pub fn take_slurms(&mut self, files: &[Vec<u8>]) -> Result<(), SlurmSetFault>
         ensures exceptions { TakesSlurms (map (λ f. f.items) files.now) result self.old.exceptions self.new.exceptions }
         ensures rest { (self.new.lists ≡ self.old.lists) × (self.new.repository ≡ self.old.repository) × (self.new.leaves_out ≡ self.old.leaves_out) }
@@ -230,7 +271,8 @@ impl Sources {
         Ok(())
     }
 
-    /// How many entries of a file of local exceptions are not applied, counted from 0 in the order of the files: those on BGPsec.
+    /// The numbers of BGPsec entries of a SLURM file, which are not applied. `file` is its index, from 0, in the last call that loaded
+    /// SLURM files. They are 0 if there is no such file.
     pub fn ignored_exceptions(&self, file: usize) -> IgnoredExceptions
         ensures { result ≡ ignored_exceptions self.now.exceptions file }
     {
@@ -240,7 +282,11 @@ impl Sources {
         }
     }
 
-    /// Offers to the publication point of a name, as [`Repository::offer`] does.
+    /// Offers a manifest and its fetched files to the publication point `name`. The caller has verified all of them. `now` is in UTC.
+    ///
+    /// `Ok(New)`: the point holds them now. `Ok(Same)`: the point already holds this manifest, and `files` is not looked at.
+    ///
+    /// `Err`: the offer is refused and nothing changes. [`points::Point::offer`] lists the order of the faults.
     pub fn offer(
         &mut self,
         name: &str,
@@ -256,10 +302,11 @@ impl Sources {
         self.repository.offer(name, manifest, files, now)
     }
 
-    /// The set that is served at a moment: the records of the files that count then, and those that the publication points have in use. The
-    /// local exceptions are applied to them, and records of length 0 are left out if that was asked for. A record of a file counts only before
-    /// its expiry, even if the file was not read since. `TooMany`: those records together, or what the exceptions make of them, are more than
-    /// a set may have. `Memory`: memory for them runs out. Both leave all as it was.
+    /// Returns the set that is served at `now`, in UTC. It has the records of the files that count then, and those of the publication points.
+    /// - The local exceptions are applied to it. Payloads of length 0 are left out if [`Sources::leave_out_length_0`] was called.
+    /// - A record of a file counts only before its expiry, even if the file has not been read since.
+    ///
+    /// `Err(TooMany)`: the records together, or the result of the exceptions, are over 16,777,215. `Err(Memory)`: out of memory.
     pub fn served(&self, now: Moment) -> Result<ServedSet, SetFault>
         ensures is { IfOk result (λ t. IsServed self.now.repository self.now.lists.items self.now.exceptions self.now.leaves_out now t.set) }
         ensures those { IfOk result (λ t. HasServed self.now.repository self.now.lists.items self.now.exceptions self.now.leaves_out now t.set) }
@@ -351,9 +398,14 @@ fn narrowed(alloc: Global, leaves: bool, given: u64, set: VrpSet) -> Result<Serv
 fn listed_of(read: ExportCounted) -> (Listed, u64)
     ensures list { (result.0.set ≡ read.lasting.export.set) × (result.0.lasts ≡ read.lasting.lasts) × (result.0.built ≡ read.lasting.export.built) }
     ensures ignored { result.0.ignored ≡ read.ignored }
+    ensures anchors { result.0.anchors ≡ read.anchors }
     ensures expired { result.1 ≡ read.lasting.export.expired }
 {
-    let ExportCounted { lasting, ignored } = read;
+    let ExportCounted {
+        lasting,
+        ignored,
+        anchors,
+    } = read;
     let ExportLasting {
         export,
         until: _,
@@ -369,6 +421,7 @@ fn listed_of(read: ExportCounted) -> (Listed, u64)
         lasts,
         built,
         ignored,
+        anchors,
     };
     (list, expired)
 }

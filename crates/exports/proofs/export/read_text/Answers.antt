@@ -3,7 +3,7 @@ use Rattle.std.specs.Prelude.{IfErr}
 use Rattle.std.proofs.lemmas.Result.{err_from_is_err_and}
 use Rattle.exports.specs.Export.{HasFault}
 use Rattle.exports.specs.declared.streaming.Entries.TheVariants.{Whole}
-use Rattle.exports.proofs.Ends.{entries_of, is_counted, set_fails}
+use Rattle.exports.proofs.Ends.{entries_of, is_counted, set_fails, with_anchors}
 use Rattle.exports.proofs.export.read_text.Goals as goal
 
 pub returns-clause-ok : goal.returns-clause-ok
@@ -11,8 +11,15 @@ returns-clause-ok c =
     let p = c.in_ok-entries.field-0 in
     let g = c.in-Some-Whole.gathered in
     let e = entries_of c.args.text.now c.args.now p (Some (Whole g)) c.utf8.text c.in_ok-entries.ensures.ok c.if-repeats.false (c.in-Some-Whole.is ∙ ap (λ x. Some x) c.in-Some-Whole.field-0-is) in
-    is_counted c.args.text.now c.args.now e.0 p.elements g p.built (record { lasting = c.in_ok-lasting.lasting; ignored = c.in-Some.ignored }) e.1 e.2 e.3 e.4
+    is_counted c.args.text.now c.args.now e.0 p.elements g p.built (record { lasting = c.in_ok-lasting.lasting; ignored = c.in-Some.ignored; anchors = c.in_ok-lasting.anchors }) e.1 e.2 e.3 e.4
     (record { set = c.in_ok-lasting.ensures.set; lasts = c.in_ok-lasting.ensures.lasts; rest = c.in_ok-lasting.ensures.rest }) c.in-Some.ensures.aspas c.in-Some.ensures.router_keys
+
+pub returns-clause-anchors : goal.returns-clause-anchors
+returns-clause-anchors c =
+    let p = c.in_ok-entries.field-0 in
+    let g = c.in-Some-Whole.gathered in
+    let e = entries_of c.args.text.now c.args.now p (Some (Whole g)) c.utf8.text c.in_ok-entries.ensures.ok c.if-repeats.false (c.in-Some-Whole.is ∙ ap (λ x. Some x) c.in-Some-Whole.field-0-is) in
+    with_anchors c.args.text.now c.args.now e.0 g (record { lasting = c.in_ok-lasting.lasting; ignored = c.in-Some.ignored; anchors = c.in_ok-lasting.anchors }) e.1 e.2 c.in_ok-lasting.ensures.anchors
 
 pub returns-in_err-lasting-clause-fault : goal.returns-in_err-lasting-clause-fault
 returns-in_err-lasting-clause-fault c =

@@ -9,7 +9,7 @@ use Rattle.exports.proofs.streaming.plain_members.Goals as goal
 
 pub loop-key-init : goal.loop-key-init
 loop-key-init c =
-    begun 124 (λ f ms. IsRawEntry ms (record { asn_number = None; asn_text = None; prefix = None; max_len = None; expires = None }) × EntryMet f (record { origin = record { one = Never; other = Never }; rest = record { one = Never; other = Never } }))
+    begun 124 (λ f ms. IsRawEntry ms (record { asn_number = None; asn_text = None; prefix = None; max_len = None; expires = None; ta = None }) × EntryMet f (record { origin = record { one = Never; other = Never }; rest = record { one = Never; other = Never } }))
     c.args.reader.now (found_nothing, ((λ rest. refl, λ rest. refl), (λ rest. refl, λ rest. refl)))
 
 pub returns-in_err-key : goal.returns-in_err-key

@@ -17,6 +17,9 @@ returns-in-None-clause-lists c =
       counted = c.in_ok-read.read;
       is_counted = c.in_ok-read.ensures.ok;
       ignored_is = c.listed_of-list.ensures.ignored;
+      is_anchored = c.in_ok-read.ensures.anchors;
+      is_read = refl;
+      anchors_are = c.listed_of-list.ensures.anchors;
     } in
     let had = c.left-had.ensures in
     let has = c.left-has.ensures in
@@ -37,6 +40,9 @@ returns-in-Some-clause-lists c =
       counted = c.in_ok-read.read;
       is_counted = c.in_ok-read.ensures.ok;
       ignored_is = c.listed_of-list.ensures.ignored;
+      is_anchored = c.in_ok-read.ensures.anchors;
+      is_read = refl;
+      anchors_are = c.listed_of-list.ensures.anchors;
     } in
     let why = c.in-Some.ensures.some in (
       subst (λ fault. IsRefusedWithin c.args.guard c.args.bytes.now c.args.now c.args.file c.args.self.now.lists.items fault) (sym why.2)
