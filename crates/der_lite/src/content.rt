@@ -6,16 +6,16 @@ ghost use Rattle.der_lite.specs.Values.{is_negative};
 
 use crate::length::number;
 
-/// A bit string: bytes, of which the lowest bits of the last one are not used (X.690 section 8.6).
+/// A bit string. The lowest bits of its last byte may be unused (X.690 section 8.6).
 #[derive(Clone, Copy, Debug, PartialEq, Eq)]
 pub struct Bits<'a> {
-    /// How many bits of the last byte are not used, 0 to 7. Without bytes it is 0.
+    /// The number of unused bits in the last byte, 0 to 7. It is 0 if there are no bytes.
     pub unused: u8,
-    /// The bits, the first one highest. Unused bits are zero.
+    /// The bits. The first bit is the most significant bit of the first byte. Unused bits are zero.
     pub bytes: &'a [u8],
 }
 
-/// Whether the content is that of an INTEGER: a whole number in the fewest bytes (X.690 section 8.3).
+/// Returns whether `content` is the content of a DER INTEGER: not empty, and in the fewest bytes (X.690 section 8.3).
 pub fn is_integer(content: &[u8]) -> bool
     ensures { result ≡ is_integer_of content.now }
 {
@@ -51,7 +51,7 @@ pub(crate) fn ia5_text(content: &[u8]) -> Option<&str>
     }
 }
 
-/// The number of an INTEGER's content, if it is not negative and below 2^32 (X.690 section 8.3.3).
+/// Returns the number of an INTEGER's content (X.690 section 8.3.3). `None`: the number is negative, or 2^32 or above.
 pub fn unsigned(content: &[u8]) -> Option<u32>
     requires { IsTrue (is_integer_of content.now) }
     ensures { result ≡ (if is_negative content.now || nat_lt 4294967295 (number_of content.now) then None else Some (number_of content.now)) }

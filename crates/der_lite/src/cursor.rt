@@ -12,11 +12,11 @@ use crate::head::read_head;
 use crate::{Bits, DerFault, DerFaultKind, Moment, tag};
 use std::marker::Model;
 
-/// Reads the elements of an enclosing one, in order.
+/// Reads the elements inside an enclosing element, in order.
 ///
-/// Results are slices of the bytes given to `new`. No call allocates memory. If a read fails, the
-/// cursor does not move. The faults of a read are judged in this order:
-/// `Truncated`, `WrongTag`, `BadLength`, `BadContent`.
+/// A method reads the element at the cursor, and then moves the cursor behind it. If a read fails, the cursor does not move.
+/// The first fault in this order is reported: `Truncated`, `WrongTag`, `BadLength`, `BadContent`.
+/// Results are slices of the bytes given to `new`. No call allocates memory.
 #[derive(Debug, Drop)]
 pub struct Cursor<'a> {
     at: usize,
@@ -36,7 +36,7 @@ impl<'a> Model for Cursor<'a> {
 impl<'a> Cursor<'a> {
     ghost use Rattle.der_lite.specs.Cursors.{bits_content};
 
-    /// A cursor over a whole payload, at offset 0.
+    /// Returns a cursor at the start of `payload`, at offset 0.
     pub fn new(payload: &'a [u8]) -> Cursor<'a>
         ensures { result ≡ place_of 0 payload.now }
     {
@@ -79,7 +79,7 @@ impl<'a> Cursor<'a> {
         }
     }
 
-    /// A cursor over the members of the SEQUENCE (tag 48) here (X.690 section 8.9).
+    /// Reads the SEQUENCE (tag 48) at the cursor (X.690 section 8.9). Returns a cursor over its members.
     pub fn sequence(&mut self) -> Result<Cursor<'a>, DerFault>
         ensures { GivesElement (λ c. c) result self.old self.new (element_at SEQUENCE self.old) }
     {
@@ -88,8 +88,8 @@ impl<'a> Cursor<'a> {
         Ok(content)
     }
 
-    /// The content of the INTEGER (tag 2) here, in two's complement, the highest byte first (X.690
-    /// section 8.3). `BadContent` if it is empty or not in the fewest bytes.
+    /// Reads the INTEGER (tag 2) at the cursor (X.690 section 8.3). Returns its content in two's complement, most significant byte first.
+    /// `BadContent`: the content is empty or not in the fewest bytes.
     #[tactic(auto, unfolding(crate::specs::DerReading::content_at))]
     pub fn integer(&mut self) -> Result<&'a [u8], DerFault>
         ensures exact { GivesElement (λ content. content.now) result self.old self.new (integer_at self.old) }
@@ -103,8 +103,8 @@ impl<'a> Cursor<'a> {
         Ok(content.rest)
     }
 
-    /// The bits of the BIT STRING (tag 3) here (X.690 sections 8.6 and 11.2). `BadContent` if the count of unused bits is missing, above 7,
-    /// or not 0 if no bytes follow, or if an unused bit is set.
+    /// Reads the BIT STRING (tag 3) at the cursor (X.690 sections 8.6 and 11.2). Returns its bits.
+    /// `BadContent`: the count of unused bits is missing, above 7, or not 0 although no bytes follow. Also if an unused bit is set.
     #[tactic(auto, unfolding(crate::specs::DerReading::content_at))]
     pub fn bits(&mut self) -> Result<Bits<'a>, DerFault>
         ensures exact { GivesElement bits_content result self.old self.new (bits_at self.old) }
@@ -123,7 +123,7 @@ impl<'a> Cursor<'a> {
         Err(self.bad_content())
     }
 
-    /// The content of the OCTET STRING (tag 4) here (X.690 section 8.7).
+    /// Reads the OCTET STRING (tag 4) at the cursor (X.690 section 8.7). Returns its content.
     #[tactic(auto, unfolding(crate::specs::DerReading::content_at))]
     pub fn octets(&mut self) -> Result<&'a [u8], DerFault>
         ensures { GivesElement (λ content. content.now) result self.old self.new (octets_at self.old) }
@@ -133,8 +133,8 @@ impl<'a> Cursor<'a> {
         Ok(content.rest)
     }
 
-    /// The content of the OBJECT IDENTIFIER (tag 6) here, which is not judged: it is only there to
-    /// be compared (X.690 section 8.19).
+    /// Reads the OBJECT IDENTIFIER (tag 6) at the cursor (X.690 section 8.19). Returns its content.
+    /// The content is not checked: compare it with the bytes that you expect.
     #[tactic(auto, unfolding(crate::specs::DerReading::content_at))]
     pub fn oid(&mut self) -> Result<&'a [u8], DerFault>
         ensures { GivesElement (λ content. content.now) result self.old self.new (oid_at self.old) }
@@ -144,7 +144,7 @@ impl<'a> Cursor<'a> {
         Ok(content.rest)
     }
 
-    /// The text of the IA5String (tag 22) here (X.690 section 8.23). `BadContent` if a byte is 128 or above.
+    /// Reads the IA5String (tag 22) at the cursor (X.690 section 8.23). Returns its text. `BadContent`: a byte is 128 or above.
     #[tactic(auto, unfolding(crate::specs::DerReading::content_at))]
     pub fn ia5(&mut self) -> Result<&'a str, DerFault>
         ensures exact { GivesElement (λ text. text.now) result self.old self.new (ia5_at self.old) }
@@ -160,8 +160,9 @@ impl<'a> Cursor<'a> {
         }
     }
 
-    /// The moment of the GeneralizedTime (tag 24) here, `YYYYMMDDHHMMSSZ` (X.690 sections 8.25 and 11.7; RFC 5280 section 4.1.2.5.2).
-    /// `BadContent` if the content has another form, or its numbers are no real date and time of the years 1970 to 9999.
+    /// Reads the GeneralizedTime (tag 24) at the cursor (X.690 sections 8.25 and 11.7; RFC 5280 section 4.1.2.5.2). Returns its date and
+    /// time.
+    /// `BadContent`: the content does not have the form `YYYYMMDDHHMMSSZ`, or is no real date and time of the years 1970 to 9999.
     #[tactic(auto, unfolding(crate::specs::DerReading::time_at, crate::specs::DerReading::content_at, crate::specs::Moments::moment_in))]
     pub fn time(&mut self) -> Result<Moment, DerFault>
         ensures exact { GivesElement (λ moment. moment) result self.old self.new (time_at self.old) }
@@ -175,8 +176,9 @@ impl<'a> Cursor<'a> {
         Ok(moment)
     }
 
-    /// A cursor over the content of the element of this tag here: its members, if the tag is that of a constructed element (X.690 section
-    /// 8.1). The content is not judged: [`remaining`](Cursor::remaining) lends its bytes.
+    /// Reads the element with tag `tag` at the cursor. Returns a cursor over its content, which is not checked.
+    /// If the element is constructed, the content is its members (X.690 section 8.1). [`remaining`](Cursor::remaining) gives the content's
+    /// bytes.
     pub fn tagged(&mut self, tag: u8) -> Result<Cursor<'a>, DerFault>
         ensures { GivesElement (λ c. c) result self.old self.new (element_at tag self.old) }
     {
@@ -185,21 +187,21 @@ impl<'a> Cursor<'a> {
         Ok(content)
     }
 
-    /// The byte here, which is the tag of the next element; `None` at the end of the enclosing one.
+    /// The tag of the next element: the byte at the cursor, which does not move. `None` at the end of the enclosing element.
     pub fn peek_tag(&self) -> Option<u8>
         ensures { result ≡ slice_get self.now.rest 0 }
     {
         self.rest.first().copied()
     }
 
-    /// The bytes of the enclosing element from here to its end.
+    /// The bytes from the cursor to the end of the enclosing element. The cursor does not move.
     pub fn remaining(&self) -> &'a [u8]
         ensures { result.now ≡ self.now.rest }
     {
         self.rest
     }
 
-    /// Whether the enclosing element ends here.
+    /// Returns whether the cursor is at the end of the enclosing element.
     pub fn at_end(&self) -> bool
         ensures { IsTrue result ↔ (self.now.rest ≡ []) }
     {
@@ -213,8 +215,8 @@ impl<'a> Cursor<'a> {
         self.at
     }
 
-    /// Lets go of the cursor at the end of the enclosing element. `Trailing`, at the first byte
-    /// that remains, if bytes do.
+    /// Checks that the cursor is at the end of the enclosing element. Otherwise the error is `Trailing`, with the offset of the first byte
+    /// that remains.
     #[tactic(auto, unfolding(crate::specs::DerReading::end_at))]
     pub fn finish(self) -> Result<(), DerFault>
         ensures { EndsElement result (end_at self.entry) }

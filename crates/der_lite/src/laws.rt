@@ -1,57 +1,59 @@
-//! What holds of the definitions of elements. Nothing here runs.
+//! Laws of DER elements. The functions do nothing: each states a law, which is proved.
 
 ghost use Rattle.der_lite.specs.DerLaws.{OneDerFault, OneFaultOfTimes, OneIsBefore, OneDerSpelling, OneSpellingOfTimes, OneText, OpensExactly, ReadsExactly, ReadsTimesExactly, SpellsBits};
 
-/// A read gives a content exactly if the element of that content is there, and a fault exactly if
-/// that fault is the first.
+/// Law: a read gives a content if and only if an element with the expected tag and that content is at its place.
+/// It gives a fault if and only if that fault is the first one at this place.
 pub fn reads_exactly()
     ensures { ReadsExactly }
 {}
 
-/// A SEQUENCE, or any element, is opened exactly if it is there, at the place of its content. A
-/// fault is the first that its tag and its length have.
+/// Law: a read opens an element as a cursor over its content if and only if the element is at its place.
+/// It gives a fault if and only if that fault is the first one of the element's tag and length.
 pub fn opens_exactly()
     ensures { OpensExactly }
 {}
 
-/// At most one fault is at a place, and one is there exactly if no element is.
+/// Law: a place in the input has either an element with the expected tag that keeps the rules, or exactly one fault.
 pub fn one_fault()
     ensures { OneDerFault }
 {}
 
-/// No content has two spellings, and no spelling begins another.
+/// Law: for each tag, a content has at most one encoding as an element. No encoding is a proper beginning of another.
 pub fn one_spelling()
     ensures { OneDerSpelling }
 {}
 
-/// A content keeps the rules of a bit string exactly if it spells bits. It spells one list of bits, and no list has two contents.
+/// Law: a content keeps the rules of a BIT STRING if and only if it encodes a list of bits.
+/// It encodes only one list, and no list has two contents.
 pub fn spells_bits()
     ensures { SpellsBits }
 {}
 
-/// A read gives a moment exactly if the element of that moment is there, and a fault exactly if
-/// that fault is the first.
+/// Law: a read gives a date and time if and only if the GeneralizedTime element of it is at its place.
+/// It gives a fault if and only if that fault is the first one at this place.
 pub fn reads_times_exactly()
     ensures { ReadsTimesExactly }
 {}
 
-/// At most one fault is where a moment is expected, and one is there exactly if no moment is, also
-/// if the moment has to keep rules.
+/// Law: a place in the input has either a GeneralizedTime element that keeps the rules, or exactly one fault.
+/// This holds with any further rules about the date and time.
 pub fn one_fault_of_times()
     ensures { OneFaultOfTimes }
 {}
 
-/// No moment has two elements, and none begins another.
+/// Law: a date and time has at most one encoding as an element. No encoding is a proper beginning of another.
 pub fn one_spelling_of_times()
     ensures { OneSpellingOfTimes }
 {}
 
-/// A moment has one text, and a text one moment: what is written for a moment is read as that moment.
+/// Law: a date and time has one text, and a text has at most one date and time.
+/// Reading the text of a date and time gives the same date and time.
 pub fn one_text()
     ensures { OneText }
 {}
 
-/// Of two moments that differ exactly one is before the other.
+/// Law: of two different dates and times, exactly one is before the other. The order is transitive.
 pub fn one_is_before()
     ensures { OneIsBefore }
 {}

@@ -25,9 +25,9 @@ pub(crate) const FIRST_YEAR: u16 = 1970;
 /// How many digits a text has before its `Z`.
 const DIGITS: usize = 14;
 
-/// A date with a time of day in UTC, of the years 1970 to 9999, at a whole second.
+/// A date with a time of day in UTC, in whole seconds, of the years 1970 to 9999. It is never a leap second.
 ///
-/// The order is by year, month, day, hour, minute and second. No moment is a leap second.
+/// Values compare by time: the earlier one is less.
 #[derive(Clone, Copy, Debug)]
 pub struct Moment {
     civil: DateTime,
@@ -49,16 +49,15 @@ impl Model for Moment {
 }
 
 impl Moment {
-    /// The moment of which this is the text, `YYYYMMDDHHMMSSZ` (X.690 section 11.7; RFC 5280 section 4.1.2.5.2).
-    /// `None` if there is none: the text has another form, or its numbers are no real date and time
-    /// of the years 1970 to 9999.
+    /// Reads a date and time in the form `YYYYMMDDHHMMSSZ` (X.690 section 11.7; RFC 5280 section 4.1.2.5.2).
+    /// `None`: the text has another form, or is no real date and time of the years 1970 to 9999.
     pub fn parse(text: &str) -> Option<Moment>
         ensures { IsMomentOf text.now result }
     {
         Moment::from_text(text.as_bytes())
     }
 
-    /// The moment of which these bytes are the text, as `parse` has it.
+    /// Reads a date and time from the bytes of its text, by the rules of [`parse`](Moment::parse). `None`: the bytes are no such text.
     pub fn from_text(text: &[u8]) -> Option<Moment>
         ensures says { IsMomentOf text.now result }
         ensures value { result ≡ moment_in text.now }
@@ -122,7 +121,7 @@ impl Moment {
         ]
     }
 
-    /// How many seconds after the beginning of 1970 the moment is, with 86,400 seconds in each day.
+    /// The number of seconds since the beginning of 1970 UTC, with 86,400 seconds in each day.
     pub fn seconds(&self) -> u64
         ensures { result ≡ seconds_of self.now }
     {
@@ -133,7 +132,7 @@ impl Moment {
         minutes * 60 + u64::from(second)
     }
 
-    /// The text, `YYYYMMDDHHMMSSZ`.
+    /// The text, `YYYYMMDDHHMMSSZ`, as ASCII bytes.
     pub fn text(&self) -> [u8; 15]
         ensures value { result ≡ moment_text self.now }
         ensures real { IsTrue (is_moment self.now) }
@@ -150,7 +149,7 @@ impl Moment {
     }
 }
 
-/// As `parse`, with an error in place of `None`.
+/// Reads a text by the rules of [`parse`](Moment::parse). `MomentFault`: `parse` returns `None`.
 impl FromStr for Moment {
     type Err = MomentFault;
 

@@ -13,7 +13,7 @@ fn is_leap(year: u16) -> bool
     year % 4 == 0 && (year % 100 != 0 || year % 400 == 0)
 }
 
-/// How many days a year has.
+/// Returns the number of days of a year: 365, or 366 in a leap year of the Gregorian calendar.
 pub fn days_of_year(year: u16) -> u64
     ensures value { result ≡ days_of_year year }
     ensures small { result ≤ 366 }
@@ -21,7 +21,7 @@ pub fn days_of_year(year: u16) -> u64
     if is_leap(year) { 366 } else { 365 }
 }
 
-/// How many days a month has; a month is a number from 1 to 12.
+/// Returns the number of days of a month, 28 to 31. `month` is a number from 1 to 12.
 pub fn days_of_month(year: u16, month: u16) -> u64
     ensures value { result ≡ days_of_month year month }
     ensures small { result ≤ 31 }

@@ -47,11 +47,11 @@ fn push_element(out: &mut Vec<u8>, tag: u8, first: &[u8], rest: &[u8]) -> Result
     out.extend_from_slice(rest)
 }
 
-/// Writes elements, each behind the one before, in the one spelling that X.690 gives it.
+/// Writes DER elements, each behind the one before. Each method appends one element in its only encoding by X.690.
 ///
-/// Contents are shorter than 2^32 bytes. They are written as they are: one that is none of the
-/// element's type gives bytes that no read of a `Cursor` accepts. A call answers an `AllocError` if
-/// memory runs out, and then nothing was written.
+/// A content must be shorter than 2^32 bytes. It is not checked: if it breaks the rules of its type, a [`Cursor`](crate::Cursor) refuses
+/// the element.
+/// `AllocError`: memory runs out, and nothing was written.
 #[derive(Debug, Drop)]
 pub struct DerWriter {
     bytes: Vec<u8>,
@@ -66,7 +66,7 @@ impl Model for DerWriter {
 }
 
 impl DerWriter {
-    /// A writer that has written nothing.
+    /// Returns an empty writer.
     pub fn new(alloc: Global) -> DerWriter
         ensures { result ≡ [] }
     {
@@ -89,7 +89,7 @@ impl DerWriter {
         added
     }
 
-    /// Writes a SEQUENCE (tag 48) of members that are written already.
+    /// Writes a SEQUENCE (tag 48). `members` are its encoded members, one behind the other.
     pub fn sequence(&mut self, members: &[u8]) -> Result<(), AllocError>
         requires { length members.now < 2 ^ 32 }
         ensures { Adds result SEQUENCE members.now self.old self.new }
@@ -97,7 +97,7 @@ impl DerWriter {
         self.element(tag::SEQUENCE, &[], members)
     }
 
-    /// Writes an INTEGER (tag 2) of this content: two's complement in the fewest bytes.
+    /// Writes an INTEGER (tag 2). `content` is its number in two's complement, in the fewest bytes, most significant byte first.
     pub fn integer(&mut self, content: &[u8]) -> Result<(), AllocError>
         requires { length content.now < 2 ^ 32 }
         ensures { Adds result INTEGER content.now self.old self.new }
@@ -105,7 +105,7 @@ impl DerWriter {
         self.element(tag::INTEGER, &[], content)
     }
 
-    /// Writes an INTEGER (tag 2) of this number, in the fewest bytes.
+    /// Writes an INTEGER (tag 2) of the value `number`, in the fewest bytes.
     #[tactic(auto, unfolding(crate::specs::Values::unsigned_bytes))]
     pub fn unsigned(&mut self, number: u32) -> Result<(), AllocError>
         ensures { Adds result INTEGER (unsigned_bytes number) self.old self.new }
@@ -127,7 +127,7 @@ impl DerWriter {
         }
     }
 
-    /// Writes a BIT STRING (tag 3), whose unused bits are zero.
+    /// Writes a BIT STRING (tag 3). The unused bits of `bits` must be zero.
     pub fn bits(&mut self, bits: Bits) -> Result<(), AllocError>
         requires { length (bits_content bits) < 2 ^ 32 }
         ensures { Adds result BIT_STRING (bits_content bits.entry) self.old self.new }
@@ -135,7 +135,7 @@ impl DerWriter {
         self.element(tag::BIT_STRING, &[bits.unused], bits.bytes)
     }
 
-    /// Writes an OCTET STRING (tag 4).
+    /// Writes an OCTET STRING (tag 4) with this content.
     pub fn octets(&mut self, content: &[u8]) -> Result<(), AllocError>
         requires { length content.now < 2 ^ 32 }
         ensures { Adds result OCTET_STRING content.now self.old self.new }
@@ -143,7 +143,7 @@ impl DerWriter {
         self.element(tag::OCTET_STRING, &[], content)
     }
 
-    /// Writes an OBJECT IDENTIFIER (tag 6) of this content.
+    /// Writes an OBJECT IDENTIFIER (tag 6). `content` is its encoded content.
     pub fn oid(&mut self, content: &[u8]) -> Result<(), AllocError>
         requires { length content.now < 2 ^ 32 }
         ensures { Adds result OBJECT_IDENTIFIER content.now self.old self.new }
@@ -151,7 +151,7 @@ impl DerWriter {
         self.element(tag::OBJECT_IDENTIFIER, &[], content)
     }
 
-    /// Writes an IA5String (tag 22), of ASCII alone.
+    /// Writes an IA5String (tag 22). `text` must be ASCII.
     pub fn ia5(&mut self, text: &str) -> Result<(), AllocError>
         requires { length text.now < 2 ^ 32 }
         ensures { Adds result IA5_STRING text.now self.old self.new }
@@ -159,7 +159,7 @@ impl DerWriter {
         self.element(tag::IA5_STRING, &[], text.as_bytes())
     }
 
-    /// Writes a GeneralizedTime (tag 24), `YYYYMMDDHHMMSSZ`.
+    /// Writes a GeneralizedTime (tag 24) in the form `YYYYMMDDHHMMSSZ`.
     pub fn time(&mut self, moment: &Moment) -> Result<(), AllocError>
         ensures added { Adds result GENERALIZED_TIME (moment_text moment.now) self.old self.new }
         ensures real { IsTrue (is_moment moment.now) }
@@ -167,7 +167,7 @@ impl DerWriter {
         self.element(tag::GENERALIZED_TIME, &moment.text(), &[])
     }
 
-    /// Writes an element of this tag, which is one byte (X.690 section 8.1.2.2), and this content.
+    /// Writes an element with any one-byte tag (X.690 section 8.1.2.2) and this content.
     pub fn tagged(&mut self, tag: u8, content: &[u8]) -> Result<(), AllocError>
         requires { length content.now < 2 ^ 32 }
         ensures { Adds result tag content.now self.old self.new }
@@ -175,14 +175,14 @@ impl DerWriter {
         self.element(tag, &[], content)
     }
 
-    /// What was written.
+    /// The bytes written up to now.
     pub fn as_slice(&self) -> &[u8]
         ensures { result.now ≡ self.now }
     {
         &self.bytes
     }
 
-    /// What was written, as a vector of its own.
+    /// Ends the writer and returns the bytes written.
     pub fn into_bytes(self) -> Vec<u8>
         ensures { result.items ≡ self }
     {

@@ -128,8 +128,8 @@ fn short_text(civil: &Civil) -> [u8; 15]
     [y1, y2, y3, y4, m1, m2, d1, d2, h1, h2, n1, n2, s1, s2, z]
 }
 
-/// The time of this many seconds since 1970, with days of 86,400 seconds. `None` after the last second of the year 9999, which is
-/// 253,402,300,799.
+/// Returns the UTC date and time of `seconds`, counted since 1970 with days of 86,400 seconds.
+/// `None`: `seconds` is over 253,402,300,799, the last second of the year 9999.
 pub fn moment_at(seconds: u64) -> Option<Moment>
     ensures { IsMomentAt seconds result }
 {
@@ -139,7 +139,8 @@ pub fn moment_at(seconds: u64) -> Option<Moment>
     Moment::from_text(&short_text(&civil_at(seconds)))
 }
 
-/// The text of this many seconds since 1970, `YYYY-MM-DDTHH:MM:SSZ` (RFC 3339 section 5.6). After the year 9999 it is that year's last second.
+/// Returns the text of `seconds`, counted since 1970, as ASCII bytes `YYYY-MM-DDTHH:MM:SSZ` (RFC 3339 section 5.6).
+/// After the year 9999 it is the text of that year's last second.
 pub fn time_at(seconds: u64) -> [u8; 20]
     ensures { IsTimeOf seconds result }
 {

@@ -24,26 +24,26 @@ pub struct ClientClosed<'a> {
 pub struct PeerReport<'a> {
     /// The client's address and port.
     pub address: SocketAddr,
-    /// Whether the client sent it. If not, it was sent to the client.
+    /// Whether the client sent the report. If not, the daemon sent it to the client.
     pub is_received: bool,
-    /// Its code.
+    /// The error code (RFC 8210 section 12).
     pub code: u16,
-    /// Its text, or the start of it.
+    /// The text of the report, or its start.
     pub text: &'a str,
 }
 
-/// The counters of a publication.
+/// The counters of a published version.
 #[derive(Clone, Copy, Debug, PartialEq, Eq)]
 pub struct Publication {
     /// The session in protocol version 1.
     pub session: u16,
     /// The version's serial.
     pub serial: u32,
-    /// How many records it announces.
+    /// How many records the version announces.
     pub announced: u64,
-    /// How many records it withdraws.
+    /// How many records the version withdraws.
     pub withdrawn: u64,
-    /// How many records it has.
+    /// How many records the version has in all.
     pub records: u64,
     /// The duration of the publication in milliseconds.
     pub milliseconds: u64,
@@ -52,7 +52,7 @@ pub struct Publication {
 /// An event. Each event is one log line: a word, and values under keys.
 #[derive(Clone, Copy, Debug, PartialEq, Eq)]
 pub enum LogEvent<'a> {
-    /// `started`: the daemon starts, with these sessions and this serial.
+    /// `started`: the daemon starts, with these session ids and this first serial.
     Started(SessionIds),
     /// `limited`: the system's limit of descriptors allows fewer clients than the settings.
     Limited {
@@ -80,8 +80,8 @@ pub enum LogEvent<'a> {
     ClientGone(ClientClosed<'a>),
     /// `error-report`: a client that was closed had sent or received an Error Report.
     ErrorReport(PeerReport<'a>),
-    /// `error-report`: a client was closed that asked in a protocol version that is not served. It was sent Error Report 4, Unsupported Protocol
-    /// Version, and may come again in a lower version (RFC 8210 section 7).
+    /// `error-report`: a client was closed, because it asked in a protocol version that is not served.
+    /// It was sent Error Report 4, Unsupported Protocol Version. It may connect again in a lower version (RFC 8210 section 7).
     VersionRefused {
         /// The client's address and port.
         address: SocketAddr,
@@ -107,7 +107,8 @@ pub enum LogEvent<'a> {
         /// How many clients the address has.
         clients: u64,
     },
-    /// `full`: a connection of the status pages was closed at once, or for a newer one, as there are as many as there may be.
+    /// `full`: a connection to the status pages was closed, because the limit of connections is reached. It was closed at once, or for a
+    /// newer one.
     StatusFull {
         /// The address and the port of the visitor whose connection was closed.
         address: SocketAddr,
@@ -116,9 +117,9 @@ pub enum LogEvent<'a> {
     },
     /// `suppressed`: lines about clients were left out, as too many came at once.
     Suppressed {
-        /// How many lines.
+        /// How many lines were left out.
         lines: u64,
-        /// Within how many seconds.
+        /// The length of the interval in which they were left out, in seconds.
         seconds: u64,
     },
     /// `no-descriptor`: the system has no descriptor for a pending connection.
@@ -127,7 +128,7 @@ pub enum LogEvent<'a> {
     Published(Publication),
     /// `left-out`: the number of records of length 0 that are left out has changed.
     LeftOut {
-        /// How many.
+        /// How many records are left out now.
         records: u64,
     },
     /// `refused`: a file or a publication point is refused. The served set stays.
@@ -163,7 +164,7 @@ pub enum LogEvent<'a> {
         /// How many. For a publication point, this is the number of objects that its manifest lists.
         entries: u64,
     },
-    /// `not-served`: an export was loaded, and it has another number of elements that are not served than what was loaded of the file before.
+    /// `not-served`: an export was loaded, and the number of its elements that are not served has changed since the last load of the file.
     NotServed {
         /// The path of the file.
         file: &'a str,
@@ -172,7 +173,9 @@ pub enum LogEvent<'a> {
         /// How many router keys it has (RFC 8635).
         router_keys: u64,
     },
-    /// `not-served`: the same of a file of local exceptions, whose entries on BGPsec are not applied.
+    /// `not-served`: a file of local exceptions (RFC 8416) was loaded, and the number of its BGPsec entries has changed since the last
+    /// load.
+    /// Entries on BGPsec are not applied.
     SlurmNotServed {
         /// The path of the file.
         file: &'a str,
@@ -198,7 +201,7 @@ pub enum LogEvent<'a> {
         /// The word of the reason.
         reason: &'a str,
     },
-    /// `well`: a source is no longer such a reason.
+    /// `well`: a source is no longer a reason why the daemon is not well.
     FileWell {
         /// The word of the reason.
         reason: &'a str,
@@ -207,7 +210,7 @@ pub enum LogEvent<'a> {
     },
     /// `clock`: the clock was set back.
     Clock {
-        /// How many seconds it is behind the start plus the seconds since.
+        /// How many seconds the clock is behind its expected time: the second of the start plus the seconds elapsed since.
         behind: u64,
     },
     /// `warning`: the daemon continues, and the operator should know this.

@@ -4,7 +4,7 @@ ghost use Rattle.std.specs.Prelude.{◌≡◌, ◌≤◌, ◌↔◌, IsTrue, Som
 use crate::event::LogEvent;
 use std::fmt::{self, Display};
 
-/// A level of the log, with the severities of syslog (RFC 5424 section 6.2.1). The most severe is the least.
+/// A level of the log, with the severities of syslog (RFC 5424 section 6.2.1). A more severe level is less in the order.
 #[derive(Clone, Copy, Debug, PartialEq, Eq, PartialOrd, Ord)]
 pub enum LogLevel {
     /// Severity 3: something failed, and an operator should act.
@@ -20,14 +20,14 @@ pub enum LogLevel {
 impl LogLevel {
     ghost use Rattle.event_log.specs.Levels.{level_word, severity};
 
-    /// The severity, 3 to 6 (RFC 5424 section 6.2.1, table 2).
+    /// The severity in syslog, 3 to 6 (RFC 5424 section 6.2.1, table 2). 3 is the most severe.
     pub fn severity(self) -> u8
         ensures { result ≡ severity self }
     {
         self as u8
     }
 
-    /// The level of a word: `error`, `warning`, `notice` or `info`. Another text has none.
+    /// Returns the level of a word: `error`, `warning`, `notice` or `info`. `None`: the text is another one.
     pub fn parse(text: &str) -> Option<LogLevel>
         ensures { (level : LogLevel) → (result ≡ Some level) ↔ (text.now ≡ level_word level) }
     {
@@ -41,7 +41,7 @@ impl LogLevel {
     }
 }
 
-/// The word that `parse` reads.
+/// Writes the word that [`parse`](LogLevel::parse) reads.
 impl Display for LogLevel {
     ghost use Rattle.event_log.specs.Levels.{level_word};
 
@@ -60,7 +60,7 @@ impl Display for LogLevel {
 impl LogEvent<'_> {
     ghost use Rattle.event_log.specs.Levels.{is_of_client, level_of, severity};
 
-    /// How severe the event is.
+    /// The level of the event: how severe it is.
     pub fn level(&self) -> LogLevel
         ensures { result ≡ level_of self.now }
     {
@@ -103,14 +103,14 @@ impl LogEvent<'_> {
         }
     }
 
-    /// Whether a log of this level has the event: it is at least as severe.
+    /// Returns whether a log of the level `level` includes the event: the event is at least as severe as `level`.
     pub fn is_logged_at(&self, level: LogLevel) -> bool
         ensures { IsTrue result ↔ (severity (level_of self.now) ≤ severity level) }
     {
         self.level() <= level
     }
 
-    /// Whether the event is about one client, so that a peer can cause any number of its lines.
+    /// Returns whether the event is about one client or visitor. A peer can cause any number of such lines.
     pub fn is_of_client(&self) -> bool
         ensures { result ≡ is_of_client self.now }
     {

@@ -1,5 +1,5 @@
-//! The event log of the daemon `rpkirtrd`: an event ([`LogEvent`]) is one line, as text, as JSON or for systemd ([`write_event`]). The times of its
-//! lines are those of a clock that counts seconds ([`moment_at`], [`time_at`]). [`LogEvent::level`] is how severe an event is.
+//! The event log of the daemon `rpkirtrd`: an event ([`LogEvent`]) is one line, as text, as JSON or for systemd ([`write_event`]).
+//! The time of a line is given in seconds since 1970 ([`moment_at`], [`time_at`]). [`LogEvent::level`] is how severe an event is.
 //!
 //! For example, where `rt` is the runtime that `main` is handed:
 //!

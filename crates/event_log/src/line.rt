@@ -24,9 +24,10 @@ use std::io::{self, Write};
 pub enum LogFormat {
     /// The time, the event's word, and `key=value` for each value, separated by blanks.
     Text,
-    /// An object with `time`, `level`, `event` and the values.
+    /// A JSON object with `time`, `level`, `event` and the values.
     Json,
-    /// A line of `Text` behind its severity as `<N>` (sd-daemon(3)), by which the journal of systemd has the priority of a line.
+    /// A line as in `Text`, with its severity before it as `<N>` (sd-daemon(3)). The journal of systemd reads the priority of the line from
+    /// it.
     Systemd,
 }
 
@@ -363,8 +364,9 @@ fn write_event_at<W: Write>(
     write_end(out, form)
 }
 
-/// Writes the line of an event at this many seconds since 1970. It allocates nothing. A writer without a buffer is called for each piece of the
-/// line.
+/// Appends the line of an event to `out`, in the format `form`. `seconds` is the time of the event, in seconds since 1970.
+/// An error is one of `out`; a part of the line may be written then. It allocates nothing.
+/// If `out` has no buffer, it is called for each piece of the line.
 pub fn write_event<W: Write>(
     out: &mut W,
     form: LogFormat,

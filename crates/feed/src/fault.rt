@@ -1,4 +1,4 @@
-//! Why there is no state of a route.
+//! Why the state of a route cannot be computed.
 ghost use Rattle.std.specs.Prelude.{◌≡◌};
 
 use points::PointFault;
@@ -6,13 +6,13 @@ use std::alloc::AllocError;
 use thiserror::Error;
 use vrps::SetFault;
 
-/// Why there is no state of a route. Each has a fixed number.
+/// Why the state of a route cannot be computed. Each kind has a fixed number, 1 to 3.
 #[derive(Clone, Copy, Debug, PartialEq, Eq, Error)]
 pub enum FeedFault {
-    /// 1: an offer is refused, for another cause than memory: its index, from 0, and the fault. All offers before it were accepted.
+    /// 1: the offer of this index (from 0) was refused, for this reason, which is not lack of memory. All offers before it were accepted.
     #[error("offer {0} is refused: {1} (fault 1)")]
     Point(usize, PointFault),
-    /// 2: over 16,777,215 different payloads are in use.
+    /// 2: the accepted offers give more than 16,777,215 different payloads.
     #[error("more than 16777215 different payloads are in use (fault 2)")]
     TooMany,
     /// 3: out of memory.
@@ -34,7 +34,7 @@ impl FeedFault {
         }
     }
 
-    /// The number by which the fault is printed, 1 to 3.
+    /// The fixed number of the fault, 1 to 3.
     pub fn number(&self) -> u8
         ensures { result ≡ feed_fault_number self.now }
     {

@@ -1,4 +1,4 @@
-//! From what is offered to publication points to the state of a route, by way of a cache and a router.
+//! Computes the state of a route from manifests and ROAs: through publication points, an RTR cache and a router.
 //!
 //! For example, where `rt` is the runtime that `main` is handed:
 //!

@@ -8,14 +8,14 @@ use der_lite::Moment;
 use points::{FileIn, Repository};
 use std::alloc::Global;
 
-/// What is offered to the publication point of a name.
+/// A manifest and files that are offered to a publication point.
 #[derive(Clone, Copy, Debug, PartialEq, Eq)]
 pub struct Offer<'a> {
-    /// The name of the point.
+    /// The name of the publication point. Offers with the same name go to the same point.
     pub name: &'a str,
-    /// The payload of the manifest (RFC 9286 section 4.2). Its signature was verified by the caller.
+    /// The payload of the manifest, in DER (RFC 9286 section 4.2). The caller has verified its signature.
     pub manifest: &'a [u8],
-    /// The files that are supplied with it.
+    /// The files supplied with the manifest.
     pub files: &'a [FileIn<'a>],
 }
 

@@ -10,21 +10,23 @@ use prefixes::Route;
 use std::alloc::Global;
 use vrps::{OriginState, VrpSet};
 
-/// The state of a route, and what was sent for it.
+/// The state of a route, and the bytes that the cache sent.
 #[derive(Debug, Drop)]
 pub struct Fed {
     /// The state of the route at the router (RFC 6811 section 2).
     pub state: OriginState,
-    /// All that the cache sent to the router.
+    /// All bytes that the cache sent to the router, in order.
     pub wire: Vec<u8>,
 }
 
-/// The state of a route at a new router that asks a cache for all. The cache has published what is in use at a moment after all these
-/// offers. They were made at that moment, in their order, to publication points that had accepted nothing. An offer that is the same as
-/// what its point holds is no fault. The set is published as serial 0 of session 1, with the intervals that RFC 8210 section 6 recommends.
-/// Bytes go from the router to the cache and from the cache to the router in turns of at most 4,096.
+/// Computes the state of a route at a new router, which fetches all data from a cache.
+/// The offers are made at moment `now` (UTC), in order, to publication points that have accepted nothing before.
+/// An offer equal to what its point holds is no fault. The cache publishes the payloads that are then valid.
+/// It publishes them as serial 0 of session 1, with the default intervals of RFC 8210 section 6.
+/// Bytes move between router and cache in turns of at most 4,096.
 ///
-/// The first offer that is refused decides, or the first for which memory runs out; then too many payloads; then out of memory.
+/// `Err(Point)`: the first offer that was refused. `Err(TooMany)`: too many payloads. `Err(Memory)`: memory ran out.
+/// The fault that comes first is returned: offers in order, then the number of payloads, then the fetch.
 pub fn route_from_payloads(
     alloc: Global,
     offers: &[Offer<'_>],

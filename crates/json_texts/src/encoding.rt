@@ -24,16 +24,16 @@ fn begins(bytes: &[u8], mark: &[u8]) -> bool
     bytes.starts_with(mark)
 }
 
-/// Whether the first byte is zero, as in a sparse file. Then the bytes are not JSON (`laws::zero_is_no_json`), and no reader is needed, which
-/// would allocate as much as they have.
+/// Returns whether the first byte is zero, as in a sparse file. If so, the bytes are not JSON (`laws::zero_is_no_json`), and the caller need not
+/// start a reader. A reader would allocate as much memory as the input has bytes. `false` for empty input.
 pub fn begins_with_zero(bytes: &[u8]) -> bool
     ensures { result ≡ begins_with_zero bytes.now }
 {
     begins(bytes, ZERO)
 }
 
-/// Why bytes that begin like this are not JSON in UTF-8, and what to do. They are compressed by gzip, or begin with a zero byte, or with a byte
-/// order mark, which a JSON text must not have (RFC 8259 section 8.1). `None`: their beginning shows none of these.
+/// A message if the first bytes show that the input is not JSON in UTF-8. It names the cause, and the remedy unless it is a zero byte.
+/// Causes: gzip, a byte order mark of UTF-8 or UTF-16 (RFC 8259 section 8.1), or a first byte of zero. `None`: none of these.
 pub fn encoding_reason(bytes: &[u8]) -> Option<&'static str>
     ensures { option_copied result ≡ encoding_reason bytes.now }
 {

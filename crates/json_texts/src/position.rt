@@ -4,17 +4,17 @@ ghost use Rattle.json_texts.specs.Position.{StandsAt};
 
 use std::fmt;
 
-/// A place in a text: its line, and its byte in the line, both counted from 1. A line ends with a line feed.
+/// A position in a text: line and column, both counted from 1. The column counts bytes, not characters. A line feed ends a line.
 #[derive(Clone, Copy, Debug, PartialEq, Eq)]
 pub struct Position {
-    /// The line.
+    /// The line number, from 1.
     pub line: usize,
-    /// The byte in the line.
+    /// The column in bytes, from 1.
     pub column: usize,
 }
 
 impl Position {
-    /// The place of the byte at an offset. If that is after the end of the text, it is the place of the end.
+    /// The position of the byte at `offset`, counted from 0. If `offset` is beyond the end of the text, it is the position of the end.
     pub fn at(text: &[u8], offset: usize) -> Position
         ensures { StandsAt (take offset text.now) result.line result.column }
     {

@@ -10,7 +10,8 @@ use std::alloc::{AllocError, Global};
 /// How many bytes of a text a message has at most.
 const LIMIT: usize = 80;
 
-/// A text of at most 80 bytes as it is. Of a longer one its first 80 bytes at most, cut between two characters, and `...`.
+/// Shortens a text for a message. A text of at most 80 bytes is returned as it is. Otherwise the result is at most its first 80 bytes, cut
+/// between two characters, and `...`. `AllocError`: no memory for it.
 pub fn cut_text(alloc: Global, text: &str) -> Result<String, AllocError>
     ensures { IfOk result (λ cut. IsCut text.now (string_bytes cut)) }
 {
@@ -21,7 +22,7 @@ pub fn cut_text(alloc: Global, text: &str) -> Result<String, AllocError>
     format!(in alloc; "{}...", &text[..end])
 }
 
-/// The JSON text of a value, cut as [`cut_text`] cuts it.
+/// The compact JSON text of a value, shortened as by [`cut_text`]. `AllocError`: no memory for it.
 pub fn value_text(alloc: Global, value: &Value) -> Result<String, AllocError>
     ensures { IfOk result (λ text. Shows (view value.now) (string_bytes text)) }
 {
@@ -29,7 +30,7 @@ pub fn value_text(alloc: Global, value: &Value) -> Result<String, AllocError>
     cut_text(alloc, whole.as_str())
 }
 
-/// A name as a JSON text, in quotes and with escapes, cut as [`cut_text`] cuts it.
+/// A name as a JSON string, in quotes and with escapes, shortened as by [`cut_text`]. `AllocError`: no memory for it.
 pub fn name_text(alloc: Global, name: &str) -> Result<String, AllocError>
     ensures { IfOk result (λ text. Shows (string name.now) (string_bytes text)) }
 {

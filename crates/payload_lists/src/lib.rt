@@ -1,4 +1,4 @@
-//! Payload lists: the JSON in which validators hand on a set of payloads. [`read_list`] reads a list and [`write_list`] writes it.
+//! Payload lists: the JSON form in which validators export a set of VRPs. [`read_list`] reads a list and [`write_list`] writes it.
 //!
 //! For example, where `rt` is the runtime that `main` is handed:
 //!
@@ -18,8 +18,8 @@ mod plain;
 
 pub use listing::{ListFault, read_list, write_list};
 
-/// The parts of reading, for readers of other lists. They read the value of a member, the payload of an entry's values, the payloads of a
-/// payload list, and numbers of digits alone.
+/// Parts of the reader, for readers of other list formats. They read the value under a key, the VRP of an entry's values, the VRPs of a payload
+/// list, and numbers of digits alone.
 pub mod parts {
     pub use crate::listing::{payload, records_of, text, whole};
     pub use crate::plain::{plain_list, plain_number};

@@ -16,10 +16,10 @@ use std::str;
 use thiserror::Error;
 use vrps::VrpSet;
 
-/// Why bytes give no set. The numbers are fixed.
+/// Why a payload list is not read. The numbers of the faults are fixed.
 #[derive(Clone, Copy, Debug, PartialEq, Eq, Error)]
 pub enum ListFault {
-    /// The bytes are no payload list.
+    /// The bytes are not a payload list, or it has over 16,777,215 different VRPs.
     #[error("not a payload list (fault 1)")]
     NoList = 1,
     /// Out of memory.
@@ -30,7 +30,7 @@ pub enum ListFault {
 impl ListFault {
     ghost use Rattle.payload_lists.specs.ListFaults.{list_fault_number};
 
-    /// The number by which the fault is printed.
+    /// The number of the fault, as `Display` writes it: 1 or 2.
     pub fn number(self) -> u8
         ensures { result ≡ list_fault_number self }
     {
@@ -48,22 +48,23 @@ impl From<AllocError> for ListFault {
     }
 }
 
-/// The whole number below 2^64 under a key of an object. `None`: nothing does, or something else.
+/// The integer from 0 to 2^64 - 1 under a key of a JSON object. `None`: `value` is not an object, the key is missing, or its value is something
+/// else.
 pub fn whole(value: &Value, key: &str) -> Option<u64>
     ensures { result ≡ whole_at key.now (view value.now) }
 {
     value.get(key).and_then(Value::as_u64)
 }
 
-/// The text under a key of an object. `None`: nothing does, or something else.
+/// The string under a key of a JSON object. `None`: `value` is not an object, the key is missing, or its value is something else.
 pub fn text<'a>(value: &'a Value, key: &str) -> Option<&'a str>
     ensures { option_map (λ s. s.now) result ≡ text_at key.now (view value.now) }
 {
     value.get(key).and_then(Value::as_str)
 }
 
-/// The payload of these numbers and this text. `None` if the text is no prefix or the AS number is not below 2^32. Also `None` if the
-/// maximum length is below that of the prefix, or over 32 (IPv4) or 128 (IPv6).
+/// Makes a VRP from the values of an entry. `max_len` is in bits.
+/// `None`: `prefix` is not a prefix, `asn` is 2^32 or more, or `max_len` is below the prefix length or over 32 (IPv4) or 128 (IPv6).
 pub fn payload(asn: u64, max_len: u64, prefix: &str) -> Option<Vrp>
     ensures some { IfSome result (λ v. MakesPayload asn max_len prefix.now v) }
     ensures one { IfSome result (λ v. (w : Payload) → MakesPayload asn max_len prefix.now w → w ≡ v) }
@@ -100,8 +101,8 @@ fn entry(value: &Value) -> Option<Vrp>
     payload(asn, max_len, prefix)
 }
 
-/// The payloads of the entries of a payload list, in their order.
-/// `NoList`: one of the items is no such entry. `Memory`: out of memory.
+/// The VRPs of the entries of a payload list, in their order, duplicates included. `list` is the items of the JSON array.
+/// `NoList`: an item is not an entry of a payload list. `Memory`: out of memory.
 pub fn records_of(alloc: Global, list: &[Value]) -> Result<Vec<Vrp>, ListFault>
     ensures ok { IfOk result (λ vs. AreEntries (items_view list.now) vs.items) }
     ensures one { IfOk result (λ vs. (ws : List Payload) → AreEntries (items_view list.now) ws → ws ≡ vs.items) }
@@ -159,9 +160,11 @@ fn read_any(alloc: Global, bytes: &[u8]) -> Result<VrpSet, ListFault>
     }
 }
 
-/// The set of a payload list: a JSON array of objects with exactly the keys `asn`, `maxLength` and `prefix`. If a key is twice in an
-/// object, `serde_json` reads the last. A list in its plain form is read token by token, up to the first entry that makes no payload, and
-/// any other as a whole. `NoList`: the bytes are no such list, or it has over 16,777,215 different payloads. `Memory`: out of memory.
+/// Reads a payload list: a JSON array of objects with exactly the keys `asn`, `maxLength` and `prefix`. If an object has a key twice, the last
+/// value counts.
+/// `NoList`: the bytes are no such list, or it has over 16,777,215 different VRPs. `Memory`: out of memory.
+/// A list in plain form (each key once, numbers of digits alone) is read token by token, up to the first entry that makes no VRP. Other lists
+/// are read as a whole.
 pub fn read_list(alloc: Global, bytes: &[u8]) -> Result<VrpSet, ListFault>
     ensures ok { IfOk result (λ s. IsPayloadList bytes.now s) }
     ensures no_list { IsErrOf result ListFault.NoList → (s : Vrps) → ¬ (IsPayloadList bytes.now s) }
@@ -196,8 +199,8 @@ fn push_comma(text: &mut String, index: usize) -> Result<(), AllocError>
     text.push(',')
 }
 
-/// The payload list of these records, compact and without a newline. It is asked with strictly ascending records, such as those
-/// of a set.
+/// Writes a payload list of these VRPs as compact JSON, without spaces or newlines. The VRPs must be in strictly ascending order, like those of
+/// a set. `AllocError`: no memory for the text.
 pub fn write_list(alloc: Global, records: &[Vrp]) -> Result<String, AllocError>
     requires { IsStrictlySortedBy vrp_cmp records.now }
     ensures { IfOk result (λ text. string_bytes text ≡ list_text records.now) }

@@ -12,7 +12,7 @@ use json::{Reader, Scratch, Token};
 use prefixes::Vrp;
 use std::alloc::Global;
 
-/// The whole number below 2^64 that a number's text writes in digits alone. `None`: it writes another one, or one in another form.
+/// The integer from 0 to 2^64 - 1 that the text of a JSON number writes in digits alone. `None`: the number is larger or has another form.
 pub fn plain_number(text: &str) -> Option<u64>
     ensures { IfSome result (λ n. number_of text.now ≡ Some (unsigned n)) }
 {
@@ -117,9 +117,10 @@ fn plain_records(alloc: Global, reader: &mut Reader<'_>) -> Result<Option<Vec<Vr
     Ok(Some(records))
 }
 
-/// The records of a list in its plain form: an array of objects in which each of the three keys comes once, with numbers of digits alone.
-/// `None`: the text has another form, or is no JSON. `NoList`: an entry has this form and makes no payload, whatever comes behind it.
-/// `Memory`: out of memory.
+/// The VRPs of a payload list in plain form, in their order. Plain form: an array of objects with each of the three keys exactly once, and
+/// numbers of digits alone.
+/// `Ok(None)`: the text has another form, or is not JSON. It may still be a payload list.
+/// `NoList`: an entry in plain form makes no VRP, whatever follows it. `Memory`: out of memory.
 pub fn plain_list(alloc: Global, text: &str) -> Result<Option<Vec<Vrp>>, ListFault>
     ensures ok { IfOk result (λ found. IfSome found (λ vs. (ds : Items) × (read text.now ≡ Some (array ds)) × AreEntries ds vs.items)) }
     ensures no_list { IsErrOf result ListFault.NoList → (ds : Items) → read text.now ≡ Some (array ds) → (vs : List Payload) → ¬ (AreEntries ds vs) }

@@ -6,13 +6,13 @@ use der_lite::{DerFault, DerFaultKind};
 use std::alloc::AllocError;
 use thiserror::Error;
 
-/// What is wrong with a payload, or with a value that should be one. Each kind has a fixed number, which ends its text.
+/// What is wrong with a payload, or with a value that has no payload. Each kind has a fixed number, with which its error text ends.
 #[derive(Clone, Copy, Debug, PartialEq, Eq, Error)]
 pub enum GrammarFaultKind {
-    /// 1 to 5: the element is none of DER.
+    /// 1 to 5: an element breaks the rules of DER. The number is that of the `DerFaultKind`.
     #[error("{0}")]
     Element(DerFaultKind),
-    /// 6: a version is encoded; it may only be left out (RFC 9582 section 4.1).
+    /// 6: the ROA has a version field, which must be left out (RFC 9582 section 4.1).
     #[error("a version is encoded, which may only be left out (fault 6)")]
     VersionPresent,
     /// 7: the AS number is negative or over 4294967295 (RFC 9582 section 4.2).
@@ -31,11 +31,11 @@ pub enum GrammarFaultKind {
     /// section 4.3.2).
     #[error("the maximum length is below the prefix length, or greater than the width of the address family (fault 11)")]
     MaxLength,
-    /// 12: it is not above what is before it: by family, address, length, maximum length.
+    /// 12: the address or entry is not above the one before it. The order is by family, address, prefix length and maximum length.
     #[error("not in strictly ascending order (fault 12)")]
     Order,
-    /// 13: the number is negative, or its content has more than 20 bytes (RFC 9286 section 4.2.1).
-    /// Of a value: or it is no INTEGER's content.
+    /// 13: the manifest number is negative, or its content has more than 20 bytes (RFC 9286 section 4.2.1).
+    /// In `Manifest::new` also: the bytes are not the content of a DER INTEGER.
     #[error("the manifest number is negative, longer than 20 bytes, or not the content of an INTEGER (fault 13)")]
     NumberRange,
     /// 14: nextUpdate is not later than thisUpdate (RFC 9286 section 4.2.1).
@@ -44,21 +44,21 @@ pub enum GrammarFaultKind {
     /// 15: the hash algorithm is not SHA-256 (RFC 9286 section 4.2.1).
     #[error("the hash algorithm is not SHA-256 (fault 15)")]
     HashAlg,
-    /// 16: the name is not letters, digits, `-` or `_`, one dot and three small letters, in all at
-    /// most 255 bytes (RFC 9286 section 4.2.2).
+    /// 16: the file name breaks the rules of RFC 9286 section 4.2.2. It must have letters, digits, `-` or `_`, then one dot and three small
+    /// letters. At most 255 bytes are accepted.
     #[error("not a file name of a manifest (fault 16)")]
     Name,
-    /// 17: the hash has not 256 bits (RFC 9286 section 4.2.1).
+    /// 17: the hash does not have 256 bits (RFC 9286 section 4.2.1).
     #[error("the hash is not 256 bits long (fault 17)")]
     HashLength,
-    /// 18: the name came before (RFC 9286 section 4.2.1).
+    /// 18: an earlier file of the manifest has the same name (RFC 9286 section 4.2.1).
     #[error("the file name stands twice (fault 18)")]
     NameTwice,
-    /// 19: it is entry or file 65,537.
+    /// 19: the entry or file is number 65,537. At most 65,536 are accepted.
     #[error("more than 65536 entries or files (fault 19)")]
     TooMany,
-    /// 20: the maximum length equals the prefix length, which is what an absent one means. RFC 9582
-    /// section 4.3.2.2 does not forbid it; here it is refused, so that one authorization has one payload.
+    /// 20: the maximum length equals the prefix length, which is the meaning of an absent one.
+    /// RFC 9582 section 4.3.2.2 does not forbid it. Here it is refused, so that a set of VRPs has only one payload.
     #[error("the maximum length equals the prefix length, so it has to be left out (fault 20)")]
     MaxLengthSuperfluous,
 }
@@ -98,14 +98,14 @@ impl GrammarFaultKind {
     }
 }
 
-/// What is wrong with a payload, and where.
+/// What is wrong with a payload, and at which offset.
 #[derive(Clone, Copy, Debug, PartialEq, Eq, Error)]
 #[error("at byte {offset}: {kind}")]
 pub struct GrammarFault {
     /// What is wrong.
     pub kind: GrammarFaultKind,
-    /// The offset of the first byte of the element that is wrong, in bytes from the start of the
-    /// payload. For bytes that remain it is that of the first of them.
+    /// The offset of the first byte of the wrong element, in bytes from the start of the payload.
+    /// If bytes remain behind the payload, it is the offset of the first of them.
     pub offset: usize,
 }
 
@@ -122,10 +122,10 @@ impl From<DerFault> for GrammarFault {
     }
 }
 
-/// Why bytes give no payload.
+/// Why bytes are not decoded as a payload.
 #[derive(Clone, Copy, Debug, PartialEq, Eq, Error)]
 pub enum PayloadFault {
-    /// They spell none: the first fault.
+    /// The bytes are not a valid payload. This is the first fault.
     #[error(transparent)]
     At(GrammarFault),
     /// Out of memory.
@@ -164,20 +164,20 @@ impl From<AllocError> for PayloadFault {
     }
 }
 
-/// Why a value can't be a payload, and the index of the entry or file, or 0 if none is meant.
+/// Why a value has no payload.
 #[derive(Clone, Copy, Debug, PartialEq, Eq, Error)]
 #[error("entry or file {index}: {kind}")]
 pub struct ValueFault {
     /// What is wrong.
     pub kind: GrammarFaultKind,
-    /// Which entry or file is, counted from 0.
+    /// The index of the wrong entry or file, counted from 0. It is 0 if the fault is not about an entry or a file.
     pub index: usize,
 }
 
-/// Why there is no manifest of a value.
+/// Why [`Manifest::new`](crate::Manifest::new) makes no manifest.
 #[derive(Clone, Copy, Debug, PartialEq, Eq, Error)]
 pub enum ManifestFault {
-    /// No bytes spell it: the first fault.
+    /// The values are not those of a valid manifest. This is the first fault.
     #[error(transparent)]
     Value(ValueFault),
     /// Out of memory.

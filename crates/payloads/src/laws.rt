@@ -1,28 +1,29 @@
-//! What holds of the definitions of payloads. Nothing here runs.
+//! Laws of ROA and manifest payloads. The functions do nothing: each states a law, which is proved.
 
 ghost use Rattle.payloads.specs.PayloadLaws.{OneFault, OneSpelling, OnePayload, RoaRefusesExactly, ManifestRefusesExactly};
 
-/// Bytes have at most one fault. They have one if and only if they encode no value.
+/// Law: bytes either encode a value or have exactly one fault. This holds for ROAs and for manifests.
 pub fn one_fault()
     ensures { OneFault }
 {}
 
-/// No value has two spellings, no bytes spell two values, and no spelling begins another.
+/// Law: a value has at most one encoding, and bytes encode at most one value. No encoding is a proper beginning of another.
+/// This holds for ROAs and for manifests.
 pub fn one_spelling()
     ensures { OneSpelling }
 {}
 
-/// Two payloads of ROAs that are accepted are the same bytes exactly if their AS numbers are equal and their sets of VRPs are.
+/// Law: two valid ROA payloads are the same bytes if and only if their AS numbers are equal and their sets of VRPs are equal.
 pub fn one_payload()
     ensures { OnePayload }
 {}
 
-/// The value of a ROA is refused if and only if no bytes encode it.
+/// Law: a ROA value is refused if and only if no bytes encode it.
 pub fn roa_refuses_exactly()
     ensures { RoaRefusesExactly }
 {}
 
-/// The value of a manifest is refused if and only if no bytes encode it.
+/// Law: a manifest value is refused if and only if no bytes encode it.
 pub fn manifest_refuses_exactly()
     ensures { ManifestRefusesExactly }
 {}

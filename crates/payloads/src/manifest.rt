@@ -21,7 +21,7 @@ use der_lite::{Moment, is_integer};
 use std::alloc::{AllocError, Global};
 use std::marker::Model;
 
-/// A file that a manifest lists (FileAndHash, RFC 9286 section 4.2.2).
+/// A file that a manifest lists: its name and hash (FileAndHash, RFC 9286 section 4.2.2).
 #[derive(Clone, Debug, Drop)]
 pub struct ListedFile {
     name: String,
@@ -41,14 +41,14 @@ impl Model for ListedFile {
 }
 
 impl ListedFile {
-    /// A file of this name, whose published object has this SHA-256.
+    /// Makes a listed file. `hash` is the SHA-256 of the published object. The name is not checked here, but in [`Manifest::new`].
     pub fn new(name: String, hash: [u8; 32]) -> ListedFile
         ensures { result ≡ record { name = string_bytes name; hash = hash } }
     {
         ListedFile { name, hash }
     }
 
-    /// The name.
+    /// The file name.
     pub fn name(&self) -> &str
         ensures { result.now ≡ self.now.name }
     {
@@ -78,8 +78,7 @@ impl Eq for ListedFile {
     ghost laws = { Prim.search (comparing, rules) };
 }
 
-/// A manifest: its number, from when to when it holds, and the files that it lists, of which no two
-/// have the same name (RFC 9286 section 4.2).
+/// A manifest (RFC 9286 section 4.2): its number, thisUpdate and nextUpdate, and the listed files. No two files have the same name.
 #[derive(Clone, Debug, Drop)]
 pub struct Manifest {
     pub(crate) number: Vec<u8>,
@@ -100,9 +99,10 @@ impl Model for Manifest {
 }
 
 impl Manifest {
-    /// The manifest of this number (the content of its INTEGER), these times and these files, or
-    /// the first fault. The order is `NumberRange`, also if the content is empty or not in the
-    /// fewest bytes, `TimesOrder`, then file by file `TooMany`, `Name`, `NameTwice`.
+    /// Makes a manifest. `number` is the content of its DER INTEGER, most significant byte first.
+    ///
+    /// The first fault in this order is reported: `NumberRange`, `TimesOrder`, then file by file `TooMany`, `Name`, `NameTwice`.
+    /// `Memory`: memory runs out.
     pub fn new(
         alloc: Global,
         number: Vec<u8>,
@@ -129,7 +129,8 @@ impl Manifest {
         }
     }
 
-    /// The number: the content of its INTEGER, not negative and of at most 20 bytes.
+    /// The manifest number (RFC 9286 section 4.2.1), as the content of its DER INTEGER: most significant byte first, at most 20 bytes.
+    /// It is not negative and has the fewest bytes possible.
     pub fn number(&self) -> &[u8]
         ensures value { result.now ≡ self.now.number }
         ensures right { IsManifest self.now }
@@ -137,21 +138,21 @@ impl Manifest {
         &self.number
     }
 
-    /// When it was made.
+    /// thisUpdate: the time at which the manifest was made (RFC 9286 section 4.2.1).
     pub fn this_update(&self) -> &Moment
         ensures { result.now ≡ self.now.this_update }
     {
         &self.this_update
     }
 
-    /// Until when the next one is made, later than this one.
+    /// nextUpdate: the time until which the next manifest is made (RFC 9286 section 4.2.1). It is later than thisUpdate.
     pub fn next_update(&self) -> &Moment
         ensures { result.now ≡ self.now.next_update }
     {
         &self.next_update
     }
 
-    /// The files that it lists, at most 65,536, no two of the same name.
+    /// The listed files, at most 65,536. No two have the same name.
     pub fn files(&self) -> &[ListedFile]
         ensures value { result.now ≡ self.now.files }
         ensures right { IsManifest self.now }

@@ -175,8 +175,8 @@ fn whole_manifest(alloc: Global, payload: &[u8]) -> Result<Fields<'_>, PayloadFa
     })
 }
 
-/// The manifest that the bytes spell, or the first fault (RFC 9286 section 4). Memory is asked for
-/// while they are judged.
+/// Decodes a manifest payload (RFC 9286 section 4). `At`: the bytes are not a valid payload, and this is the first fault.
+/// `Memory`: memory runs out, which may happen before the rest of the payload is checked.
 pub fn decode_manifest(alloc: Global, payload: &[u8]) -> Result<Manifest, PayloadFault>
     ensures { DecodesManifest result payload.now }
 {

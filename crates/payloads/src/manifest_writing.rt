@@ -12,7 +12,7 @@ use crate::{ListedFile, Manifest};
 use der_lite::{Bits, DerWriter};
 use std::alloc::{AllocError, Global};
 
-/// The bytes that spell the manifest (RFC 9286 section 4). No others do.
+/// Encodes a manifest as its payload (RFC 9286 section 4). It has no other encoding. An error means that memory runs out.
 pub fn encode_manifest(alloc: Global, manifest: &Manifest) -> Result<Vec<u8>, AllocError>
     ensures { IfOk result (λ bytes. ManifestSpells manifest.now bytes.items) }
 {

@@ -13,8 +13,8 @@ use prefixes::{Asn, Vrp};
 use std::alloc::{AllocError, Global};
 use std::marker::Model;
 
-/// A ROA: an AS and the prefixes that it may originate, one or more, in strictly ascending order by
-/// family, address, length, maximum length (RFC 9582 section 4).
+/// A ROA (RFC 9582 section 4): an AS number, and one or more entries with the prefixes that the AS may originate.
+/// The entries ascend strictly by family, address, prefix length and maximum length.
 #[derive(Clone, Debug, Drop)]
 pub struct Roa {
     asn: Asn,
@@ -47,8 +47,10 @@ impl Eq for Roa {
 }
 
 impl Roa {
-    /// The ROA of this AS and these entries, or the first fault: `Empty`, then entry by entry
-    /// `TooMany`, `Order` of the family, `MaxLength`, `MaxLengthSuperfluous`, `Order`.
+    /// Makes a ROA of an AS number and its entries.
+    ///
+    /// The first fault in this order is reported: `Empty`, then entry by entry `TooMany`, `Order` (an IPv4 entry behind an IPv6 one),
+    /// `MaxLength`, `MaxLengthSuperfluous`, `Order`.
     pub fn new(asn: Asn, entries: Vec<RoaEntry>) -> Result<Roa, ValueFault>
         ensures { Makes result asn.0 entries.items }
     {
@@ -58,14 +60,14 @@ impl Roa {
         }
     }
 
-    /// The AS that may originate the prefixes.
+    /// The AS number that may originate the prefixes.
     pub fn asn(&self) -> Asn
         ensures { result.0 ≡ self.now.asn }
     {
         self.asn
     }
 
-    /// The entries, in strictly ascending order.
+    /// The entries, in strictly ascending order. There is at least one.
     pub fn entries(&self) -> &[RoaEntry]
         ensures value { result.now ≡ self.now.entries }
         ensures right { IsRoa result.now }
@@ -73,8 +75,8 @@ impl Roa {
         &self.entries
     }
 
-    /// What the ROA validates: a payload for each entry, in their order. The maximum length of an
-    /// entry that has none is the length of its prefix.
+    /// Returns the VRPs of the ROA: one for each entry, in the same order.
+    /// If an entry has no maximum length, its VRP has the length of the prefix. An error means that memory runs out.
     pub fn vrps(&self, alloc: Global) -> Result<Vec<Vrp>, AllocError>
         ensures { IfOk result (λ vrps. vrps.items ≡ payloads_of self.now) }
     {
@@ -107,8 +109,8 @@ fn refusal(entries: &[RoaEntry]) -> Option<ValueFault>
     None
 }
 
-/// The ROA that the bytes spell, or the first fault (RFC 9582 section 4). All of the payload is
-/// judged before memory is asked for.
+/// Decodes a ROA payload (RFC 9582 section 4). `At`: the bytes are not a valid payload, and this is the first fault.
+/// `Memory`: memory runs out. The whole payload is checked before memory is asked for.
 pub fn decode_roa(alloc: Global, payload: &[u8]) -> Result<Roa, PayloadFault>
     ensures { Decodes result payload.now }
 {

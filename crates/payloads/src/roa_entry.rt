@@ -12,19 +12,17 @@ use prefixes::{Asn, IpPrefix, Vrp};
 /// How many entries a payload may have.
 pub(crate) const LIMIT: usize = 65_536;
 
-/// A prefix of a ROA, with the greatest length of the prefixes in it that the AS may originate
-/// (ROAIPAddress, RFC 9582 section 4.3.2).
+/// An entry of a ROA (ROAIPAddress, RFC 9582 section 4.3.2): a prefix, and the greatest length of a prefix in it that the AS may originate.
 #[derive(Clone, Copy, Debug, PartialEq, Eq, Hash)]
 pub struct RoaEntry {
     /// The prefix.
     pub prefix: IpPrefix,
-    /// The maximum length in bits, over that of the prefix. If it is absent, the length of the
-    /// prefix is meant.
+    /// The maximum length in bits, greater than the length of the prefix. `None`: it equals the length of the prefix.
     pub max_len: Option<u8>,
 }
 
 impl RoaEntry {
-    /// The maximum length in bits, or the length of the prefix if it is absent.
+    /// The maximum length in bits. If `max_len` is `None`, it is the length of the prefix.
     pub fn greatest_length(&self) -> u8
         ensures { result ≡ greatest_length self.now }
     {

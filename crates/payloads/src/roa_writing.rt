@@ -16,7 +16,7 @@ use der_lite::{Bits, DerWriter};
 use prefixes::IpPrefix;
 use std::alloc::{AllocError, Global};
 
-/// The bytes that spell the ROA (RFC 9582 section 4). No others do.
+/// Encodes a ROA as its payload (RFC 9582 section 4). It has no other encoding. An error means that memory runs out.
 pub fn encode_roa(alloc: Global, roa: &Roa) -> Result<Vec<u8>, AllocError>
     ensures { IfOk result (λ bytes. RoaSpells roa.now bytes.items) }
 {

@@ -60,9 +60,10 @@ fn v6_prefix(text: &str) -> Result<IpPrefix, PrefixFault>
     Ok(IpPrefix::V6(judged(addr, len)?))
 }
 
-/// The prefix that a text spells, as `IpPrefix::parse` reads it. Besides, the last 32 bits of an IPv6 address may be written as an IPv4
-/// address does, in dotted decimal (RFC 4291 section 2.2, form 3; RFC 5952 section 5). Other text is `BadText`; then a length over the
-/// family's width is `TooLong`; then a bit set after the first bits is `HostBits`.
+/// Reads a prefix as `IpPrefix::parse` does, and also in mixed notation: the last 32 bits of an IPv6 address may be in dotted decimal (RFC 4291
+/// section 2.2, form 3; RFC 5952 section 5).
+/// Errors, in this order: `BadText`: the text has another form. `TooLong`: the length is greater than the width of the family. `HostBits`: a bit
+/// beyond the length is set.
 pub fn parse_prefix(text: &str) -> Result<IpPrefix, PrefixFault>
     ensures reads { ReadsPrefix text.now result }
     ensures only { (p : OfEither) → SpellsPrefix p text.now → result ≡ Ok p }

@@ -3,19 +3,19 @@ ghost use Rattle.std.specs.Prelude.{◌≡◌};
 
 use thiserror::Error;
 
-/// Why an address, a length or a text is refused. The numbers are fixed. They end the text that `Display` writes.
+/// Why an address, a length or a text is refused. Each fault has a fixed number, which ends the text that `Display` writes.
 #[derive(Clone, Copy, Debug, PartialEq, Eq, Error)]
 pub enum PrefixFault {
-    /// The length is over the width of the family.
+    /// The prefix length is greater than the width of the family.
     #[error("the prefix length is greater than the width of the address family (fault 1)")]
     TooLong = 1,
-    /// A bit after the first bits is set.
+    /// The address has a bit set beyond the prefix length.
     #[error("a bit behind the prefix length is set (fault 2)")]
     HostBits = 2,
-    /// The text is no prefix, or no number.
+    /// The text is not a prefix (`IpPrefix::parse`) or not an AS number (`Asn::parse`).
     #[error("not a prefix or an AS number (fault 3)")]
     BadText = 3,
-    /// The maximum length is below the length, or over the width of the family.
+    /// The maximum length is below the prefix length, or greater than the width of the family.
     #[error("the maximum length is below the prefix length, or greater than the width of the address family (fault 4)")]
     MaxLength = 4,
 }

@@ -14,8 +14,7 @@ use crate::fault::PrefixFault;
 use std::cmp::Ordering;
 use std::marker::{Model, PhantomData};
 
-/// A prefix of the family `F`: an address and how many of its first bits count, all others being zero
-/// (RFC 4632 section 3.1, RFC 4291 section 2.3).
+/// A prefix of the family `F`: an address and a prefix length. All bits beyond the length are zero (RFC 4632 section 3.1, RFC 4291 section 2.3).
 #[derive_where(Clone, Copy, PartialEq, Eq, Hash)]
 pub struct Prefix<F: Family> {
     addr: Address,
@@ -37,7 +36,8 @@ impl<F: Family> Model for Prefix<F> {
 }
 
 impl<F: Family> Prefix<F> {
-    /// The prefix of this address, a number below 2 to the family's width, and of this length in bits.
+    /// Makes a prefix from an address, as a number below 2^32 (IPv4) or 2^128 (IPv6), and a length in bits.
+    /// `TooLong`: the length is greater than the width of the family. `HostBits`: otherwise, a bit beyond the length is set.
     pub fn new(addr: u128, len: u8) -> Result<Self, PrefixFault>
         requires { addr < 2 ^ F.WIDTH }
         ensures ok { IfOk result (λ p. p ≡ record { addr = addr; len = len }) }
@@ -64,7 +64,7 @@ impl<F: Family> Prefix<F> {
         })
     }
 
-    /// The address, as a number below 2 to the family's width.
+    /// The address as a number below 2^32 (IPv4) or 2^128 (IPv6).
     pub fn addr(&self) -> u128
         ensures value { result ≡ self.now.addr }
         ensures prefix { IsPrefix F.WIDTH self.now }
@@ -72,7 +72,7 @@ impl<F: Family> Prefix<F> {
         self.addr.number()
     }
 
-    /// How many of the first bits count.
+    /// The prefix length in bits: at most 32 for IPv4, at most 128 for IPv6.
     pub fn len(&self) -> u8
         ensures value { result ≡ self.now.len }
         ensures prefix { IsPrefix F.WIDTH self.now }
@@ -80,7 +80,7 @@ impl<F: Family> Prefix<F> {
         self.len
     }
 
-    /// Whether each address of `other` is one of this prefix (RFC 6811 section 2, "Covered").
+    /// Returns whether this prefix contains every address of `other` (RFC 6811 section 2, "Covered"). A prefix covers itself.
     pub fn covers(&self, other: &Prefix<F>) -> bool
         ensures { result ≡ contains F.WIDTH self.now other.now }
     {
@@ -92,7 +92,7 @@ impl<F: Family> Prefix<F> {
     }
 }
 
-/// The order of prefixes of a family: address, length.
+/// Orders prefixes of one family by address, then by length.
 impl<F: Family> Ord for Prefix<F> {
     ghost cmp = { block_cmp };
 
@@ -121,7 +121,7 @@ impl<F: Family> PartialOrd for Prefix<F> {
     }
 }
 
-/// A prefix of either family. IPv4 comes before IPv6. Within a family the order is by address, then length.
+/// An IPv4 or IPv6 prefix. IPv4 comes before IPv6. Within a family the order is by address, then by length.
 #[derive(Clone, Copy, PartialEq, Eq, Hash)]
 pub enum IpPrefix {
     V4(Prefix<V4>),
@@ -131,7 +131,7 @@ pub enum IpPrefix {
 impl IpPrefix {
     ghost use Rattle.prefixes.specs.Payload.{block_of, covers, width_of};
 
-    /// Whether they are of one family, and each address of `other` is one of this prefix.
+    /// Returns whether both prefixes are of one family and this one contains every address of `other` (RFC 6811 section 2, "Covered").
     pub fn covers(&self, other: &IpPrefix) -> bool
         ensures { result ≡ covers self.now other.now }
     {
@@ -142,7 +142,7 @@ impl IpPrefix {
         }
     }
 
-    /// How many of the first bits count.
+    /// The prefix length in bits: at most 32 for IPv4, at most 128 for IPv6.
     pub fn len(&self) -> u8
         ensures value { result ≡ (block_of self.now).len }
         ensures prefix { IsPrefix (width_of self.now) (block_of self.now) }
@@ -154,7 +154,7 @@ impl IpPrefix {
     }
 }
 
-/// The order of prefixes: family, address, length.
+/// Orders prefixes by family (IPv4 first), then by address, then by length.
 impl Ord for IpPrefix {
     ghost cmp = { prefix_cmp };
 

@@ -2,12 +2,12 @@
 
 use crate::prefix::IpPrefix;
 
-/// A route: what is announced, and by which AS. `None` is the origin NONE, of a path whose last segment is a set
-/// (RFC 6811 section 2).
+/// A route: the announced prefix and its origin AS. The origin `None` is NONE (RFC 6811 section 2): the AS path ends in an AS_SET, so no single
+/// AS is the origin.
 #[derive(Clone, Copy, Debug, PartialEq, Eq, Hash)]
 pub struct Route {
-    /// What is announced.
+    /// The announced prefix.
     pub prefix: IpPrefix,
-    /// The AS number that announces it, 32 bits, or NONE.
+    /// The origin AS number (32 bits). `None`: the origin is NONE.
     pub origin: Option<u32>,
 }

@@ -17,9 +17,10 @@ use std::str::FromStr;
 impl IpPrefix {
     ghost use Rattle.prefixes.specs.Text.{PrefixText, ReadsAs};
 
-    /// The prefix that a text spells (RFC 4632 section 3.1, RFC 4291 sections 2.2 and 2.3): an address, a slash, and the length. The length has
-    /// one to three decimal digits without a leading zero. An IPv6 address has no part in dotted decimal. Other text is `BadText`. Then a
-    /// length over the family's width is `TooLong`. Then a bit set after the first bits is `HostBits`.
+    /// Reads a prefix from a text (RFC 4632 section 3.1, RFC 4291 sections 2.2 and 2.3): an address, a slash, and the length in bits.
+    /// The length is one to three decimal digits without a leading zero. An IPv6 address must not contain dotted decimal.
+    /// Errors, in this order: `BadText`: the text has another form. `TooLong`: the length is greater than the width of the family. `HostBits`: a
+    /// bit beyond the length is set.
     pub fn parse(text: &str) -> Result<IpPrefix, PrefixFault>
         ensures reads { ReadsAs text.now result }
         ensures only { (p : IpPrefix) → PrefixText p text.now → result ≡ Ok p }
@@ -43,9 +44,9 @@ impl IpPrefix {
     }
 }
 
-/// The address, a slash, and the length in decimal. An IPv4 address is written in dotted decimal, an IPv6 address in the form of RFC 5952
-/// section 4. That is lower case without leading zeros, with `::` for the first longest run of two or more zero groups. Dotted decimal is
-/// never used for IPv6.
+/// Writes the address, a slash, and the length in decimal. IPv4 is written in dotted decimal.
+/// IPv6 is written as in RFC 5952 section 4: lower case, no leading zeros, `::` for the first longest run of two or more zero groups. IPv6 is
+/// never written with dotted decimal.
 impl Display for IpPrefix {
     ghost use Rattle.prefixes.specs.Text.{written_text};
 
@@ -65,14 +66,14 @@ impl Display for IpPrefix {
     }
 }
 
-/// The text that `Display` writes.
+/// Writes the text that `Display` writes.
 impl Debug for IpPrefix {
     fn fmt<W: fmt::Write>(&self, f: &mut fmt::Formatter<W>) -> fmt::Result {
         Display::fmt(self, f)
     }
 }
 
-/// As `parse`: the prefix that a text spells.
+/// Reads a prefix as `IpPrefix::parse` does.
 impl FromStr for IpPrefix {
     type Err = PrefixFault;
 
@@ -85,7 +86,7 @@ impl FromStr for IpPrefix {
     }
 }
 
-/// The address as a number in hexadecimal digits, a slash, and the length.
+/// Writes the address as one hexadecimal number with `0x`, a slash, and the length in decimal.
 impl<F: Family> Debug for Prefix<F> {
     fn fmt<W: fmt::Write>(&self, f: &mut fmt::Formatter<W>) -> fmt::Result {
         write!(f, "{:#x}/{}", self.addr(), self.len())
@@ -95,8 +96,8 @@ impl<F: Family> Debug for Prefix<F> {
 impl Asn {
     ghost use Rattle.prefixes.specs.Text.{ReadsAsNumber};
 
-    /// The AS number that a text writes in decimal digits without a leading zero (RFC 5396, "asplain"). Other text, and a number of
-    /// more than 32 bits, is `BadText`.
+    /// Reads an AS number in decimal digits without a leading zero, from 0 to 4294967295 (RFC 5396, "asplain").
+    /// `BadText`: any other text, also one with `AS` before the digits. It is the only error.
     pub fn parse(text: &str) -> Result<Asn, PrefixFault>
         ensures { ReadsAsNumber text.now result }
     {
@@ -107,7 +108,7 @@ impl Asn {
     }
 }
 
-/// As `parse`: the AS number that a text writes.
+/// Reads an AS number as `Asn::parse` does.
 impl FromStr for Asn {
     type Err = PrefixFault;
 
@@ -120,7 +121,7 @@ impl FromStr for Asn {
     }
 }
 
-/// The number in decimal (RFC 5396, "asplain").
+/// Writes the number in decimal without `AS` (RFC 5396, "asplain").
 impl Display for Asn {
     ghost output = { λ a. Some (decimal a.0) };
 
@@ -129,7 +130,7 @@ impl Display for Asn {
     }
 }
 
-/// The prefix, the maximum length and the AS number, with a blank between, as the commands print a payload: `192.0.2.0/24 26 64496`.
+/// Writes the prefix, the maximum length and the AS number, separated by blanks: `192.0.2.0/24 26 64496`.
 impl Display for Vrp {
     ghost use Rattle.prefixes.specs.Text.{vrp_text};
 
@@ -140,7 +141,7 @@ impl Display for Vrp {
     }
 }
 
-/// The prefix and the AS number or `none`, with a blank between, as the commands read a route: `192.0.2.0/24 64496`.
+/// Writes the prefix, a blank, and the origin AS number or `none`: `192.0.2.0/24 64496`. Commands read a route in this form.
 impl Display for Route {
     ghost use Rattle.prefixes.specs.Text.{route_text};
 

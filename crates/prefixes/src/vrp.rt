@@ -14,8 +14,8 @@ use std::cmp::Ordering;
 use std::marker::Model;
 use std::mem::size_of;
 
-/// A validated ROA payload: the AS may originate the prefix, and its parts up to the maximum length
-/// (RFC 6811 section 2). Payloads are ordered by family, address, length, maximum, AS.
+/// A validated ROA payload (VRP): the AS may originate the prefix, and its more specific prefixes up to the maximum length (RFC 6811 section 2).
+/// VRPs are ordered by family, address, prefix length, maximum length, AS number.
 #[derive(Clone, Copy, Debug, PartialEq, Eq, Hash)]
 pub struct Vrp {
     prefix: IpPrefix,
@@ -39,7 +39,8 @@ impl Model for Vrp {
 }
 
 impl Vrp {
-    /// The payload of these, or `MaxLength` if the maximum is below the prefix's length or over its family's width.
+    /// Makes a VRP. `max_len` is in bits.
+    /// `MaxLength`: `max_len` is below the length of `prefix`, or over 32 (IPv4) or 128 (IPv6). It is the only error.
     pub fn new(prefix: IpPrefix, max_len: u8, asn: Asn) -> Result<Self, PrefixFault>
         ensures ok { IfOk result (λ v. v ≡ record { prefix = prefix; max_len = max_len; asn = asn.0 }) }
         ensures valid { IsOk result ↔ (((block_of prefix).len ≤ max_len) × (max_len ≤ width_of prefix)) }
@@ -59,7 +60,7 @@ impl Vrp {
         })
     }
 
-    /// What the AS may originate.
+    /// The prefix of the VRP.
     pub fn prefix(&self) -> IpPrefix
         ensures value { result ≡ self.now.prefix }
         ensures payload { IsPayload self.now }
@@ -67,7 +68,7 @@ impl Vrp {
         self.prefix
     }
 
-    /// The greatest length, in bits, of a prefix that the AS may originate.
+    /// The maximum length in bits: the greatest length of a prefix that the AS may originate.
     pub fn max_len(&self) -> u8
         ensures value { result ≡ self.now.max_len }
         ensures payload { IsPayload self.now }
@@ -75,7 +76,7 @@ impl Vrp {
         self.max_len
     }
 
-    /// The AS that may originate the prefix; AS 0 means none (RFC 6483 section 4).
+    /// The AS that may originate the prefix. AS 0: no AS may originate it (RFC 6483 section 4).
     pub fn asn(&self) -> Asn
         ensures value { result.0 ≡ self.now.asn }
         ensures payload { IsPayload self.now }
@@ -84,8 +85,8 @@ impl Vrp {
     }
 }
 
-/// The order in which sets of payloads are listed: family, address, length, maximum, AS. It is inlined, since walks over sets spend most
-/// of their time in it.
+/// Orders VRPs by family (IPv4 first), address, prefix length, maximum length, AS number. Sets list VRPs in this order. The function is inlined,
+/// since walks over sets spend most of their time in it.
 impl Ord for Vrp {
     ghost cmp = { vrp_cmp };
 

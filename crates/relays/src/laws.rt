@@ -1,37 +1,42 @@
 //! Laws of the definitions. These functions do nothing: their contracts are the laws.
 ghost use Rattle.relays.specs.Chains.{ChainInOrder, EachFromFirst, EachIsCurrent, EachIsPublished, EachKeepsRelaying, RelaysInOrder};
 
-/// What a router of a world holds, if it holds a version, is a set that this world's cache published.
+/// Law: if a router holds a version, its table is a set that its world's cache published. Otherwise its table is empty.
+/// A world is one cache, its routers and their connections.
 pub fn held_is_published()
     ensures { EachIsPublished }
 {}
 
-/// A relay that publishes only what it makes of sets that its router held keeps that promise, whatever happens in the world before it.
+/// Law: a relay keeps its promise if it publishes only what it makes of sets that its router held.
+/// The promise: each set that the relay ever published is made of a set that its router held at some time.
+/// It holds after further events in the relay's world, and in the world before it.
 pub fn keeps_relaying()
     ensures { EachKeepsRelaying }
 {}
 
-/// This holds of every history of every world of a chain of any length, whatever was lost, cut or refused in any of them. Each router of the
-/// last world holds an empty table if it holds no session. Otherwise it holds what its own cache published under the name that it committed
-/// last. And that set is what the relays made, one after the other, of a set that the first cache published.
+/// Law: in a chain of relays of any length, data comes from the first cache, whatever was lost, cut or refused.
+/// A router of the last world has an empty table if it holds no session.
+/// Otherwise its table is what its own cache published under the protocol version, session and serial that it committed last.
+/// This table is also what the relays made, one after the other, of a set that the first cache published.
 pub fn chain()
     ensures { EachFromFirst }
 {}
 
-/// Let each relay's router hold the newest version of the cache before it, and each relay have published what its router holds. Then the
-/// newest version of the last cache is that of the first, as the relays make it. A router that has caught up with the last cache holds it.
+/// Law: if each relay is up to date, the newest version of the last cache is that of the first, as the relays make it.
+/// Up to date: the relay's router holds the newest version of the cache before it, and the relay's newest version is made of that.
+/// A router that has caught up with the last cache holds this set.
 pub fn caught_up()
     ensures { EachIsCurrent }
 {}
 
-/// No way back at a relay. What its router holds at a later moment of a history was not published before what it held at an earlier one,
-/// whatever restarts were between.
+/// Law: a relay's router never goes back. What it holds later was not published before what it held earlier, across restarts too.
 pub fn in_order()
     ensures { RelaysInOrder }
 {}
 
-/// No way back along a chain whose relays publish in turn. What a router of the last world held, and what it held before, are made of sets
-/// that the first cache published in turn.
+/// Law: along a chain whose relays publish in order, no router of the last world goes back.
+/// Order: if a relay published one set after another, its router held the sources of both in that order.
+/// What a router held earlier, and what it holds later, are made of sets that the first cache published in that order.
 pub fn chain_in_order()
     ensures { ChainInOrder }
 {}

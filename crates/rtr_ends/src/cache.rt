@@ -18,12 +18,12 @@ use std::alloc::{AllocError, Global};
 use std::rc::Rc;
 use vrps::{Published, Serial, VersionStore, VrpSet};
 
-/// The number of a connection at a cache. It has it until it is closed.
+/// The handle of a connection at a cache. Its number may go to another connection after `Cache::close`.
 #[derive(Clone, Copy, Debug, PartialEq, Eq)]
 pub struct Conn(usize);
 
 impl Conn {
-    /// The number itself. It is the least that no connection had when this one was opened.
+    /// The number of the connection. `Cache::open` gives the lowest number that no connection has.
     pub fn number(self) -> usize
         ensures { result ≡ self.0 }
     {
@@ -31,8 +31,8 @@ impl Conn {
     }
 }
 
-/// A cache (RFC 6810, RFC 8210): it answers the queries of its routers from a store of versions. Each of its connections is a machine over
-/// bytes, and keeps a share of the current version ready. A call on a number that no connection has changes nothing.
+/// The cache of the RTR protocol (RFC 6810, RFC 8210). It answers the queries of its routers from a store of versions. It handles bytes only:
+/// the caller does the input and output of each connection. A call with a `Conn` changes nothing if no connection has its number.
 #[derive(Debug, Drop)]
 pub struct Cache<S> {
     alloc: Global,
@@ -47,8 +47,8 @@ pub struct Cache<S> {
 }
 
 impl<S: VersionStore> Cache<S> {
-    /// A cache over this store, which sends its routers these intervals, without a connection. The session number of the store is that of
-    /// both versions of the protocol. It allocates no memory.
+    /// A cache without connections. `store` holds the versions to serve. `timing` holds the intervals that each End of Data of version 1
+    /// carries. The session ID of the store is used in both versions of the protocol. Allocates no memory.
     pub fn new(alloc: Global, store: S, timing: Timing) -> Cache<S>
         ensures { (keep : ℕ) (i : Instance) → S.holds keep i store → i.session0 ≡ i.session → ShowsCache S.holds (without_conns keep timing i) result }
     {
@@ -56,7 +56,8 @@ impl<S: VersionStore> Cache<S> {
         Cache::new_both(alloc, store, session0, timing)
     }
 
-    /// The same with a session number of its own for version 0: a session is one of a version of the protocol (RFC 8210 section 5.1).
+    /// A cache as from `new`, but with its own session ID `session0` for version 0 of the protocol. A session is one of a version of the
+    /// protocol (RFC 8210 section 5.1). Version 1 uses the session ID of the store.
     pub fn new_both(alloc: Global, store: S, session0: u16, timing: Timing) -> Cache<S>
         ensures { (keep : ℕ) (i : Instance) → S.holds keep i store → i.session0 ≡ session0 → ShowsCache S.holds (without_conns keep timing i) result }
     {
@@ -70,10 +71,9 @@ impl<S: VersionStore> Cache<S> {
         }
     }
 
-    /// Receives bytes of a router, and returns how many were consumed. None are consumed if bytes are due to the router, or the connection
-    /// has ended. Otherwise the bytes up to the end of the first PDU are consumed, or up to the place at which a fault shows, or all.
-    /// Memory is allocated at a Serial Query alone, for the change. If it runs out, Error Report 1 is due, and the connection ends (RFC
-    /// 8210 section 12).
+    /// Receives bytes from the router, and returns how many were consumed. Returns 0 if bytes are due to the router (call `pull` first), if the
+    /// connection has ended, or if there is none. Otherwise consumes up to the end of the first PDU, up to a fault, or all of `piece`. Only a
+    /// Serial Query allocates memory. If memory runs out, an Error Report of code 1 is due, and the connection ends (RFC 8210 section 12).
     pub fn receive(&mut self, conn: Conn, piece: &[u8]) -> usize
         ensures takes { (m : CacheState) → ShowsCache S.holds m self.old → TakesPiece S.holds m conn.0 piece.now result self.new }
         ensures within { result ≤ length piece.now }
@@ -87,8 +87,8 @@ impl<S: VersionStore> Cache<S> {
         }
     }
 
-    /// Fills `out` with bytes that are due to a router, as far as there are any, and answers how many. They are of the version that was
-    /// current when its query was read. It allocates no memory.
+    /// Writes bytes that are due to the router into the front of `out`, as many as fit. Returns how many: 0 if nothing is due or there is no
+    /// such connection. An answer is of the version that was current when its query was read. Allocates no memory.
     pub fn pull(&mut self, conn: Conn, out: &mut [u8]) -> usize
         ensures gives { (m : CacheState) → ShowsCache S.holds m self.old → GivesBytes S.holds m conn.0 out.old result out.new self.new }
         ensures within { result ≤ length out.old }
@@ -102,8 +102,8 @@ impl<S: VersionStore> Cache<S> {
         }
     }
 
-    /// Sends a Serial Notify of the current version to a router (RFC 8210 section 5.2), if the connection is open, nothing is due, and
-    /// something is published. It returns whether it did. It allocates nothing.
+    /// Queues a Serial Notify of the current version for the router (RFC 8210 section 5.2), to be pulled. Returns whether it did. Returns
+    /// `false` if there is no such connection, if it has ended, if bytes are due, or if nothing is published. Allocates no memory.
     pub fn notify(&mut self, conn: Conn) -> bool
         ensures { (m : CacheState) → ShowsCache S.holds m self.old → (result ≡ can_notify_at m.cache (m.at conn.0)) × ShowsCache S.holds (notified conn.0 m) self.new }
     {
@@ -126,7 +126,8 @@ impl<S: VersionStore> Cache<S> {
         }
     }
 
-    /// Whether the connection continues. What is due can be pulled after its end too.
+    /// Returns whether the connection continues. `false`: it has ended, or there is no such connection. Bytes that are due can still be pulled
+    /// after the end.
     pub fn is_open(&self, conn: Conn) -> bool
         ensures { (m : CacheState) → ShowsCache S.holds m self.now → result ≡ is_open_at (m.at conn.0) }
     {
@@ -136,7 +137,7 @@ impl<S: VersionStore> Cache<S> {
         }
     }
 
-    /// Whether bytes are due to the router.
+    /// Returns whether bytes are due to the router. `false` if there is no such connection.
     pub fn has_bytes(&self, conn: Conn) -> bool
         ensures { (m : CacheState) → ShowsCache S.holds m self.now → result ≡ has_bytes_at (m.at conn.0) }
     {
@@ -146,7 +147,7 @@ impl<S: VersionStore> Cache<S> {
         }
     }
 
-    /// Whether a PDU from the router has arrived in part. If there is no connection, it returns false.
+    /// Returns whether a PDU from the router has arrived only in part. `false` if there is no such connection.
     pub fn is_within_unit(&self, conn: Conn) -> bool
         ensures { (m : CacheState) → ShowsCache S.holds m self.now → result ≡ is_within (m.at conn.0) }
     {
@@ -156,14 +157,15 @@ impl<S: VersionStore> Cache<S> {
         }
     }
 
-    /// The version of the protocol in which a router speaks: that of its first header, once it came whole (RFC 8210 section 7).
+    /// The version of the protocol in which the router speaks: that of its first header (RFC 8210 section 7). `None`: no whole header has come
+    /// yet, or there is no such connection.
     pub fn version(&self, conn: Conn) -> Option<Version>
         ensures { (m : CacheState) → ShowsCache S.holds m self.now → result ≡ version_at (m.at conn.0) }
     {
         self.peer(conn)?.version()
     }
 
-    /// The current version: its serial and its set.
+    /// The current version: its serial and its set of VRPs. `None`: nothing is published.
     pub fn current(&self) -> Option<(Serial, &VrpSet)>
         ensures { (m : CacheState) → ShowsCache S.holds m self.now → option_map (λ found. record { serial = found.0.0; set = found.1.now }) result ≡ newest (versions m.cache) }
     {
@@ -171,14 +173,15 @@ impl<S: VersionStore> Cache<S> {
         Some((serial, set.as_ref()))
     }
 
-    /// The store of its versions.
+    /// The store of versions that the cache was made with.
     pub fn version_store(&self) -> &S
         ensures { result.now ≡ self.now.store }
     {
         &self.store
     }
 
-    /// Closes a connection, and drops what was due. Its number is free then. It allocates no memory.
+    /// Closes the connection and drops the bytes that were due. Its number is free afterwards. Does nothing if there is no such connection.
+    /// Allocates no memory.
     pub fn close(&mut self, conn: Conn)
         ensures { (m : CacheState) → ShowsCache S.holds m self.old → ShowsCache S.holds (with_conn conn.0 Option.None m) self.new }
     {
@@ -212,7 +215,7 @@ impl<S: VersionStore> Cache<S> {
         }
     }
 
-    /// Opens a connection. Its number is the least that no connection has. Without memory nothing is changed.
+    /// Opens a connection, which gets the lowest number that no connection has. Returns an error if memory runs out; nothing is changed then.
     pub fn open(&mut self) -> Result<Conn, AllocError>
         ensures { (m : CacheState) → ShowsCache S.holds m self.old → Opens S.holds m result self.new }
     {
@@ -250,8 +253,9 @@ impl<S: VersionStore> Cache<S> {
         }
     }
 
-    /// Publishes a set: a new version, or nothing if it is the current one. It allocates a share for each connection, and what the store
-    /// allocates. An answer that is under way is not changed by it. Without memory nothing is published.
+    /// Publishes a set of VRPs. Returns `Published::New` with the new serial, or `Unchanged` if the set equals the current version. An answer
+    /// that is under way still goes out in its own version. Sends no Serial Notify: see `notify`. Returns an error if memory runs out; nothing
+    /// is published then.
     pub fn publish(&mut self, set: VrpSet) -> Result<Published, AllocError>
         ensures { (m : CacheState) → ShowsCache S.holds m self.old → Publishes (λ i cache. ShowsCache S.holds (record m { cache = i }) cache) result set m.cache self.new }
     {

@@ -5,20 +5,21 @@ ghost use Rattle.rtr_ends.specs.Configuration.{default_config, limit_of, own_if}
 use crate::timing::Timing;
 use vrps::VrpSet;
 
-/// The configuration of a router: its own intervals (RFC 8210 section 6), and the most records. An interval that is kept holds whatever an
-/// End of Data says. The others hold if no End of Data says any: in version 0 (RFC 6810), and, for retry, before the first commit. If only
-/// some are kept, expire is not compared with the others: data may expire before they are refreshed.
+/// The configuration of a router: its own intervals (RFC 8210 section 6), and the most records that it accepts. If an interval is kept, it
+/// replaces the one in an End of Data. An interval that is not kept applies only if no End of Data gave one: in version 0 (RFC 6810), and for
+/// retry before the first commit. If only some are kept, expire is not compared with the others: data may expire before they are refreshed.
 #[derive(Clone, Copy, Debug, PartialEq, Eq)]
 pub struct RouterConfig {
-    /// The router's own intervals.
+    /// The router's own refresh, retry and expire intervals, in seconds.
     pub intervals: Timing,
-    /// Whether refresh is kept.
+    /// `true`: the own refresh interval replaces the one in an End of Data.
     pub keeps_refresh: bool,
-    /// Whether retry is kept.
+    /// `true`: the own retry interval replaces the one in an End of Data.
     pub keeps_retry: bool,
-    /// Whether expire is kept.
+    /// `true`: the own expire interval replaces the one in an End of Data.
     pub keeps_expire: bool,
-    /// The most records of the table to which an answer may lead. More than 16,777,215 counts as that.
+    /// The most records that the table may have. If an answer exceeds it, the link ends with `End::TooMany`. Values above 16,777,215 count as
+    /// 16,777,215.
     pub most: u32,
 }
 
@@ -40,7 +41,7 @@ impl RouterConfig {
 impl Default for RouterConfig {
     ghost is_default = { λ c. c ≡ default_config };
 
-    /// The intervals of `Timing::default()`, none of which is kept, and at most 16,777,215 records.
+    /// The default: the intervals of `Timing::default()`, none of them kept, and at most 16,777,215 records.
     fn default() -> RouterConfig {
         RouterConfig {
             intervals: Timing::default(),

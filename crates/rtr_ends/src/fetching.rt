@@ -13,25 +13,25 @@ use crate::streams::{StreamFault, write_bytes};
 use rtr_pdu::{Counted, MAX_UNIT_LEN, WriteFailed};
 use std::io::{Read, Write};
 
-/// What a router fetched.
+/// How `fetch_stream` ended.
 #[derive(Clone, Copy, Debug, PartialEq, Eq)]
 pub enum Fetched {
-    /// A version was committed.
+    /// The cache answered, and its version was committed.
     Committed,
-    /// The cache has no data (RFC 8210 section 12, code 2).
+    /// The cache has no data: it sent an Error Report of code 2 (RFC 8210 section 12).
     NoData,
-    /// The link ended so.
+    /// The link ended for this reason, before or after a commit.
     Ended(End),
-    /// The input ended while a question was outstanding.
+    /// The input ended while a query was outstanding.
     PeerClosed,
-    /// As often as was allowed was read while a question was outstanding.
+    /// `limit` reads were made, and a query is still outstanding.
     Limit,
 }
 
-/// Connects a router, writes its questions and reports, and reads in pieces of at most 4,096 bytes. It ends if no question is outstanding,
-/// the link or the input ends, a device fails, or `limit` reads were made. Each question goes out in one write if the writer accepts it. In
-/// every case `Router::closed` is called, and the router keeps what it has committed until its own rules drop it. The moment `now` is in
-/// seconds of the router's clock.
+/// Fetches one version from a cache: connects the router, sends its query, and reads from `input` until the query is answered. Returns earlier
+/// if the link or the input ends or `limit` reads were made. Returns an error if a read or a write fails. Reads pieces of at most 4,096 bytes.
+/// Sends each query in one write if the writer accepts it. `now` is in seconds of the router's clock. In every case `Router::closed` is called.
+/// The router drops its committed table only if it expires, if the cache shows another session, or if it answers a Serial Query with code 0.
 pub fn fetch_stream<R: Read, W: Write>(
     router: &mut Router,
     input: &mut Counted<R>,

@@ -1,4 +1,4 @@
-//! Laws of the definitions. These functions do nothing: their contracts are the laws.
+//! Laws of the two ends of the protocol. These functions do nothing when called: what their `ensures` lines state is proved.
 ghost use Rattle.rtr_ends.specs.Cache.{ConnStops, ConnTakes, ServesHistory};
 ghost use Rattle.rtr_ends.specs.CacheState.{AllHaveRoom, CacheIsServed, CacheState, EachIsServed, ShowsCache};
 ghost use Rattle.rtr_ends.specs.Commit.{ChangeCommits, OneCommit};
@@ -13,102 +13,103 @@ use crate::cache::Cache;
 use crate::router::Router;
 use vrps::VersionStore;
 
-/// The change between two sets, listed, commits from the first to the second.
+/// Law: if a router applies the listed change between two sets to the first one, the result is the second one.
 pub fn change_commits()
     ensures { ChangeCommits }
 {}
 
-/// An answer leads to one set.
+/// Law: an answer leads from a base set to one set only. No two different sets can follow from it.
 pub fn one_commit()
     ensures { OneCommit }
 {}
 
-/// What was pulled from a connection and what is due make up its replies.
+/// Law: for a connection of a cache, the bytes that were pulled and the bytes that are due are together its replies.
 pub fn pulled_are_replies()
     ensures { PulledAreReplies }
 {}
 
-/// The PDUs of a connection's history are those by which the stream of its bytes is split.
+/// Law: the PDUs in the history of a connection are those by which its received bytes are split. The version is that of the first header.
 pub fn history_splits()
     ensures { HistorySplits }
 {}
 
-/// A connection of a cache consumes the shortest beginning of a piece at which bytes become due or the connection ends, otherwise all of
-/// it. It consumes nothing if bytes are due or the connection has ended. It stops only at the end of a PDU or if a fault shows.
+/// Law: a connection of a cache consumes a piece only until bytes become due or the connection ends, otherwise all of it. It consumes nothing if
+/// bytes are due or it has ended. It stops only at the end of a PDU or at a fault.
 pub fn connection_takes()
     ensures taken { ConnTakes }
     ensures stops { ConnStops }
 {}
 
-/// A router consumes the shortest beginning of a piece at which bytes become due or the link ends, otherwise all of it. It consumes nothing
-/// if bytes are due or no link is open. It stops only at the end of a PDU or if a fault shows.
+/// Law: a router consumes a piece only until bytes become pending or the link ends, otherwise all of it. It consumes nothing if bytes are
+/// pending or no link is open. It stops only at the end of a PDU or at a fault.
 pub fn router_takes()
     ensures taken { RouterTakes }
     ensures stops { RouterStops }
 {}
 
-/// The test by which a router judges a whole answer passes if and only if the answer commits.
+/// Law: the test by which a router judges a whole answer passes if and only if the answer commits.
 pub fn acts_exactly()
     ensures { ActsExactly }
 {}
 
-/// The calls on a connection of a cache, in any order and with any cutting of the bytes, make its history. What came by it was consumed,
-/// what was pulled is the beginning of its replies, and what is due is the rest of them.
+/// Law: any calls on a connection of a cache, with any splitting of the bytes, make its history. The bytes of the history are those consumed.
+/// The bytes that were pulled are the beginning of its replies. The bytes that are due are the rest.
 pub fn serves_history()
     ensures { ServesHistory }
 {}
 
-/// What a router consumed on its latest connection, by any calls and with any cutting of the bytes, is split as in its transcript. That has
-/// all PDUs in their order, and the fault that shows. The router holds what follows them as long as it reads; a closed link holds nothing.
+/// Law: the bytes that a router consumed on its latest connection split into PDUs as its transcript lists them. This holds for any calls and any
+/// splitting of the bytes. The transcript has all PDUs in order, and a fault if one shows. While it reads, the router holds the bytes behind
+/// them. A closed link holds none.
 pub fn router_splits()
     ensures { RouterSplits }
 {}
 
-/// After any calls a router holds what its transcript keeps, and asks again when the transcript says. It knows the greatest moment that it
-/// was given and the configuration that was set last. Its link is as the transcript says; of a link that has ended it says only that there
-/// is a connection.
+/// Law: after any calls, a router holds the table that its transcript gives, and its next query is due when the transcript says. Its clock is
+/// the greatest time that it was given. Its configuration is the one set last. Its link is as the transcript says. Of an ended link the law says
+/// only that there is a connection.
 pub fn router_keeps()
     ensures { RouterKeeps }
 {}
 
-/// After any calls each question that a router put is the one that its transcript called for, and so is the one that it would choose now.
-/// It asks for all if nothing is committed, if a record acted wrongly since the last commit, or after a Cache Reset. Otherwise it asks for
-/// what changed since what was committed last.
+/// Law: after any calls, each query of a router is the one that its transcript calls for. So is the next one. It is a Reset Query if nothing is
+/// committed, if a record acted wrongly since the last commit, or after a Cache Reset. Otherwise it is a Serial Query since the committed
+/// version.
 pub fn router_asks()
     ensures { RouterAsks }
 {}
 
-/// After any calls the next connection of a router is of the version that was set last, of version 1 if none was set. Its latest connection
-/// is of the version that was set by then.
+/// Law: after any calls, the next connection of a router has the version that was set last, or version 1 if none was set. The latest connection
+/// has the version that was set when it was made.
 pub fn router_speaks()
     ensures { RouterSpeaks }
 {}
 
-/// After any calls consider the bytes that were pulled from a router on its latest connection, and those to be pulled. They are those of
-/// its questions in their order, and then of one report at most. On a link that has ended, the report is of the code with which it did; on
-/// a closed one, of some code. What was not pulled is lost if the link is closed or a Serial Query expires, and nothing is said after that.
+/// Law: after any calls, the bytes pulled and pending on a router's latest connection are its queries in order, then at most one Error Report.
+/// On an ended link, the report has the code with which the link ended. On a closed link, it has some code. Pending bytes are lost if the link
+/// closes or the version expires during a Serial Query. Nothing is sent after that.
 pub fn router_says()
     ensures { RouterSays }
 {}
 
-/// What is called on a cache, in any order and on any number of connections, makes the history of each of them, since it was opened.
+/// Law: any calls on a cache, with any number of connections, make the history of each connection since it was opened.
 pub fn each_is_served()
     ensures { EachIsServed }
 {}
 
-/// So it is with the value that such calls lead to. What it has under a number is the connection that its own calls made. What was pulled
-/// from that is the beginning of its replies, and what it has due is the rest of them.
+/// Law: `each_is_served` holds for the `Cache` value that such calls lead to. Under each number it holds the connection that its own calls made.
+/// The bytes that were pulled are the beginning of its replies. The bytes that are due are the rest.
 pub fn cache_is_served<S: VersionStore>(cache: &Cache<S>)
     ensures { CacheIsServed S.holds cache.now }
 {}
 
-/// After every call on a cache each of its connections holds at most 4,096 bytes that came and are not yet a whole PDU. It holds at most
-/// 4,096 bytes that are ready to be pulled. So it is with each cache that shows a state of the machine, as each call leaves it.
+/// Law: after every call on a cache, each connection holds at most 4,096 received bytes of an incomplete PDU. It holds at most 4,096 bytes that
+/// are ready to be pulled.
 pub fn each_has_room<S: VersionStore>(cache: &Cache<S>)
     ensures { (m : CacheState) → ShowsCache S.holds m cache.now → AllHaveRoom cache.now }
 {}
 
-/// After every call a router holds at most 4,096 bytes of a PDU that is not yet whole, and at most 4,096 pending bytes.
+/// Law: after every call, a router holds at most 4,096 bytes of an incomplete PDU, and at most 4,096 pending bytes.
 pub fn router_has_room(router: &Router)
     ensures { HasBufferRoom (held_by_router router.now) }
 {

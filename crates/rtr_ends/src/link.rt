@@ -4,27 +4,27 @@ ghost use Rattle.std.specs.Prelude.{◌≡◌, Some};
 use std::fmt::{self, Display};
 use thiserror::Error;
 
-/// Why a router's link ended.
+/// Why the link of a router ended.
 #[derive(Clone, Copy, Debug, PartialEq, Eq)]
 pub enum End {
     /// The router sent an Error Report of this code (RFC 8210 section 12).
     Reported(u16),
     /// The router received an Error Report of this code.
     Told(u16),
-    /// An Error Report that could not be read. None is sent on it (RFC 8210 section 5.11).
+    /// The router received an Error Report that could not be read. No report is sent on it (RFC 8210 section 5.11).
     Malformed,
-    /// Out of memory.
+    /// The router ran out of memory.
     Memory,
-    /// The committed version expired while it was asked what changed since (RFC 8210 section 6).
+    /// The committed version expired while a Serial Query was outstanding (RFC 8210 section 6).
     Expired,
-    /// An answer with over 16,777,215 records.
+    /// An answer leads to more records than `RouterConfig::most`, which counts as at most 16,777,215.
     TooMany,
 }
 
 impl End {
     ghost use Rattle.rtr_ends.specs.RouterLink.{end_number};
 
-    /// The number by which the end is printed. It is fixed.
+    /// The fixed number of the kind of end, from 1 to 6. It does not depend on the error code.
     pub fn number(self) -> u8
         ensures { result ≡ end_number self }
     {
@@ -39,7 +39,7 @@ impl End {
     }
 }
 
-/// A sentence that says why the link ended.
+/// The text of an end: a phrase that says why the link ended.
 impl Display for End {
     ghost use Rattle.rtr_ends.specs.RouterLink.{end_text};
 
@@ -57,28 +57,28 @@ impl Display for End {
     }
 }
 
-/// The link of a router to its cache.
+/// The state of the link of a router to its cache.
 #[derive(Clone, Copy, Debug, PartialEq, Eq)]
 pub enum Link {
     /// There is no connection.
     Closed,
-    /// No question is outstanding.
+    /// The connection is open, and no query is outstanding.
     Idle,
-    /// The question is not answered yet.
+    /// A query is outstanding, and no answer to it has begun.
     Asked,
-    /// An answer has begun.
+    /// The answer to a query has begun: its Cache Response came, but not yet its End of Data.
     Answering,
-    /// It has ended, and the connection has yet to be closed.
+    /// The link has ended for this reason. The transport connection is still to be closed: call `Router::closed` then.
     Ended(End),
 }
 
-/// Why nothing is asked. The numbers are fixed.
+/// Why `Router::ask` sends no query. The numbers are fixed.
 #[derive(Clone, Copy, Debug, PartialEq, Eq, Error)]
 pub enum AskFault {
-    /// A question is outstanding.
+    /// A query is already outstanding.
     #[error("a question is outstanding (fault 1)")]
     Busy = 1,
-    /// There is no connection, or it has ended.
+    /// There is no connection, or its link has ended.
     #[error("no connection, or one that has ended (fault 2)")]
     NotConnected = 2,
 }
@@ -86,7 +86,7 @@ pub enum AskFault {
 impl AskFault {
     ghost use Rattle.rtr_ends.specs.RouterLink.{ask_fault_number};
 
-    /// The number by which the fault is printed.
+    /// The number of the fault, as in its printed text.
     pub fn number(self) -> u8
         ensures { result ≡ ask_fault_number self }
     {

@@ -48,9 +48,9 @@ pub struct Machine {
     pub due: Option<u64>,
     /// Whether code 2, No Data Available, made the link idle last, and no commit.
     pub no_data: bool,
-    /// The greatest moment so far.
+    /// The greatest time so far, in seconds of the caller's clock.
     pub clock: u64,
-    /// The version of the next connection.
+    /// The version of the protocol for the next connection.
     pub speaks: Version,
     /// The version of the connection, or of the latest one.
     pub spoken: Version,
@@ -67,7 +67,7 @@ impl Machine {
     ghost use Rattle.rtr_ends.specs.declared.machine.State.TheVariants as states;
     ghost use Rattle.rtr_ends.specs.declared.link.End.TheVariants as ends;
 
-    /// Nothing committed, and no connection.
+    /// A router that has committed nothing and has no connection.
     pub fn new(alloc: Global) -> Machine
         ensures { ShowsRouter rules.new_router result }
     {
@@ -114,7 +114,8 @@ impl Machine {
         }
     }
 
-    /// The committed version, if it is of the version of the connection.
+    /// Returns the committed version if it was committed in the protocol version of the connection (`spoken`).
+    /// `None`: nothing is committed, or it was committed in the other protocol version.
     pub fn known(&self) -> Option<CommittedVersion>
         ensures { seen_versions result ≡ of_version self.now.spoken (seen_versions self.now.version) }
     {
@@ -130,7 +131,7 @@ impl Machine {
         }
     }
 
-    /// The query that comes next.
+    /// The next query: a Serial Query of the committed version, or a Reset Query if `known` returns `None` or `mark` is set.
     pub fn choose(&self) -> Question
         ensures { seen_question result ≡ choose (of_version self.now.spoken (seen_versions self.now.version)) self.now.mark }
     {
@@ -149,7 +150,9 @@ impl Machine {
         }
     }
 
-    /// Sends the query that comes next.
+    /// Puts a Serial Query (RFC 8210 section 5.3) into `out`, with the session and the serial of the committed version.
+    /// It is a Reset Query (section 5.4) instead if `known` returns `None` or `mark` is set.
+    /// Bytes that were pending before are dropped. The state becomes `Asked`.
     pub fn query(&mut self)
         ensures { Does rules.ask self.old self.new }
     {
@@ -186,7 +189,7 @@ impl Machine {
         self.send_report(error_code::CORRUPT_DATA, unit);
     }
 
-    /// Whether bytes are consumed: a connection is open, and there is nothing to pull.
+    /// Returns whether bytes are consumed: a link is open, and there is nothing to pull.
     pub fn takes(&self) -> bool
         ensures { result ≡ (linked.is_reading (seen_link self.now.state [] []) && is_none self.now.out) }
     {

@@ -27,7 +27,7 @@ impl Machine {
     ghost use Rattle.rtr_ends.specs.declared.machine.State.TheVariants as states;
     ghost use Rattle.rtr_ends.specs.declared.link.End.TheVariants as ends;
 
-    /// A PDU is read. Whether memory ran out; then the link has ended.
+    /// Reads a PDU. Returns whether memory ran out, in which case the link has ended.
     pub fn read(&mut self, unit: &Unit) -> bool
         requires { fits self.old.spoken unit.now ≡ true }
         ensures { ReadsOrLacks result unit.now self.old self.new }

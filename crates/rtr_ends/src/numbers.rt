@@ -13,7 +13,7 @@ pub(crate) struct FreeNumbers {
 }
 
 impl FreeNumbers {
-    /// No number is free, and none is in use. It allocates no memory.
+    /// A store without numbers: none is free and none is in use. Allocates no memory.
     pub fn new(alloc: Global) -> FreeNumbers
         ensures { AreFree [] result }
     {
@@ -22,7 +22,7 @@ impl FreeNumbers {
         }
     }
 
-    /// Allocates the least free number. It allocates no memory.
+    /// Uses the lowest free number from now on. `None`: no number is free. Allocates no memory.
     pub fn take(&mut self) -> Option<usize>
         ensures { (taken : List Bool) → AreFree taken self.old → TakesNumber taken result self.new }
     {

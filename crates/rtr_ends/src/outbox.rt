@@ -26,7 +26,7 @@ impl Model for Outbox {
 }
 
 impl Outbox {
-    /// Nothing to be pulled.
+    /// An outbox with nothing pending.
     pub fn new() -> Outbox
         ensures { result ≡ [] }
     {
@@ -36,7 +36,7 @@ impl Outbox {
         }
     }
 
-    /// Whether nothing is pending.
+    /// Returns whether nothing is pending.
     pub fn is_empty(&self) -> bool
         ensures { result ≡ is_none self.now }
     {
@@ -59,7 +59,7 @@ impl Outbox {
         self.pulled = 0;
     }
 
-    /// A PDU of this version is pending, and nothing else.
+    /// Makes a PDU pending in this version of the protocol, and drops what was pending before.
     pub fn put(&mut self, version: Version, unit: &Unit)
         requires { fits version unit.now ≡ true }
         ensures { self.new ≡ sent version unit.now }
@@ -68,7 +68,7 @@ impl Outbox {
         self.pulled = 0;
     }
 
-    /// Moves as many bytes as there are, or as fit, to the front of `room`, and answers how many.
+    /// Moves pending bytes into the front of `room`, as many as fit, and returns how many.
     pub fn pull(&mut self, room: &mut [u8]) -> usize
         ensures count { result ≡ min (length room.old) (length self.old) }
         ensures front { room.new ≡ take (length room.old) self.old ++ drop (length self.old) room.old }

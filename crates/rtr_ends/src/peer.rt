@@ -17,7 +17,7 @@ use crate::timing::Timing;
 use rtr_pdu::{Next, Unit, UnitFault, UnitReader, Version, error_code};
 use vrps::{Serial, Since, VersionStore};
 
-/// One connection at the cache (RFC 8210 sections 5 to 8). It holds at most 4,096 bytes that came and 4,096 to be sent.
+/// The cache's end of one connection (RFC 8210 sections 5 to 8). It holds at most 4,096 received bytes and 4,096 bytes to be sent.
 #[derive(Debug, Drop)]
 pub struct Peer {
     pub reader: UnitReader,
@@ -26,7 +26,8 @@ pub struct Peer {
 }
 
 impl Peer {
-    /// A connection on which nothing came yet.
+    /// The cache's end of a new connection, before any byte arrives. `sessions` and `timing` are the cache's session IDs and intervals. `ready`
+    /// is the newest version (serial and set). `None`: the cache has published nothing yet.
     pub fn new(sessions: Sessions, timing: Timing, ready: Option<Share>) -> Self
         ensures { (i : Instance) → sessions.v1 ≡ i.session → sessions.v0 ≡ i.session0 → option_map numbered_of ready ≡ newest (versions i) → ShowsPeer timing i (new_conn i) result }
     {
@@ -44,21 +45,21 @@ impl Peer {
         self.ended || self.sender.is_due()
     }
 
-    /// Whether it has bytes of a PDU that has not come whole.
+    /// Returns whether a PDU has arrived only in part.
     pub fn is_within_unit(&self) -> bool
         ensures { result ≡ not (is_none self.now.reader.held) }
     {
         !self.reader.held().is_empty()
     }
 
-    /// The version of what came, once a header came whole.
+    /// The version of the protocol in the first header. `None`: no whole header has come yet.
     pub fn version(&self) -> Option<Version>
         ensures { result ≡ known_version self.now.reader }
     {
         self.reader.version()
     }
 
-    /// From now on PDUs are sent in the version of what came, or in version 1 if no header has come.
+    /// Sets the version for PDUs that are sent: that of the first header, or version 1 if no header has come.
     fn speak(&mut self)
         requires { due_of self.old.sender ≡ [] }
         ensures reader { self.new.reader ≡ self.old.reader }
@@ -81,7 +82,7 @@ impl Peer {
         self.ended = true;
     }
 
-    /// Answers a Serial Query of this session, if this is the serial of the current version.
+    /// Answers a Serial Query of the own session. `asked` is the serial in the query, `current` that of the current version.
     fn answer_since<S: VersionStore>(&mut self, store: &S, asked: Serial, current: Serial)
         requires due { due_of self.old.sender ≡ [] }
         requires goes_on { self.old.ended ≡ false }
@@ -152,8 +153,8 @@ impl Peer {
         }
     }
 
-    /// Consumes bytes from the front of the piece, and returns how many: to the end of the first PDU, or to a fault, or otherwise all. None
-    /// are consumed if bytes are due, or the connection has ended.
+    /// Consumes bytes from the front of `piece`, and returns how many: up to the end of the first PDU, up to a fault, or all. Returns 0 if bytes
+    /// are due or the connection has ended.
     pub fn receive<S: VersionStore>(&mut self, store: &S, piece: &[u8]) -> usize
         ensures receives { (keep : ℕ) (t : Intervals) (i : Instance) (o : Conn) → S.holds keep i store.now → ShowsPeer t i o self.old →
             Receives keep t i o piece.now result self.new }
@@ -177,7 +178,7 @@ impl Peer {
         }
     }
 
-    /// Fills `out` with bytes that are due, as far as there are any.
+    /// Writes bytes that are due into the front of `out`, as many as fit, and returns how many.
     pub fn pull(&mut self, out: &mut [u8]) -> usize
         ensures pulls { (keep : ℕ) (t : Intervals) (i : Instance) (o : Conn) → ShowsPeer t i o self.old → Pulls keep t i o out.old result out.new self.new }
         ensures within { result ≤ length out.old }
@@ -185,7 +186,8 @@ impl Peer {
         self.sender.pull(out)
     }
 
-    /// Sends a Serial Notify of the current version, if it can.
+    /// Queues a Serial Notify of the current version, and returns whether it did. Returns `false` if bytes are due, if the connection has ended,
+    /// or if nothing is published.
     pub fn notify(&mut self) -> bool
         ensures { (keep : ℕ) (t : Intervals) (i : Instance) (o : Conn) → ShowsPeer t i o self.old →
             (result ≡ can_notify i o) × ShowsPeer t i (conn_notified keep t i o) self.new }
@@ -205,7 +207,7 @@ impl Peer {
         }
     }
 
-    /// A share of a newer version is ready from now on.
+    /// Sets the newest version, which the next answer sends. An answer that is under way does not change. Sends no Serial Notify.
     pub fn offer(&mut self, share: Share)
         ensures { (t : Intervals) (i j : Instance) (o : Conn) → i.session ≡ j.session → i.session0 ≡ j.session0 → Some (numbered_of share) ≡ newest (versions j) →
             ShowsPeer t i o self.old → ShowsPeer t j o self.new }
@@ -213,14 +215,14 @@ impl Peer {
         self.sender.offer(share);
     }
 
-    /// Whether bytes are due.
+    /// Returns whether bytes are due to the router.
     pub fn has_bytes(&self) -> bool
         ensures { (t : Intervals) (i : Instance) (o : Conn) → ShowsPeer t i o self.now → result ≡ not (is_none o.state.due) }
     {
         self.sender.is_due()
     }
 
-    /// Whether the connection continues.
+    /// Returns whether the connection continues. `false`: it has ended.
     pub fn is_open(&self) -> bool
         ensures { (t : Intervals) (i : Instance) (o : Conn) → ShowsPeer t i o self.now → result ≡ not o.state.ended }
     {

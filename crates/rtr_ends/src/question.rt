@@ -35,17 +35,17 @@ impl Question {
 pub struct CommittedVersion {
     /// The version of the protocol in which it was committed.
     pub version: Version,
-    /// The session of the cache.
+    /// The session ID of the cache.
     pub session: u16,
     /// The serial number, from the End of Data.
     pub serial: Serial,
-    /// When it was committed, in seconds of the caller's clock.
+    /// The time of the commit, in seconds of the caller's clock.
     pub moment: u64,
-    /// After how many seconds the router asks again.
+    /// The refresh interval: the router sends its next query this many seconds after the commit.
     pub refresh: u32,
-    /// After how many seconds the router tries again if it could not refresh.
+    /// The retry interval: the router tries again this many seconds after a failed query.
     pub retry: u32,
-    /// After how many seconds without another commit the records are dropped.
+    /// The expire interval: the records are dropped once more than this many seconds pass without another commit.
     pub expire: u32,
 }
 

@@ -22,8 +22,9 @@ use rtr_pdu::{Next, UnitReader, Version};
 use std::alloc::{AllocError, Global};
 use vrps::{Change, OriginState, Serial, VrpSet};
 
-/// A router: what it has committed, and at most one connection (RFC 6810, RFC 8210 sections 5 to 8). Moments are in seconds of a clock that
-/// the caller supplies; one below the greatest so far counts as that one.
+/// The router of the RTR protocol: its committed table, and at most one connection (RFC 6810, RFC 8210 sections 5 to 8). It handles bytes only:
+/// the caller does the input and output. Times are in seconds of a clock that the caller supplies. If a time is below the greatest one so far,
+/// that greatest one counts.
 #[derive(Debug, Drop)]
 pub struct Router {
     machine: Machine,
@@ -33,7 +34,8 @@ pub struct Router {
 impl Router {
     ghost use Rattle.rtr_ends.specs.RouterShown.{Calls, IsShown, CallsLead, LeadsOn, ReceivesSo, TakesOn, held_by_router};
 
-    /// Nothing is committed, and there is no connection. Connections are of version 1, until `speak` sets another.
+    /// A router that has committed nothing and has no connection. Its connections are of version 1 of the protocol, unless `speak` sets another.
+    /// Allocates no memory.
     pub fn new(alloc: Global) -> Router
         ensures { IsShown rules.new_router result }
     {
@@ -43,7 +45,7 @@ impl Router {
         }
     }
 
-    /// Sets the version of the protocol for the next connection and those after it. An open connection keeps its own. It allocates nothing.
+    /// Sets the version of the protocol for all later connections. An open connection keeps its version. Allocates no memory.
     pub fn speak(&mut self, version: Version)
         ensures calls { Calls (λ r. (called (model.Speaks version) r).router) self.old self.new }
         ensures leads { LeadsOn (model.Speaks version) self.old self.new }
@@ -51,8 +53,8 @@ impl Router {
         self.machine.speaks = version;
     }
 
-    /// Sets the configuration, from now on: for the commits to come, and for the records that are still to be staged. What is committed
-    /// keeps its intervals. It sends nothing, and allocates nothing.
+    /// Sets the configuration. It applies to later commits, and to later records of an answer that is under way. What is committed keeps its
+    /// intervals. Sends nothing, and allocates no memory.
     pub fn configure(&mut self, config: RouterConfig)
         ensures calls { Calls (λ r. (called (model.Configures config) r).router) self.old self.new }
         ensures leads { LeadsOn (model.Configures config) self.old self.new }
@@ -60,7 +62,7 @@ impl Router {
         self.machine.config = config;
     }
 
-    /// The configuration that was set last, the default if none was set.
+    /// The configuration that was set last, or the default if none was set.
     pub fn config(&self) -> &RouterConfig
         ensures shown { (r : rules.Router) → IsShown r self.now → result.now ≡ r.config }
         ensures kept { (calls : List model.RouterCall) → CallsLead calls self.now → result.now ≡ configured (model.played calls).items }
@@ -68,8 +70,8 @@ impl Router {
         &self.machine.config
     }
 
-    /// A connection is made, of the version that was set last, and a query is sent on it. An older connection is closed. It allocates
-    /// nothing.
+    /// Starts a connection and queues its first query, to be pulled. Call it once the transport is connected. The connection has the version
+    /// that `speak` set last. An older connection is closed. `now` is in seconds of the caller's clock. Allocates no memory.
     pub fn connect(&mut self, now: u64)
         ensures calls { Calls (λ r. (called (model.Connects now) r).router) self.old self.new }
         ensures leads { LeadsOn (model.Connects now) self.old self.new }
@@ -78,7 +80,8 @@ impl Router {
         self.reader = UnitReader::for_router(self.machine.spoken);
     }
 
-    /// The transport closed the connection. It allocates nothing.
+    /// Notes that the transport connection is closed. Drops the pending bytes and the unfinished answer, and keeps the committed
+    /// table. `now` is in seconds of the caller's clock. Allocates no memory.
     pub fn closed(&mut self, now: u64)
         ensures calls { Calls (λ r. (called (model.Closes now) r).router) self.old self.new }
         ensures leads { LeadsOn (model.Closes now) self.old self.new }
@@ -86,7 +89,8 @@ impl Router {
         self.machine.closed(now);
     }
 
-    /// Advances the clock. An idle link sends a query if that is due. It allocates nothing.
+    /// Advances the clock to `now`, in seconds of the caller's clock. Drops the committed table if it has expired. Queues a query if the link is
+    /// idle and the query is due. Allocates no memory.
     pub fn tick(&mut self, now: u64)
         ensures calls { Calls (λ r. (called (model.Ticks now) r).router) self.old self.new }
         ensures leads { LeadsOn (model.Ticks now) self.old self.new }
@@ -94,7 +98,8 @@ impl Router {
         self.machine.tick(now);
     }
 
-    /// Sends a query on an idle link. It allocates nothing.
+    /// Queues a query at once, to be pulled, if the link is idle. Otherwise returns an error: `Busy` if a query is outstanding, `NotConnected`
+    /// if no link is open. Allocates no memory.
     pub fn ask(&mut self) -> Result<(), AskFault>
         ensures calls { Calls (λ r. (called model.AsksNow r).router) self.old self.new }
         ensures leads { LeadsOn model.AsksNow self.old self.new }
@@ -112,7 +117,7 @@ impl Router {
         }
     }
 
-    /// Moves the bytes to be sent into `room`, as many as fit, and returns how many. It allocates no memory.
+    /// Moves pending bytes for the cache into the front of `room`, as many as fit. Returns how many: 0 if none are pending. Allocates no memory.
     pub fn pull(&mut self, room: &mut [u8]) -> usize
         ensures calls { Calls (λ r. (called (model.Pulls (length room.old)) r).router) self.old self.new }
         ensures leads { LeadsOn (model.Pulls (length room.old)) self.old self.new }
@@ -122,14 +127,14 @@ impl Router {
         self.machine.out.pull(room)
     }
 
-    /// Whether there are bytes to be pulled.
+    /// Returns whether bytes for the cache are pending, to be pulled.
     pub fn has_bytes(&self) -> bool
         ensures { (r : rules.Router) → IsShown r self.now → is_none r.out ≡ not result }
     {
         !self.machine.out.is_empty()
     }
 
-    /// The committed table.
+    /// The committed set of VRPs. It is empty if nothing is committed.
     pub fn table(&self) -> &VrpSet
         ensures shown { (r : rules.Router) → IsShown r self.now → result.now ≡ r.table }
         ensures kept { (calls : List model.RouterCall) → CallsLead calls self.now → result.now ≡ (kept (model.played calls).items).table }
@@ -137,7 +142,7 @@ impl Router {
         self.machine.table.set()
     }
 
-    /// The version of the protocol, session and serial of the committed version, if there is one.
+    /// The committed version: its version of the protocol, its session ID and its serial. `None`: nothing is committed, or it was dropped since.
     pub fn committed(&self) -> Option<(Version, u16, Serial)>
         ensures shown { (r : rules.Router) → IsShown r self.now → option_map (λ name. (name.0, name.1, name.2.0)) result ≡ name_of r.version }
         ensures kept { (calls : List model.RouterCall) → CallsLead calls self.now → option_map (λ name. (name.0, name.1, name.2.0)) result ≡ name_of (kept (model.played calls).items).version }
@@ -148,7 +153,8 @@ impl Router {
         }
     }
 
-    /// The committed version, if there is one: the version of the protocol, session and serial, and when it was committed, with its intervals.
+    /// The committed version with the time of its commit and its intervals, in seconds of the caller's clock. `None`: nothing is committed, or
+    /// it was dropped since.
     pub fn committed_version(&self) -> Option<CommittedVersion>
         ensures shown { (r : rules.Router) → IsShown r self.now → seen_versions result ≡ r.version }
         ensures kept { (calls : List model.RouterCall) → CallsLead calls self.now → seen_versions result ≡ (kept (model.played calls).items).version }
@@ -156,8 +162,8 @@ impl Router {
         self.machine.version
     }
 
-    /// What the latest commit changed: the records that its End of Data withdrew and announced. If nothing is committed, there is no
-    /// change, and whoever follows the table drops all. The time is linear in the records of both tables.
+    /// The change that the latest commit made: the records that it withdrew and announced. `Ok(None)`: nothing is committed, so whoever follows
+    /// the table drops all records. Returns an error if memory runs out. The time is linear in the records of both tables.
     pub fn last_change(&self) -> Result<Option<Change>, AllocError>
         ensures shown { (r : rules.Router) → IsShown r self.now → IfOk result (λ change. change ≡ last_change (record { version = r.version; table = r.table; before = r.before })) }
         ensures kept { (calls : List model.RouterCall) → CallsLead calls self.now → IfOk result (λ change. change ≡ last_change (kept (model.played calls).items)) }
@@ -172,21 +178,23 @@ impl Router {
         }
     }
 
-    /// The records of the committed table that cover a route, in ascending order.
+    /// The committed records that cover the route, in ascending order. It is empty if none does. Returns an error if memory runs out.
     pub fn covering(&self, route: &Route) -> Result<Vec<Vrp>, AllocError>
         ensures { (r : rules.Router) → IsShown r self.now → IfOk result (λ records. records.items ≡ covering r.table route.now) }
     {
         self.machine.table.covering(self.machine.alloc, route)
     }
 
-    /// The state of a route over the committed table. It allocates no memory.
+    /// The origin validation state of the route over the committed table: valid, invalid or not found (RFC 6811 section 2). Allocates no memory.
     pub fn route_state(&self, route: &Route) -> OriginState
         ensures { (r : rules.Router) → IsShown r self.now → result ≡ state r.table route.now }
     {
         self.machine.table.state(route)
     }
 
-    /// When the next query of an idle link is due, if ever, in seconds of the caller's clock: `tick` sends it then.
+    /// When to query again, in seconds of the caller's clock: refresh seconds after a commit, or retry seconds after No Data or a close. The
+    /// latest of these events counts. If the link is idle, `tick` sends the query then. If it is closed, connect again then. `None`: no such
+    /// event yet.
     pub fn due(&self) -> Option<u64>
         ensures shown { (r : rules.Router) → IsShown r self.now → result ≡ r.due }
         ensures kept { (calls : List model.RouterCall) → CallsLead calls self.now → result ≡ due (model.played calls).items }
@@ -194,16 +202,16 @@ impl Router {
         self.machine.due
     }
 
-    /// The moment from which on `tick` has something to do, in seconds of the caller's clock. The next query of an idle link is due then, or
-    /// what is committed expires (RFC 8210 section 6). Before it, `tick` only advances the clock. If it has passed, `tick` is due at once.
-    /// `None` if there is no such moment. Each other call may change it.
+    /// When to call `tick` next, in seconds of the caller's clock. It is when an idle link is due to query, or when the committed version
+    /// expires (RFC 8210 section 6). Before it, `tick` only advances the clock. If it has passed, call `tick` at once. `None`: there is nothing
+    /// to wait for. Each other call may change it.
     pub fn wake_at(&self) -> Option<u64>
         ensures { (r : rules.Router) → IsShown r self.now → WakesAt result r }
     {
         self.machine.wake_at()
     }
 
-    /// The link.
+    /// The state of the link.
     pub fn link(&self) -> Link
         ensures { (r : rules.Router) → IsShown r self.now → result ≡ told_link r.link }
     {
@@ -231,10 +239,10 @@ impl Router {
         let _ready = self.machine.out.len();
     }
 
-    /// Receives bytes of the cache at the moment `now`, in seconds, and returns how many were consumed. None are consumed if bytes are
-    /// pending or no link is open. Otherwise the bytes up to the end of the first PDU that gives bytes to be pulled or ends the link are
-    /// consumed. The clock is judged first. Memory is allocated if a record is staged or an answer ends. If it runs out, the link ends with
-    /// `Memory` and the table stays.
+    /// Receives bytes from the cache, and returns how many were consumed. `now` is in seconds of the caller's clock, which advances first.
+    /// Returns 0 if bytes are pending (call `pull` first) or no link is open. Otherwise consumes up to the first PDU or fault that makes bytes
+    /// pending or ends the link. If there is none, consumes all of `piece`. If memory runs out, the link ends with `End::Memory`, and the
+    /// committed table stays.
     pub fn receive(&mut self, piece: &[u8], now: u64) -> usize
         ensures shown { ReceivesSo now piece.now result self.old self.new }
         ensures leads { (wanting : Option ℕ) × LeadsOn (model.Receives now wanting piece.now) self.old self.new }
@@ -274,7 +282,7 @@ impl Router {
         self.step_unit(piece)
     }
 
-    /// The same of any PDU.
+    /// As `step`, for a PDU of any type.
     #[inline(never)]
     fn step_unit(&mut self, piece: &mut &[u8]) -> bool
         requires { (linked.is_reading (seen_link self.old.machine.state [] []) && is_none self.old.machine.out) ≡ true }

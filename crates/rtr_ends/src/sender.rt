@@ -65,8 +65,8 @@ fn from_place(records: &[Vrp], place: usize) -> &[Vrp]
     rest
 }
 
-/// Writes records of this list behind the bytes of `out` that are filled, one after the other, as long as there is room for the longest.
-/// Answers how many bytes are filled then, and how many records were written.
+/// Writes the records into `out` behind the first `filled` bytes, as long as there is room for the longest record. Returns how many bytes are
+/// filled afterwards, and how many records were written.
 fn fill_with(
     version: Version,
     announce: bool,
@@ -88,7 +88,7 @@ fn fill_with(
 }
 
 impl AnswerCursor {
-    /// Writes the record at the place, and says whether there is one.
+    /// Writes the record at the current place into the buffer. Returns whether there is one.
     fn write(&self, version: Version, buffer: &mut UnitBuffer) -> bool
         ensures writes { Writes version (slice_get (units_in self.now.records) self.now.place) result buffer.old buffer.new.items buffer.new }
         ensures low { result ≡ true → self.now.place < 33554430 }
@@ -134,7 +134,7 @@ impl AnswerCursor {
         }
     }
 
-    /// The same, and the answer continues behind these records. Answers how many bytes are filled then.
+    /// As `fill_from`, and the answer continues behind these records. Returns how many bytes of `out` are filled afterwards.
     fn fill(&mut self, version: Version, out: &mut [u8], filled: usize) -> usize
         requires { filled ≤ length out.old }
         ensures { FillsFrom version self.old out.old filled result out.new self.new }
@@ -144,7 +144,7 @@ impl AnswerCursor {
         end
     }
 
-    /// The serial of the version to which it leads.
+    /// The serial of the version to which the answer leads.
     fn serial(&self) -> u32
         ensures { result ≡ serial_in self.now.records }
     {
@@ -159,7 +159,7 @@ impl AnswerCursor {
 /// kept.
 #[derive(Debug, Drop)]
 pub struct Sender {
-    /// The version in which is sent.
+    /// The version of the protocol in which PDUs are sent.
     pub version: Version,
     pub sessions: Sessions,
     pub timing: Timing,
@@ -172,7 +172,7 @@ pub struct Sender {
 }
 
 impl Sender {
-    /// Nothing is due.
+    /// A sender with nothing to send. `ready` is the newest version. `None`: nothing is published yet.
     pub fn new(sessions: Sessions, timing: Timing, ready: Option<Share>) -> Self
         ensures due { due_of result ≡ [] }
         ensures version { result.version ≡ V1 }
@@ -192,7 +192,7 @@ impl Sender {
         }
     }
 
-    /// From now on is sent in this version.
+    /// Sets the version of the protocol for all later PDUs. Call it only if nothing is due.
     pub fn speak(&mut self, version: Version)
         requires { due_of self.old ≡ [] }
         ensures { Speaks version self.old self.new }
@@ -200,14 +200,14 @@ impl Sender {
         self.version = version;
     }
 
-    /// The session in the version in which is sent.
+    /// The session ID for the version in which PDUs are sent.
     pub fn session(&self) -> u16
         ensures { result ≡ own_session self.now }
     {
         self.sessions.of(self.version)
     }
 
-    /// Whether bytes are due.
+    /// Returns whether bytes are due.
     pub fn is_due(&self) -> bool
         ensures { result ≡ not (is_none (due_of self.now)) }
     {
@@ -290,7 +290,7 @@ impl Sender {
         }
     }
 
-    /// The serial of the current version.
+    /// The serial of the newest version. `None`: nothing is published.
     pub fn current(&self) -> Option<Serial>
         requires { due_of self.now ≡ [] }
         ensures { option_map (λ s. s.0) result ≡ option_map (λ v. v.serial) (newest_of self.now) }
@@ -344,7 +344,7 @@ impl Sender {
         self.begin(Records::Step(serial, change));
     }
 
-    /// A share of a newer version is ready from now on.
+    /// Sets the newest version, which the next answer sends.
     pub fn offer(&mut self, share: Share)
         ensures version { self.new.version ≡ self.old.version }
         ensures sessions { self.new.sessions ≡ self.old.sessions }
@@ -356,7 +356,7 @@ impl Sender {
         let _older = self.ready.replace(share);
     }
 
-    /// Moves bytes of the buffer to `out`, behind those that are filled, and answers how many are filled then.
+    /// Moves bytes of the buffer to `out`, behind the first `filled` bytes. Returns how many are filled afterwards.
     fn give(&mut self, out: &mut [u8], filled: usize) -> usize
         requires { filled ≤ length out.old }
         ensures { GivesFrom self.old out.old filled result out.new self.new }
@@ -382,8 +382,8 @@ impl Sender {
         }
     }
 
-    /// Fills `out` with bytes that are due, as far as there are any. Records are written straight into it; the buffer holds the PDU of which
-    /// only a part has room at its end.
+    /// Writes bytes that are due into the front of `out`, as many as fit, and returns how many. Records are written straight into `out`. The
+    /// buffer holds the PDU of which only a part fits at the end of `out`.
     pub fn pull(&mut self, out: &mut [u8]) -> usize
         ensures gives { PullsBytes (due_of self.old) out.old result out.new (due_of self.new) }
         ensures stays { Stays self.old self.new }

@@ -13,23 +13,23 @@ use rtr_pdu::{Counted, MAX_UNIT_LEN, WriteFailed};
 use std::io::{Read, Write};
 use vrps::VersionStore;
 
-/// How a connection ended that was served.
+/// How `serve_stream` ended.
 #[derive(Clone, Copy, Debug, PartialEq, Eq)]
 pub enum Served {
-    /// The input ended, at a PDU's end.
+    /// The input ended at the end of a PDU.
     PeerClosed,
     /// The input ended inside a PDU.
     Truncated,
-    /// The cache ended the connection: its last answer was an Error Report, or a report of the router came that is never answered
-    /// (RFC 8210 section 12).
+    /// The cache ended the connection (RFC 8210 section 12). It sent an Error Report, or it received one, which is never answered.
     CacheEnded,
-    /// As often as was allowed was read.
+    /// `limit` reads were made.
     Limit,
 }
 
-/// Serves one connection: reads queries in pieces of at most 4,096 bytes, and writes the cache's replies to them. It ends if the input or
-/// the connection ends, a device fails, or `limit` reads were made. What has been read is answered before the next read. Answers go out in
-/// pieces of up to 32,768 bytes. The connection is closed in every case.
+/// Serves one connection until it ends: reads queries from `input`, and writes the replies of the cache to `output`. Returns once the input or
+/// the connection ends, or after `limit` reads. Returns an error if a read or a write fails, or if memory for the connection runs out. What was
+/// read is answered before the next read. Reads pieces of at most 4,096 bytes, and writes pieces of at most 32,768. The connection is closed in
+/// every case.
 pub fn serve_stream<S: VersionStore, R: Read, W: Write>(
     cache: &mut Cache<S>,
     input: &mut Counted<R>,

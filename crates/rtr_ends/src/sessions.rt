@@ -4,7 +4,7 @@ ghost use Rattle.rtr_ends.specs.Sender.{session_by};
 
 use rtr_pdu::Version;
 
-/// The session numbers of a cache, one for each version of the protocol (RFC 8210 section 5.1).
+/// The session IDs of a cache: `v0` and `v1` for versions 0 and 1 of the protocol (RFC 8210 section 5.1).
 #[derive(Clone, Copy, Debug, PartialEq, Eq)]
 pub struct Sessions {
     pub v0: u16,
@@ -12,7 +12,7 @@ pub struct Sessions {
 }
 
 impl Sessions {
-    /// The session number in this version.
+    /// The session ID for this version of the protocol.
     pub fn of(self, version: Version) -> u16
         ensures { result ≡ session_by version self }
     {

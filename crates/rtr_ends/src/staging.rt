@@ -113,7 +113,7 @@ impl Staging {
         Ok(Table::of(alloc, set)?)
     }
 
-    /// The set of that table.
+    /// The set of the table to which `end` leads.
     fn led(self, alloc: Global, question: Question, table: &VrpSet) -> Result<VrpSet, SetFault>
         ensures { (b : Begun) → IsStaged (base_of (seen_question question) table.now) b.withdrawn b.announced self
             → LeadsToSet (base_of (seen_question question) table.now) b result }
@@ -141,7 +141,7 @@ impl Staging {
         Change { withdraw, announce }.apply(alloc, base)
     }
 
-    /// The same from the empty set.
+    /// The set of the announced records, which is what the records lead to from the empty set.
     pub fn lead_from_nothing(self, alloc: Global) -> Result<VrpSet, SetFault>
         ensures ok { IfOk result (λ table. table ≡ self.announced) }
         ensures too_many { (b : Begun) → IsStaged empty b.withdrawn b.announced self → ¬ (IsErrOf result SetFault.TooMany) }

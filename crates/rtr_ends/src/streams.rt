@@ -8,16 +8,16 @@ use rtr_pdu::{Counted, WriteFailed};
 use std::io::Write;
 use thiserror::Error;
 
-/// Why a stream ended before its time. The numbers are fixed.
+/// Why `serve_stream` or `fetch_stream` failed. The numbers are fixed.
 #[derive(Clone, Copy, Debug, PartialEq, Eq, Error)]
 pub enum StreamFault {
-    /// The reader failed.
+    /// A read returned an error of any kind.
     #[error("the reader failed (fault 1)")]
     ReadFailed = 1,
-    /// The writer failed. A beginning of the bytes given has gone out.
+    /// A write returned an error of any kind, or accepted no bytes. Some of the pending bytes may have gone out.
     #[error("the writer failed (fault 2)")]
     WriteFailed = 2,
-    /// Out of memory for a connection. Nothing was read or written.
+    /// No memory for a connection. Nothing was read or written.
     #[error("out of memory for a connection (fault 3)")]
     Memory = 3,
 }
@@ -25,7 +25,7 @@ pub enum StreamFault {
 impl StreamFault {
     ghost use Rattle.rtr_ends.specs.Streams.{stream_fault_number};
 
-    /// The number by which the fault is printed.
+    /// The number of the fault, as in its printed text.
     pub fn number(self) -> u8
         ensures { result ≡ stream_fault_number self }
     {

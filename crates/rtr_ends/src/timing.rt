@@ -5,13 +5,13 @@ ghost use Rattle.rtr_ends.specs.Timing.{Intervals, InRange, IsTiming, OutlastsOt
 use std::marker::Model;
 use thiserror::Error;
 
-/// Why intervals are refused. The numbers are fixed.
+/// Why `Timing::new` refuses the intervals. The numbers are fixed.
 #[derive(Clone, Copy, Debug, PartialEq, Eq, Error)]
 pub enum TimingFault {
-    /// An interval is out of its range.
+    /// An interval is out of its range (RFC 8210 section 6).
     #[error("an interval is out of its range (fault 1)")]
     OutOfRange = 1,
-    /// Expire is not larger than refresh and retry.
+    /// The expire interval is not larger than both refresh and retry.
     #[error("the expire interval is not larger than the refresh and the retry interval (fault 2)")]
     ExpireTooSmall = 2,
 }
@@ -19,7 +19,7 @@ pub enum TimingFault {
 impl TimingFault {
     ghost use Rattle.rtr_ends.specs.Timing.{timing_fault_number};
 
-    /// The number by which the fault is printed.
+    /// The number of the fault, as in its printed text.
     pub fn number(self) -> u8
         ensures { result ≡ timing_fault_number self }
     {
@@ -27,8 +27,8 @@ impl TimingFault {
     }
 }
 
-/// The intervals that a cache sends its routers, in seconds (RFC 8210 section 6). They say when to ask again, when to try again after a
-/// failure, and when to drop what was committed.
+/// The refresh, retry and expire intervals that a cache sends its routers, in seconds (RFC 8210 section 6). They say when to query again, when
+/// to retry after a failure, and when to drop the committed records.
 #[derive(Clone, Copy, Debug, PartialEq, Eq)]
 pub struct Timing {
     refresh: u32,
@@ -49,8 +49,8 @@ impl Model for Timing {
 }
 
 impl Timing {
-    /// Refresh from 1 to 86,400, retry from 1 to 7,200, expire from 600 to 172,800 and larger than both others. The ranges
-    /// are judged first.
+    /// Checks three intervals in seconds. Refresh is from 1 to 86,400, retry from 1 to 7,200, expire from 600 to 172,800. Otherwise returns
+    /// `OutOfRange`. Returns `ExpireTooSmall` if the ranges hold, but expire is not larger than both others.
     pub fn new(refresh: u32, retry: u32, expire: u32) -> Result<Timing, TimingFault>
         ensures ok { IfOk result (λ timing. (timing ≡ intervals refresh retry expire) × IsTiming timing) }
         ensures out_of_range { (result ≡ Err TimingFault.OutOfRange) ↔ (¬ (InRange (intervals refresh retry expire))) }
@@ -76,7 +76,7 @@ impl Timing {
         })
     }
 
-    /// How long a router waits after a commit before it sends the next query, in seconds.
+    /// The refresh interval in seconds: how long a router waits after a commit before its next query.
     pub fn refresh(&self) -> u32
         ensures value { result ≡ self.now.refresh }
         ensures timing { IsTiming self.now }
@@ -84,7 +84,7 @@ impl Timing {
         self.refresh
     }
 
-    /// How long a router waits after a failed query before it sends a query again, in seconds.
+    /// The retry interval in seconds: how long a router waits after a failed query before it tries again.
     pub fn retry(&self) -> u32
         ensures value { result ≡ self.now.retry }
         ensures timing { IsTiming self.now }
@@ -92,7 +92,7 @@ impl Timing {
         self.retry
     }
 
-    /// How long a router keeps what it committed, in seconds.
+    /// The expire interval in seconds: how long a router keeps what it committed.
     pub fn expire(&self) -> u32
         ensures value { result ≡ self.now.expire }
         ensures timing { IsTiming self.now }
@@ -104,7 +104,7 @@ impl Timing {
 impl Default for Timing {
     ghost is_default = { λ t. t ≡ default_intervals };
 
-    /// Refresh 3600, retry 600, expire 7200.
+    /// The default, in seconds: refresh 3600, retry 600, expire 7200.
     fn default() -> Timing {
         Timing {
             refresh: 3600,

@@ -4,8 +4,8 @@ ghost use Rattle.std.specs.Prelude.{◌≡◌, ◌≤◌, ◌↔◌, IsTrue};
 use std::io;
 use std::io::{ErrorKind, Read, Result, Write};
 
-/// A reader or a writer, with how often it was called and how often a call failed. With 2^64 - 1 calls it is spent: it is not called again,
-/// and each further call answers an error and is not counted.
+/// A reader or a writer that counts its read or write calls, and how many of them failed.
+/// After 2^64 - 1 calls the device is not called again: each further read or write returns an error and is not counted.
 #[derive(Debug, Drop)]
 pub struct Counted<D> {
     device: D,
@@ -22,7 +22,7 @@ fn spent() -> io::Error {
 impl<D> Counted<D> {
     ghost use Rattle.rtr_pdu.specs.Counted.{device_of, calls_of, failures_of, IsSpent};
 
-    /// Nothing is counted yet.
+    /// Wraps a reader or a writer. Both counts start at 0.
     pub fn new(device: D) -> Counted<D>
         ensures device { device_of result ≡ device }
         ensures calls { calls_of result ≡ 0 }
@@ -35,21 +35,21 @@ impl<D> Counted<D> {
         }
     }
 
-    /// The device, lent to be looked at. A caller that reads or writes by what is lent, as a `&TcpStream` lets it, passes by the count.
+    /// The wrapped reader or writer. Reads and writes made directly through it, as `&TcpStream` permits, are not counted.
     pub fn device(&self) -> &D
         ensures { result.now ≡ device_of self.now }
     {
         &self.device
     }
 
-    /// How often the device was called.
+    /// The number of read and write calls on the device. Flushes are not counted.
     pub fn calls(&self) -> u64
         ensures { result ≡ calls_of self.now }
     {
         self.calls
     }
 
-    /// How often a call failed.
+    /// The number of read and write calls that failed.
     pub fn failures(&self) -> u64
         ensures value { result ≡ failures_of self.now }
         ensures most { failures_of self.now ≤ calls_of self.now }
@@ -73,7 +73,7 @@ impl<D: Read> Read for Counted<D> {
 
     ghost remaining = { λ c. D.remaining (device_of c) };
 
-    /// Hands the read on. It fails if it answers an error.
+    /// Calls `read` of the device and counts the call. The call counts as failed if it returns an error.
     fn read(&mut self, buf: &mut [u8]) -> Result<usize>
         ensures bound { ReadsAtMost result buf.new }
         ensures bytes { ReadConsumes (D.remaining (device_of self.old)) (D.remaining (device_of self.new)) result buf.new }
@@ -102,7 +102,8 @@ impl<D: Write> Write for Counted<D> {
 
     ghost contents = { λ c. D.contents (device_of c) };
 
-    /// Hands the write on. It fails if it answers an error, or writes no byte although there are some.
+    /// Calls `write` of the device and counts the call. The call counts as failed if it returns an error, or writes 0 bytes of a nonempty
+    /// buffer.
     fn write(&mut self, buf: &[u8]) -> Result<usize>
         ensures bound { WritesAtMost result buf.now }
         ensures bytes { WriteAppends (D.contents (device_of self.old)) (D.contents (device_of self.new)) result buf.now }
@@ -127,7 +128,7 @@ impl<D: Write> Write for Counted<D> {
         }
     }
 
-    /// Hands the flush on and counts nothing.
+    /// Calls `flush` of the device. The call is not counted.
     fn flush(&mut self) -> Result<()>
         ensures bytes { Keeps (D.contents (device_of self.old)) (D.contents (device_of self.new)) }
         ensures calls { calls_of self.new ≡ calls_of self.old }

@@ -16,13 +16,13 @@ use arrayvec::ArrayVec;
 use std::io::{Read, Write};
 use thiserror::Error;
 
-/// Why no PDU was read. The numbers are fixed.
+/// Why no PDU was read. The numbers of the faults are fixed.
 #[derive(Clone, Copy, Debug, PartialEq, Eq, Error)]
 pub enum ReadFault {
-    /// The bytes are no PDU, or the input ends within one.
+    /// The bytes are not a valid PDU, or the input ends within one.
     #[error(transparent)]
     Fault(UnitFault),
-    /// The reader failed.
+    /// A read call returned an error.
     #[error("the reader failed (fault 8)")]
     ReadFailed,
 }
@@ -30,7 +30,7 @@ pub enum ReadFault {
 impl ReadFault {
     ghost use Rattle.rtr_pdu.specs.Fault.{read_fault_number};
 
-    /// The number by which the fault is printed: 1 to 7 of a `UnitFault`, 8 if the reader failed.
+    /// The number of the fault, as `Display` writes it: 1 to 7 for a `UnitFault`, 8 if the reader failed.
     pub fn number(self) -> u8
         ensures { result ≡ read_fault_number self }
     {
@@ -41,7 +41,7 @@ impl ReadFault {
     }
 }
 
-/// The writer failed.
+/// A write call returned an error, or wrote no byte.
 #[derive(Clone, Copy, Debug, PartialEq, Eq, Error)]
 #[error("the writer failed")]
 pub struct WriteFailed;
@@ -65,8 +65,9 @@ fn write_bytes<W: Write>(bytes: &[u8], out: &mut Counted<W>) -> Result<(), Write
     Ok(())
 }
 
-/// Writes the bytes of a PDU of version 1 (RFC 8210 section 5), all in one call if the writer accepts them. If it
-/// fails, a beginning of them has gone out.
+/// Writes a PDU of version 1 (RFC 8210 section 5), with one write call if the writer accepts all bytes at once. The PDU must fit version 1
+/// (`Unit::fits`).
+/// `WriteFailed`: a write call failed. Then only a part of the PDU is written, possibly no byte of it.
 pub fn write_unit<W: Write>(unit: &Unit, out: &mut Counted<W>) -> Result<(), WriteFailed>
     requires { fits Version.V1 unit.now ≡ true }
     ensures ok { IfOk result (λ _. Appends (W.contents (device_of out.old)) (W.contents (device_of out.new)) (unit_bytes Version.V1 unit.now)
@@ -105,7 +106,7 @@ fn missing(version: Version, held: &[u8]) -> usize
     }
 }
 
-/// Reads one PDU of version 1, as `read_unit_of` does.
+/// Reads one PDU of version 1, as `read_unit_of` does. `Ok(None)`: the input ends before the first byte.
 pub fn read_unit<R: Read>(input: &mut Counted<R>) -> Result<Option<Unit>, ReadFault>
     ensures reads { ReadsUnit Version.V1 (R.remaining (device_of input.old)) (R.remaining (device_of input.new)) (calls_of input.old) (calls_of input.new) result }
     ensures counts { CountsRead input.old input.new result }
@@ -113,8 +114,10 @@ pub fn read_unit<R: Read>(input: &mut Counted<R>) -> Result<Option<Unit>, ReadFa
     read_unit_of(Version::V1, input)
 }
 
-/// Reads one PDU of this version as a cache reads it, and nothing after it: `None` if the input ends before a first
-/// byte.
+/// Reads one PDU of this version, and no byte after it. `Ok(None)`: the input ends before the first byte. Every PDU must show this version, a
+/// Serial Notify too.
+/// `Fault`: the bytes are not a valid PDU, or the input ends within one. `ReadFailed`: a read call returned an error. Then the bytes read so far
+/// are lost.
 pub fn read_unit_of<R: Read>(
     version: Version,
     input: &mut Counted<R>,

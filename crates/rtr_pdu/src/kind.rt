@@ -30,7 +30,7 @@ pub enum Kind {
 }
 
 impl Kind {
-    /// The type that this number means in a header of this version, or `None` if it means none.
+    /// The PDU type with this number in a header of this version. `None`: the version has no such type.
     pub fn from_number(version: Version, number: u8) -> Option<Kind>
         ensures some { IfSome result (λ kind. (type_number kind ≡ number) × (has_kind version kind ≡ true)) }
         ensures none { IfNone result (is_type version number ≡ false) }
@@ -53,15 +53,15 @@ impl Kind {
         }
     }
 
-    /// The number of the type in a header.
+    /// The type number, as in the header of a PDU.
     pub fn number(self) -> u8
         ensures { result ≡ type_number self }
     {
         self as u8
     }
 
-    /// How many bytes each PDU of the type has. A Router Key is counted without its key, an Error Report without its copy
-    /// and its text, and every other PDU as a whole.
+    /// The length in bytes of a PDU of this type, header included. For a Router Key it excludes the key, for an Error Report the copy and the
+    /// text: it is the minimum length.
     pub fn fixed_len(self, version: Version) -> u32
         ensures { result ≡ fixed_len version self }
     {
@@ -76,7 +76,7 @@ impl Kind {
         }
     }
 
-    /// Whether a PDU of the type may have this length in bytes.
+    /// Returns whether a PDU of this type may have this length in bytes, header included. The limit `MAX_UNIT_LEN` is not checked.
     pub fn may_have(self, version: Version, len: u32) -> bool
         ensures { result ≡ may_have version self len }
     {

@@ -62,8 +62,9 @@ fn advance(version: Version, any: bool, buffer: &mut UnitBuffer, piece: &mut &[u
     }
 }
 
-/// Reads PDUs of one version from a stream that comes in pieces, one PDU at a time. It consumes no byte of a PDU before the PDU ahead of it
-/// was answered, and it holds at most 4,096 bytes, within the value.
+/// Reads PDUs of one version from a stream that arrives in pieces, one PDU per call. It consumes no byte of a PDU before the previous PDU is
+/// returned.
+/// It holds at most 4,096 bytes. They are stored inline, so it allocates no memory.
 #[derive(Debug, Drop)]
 pub struct UnitReader {
     /// The version of the PDUs, if it was known from the start or a PDU was read.
@@ -103,36 +104,37 @@ impl UnitReader {
         }
     }
 
-    /// A reader at the cache: the first header gives the version (RFC 8210 section 7).
+    /// A reader for a cache. The first header decides the version (RFC 8210 section 7).
     pub fn for_cache() -> Self
         ensures { result ≡ fresh None false }
     {
         UnitReader::fresh(None, false)
     }
 
-    /// A reader of PDUs of this version alone.
+    /// A reader that accepts only PDUs of this version.
     pub fn of_version(version: Version) -> Self
         ensures { result ≡ fresh (Some version) false }
     {
         UnitReader::fresh(Some(version), false)
     }
 
-    /// A reader at a router that speaks this version and has not agreed on it. It reads a Serial Notify of any version
-    /// (RFC 8210 section 7), known by its type 0 and its length of 12 bytes.
+    /// A reader for a router that speaks this version and has not agreed on it yet. It accepts a Serial Notify of any version (RFC 8210 section
+    /// 7), recognized by its type 0 and its length of 12 bytes. Call `agreed` at the agreement.
     pub fn for_router(version: Version) -> Self
         ensures { result ≡ fresh (Some version) true }
     {
         UnitReader::fresh(Some(version), true)
     }
 
-    /// The version of the PDUs that were read, or the one known from the start.
+    /// The version given at the start, or that of the PDUs read so far. `None`: it is a reader for a cache that has read no PDU yet.
     pub fn expected(&self) -> Option<Version>
         ensures { result ≡ self.now.version }
     {
         self.version
     }
 
-    /// The version of the PDUs: the one known from the start, or that of the first header, once it has come whole.
+    /// The version given at the start, or else the one of the first header, as `Version::first` reads it. `None`: the 8 bytes of the first
+    /// header are not complete.
     pub fn version(&self) -> Option<Version>
         ensures { result ≡ known_version self.now }
     {
@@ -159,7 +161,8 @@ impl UnitReader {
         }
     }
 
-    /// The version is agreed. A header of 8 bytes that has come whole is still read as before.
+    /// Notes that both ends agreed on the version. From the next PDU on, a Serial Notify of another version is a fault.
+    /// A PDU whose 8-byte header is already held keeps the old rule.
     pub fn agreed(&mut self)
         ensures { self.new ≡ after_agreed self.old }
     {
@@ -169,8 +172,10 @@ impl UnitReader {
         self.later = false;
     }
 
-    /// Consumes bytes from the front of the piece: to the end of the first PDU, or as many as show a fault, otherwise all. A fault of a
-    /// header is answered at its 8 bytes, one of what follows at the whole PDU.
+    /// Reads from `piece` and moves it past the consumed bytes.
+    /// `Unit`: a PDU is complete, and `piece` begins after it. `NeedMore`: all bytes are consumed, and no PDU is complete.
+    /// `Fault`: the bytes are not a valid PDU. A header fault shows after 8 bytes, a body fault after the whole PDU. All later calls return the
+    /// same fault and consume nothing.
     pub fn next(&mut self, piece: &mut &[u8]) -> Next
         ensures takes { ReaderTakes (version_with self.old piece.old.now) self.old piece.old.now result piece.new.now self.new }
         ensures reader { IsReader (version_with self.old piece.old.now) self.old }
@@ -195,8 +200,10 @@ impl UnitReader {
         }
     }
 
-    /// Reads a Prefix (RFC 8210 sections 5.6 and 5.7) as `next` does, if it is whole at the front of the piece, and makes no `Unit` of it. The
-    /// result is whether it is announced, and its payload. Otherwise nothing is consumed, and `next` says what there is.
+    /// Reads an IPv4 or IPv6 Prefix (RFC 8210 sections 5.6 and 5.7) as `next` does, but makes no `Unit`. It returns `true` for an announcement
+    /// or `false` for a withdrawal, and the VRP.
+    /// `None`: no whole valid Prefix is at the front of `piece`, or the reader holds bytes or has a fault. Then nothing is consumed; call
+    /// `next`.
     pub fn next_prefix(&mut self, piece: &mut &[u8]) -> Option<(bool, Vrp)>
         ensures some { IfSome result (λ found. ReaderTakes (version_with self.old piece.old.now) self.old piece.old.now (Next.Unit (Prefix found.0 found.1)) piece.new.now self.new) }
         ensures none { IfNone result ((self.new ≡ self.old) × (piece.new.now ≡ piece.old.now)) }
@@ -221,7 +228,8 @@ impl UnitReader {
         Some(found)
     }
 
-    /// The fault of the input if it ends here: the one that was found, or `Truncated` within a PDU, or none.
+    /// Notes the end of the input and returns its fault: the one already found, or `Truncated` if the input ends within a PDU. `None`: the input
+    /// ends after a whole PDU, or is empty.
     pub fn end_of_input(&mut self) -> Option<UnitFault>
         ensures answer { result ≡ at_end self.old }
         ensures kept { self.new ≡ record self.old { fault = at_end self.old } }
@@ -232,8 +240,8 @@ impl UnitReader {
         self.fault
     }
 
-    /// The bytes that were consumed and are in no PDU that was answered: at a fault the 8 bytes of the header, or the
-    /// whole PDU.
+    /// The consumed bytes that are in no returned PDU: the beginning of the current PDU. After a header fault they are the 8 bytes of the
+    /// header, after a body fault the whole PDU.
     pub fn held(&self) -> &[u8]
         ensures held { result.now ≡ self.now.held }
         ensures reader { IsReader (version_in self.now.version self.now.held) self.now }

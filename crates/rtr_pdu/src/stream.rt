@@ -62,9 +62,11 @@ fn reader_at(router: Option<Version>) -> UnitReader
     }
 }
 
-/// Reads the stream that comes in these pieces, to its end or to a fault, at a router that speaks this version or at the cache. The
-/// result is its PDUs, and the fault. A router agrees on its version at the first PDU that is no Serial Notify. That the stream ends within a PDU is
-/// no fault here. `AllocError`: no memory for the PDUs.
+/// Reads the PDUs of the stream that arrives in these pieces, up to its end or the first fault. It returns the PDUs and the fault; `None`: there
+/// is no fault.
+/// `router`: the version that the reading router speaks, or `None` to read as a cache. A router agrees on its version at the first PDU other
+/// than a Serial Notify.
+/// It is not a fault here if the stream ends within a PDU. `AllocError`: no memory for the PDUs.
 pub fn read_all(
     alloc: Global,
     router: Option<Version>,

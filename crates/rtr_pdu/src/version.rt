@@ -15,15 +15,15 @@ pub enum Version {
 }
 
 impl Version {
-    /// The number of the version in a header (RFC 8210 section 5.1).
+    /// The version number in a header: 0 or 1 (RFC 8210 section 5.1).
     pub fn number(self) -> u8
         ensures { result ≡ version_number self }
     {
         self as u8
     }
 
-    /// The version of bytes that begin with a header: 0 if that shows 0, and otherwise 1. If it shows neither, that is a fault of
-    /// version 1.
+    /// The version of a stream that begins with these bytes: 0 if the first byte is 0, otherwise 1, also if there is no byte. A first byte over
+    /// 1 is later a `Version` fault in version 1.
     pub fn first(bytes: &[u8]) -> Version
         ensures { result ≡ first_version bytes.now }
     {
@@ -34,7 +34,7 @@ impl Version {
     }
 }
 
-/// The number of the version: `0` or `1`.
+/// Writes the version number: `0` or `1`.
 impl Display for Version {
     ghost output = { λ v. Some (decimal (version_number v)) };
 

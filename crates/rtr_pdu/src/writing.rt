@@ -13,7 +13,7 @@ use crate::version::Version;
 use arrayvec::ArrayVec;
 use prefixes::{IpPrefix, Prefix, V4, V6, Vrp};
 
-/// Room for the longest PDU.
+/// A buffer with room for the longest PDU: 4,096 bytes, stored inline.
 pub type UnitBuffer = ArrayVec<u8, MAX_UNIT_LEN>;
 
 /// Appends bytes.
@@ -108,8 +108,8 @@ fn put_report(version: Version, report: &ErrorReport, buffer: &mut UnitBuffer)
     put(buffer, text);
 }
 
-/// Writes a PDU of this version, with zeros if the standard says zero. The buffer then holds the bytes of the PDU and no others, and they
-/// are read as this PDU of the version.
+/// Encodes a PDU in this version. It replaces the contents of `buffer`. Reserved fields are zero. The PDU must fit the version (`Unit::fits`). A
+/// reader of the version reads the bytes as this PDU.
 pub fn encode_as(version: Version, unit: &Unit, buffer: &mut UnitBuffer)
     requires { fits version unit.now ≡ true }
     ensures bytes { buffer.new.items ≡ unit_bytes version unit.now }
@@ -148,7 +148,8 @@ pub fn encode_as(version: Version, unit: &Unit, buffer: &mut UnitBuffer)
     }
 }
 
-/// Writes a PDU of version 1 (RFC 8210 section 5), as `encode_as` does.
+/// Encodes a PDU in version 1 (RFC 8210 section 5), as `encode_as` does. It replaces the contents of `buffer`. The PDU must fit version 1
+/// (`Unit::fits`).
 pub fn encode(unit: &Unit, buffer: &mut UnitBuffer)
     requires { fits Version.V1 unit.now ≡ true }
     ensures bytes { buffer.new.items ≡ unit_bytes Version.V1 unit.now }
@@ -157,8 +158,8 @@ pub fn encode(unit: &Unit, buffer: &mut UnitBuffer)
     encode_as(Version::V1, unit, buffer);
 }
 
-/// Writes a Prefix (RFC 6810 sections 5.6 and 5.7, RFC 8210 sections 5.6 and 5.7), as `encode_as` does, and makes no `Unit` of
-/// it.
+/// Encodes an IPv4 or IPv6 Prefix (RFC 6810 and RFC 8210, sections 5.6 and 5.7) without making a `Unit`. It replaces the contents of `buffer`.
+/// `announce`: `true` for an announcement, `false` for a withdrawal.
 pub fn encode_prefix(version: Version, announce: bool, vrp: &Vrp, buffer: &mut UnitBuffer)
     ensures bytes { buffer.new.items ≡ unit_bytes version (Unit.Prefix announce vrp.now) }
     ensures unit { IsUnit (Unit.Prefix announce vrp.now) }
@@ -169,7 +170,7 @@ pub fn encode_prefix(version: Version, announce: bool, vrp: &Vrp, buffer: &mut U
     put(buffer, &unit[..size]);
 }
 
-/// How many bytes the longest Prefix has, that of an IPv6 prefix (RFC 8210 section 5.7).
+/// The length in bytes of the longest Prefix, an IPv6 Prefix (RFC 8210 section 5.7).
 pub const MAX_PREFIX_LEN: usize = 32;
 
 /// Writes four bytes behind the first `at` of `out`.
@@ -249,7 +250,9 @@ fn put_ipv6(
     put_four(out, at + 4, 0, 0, 0, 32);
 }
 
-/// Writes a Prefix, as `encode_prefix` does, behind the first `at` bytes of `out`, whose other bytes stay, and returns its end.
+/// Encodes a Prefix into `out` at offset `at`, and returns the offset of its end. All other bytes of `out` stay. `out` must have at least `at +
+/// MAX_PREFIX_LEN` bytes.
+/// `announce`: `true` for an announcement, `false` for a withdrawal.
 #[inline(always)]
 pub fn encode_prefix_at(
     version: Version,

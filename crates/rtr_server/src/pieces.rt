@@ -69,7 +69,7 @@ impl Unread {
         moved
     }
 
-    /// Hands it in, counts what was consumed, notes the first byte of all, and answers how many bytes were consumed.
+    /// Passes the read bytes to the cache, and counts those consumed. Notes the first byte of all. Returns how many were consumed.
     pub(crate) fn hand_in<S: VersionStore>(
         &mut self,
         cache: &mut Cache<S>,

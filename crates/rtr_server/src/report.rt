@@ -3,10 +3,10 @@ ghost use Rattle.std.specs.Prelude.{◌≡◌, ◌≤◌, length};
 
 use std::marker::Model;
 
-/// How many bytes are kept of the text of an Error Report.
+/// The most bytes that a `Report` keeps of the text of an Error Report.
 pub const REPORT_TEXT_LEN: usize = 200;
 
-/// What an Error Report says (RFC 6810 section 5.10, RFC 8210 section 5.11): its error code, and the beginning of its text.
+/// The content of an Error Report (RFC 6810 section 5.10, RFC 8210 section 5.11): its error code, and the first 200 bytes of its text.
 #[derive(Clone, Copy, Debug, PartialEq, Eq)]
 pub struct Report {
     code: u16,
@@ -47,15 +47,15 @@ impl Report {
         }
     }
 
-    /// The error code (RFC 6810 section 10, RFC 8210 section 12), 16 bits.
+    /// The error code of the Error Report (RFC 6810 section 10, RFC 8210 section 12).
     pub fn code(&self) -> u16
         ensures { result ≡ self.now.code }
     {
         self.code
     }
 
-    /// The first 200 bytes of the text, or all of it if it is shorter. A sender that keeps to the standard writes UTF-8. The last character may be
-    /// cut off. It is empty if the lengths in the Error Report do not add up to that of the report.
+    /// The first 200 bytes of the text of the Error Report, or all of it if it is shorter. It should be UTF-8, but that is not checked. The last
+    /// character may be cut off. Empty if the lengths inside the report do not add up to its total length.
     pub fn text(&self) -> &[u8]
         ensures value { result.now ≡ self.now.text }
         ensures most { length self.now.text ≤ 200 }

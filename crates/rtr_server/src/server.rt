@@ -17,12 +17,12 @@ use std::alloc::{AllocError, Global};
 use thiserror::Error;
 use vrps::{Published, Serial, VersionStore, VrpSet};
 
-/// The number of a client: that of its connection at the cache. It is the client's until the client is closed.
+/// The handle of a client: the number of its connection at the cache. The number may go to another client after this one is closed.
 #[derive(Clone, Copy, Debug, PartialEq, Eq)]
 pub struct Client(Conn);
 
 impl Client {
-    /// The number itself: that of its connection at the cache.
+    /// The number of the client. It is also that of its connection at the cache.
     pub fn number(self) -> usize
         ensures { result ≡ self.0.0 }
     {
@@ -30,22 +30,22 @@ impl Client {
     }
 }
 
-/// The same by the name that poll tokens and tables of connections use.
+/// Another name of `Client`, for use as a poll token or as a key in tables of connections.
 pub type ClientId = Client;
 
-/// Why a stream was not admitted. The numbers are fixed.
+/// Why `Server::admit` refuses a stream. The numbers are fixed.
 #[derive(Clone, Copy, Debug, PartialEq, Eq, Error)]
 pub enum AdmitFault {
-    /// As many clients are there as may be.
+    /// The server already has the most clients that it may have.
     #[error("too many clients (fault 1)")]
     TooManyClients = 1,
-    /// Out of memory for a client.
+    /// No memory for another client.
     #[error("out of memory for a client (fault 2)")]
     Memory = 2,
 }
 
 impl AdmitFault {
-    /// The number by which the fault is printed.
+    /// The number of the fault, as in its printed text.
     pub fn number(self) -> u8
         ensures { result ≡ admit_fault_number self }
     {
@@ -53,7 +53,7 @@ impl AdmitFault {
     }
 }
 
-/// One cache and its clients. A client has the number of its connection at the cache.
+/// One cache and its clients. Each client has one non-blocking stream and one connection at the cache, both under the same number.
 #[derive(Debug, Drop)]
 pub struct Server<S, T> {
     alloc: Global,
@@ -67,7 +67,7 @@ pub struct Server<S, T> {
 }
 
 impl<S: VersionStore, T: Stream + Drop> Server<S, T> {
-    /// A server of this cache, which has no connection, for at most this many clients. It allocates no memory.
+    /// A server without clients. `cache` must have no connection. `most` is the most clients that the server may have. Allocates no memory.
     pub fn new(alloc: Global, cache: Cache<S>, most: usize) -> Server<S, T>
         ensures past { (keep : ℕ) (timing : Intervals) (i : Instance) (begun : ℕ → Begun) → IsInstance i → ShowsCache S.holds (without_conns keep timing i) cache →
             ShowsServer S.holds T.remaining T.contents (record { keep = keep; timing = timing; first = i; most = most; calls = []; begun = begun }) result }
@@ -83,8 +83,8 @@ impl<S: VersionStore, T: Stream + Drop> Server<S, T> {
         }
     }
 
-    /// Admits a client. Its number is the least that no client has. It is `TooManyClients` if and only if as many clients are there as may
-    /// be. After that and after `Memory` the stream is dropped, and all clients are as they were.
+    /// Admits a client with its stream. It gets the lowest number that no client has. Returns `TooManyClients` if and only if `most` clients are
+    /// there, and `Memory` if memory runs out. On an error the stream is dropped, and the other clients stay as they are.
     pub fn admit(&mut self, stream: T) -> Result<Client, AdmitFault>
         ensures admits { (p : Past) → ShowsServer S.holds T.remaining T.contents p self.old → AdmitsTo S.holds T.remaining T.contents p stream result self.old self.new }
         ensures parted { self.new.parted ≡ self.old.parted }
@@ -123,9 +123,9 @@ impl<S: VersionStore, T: Stream + Drop> Server<S, T> {
         turn
     }
 
-    /// One turn of a client, of at most `budget` calls of its stream. What was pulled is written, then more is pulled. If nothing is due,
-    /// the cache receives what was read. If nothing is left of that, a piece is read. The result is none if no client has the number. A
-    /// number is free again once its client is closed, and may go to another; `parted` has what was counted of it.
+    /// Runs one turn of a client, with at most `budget` calls of its stream, and returns how the turn ended. `None`: there is no such client.
+    /// Pulled bytes are written before more are pulled. If nothing is due, the cache receives the bytes that were read. If no read bytes are
+    /// left, more are read. After `Turn::Gone` the client is closed, `parted` has its counts, and its number is free for another client.
     pub fn serve(&mut self, client: Client, budget: u32) -> Option<Turn>
         ensures others { KeepsOthers client.0.0 self.old.slots.items self.new.slots.items }
         ensures serves { Serves S.holds T.remaining T.contents T.answers budget client.0.0 (slot_at self.old.slots.items client.0.0) self.old.cache result (slot_at self.new.slots.items client.0.0) self.new.cache self.new.parted }
@@ -149,10 +149,10 @@ impl<S: VersionStore, T: Stream + Drop> Server<S, T> {
         Ok(published)
     }
 
-    /// Publishes a set. Each client that has asked, whose connection is open and has nothing due, is notified of a new version. The notify
-    /// comes behind what was pulled and is not written. A client that has asked and still has bytes due is notified as soon as nothing is
-    /// due, before its connection receives anything more. A client that has not asked is not notified (RFC 8210 section 7): its first
-    /// answer is of the current version. If memory runs out, nothing is published.
+    /// Publishes a set of VRPs. Returns `Published::New` with the new serial, or `Unchanged` if the set equals the current version. A new
+    /// version is notified to each client that has sent a query and whose connection has not ended (RFC 8210 section 7). If bytes are due to the
+    /// client, the notify follows once they are pulled, before anything more is received. Bytes already pulled go out first. A client without a
+    /// query gets no notify. Returns an error if memory runs out; nothing is published then.
     pub fn publish(&mut self, set: VrpSet) -> Result<Published, AllocError>
         ensures publishes { (p : Past) → ShowsServer S.holds T.remaining T.contents p self.old → PublishesTo S.holds T.remaining T.contents p set result self.old self.new }
         ensures parted { self.new.parted ≡ self.old.parted }
@@ -161,8 +161,8 @@ impl<S: VersionStore, T: Stream + Drop> Server<S, T> {
         self.publish_to_all(set)
     }
 
-    /// Drops the client that has the number now, if there is one, with all that remained to be written to it. `parted` has what was counted
-    /// of it.
+    /// Closes a client and drops its stream with all bytes that remained to be written. `parted` has its counts afterwards. Does nothing if
+    /// there is no such client. If the number went to another client, that one is closed.
     pub fn drop_client(&mut self, client: Client)
         ensures others { KeepsOthers client.0.0 self.old.slots.items self.new.slots.items }
         ensures gone { slot_at self.new.slots.items client.0.0 ≡ Option.None }
@@ -189,21 +189,21 @@ impl<S: VersionStore, T: Stream + Drop> Server<S, T> {
         self.cache.close(client.0);
     }
 
-    /// How many clients there are.
+    /// The number of clients.
     pub fn clients(&self) -> usize
         ensures { (p : Past) → ShowsServer S.holds T.remaining T.contents p self.now → result ≡ clients_in self.now.slots.items }
     {
         self.count
     }
 
-    /// What was counted of the client that left last, to its end: by a turn that came to `Gone`, or as it was dropped. None before any left.
+    /// The counts of the client that left last, by a turn that returned `Turn::Gone` or by `drop_client`. `None`: no client has left yet.
     pub fn parted(&self) -> Option<Parted>
         ensures { result ≡ self.now.parted }
     {
         self.parted
     }
 
-    /// A client's stream, if there is such a client.
+    /// The stream of a client. `None`: there is no such client.
     pub fn stream(&self, client: Client) -> Option<&T>
         ensures { option_map (λ stream. stream.now) result ≡ option_map (λ slot. slot.stream) (slot_at self.now.slots.items client.0.0) }
     {
@@ -213,7 +213,7 @@ impl<S: VersionStore, T: Stream + Drop> Server<S, T> {
         }
     }
 
-    /// How many bytes went over a client's stream since it was admitted, if there is such a client.
+    /// How many bytes were read from and written to a client since it was admitted. `None`: there is no such client.
     pub fn carried(&self, client: Client) -> Option<ByteCounts>
         ensures { result ≡ option_map (λ slot. slot.traffic.carried) (slot_at self.now.slots.items client.0.0) }
     {
@@ -223,8 +223,8 @@ impl<S: VersionStore, T: Stream + Drop> Server<S, T> {
         }
     }
 
-    /// The PDUs that came from a client, by type, if there is such a client. These are the PDUs of which its connection consumed as many
-    /// bytes as their headers say. One in which a fault shows behind its header is among them.
+    /// The PDUs that came from a client, by type. `None`: there is no such client. A PDU counts once its connection has consumed as many bytes
+    /// as its header says, even if the PDU has a fault behind its header.
     pub fn received(&self, client: Client) -> Option<PdusByKind>
         ensures { result ≡ option_map (λ slot. slot.traffic.received.pdus) (slot_at self.now.slots.items client.0.0) }
     {
@@ -234,7 +234,7 @@ impl<S: VersionStore, T: Stream + Drop> Server<S, T> {
         }
     }
 
-    /// The PDUs that were sent to a client, by type, if there is such a client. These are the PDUs that were written whole to its stream.
+    /// The PDUs that were sent to a client, by type. `None`: there is no such client. A PDU counts once it is written whole to the stream.
     pub fn sent(&self, client: Client) -> Option<PdusByKind>
         ensures { result ≡ option_map (λ slot. slot.traffic.sent.pdus) (slot_at self.now.slots.items client.0.0) }
     {
@@ -244,8 +244,8 @@ impl<S: VersionStore, T: Stream + Drop> Server<S, T> {
         }
     }
 
-    /// Whether a client has asked: a whole Serial Query or Reset Query came from it, of which its connection consumed the last byte. No header
-    /// alone is a query. False if there is no such client.
+    /// Returns whether a whole Serial Query or Reset Query came from a client and was consumed. The header of a query alone does not count.
+    /// `false` if there is no such client.
     pub fn has_asked(&self, client: Client) -> bool
         ensures counted { result ≡ has_asked (slot_at self.now.slots.items client.0.0) }
         ensures past { (p : Past) → ShowsServer S.holds T.remaining T.contents p self.now → result ≡ router_asked (life p.calls (made p) client.0.0) }
@@ -256,8 +256,8 @@ impl<S: VersionStore, T: Stream + Drop> Server<S, T> {
         }
     }
 
-    /// The serial of the last End of Data (RFC 8210 section 5.8) that was sent to a client. If its router accepted all of its answers, the
-    /// router has this version.
+    /// The serial of the last End of Data that was sent to a client (RFC 8210 section 5.8). If the router accepted all of its answers, it has
+    /// this version. `None`: no End of Data was sent yet, or there is no such client.
     pub fn last_serial(&self, client: Client) -> Option<Serial>
         ensures { result ≡ joined (option_map (λ slot. slot.traffic.sent.serial) (slot_at self.now.slots.items client.0.0)) }
     {
@@ -267,21 +267,22 @@ impl<S: VersionStore, T: Stream + Drop> Server<S, T> {
         }
     }
 
-    /// The version of the protocol in which a client speaks: that of its first header, once it came whole (RFC 8210 section 7).
+    /// The version of the protocol in which a client speaks: that of its first header (RFC 8210 section 7). `None`: no whole header has come
+    /// yet, or there is no such client.
     pub fn version(&self, client: Client) -> Option<Version>
         ensures { (p : Past) → ShowsServer S.holds T.remaining T.contents p self.now → result ≡ version_at ((present p).at client.0.0) }
     {
         self.cache.version(client.0)
     }
 
-    /// The current version: its serial and its set.
+    /// The current version: its serial and its set of VRPs. `None`: nothing is published.
     pub fn current(&self) -> Option<(Serial, &VrpSet)>
         ensures { (p : Past) → ShowsServer S.holds T.remaining T.contents p self.now → option_map (λ found. record { serial = found.0.0; set = found.1.now }) result ≡ newest (versions (present p).cache) }
     {
         self.cache.current()
     }
 
-    /// The store of the versions of its cache.
+    /// The store of versions of the cache.
     pub fn version_store(&self) -> &S
         ensures { result.now ≡ self.now.cache.store }
     {
@@ -289,7 +290,7 @@ impl<S: VersionStore, T: Stream + Drop> Server<S, T> {
     }
 }
 
-/// Notifies a router that has asked. Answers whether the notify is still to be sent: bytes were due.
+/// Notifies a router if it has asked. Returns whether the notify is still to be sent.
 fn owes<S: VersionStore>(cache: &mut Cache<S>, conn: Conn, asked: bool) -> bool
     ensures { (m : CacheState) → ShowsCache S.holds m cache.old → (result ≡ (asked && not (can_notify_at m.cache (m.at conn.0)))) × ShowsCache S.holds (if asked then notified conn.0 m else m) cache.new }
 {

@@ -7,22 +7,22 @@ ghost use Rattle.rtr_server.specs.Streams.{IsWithin, Logged, ReadsSo, WritesSo, 
 use std::io;
 use std::io::{ErrorKind, Read, Write};
 
-/// The outcome of one non-blocking call of a stream.
+/// The outcome of one non-blocking read or write.
 #[derive(Clone, Copy, Debug, PartialEq, Eq)]
 pub enum Progress {
-    /// This many bytes were read or written. At a read, zero bytes are the end of the input, if there is room.
+    /// This many bytes were read or written. If a read returns 0 although the buffer has room, the input has ended.
     Bytes(usize),
-    /// The stream would block.
+    /// The call would block. Nothing was read or written.
     Waits,
-    /// The call was interrupted, and can be made again.
+    /// The call was interrupted. Nothing was read or written. Make the call again.
     Interrupted,
-    /// The stream failed.
+    /// The call failed.
     Failed,
 }
 
 impl Progress {
-    /// What a call of a device came to. An error of kind `WouldBlock` is that it would block, and one of kind `Interrupted` that it was
-    /// interrupted. Any other is that it failed.
+    /// Converts the result of an I/O call. `Ok(n)` gives `Bytes(n)`. An error of kind `WouldBlock` gives `Waits`, one of kind `Interrupted`
+    /// gives `Interrupted`, and any other gives `Failed`.
     pub fn of(came: io::Result<usize>) -> Progress
         ensures { result ≡ progress_of came }
     {
@@ -32,7 +32,7 @@ impl Progress {
         }
     }
 
-    /// How many bytes went.
+    /// The number of bytes that were read or written. It is 0 for `Waits`, `Interrupted` and `Failed`.
     pub fn count(self) -> u64
         ensures { result ≡ moved_count self }
     {
@@ -43,16 +43,17 @@ impl Progress {
     }
 }
 
-/// A call of a stream, and what it came to.
+/// One call of a stream with its outcome.
 #[derive(Clone, Copy, Debug, PartialEq, Eq)]
 pub enum Call {
-    /// A read.
+    /// A read with this outcome.
     Read(Progress),
-    /// A write.
+    /// A write with this outcome.
     Write(Progress),
 }
 
-/// Both directions of a connection, with non-blocking calls. What is read changes nothing of what was written, nor the other way round.
+/// Both directions of a connection, with non-blocking calls. A read does not change what was written, and a write does not change what can still
+/// be read.
 pub trait Stream {
     ghost use Rattle.rtr_server.specs.declared.stream.Call.{Call};
 
@@ -65,14 +66,14 @@ pub trait Stream {
     /// Its calls and what each answered, the last first, if that is known.
     ghost answers: { Self → Option (List Call) };
 
-    /// Reads into the front of the buffer, as many bytes as it answers.
+    /// Reads into the front of `buf` without blocking. `Bytes(n)`: `n` bytes were read, at most the length of `buf`.
     fn read(&mut self, buf: &mut [u8]) -> Progress
         ensures reads { ReadsSo (remaining self.old) (remaining self.new) result buf.new }
         ensures within { IsWithin (length buf.old) result }
         ensures keeps { Keeps (contents self.old) (contents self.new) }
         ensures logs { Logged (a_read result) (answers self.old) (answers self.new) };
 
-    /// Writes from the front of the buffer, as many bytes as it answers.
+    /// Writes from the front of `buf` without blocking. `Bytes(n)`: the first `n` bytes were written, at most all of `buf`.
     fn write(&mut self, buf: &[u8]) -> Progress
         ensures writes { WritesSo (contents self.old) (contents self.new) result buf.now }
         ensures within { IsWithin (length buf.now) result }
@@ -80,13 +81,12 @@ pub trait Stream {
         ensures logs { Logged (a_write result) (answers self.old) (answers self.new) };
 }
 
-/// A stream of a reader and a writer. An error of kind `WouldBlock` is that it would wait, and one of kind `Interrupted` that it was
-/// interrupted; any other is that it failed.
+/// A stream of a reader and a writer. Their results become `Progress` as `Progress::of` says.
 #[derive(Debug, Drop)]
 pub struct Duplex<R, W> {
-    /// What is read.
+    /// The reader: bytes from the peer.
     pub input: R,
-    /// What is written to.
+    /// The writer: bytes to the peer.
     pub output: W,
 }
 

@@ -11,7 +11,8 @@ use rtr_pdu::Kind;
 use std::marker::Model;
 use vrps::Serial;
 
-/// How many PDUs of each type went one way, read off their headers (RFC 6810 section 5, RFC 8210 section 5). Counts stop at `u64::MAX`.
+/// How many PDUs of each type went in one direction, counted by their headers (RFC 6810 section 5, RFC 8210 section 5). Each count saturates at
+/// `u64::MAX`.
 #[derive(Clone, Copy, Debug, PartialEq, Eq)]
 pub struct PdusByKind {
     /// By the numbers from 0 to 10 that may be a type in a header. Five is none.
@@ -19,21 +20,21 @@ pub struct PdusByKind {
 }
 
 impl PdusByKind {
-    /// None of any type.
+    /// Counters that are zero for every PDU type.
     pub fn none() -> PdusByKind
         ensures { result ≡ none_counted.pdus }
     {
         PdusByKind { counts: [0; 11] }
     }
 
-    /// How many PDUs of this type.
+    /// The number of PDUs of this type.
     pub fn of(&self, kind: Kind) -> u64
         ensures { result ≡ count_of self.now kind }
     {
         self.counts[usize::from(kind.number())]
     }
 
-    /// Whether a query is among them: a Serial Query (RFC 8210 section 5.3) or a Reset Query (section 5.4).
+    /// Returns whether a Serial Query (RFC 8210 section 5.3) or a Reset Query (section 5.4) was counted.
     pub fn has_query(&self) -> bool
         ensures { result ≡ has_query self.now }
     {
@@ -57,9 +58,8 @@ const FRONT: usize = 12;
 /// The bytes that are kept of an Error Report behind the PDU that it encapsulates: the length of the text, and the beginning of the text.
 const TAIL: usize = 4 + REPORT_TEXT_LEN;
 
-/// What was counted of bytes that went one way, in whatever pieces. It has their PDUs by type, the serial of the last End of Data, and what
-/// the last Error Report says. Of a PDU that has not come whole it keeps how many bytes came, and the first of them. Of an Error Report it
-/// also keeps the tail: the bytes behind the PDU that it encapsulates.
+/// The counts of the bytes that went in one direction, in whatever pieces. It has the number of PDUs by type, the serial of the last End of
+/// Data, and the last Error Report. A PDU counts once it is whole.
 #[derive(Debug, Drop)]
 pub struct Tally {
     pdus: PdusByKind,
@@ -80,7 +80,7 @@ impl Model for Tally {
 }
 
 impl Tally {
-    /// Nothing went yet.
+    /// A tally of no bytes: all counts are zero, and there is no serial and no Error Report.
     pub fn new() -> Tally
         ensures { result ≡ none_counted }
     {
@@ -94,28 +94,28 @@ impl Tally {
         }
     }
 
-    /// How many PDUs of each type went. One that has not come whole is not among them.
+    /// The number of whole PDUs of each type. A PDU that has come only in part does not count.
     pub fn pdus(&self) -> PdusByKind
         ensures { result ≡ self.now.pdus }
     {
         self.pdus
     }
 
-    /// The serial of the last End of Data (RFC 8210 section 5.8), if one went.
+    /// The serial of the last End of Data (RFC 8210 section 5.8). `None`: there was no End of Data.
     pub fn serial(&self) -> Option<Serial>
         ensures { result ≡ self.now.serial }
     {
         self.serial
     }
 
-    /// What the last Error Report says (RFC 8210 section 5.11), if one went.
+    /// The code and the text of the last Error Report (RFC 8210 section 5.11). `None`: there was no Error Report.
     pub fn report(&self) -> Option<Report>
         ensures { result ≡ self.now.report }
     {
         self.report
     }
 
-    /// The code of the last Error Report (RFC 8210 section 12), if one went.
+    /// The code of the last Error Report (RFC 8210 section 12). `None`: there was no Error Report.
     pub fn report_code(&self) -> Option<u16>
         ensures { result ≡ option_map (λ said. said.code) self.now.report }
     {
@@ -125,7 +125,8 @@ impl Tally {
         }
     }
 
-    /// Counts the bytes that went next. What they are read as is what is counted: see [`counts_units`](crate::laws::counts_units).
+    /// Counts the next bytes of the direction. They may begin or end inside a PDU. For what is counted see
+    /// [`counts_units`](crate::laws::counts_units).
     pub fn count(&mut self, piece: &[u8])
         ensures { self.new ≡ counted_on self.old piece.now }
     {
@@ -141,14 +142,14 @@ impl Tally {
         self.came = self.came.saturating_add(1);
     }
 
-    /// Whether it has come whole.
+    /// Whether the PDU that is being counted has come whole.
     fn is_whole(&self) -> bool
         ensures { result ≡ is_whole self.now }
     {
         self.came >= 8 && self.came >= told_len(first(&self.front, self.came))
     }
 
-    /// Counts it.
+    /// Counts the PDU, which has come whole.
     fn end(&mut self)
         requires { 8 ≤ self.old.came }
         ensures { self.new ≡ and_whole self.old.front self.old.tail self.old.came self.old }
@@ -368,7 +369,7 @@ fn is_alike(bytes: &[u8], len: usize, head: u64) -> bool
     bytes.len() >= len && shows_at(bytes, 0, head)
 }
 
-/// Whether four of them are there.
+/// Whether four PDUs of this length and this header are in front of these bytes.
 fn are_four(bytes: &[u8], len: usize, head: u64) -> bool
     requires least { 8 ≤ len }
     requires most { len < 2 ^ 32 }
@@ -401,7 +402,7 @@ fn fours_of(piece: &[u8], len: usize, head: u64) -> (u64, &[u8])
     (count, rest)
 }
 
-/// How many of them are there one by one, and what is left behind them.
+/// How many PDUs of this length and this header are in front of these bytes, one by one, and what is left behind them.
 fn ones_of(piece: &[u8], len: usize, head: u64) -> (u64, &[u8])
     requires told { len ≡ max (length_in head) 8 }
     requires kind { IsOnlyCounted (type_in head) }

@@ -15,76 +15,79 @@ use vrps::VersionStore;
 /// Why a client was closed.
 #[derive(Clone, Copy, Debug, PartialEq, Eq)]
 pub enum CloseReason {
-    /// Its bytes ended, at the end of a PDU.
+    /// The client closed its side at the end of a PDU.
     PeerClosed,
-    /// They ended inside a PDU.
+    /// The client closed its side inside a PDU.
     Truncated,
-    /// The cache ended the connection, and its last answer is written (RFC 8210 section 12).
+    /// The cache ended the connection (RFC 8210 section 12). All that it had to send is written.
     CacheEnded,
-    /// The stream failed at a read.
+    /// A read of the stream failed.
     ReadFailed,
-    /// The stream failed at a write, or accepted nothing.
+    /// A write of the stream failed, or accepted 0 bytes.
     WriteFailed,
 }
 
-/// What a turn came to.
+/// How a turn of a client ended: see `Server::serve`.
 #[derive(Clone, Copy, Debug, PartialEq, Eq)]
 pub enum Turn {
-    /// The stream would wait for bytes to be read, as the last call of the turn said.
+    /// The last call of the turn was a read, and it would block. Serve the client again once its stream is readable.
     WaitsToRead,
-    /// The stream would wait for room to write, as the last call of the turn said, which was a write. If the count of bytes written is the
-    /// same as before the turn, no write of it accepted a byte.
+    /// The last call of the turn was a write, and it would block. Serve the client again once its stream is writable. If `ByteCounts::written`
+    /// did not change in the turn, no byte was accepted.
     WaitsToWrite,
-    /// As many calls of the stream were made as are allowed.
+    /// The turn made `budget` calls of the stream, and there may be more to do. Serve the client again.
     Busy,
-    /// The client was closed, and its number is free.
+    /// The client was closed for this reason, and its number is free.
     Gone(CloseReason),
 }
 
-/// How many bytes were read from and written to a peer since its stream came. Counts stop at `u64::MAX`.
+/// How many bytes were read from and written to a peer since its stream was admitted. Each count saturates at `u64::MAX`.
 #[derive(Clone, Copy, Debug, PartialEq, Eq)]
 pub struct ByteCounts {
-    /// Bytes that were read from it.
+    /// The number of bytes read from the peer.
     pub read: u64,
-    /// Bytes that were written to it.
+    /// The number of bytes written to the peer.
     pub written: u64,
 }
 
-/// What was counted of a client to its end, and the version in which it spoke.
+/// The final counts of a client that has left, and its version of the protocol.
 #[derive(Clone, Copy, Debug, PartialEq, Eq)]
 pub struct Parted {
-    /// How many bytes went over its stream.
+    /// How many bytes were read from and written to its stream.
     pub carried: ByteCounts,
-    /// The PDUs that came from it, by type: an Error Report that ended its connection is among them.
+    /// The PDUs that came from the client, by type. An Error Report that ended its connection is among them.
     pub received: PdusByKind,
-    /// The PDUs that were sent to it, by type.
+    /// The PDUs that were written whole to the client, by type.
     pub sent: PdusByKind,
-    /// The last Error Report that came from it. The cache ends the connection after it (RFC 8210 section 5.11), so this is why the router left.
+    /// The last Error Report that came from the client. The cache ends the connection after it (RFC 8210 section 5.11), so this is why the
+    /// router left. `None`: none came.
     pub received_report: Option<Report>,
-    /// The error code of the last Error Report that was sent to it (RFC 8210 section 12). After each but No Data Available (code 2) the cache
-    /// ends the connection.
+    /// The error code of the last Error Report that was sent to the client (RFC 8210 section 12). The cache ends the connection after each of
+    /// them, except code 2, No Data Available. `None`: none was sent.
     pub sent_report: Option<u16>,
-    /// The version of the protocol in which it spoke, if a whole header came (RFC 8210 section 7).
+    /// The version of the protocol in which the client spoke (RFC 8210 section 7). `None`: no whole header came.
     pub version: Option<Version>,
-    /// The version in the first header that came from it: the first byte that was consumed. It need not be one that is served.
+    /// The first byte that came from the client and was consumed: the version in its first header. The cache need not support that
+    /// version. `None`: no byte was consumed.
     pub asked: Option<u8>,
 }
 
-/// What is counted of a peer: the bytes that went over its stream, the PDUs of what was consumed of them, and those of what was written.
+/// The counts of a peer: the bytes on its stream, the PDUs received and consumed, and the PDUs sent.
 #[derive(Debug, Drop)]
 pub struct Traffic {
-    /// How many bytes went over its stream.
+    /// How many bytes were read from and written to its stream.
     pub carried: ByteCounts,
-    /// What came from it and was consumed.
+    /// The tally of the bytes that came from the peer and were consumed.
     pub received: Tally,
-    /// What was written to it.
+    /// The tally of the bytes that were written to the peer.
     pub sent: Tally,
-    /// The first byte that came from it and was consumed: the version in its first header (RFC 8210 section 5.1).
+    /// The first byte that came from the peer and was consumed: the version in its first header (RFC 8210 section 5.1). `None`:
+    /// no byte was consumed.
     pub asked: Option<u8>,
 }
 
 impl Traffic {
-    /// Nothing went yet.
+    /// The counts of a peer before any byte: all are zero, and no version was asked for.
     pub fn new() -> Traffic
         ensures { result ≡ no_traffic }
     {

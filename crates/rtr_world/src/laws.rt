@@ -3,10 +3,10 @@ ghost use Rattle.rtr_world.specs.CaughtUp.{RefusedCuts};
 ghost use Rattle.rtr_world.specs.CatchUp.{EachCatchesUp, IdleIsCurrent, RoundsAreSteps, RoundsEnd};
 ghost use Rattle.rtr_world.specs.Claims.{ActExactlyOnce, AnswersNow, ConnsRun, EachLeads, EachSpeaks, EndsKept, EndsNoted, Headline, LawfulEnds, MovesNoMore, NoWayBack, NoneByMemory, OneAnswerAlways, OneWorld, OthersStay, PlacesNoted, RefusesRightly, RouteStates, RoutersRun, Settles, Tables};
 
-/// A history of events with their outcomes leads to one world, and every list of events has outcomes with which it leads to one. The
-/// clean-up after each event leaves nothing to be done. A set that is current already is never refused, and if a refusal is due there is no
-/// other outcome. If an event is refused because memory ran out, its connection is cut with nothing to arrive, and what happens at one
-/// router leaves the others. An event moves at most as many bytes as it says, and at most as many as with memory.
+/// Law: a history of events and outcomes leads to exactly one world, and every list of events has possible outcomes.
+/// After each event and its clean-up, another clean-up would change nothing. Publishing the current set is never refused.
+/// If a refusal is due, there is no other outcome. If memory runs out, the event's connection is cut and nothing more arrives.
+/// An event at one router leaves the others unchanged. It moves at most as many bytes as it says, and no more than it would with enough memory.
 pub fn steps()
     ensures one { OneWorld }
     ensures each { EachLeads }
@@ -17,41 +17,43 @@ pub fn steps()
     ensures moves { MovesNoMore }
 {}
 
-/// After every list of events each router holds what its transcript keeps, and asks again when the transcript says. It knows the greatest
-/// moment that it was given, and its link is as the transcript says.
+/// Law: after every list of events, each router holds the data that its transcript implies, and sends its next query when that says.
+/// Its clock is the greatest second that it was given. Its link is as the transcript says.
 pub fn tables()
     ensures { Tables }
 {}
 
-/// Each router of a world is one to which calls that can be lead, and its transcript since it was last restarted is that of these calls,
-/// refused events aside. So what is promised of routers under any calls is promised of those of a world. A router speaks the version that
-/// the last Speak set that went through, since it last restarted; and version 1 if none did.
+/// Law: each router of a world is in a state that calls of the router's functions can produce.
+/// Its transcript since its last restart is that of these calls, without refused events. So what is proved of routers under any calls holds in a
+/// world.
+/// A router speaks the version of its last successful `Speak` since its last restart. Without one, it speaks version 1.
 pub fn routers_run()
     ensures run { RoutersRun }
     ensures speak { EachSpeaks }
 {}
 
-/// Each open connection of a world is one to which calls that can be lead since it was opened, of a cache that is now the present instance.
-/// If its router knows of a connection, it was opened at the instance as that was then. So what is promised of connections under any calls,
-/// such as that what was pulled is the beginning of its replies, is promised of those of a world.
+/// Law: each open connection is in a state that calls since its opening can produce, at a cache that is now the present instance.
+/// If its router knows of a connection, that was opened at the instance as it was then. So what is proved of connections under any calls holds
+/// in a world.
+/// An example is that the bytes pulled are a beginning of the replies.
 pub fn conns_run()
     ensures { ConnsRun }
 {}
 
-/// After every list of events each router's table is empty if it holds no session. Otherwise it is exactly the set that was published under
-/// the version, the session and the serial of the End of Data that it committed last. Each announcement and each withdrawal acted exactly
-/// once. The answer for every route is RFC 6811's state over that set, or over the empty one.
+/// Law: after every list of events, each router's table is empty if it holds no session. Otherwise it is exactly a published set.
+/// It is the set published under the protocol version, session and serial of the End of Data that the router committed last.
+/// Each announcement and each withdrawal acted exactly once.
+/// The origin validation state of every route is that of RFC 6811 over this table.
 pub fn headline()
     ensures table { Headline }
     ensures once { ActExactlyOnce }
     ensures routes { RouteStates }
 {}
 
-/// A link ends by running out of memory at the router, by the expiry of its version, or by an Error Report, and by nothing else. The report
-/// has code 1 (out of memory at the cache), or code 0 and answers a Serial Query of another session than the cache's. These are the ends
-/// that were noted. Each link that ends by an event is noted, also by one that is refused after some bytes, and stays noted in the
-/// clean-up. None that was noted is dropped, and an event adds one at most. If no outcome of bytes that arrive at a router names a PDU, no
-/// link ended by running out of memory at its router.
+/// Law: a link ends only if memory runs out at the router, if the router's data expires, or by an Error Report.
+/// The report has code 1 (memory ran out at the cache), or code 0. Code 0 is the reply to a Serial Query of another session than the cache's.
+/// Each link that an event ends is recorded with its reason, even if the event is refused after some bytes. An event records at most one.
+/// Records stay. If memory never ran out while a router received bytes, no link ended for that reason.
 pub fn lawful_ends()
     ensures lawful { LawfulEnds }
     ensures noted { EndsNoted }
@@ -59,44 +61,45 @@ pub fn lawful_ends()
     ensures memory { NoneByMemory }
 {}
 
-/// After every list of events, no router has committed a version that was published before one that it had committed earlier. This holds
-/// within one instance of the cache and across instances. These are the places that were noted: there is one for each commit of the
-/// transcript, and if a version is held, the last is the place of that version.
+/// Law: no router commits a version that was published before one that it committed earlier.
+/// This holds within one instance of the cache and across instances. One place (instance and position) is recorded for each commit of the
+/// transcript.
+/// If a router holds a version, the last place is that of this version.
 pub fn no_way_back()
     ensures order { NoWayBack }
     ensures noted { PlacesNoted }
 {}
 
-/// After every list of events what is on its way to a router on a live link is at most one answer, and what a cut removed of it. It is the
-/// answer of its cache to its question, as the cache was when the question was read, after the connection was made. Its records lead from
-/// what the router holds to the set that was published under its End of Data. Notifies may come between its PDUs. Between events no link
-/// has ended, and a closed one holds nothing, has nothing to be pulled, and nothing is on the wire to it. When a question is read at the
-/// cache, what is due is the answer of the cache as it is at that event, of the version current there. It is Error Report 1 if memory runs
-/// out at a PDU of that event.
+/// Law: after every list of events, at most one answer is in transit to a router on a live link, less what a cut removed.
+/// It answers the router's query as the cache was when it read the query, after the connection was made. Serial Notifies may come between its
+/// PDUs.
+/// Its records lead from the data of the router to the set published under its End of Data.
+/// Between events no link has ended. On a closed link nothing is received in part, pending or on the wire to the router.
+/// When the cache reads a query, its answer is for the version current then. It is Error Report 1 if memory runs out at a PDU of that event.
 pub fn one_answer()
     ensures one { OneAnswerAlways }
     ensures now { AnswersNow }
 {}
 
-/// A router connects, and then only moves of its own happen. Bytes are sent and received, a connection is cut or made anew, and memory may
-/// run out at any of it. If its link is idle then, it is of the version that the router speaks, and the router holds the newest version of
-/// the present instance. Or nothing is published, it holds no session of that version of the protocol, and if it holds none at all, its
-/// table is empty.
+/// Law: suppose that a router connects, and then only bytes of it are moved and its connection is cut or made anew. Memory may run out.
+/// If its link is then idle, it has the protocol version that the router speaks, and the router holds the newest version of the present
+/// instance.
+/// Or nothing is published, and the router holds no session of that protocol version. If it holds no session at all, its table is empty.
 pub fn idle_is_current()
     ensures { IdleIsCurrent }
 {}
 
-/// A router connects, and rounds follow: all bytes go from it to the cache and back. After the first its link is idle and nothing is on its
-/// way in either direction, or it is closed. Or it asks for all after a Cache Reset, and then the same holds after the second, whatever
-/// memory ran out. A round is four events of the world.
+/// Law: suppose that a router connects, and rounds follow. A round is four events that move all bytes to the cache and back.
+/// After the first round, the link is idle with nothing in transit, or closed. Or the router sends a Reset Query after a Cache Reset.
+/// In that case the link is idle or closed after the second round. This holds wherever memory runs out.
 pub fn rounds_end()
     ensures ends { RoundsEnd }
     ensures steps { RoundsAreSteps }
 {}
 
-/// If memory does not run out, catching up succeeds: a router connects, and after one round its link is idle. Or it asks for all after a
-/// Cache Reset, and its link is idle after the second. Or it held a session when it connected, is closed and holds none, and its link is
-/// idle after one round on a new connection.
+/// Law: catching up succeeds if memory does not run out. After a router connects, its link is idle after one round.
+/// If the cache answers with Cache Reset, the link is idle after the second round.
+/// If the router held a session and had to drop it, the link closes, and it is idle after one round on a new connection.
 pub fn catches_up()
     ensures { EachCatchesUp }
 {}

@@ -1,4 +1,4 @@
-//! One router of a world, its connection, and the bytes on their way.
+//! One router of a world, its connection, and the bytes in transit.
 ghost use Rattle.std.specs.Prelude.{◌≡◌, ℕ, ◌+◌, ◌-◌, ◌≤◌, ◌^◌, ◌&&◌, ◌||◌, nat_lt, length, Option, IfSome, is_none, option_map};
 ghost use Rattle.vrps.specs.Instance.{Instance};
 ghost use Rattle.vrps.specs.Serial.{serial_at};
@@ -19,20 +19,20 @@ use rtr_ends::{Cache, Conn, Router, Sessions};
 use std::alloc::{AllocError, Global};
 use vrps::{Serial, VersionLog};
 
-/// A router, its connection at the cache if one is open there, and the bytes on their way to the cache and to the router.
+/// A router of a world, its connection at the cache, and the bytes in transit in both directions.
 #[derive(Debug, Drop)]
 pub struct Side {
     pub router: Router,
     pub conn: Option<Conn>,
     pub up: Wire,
     pub down: Wire,
-    /// The serial that was current when the connection was made, or the first one if nothing was published. None if there is no connection,
-    /// or it was made to an earlier instance of the cache.
+    /// The serial that was current when the connection was made, or the first serial if nothing was published then.
+    /// `None`: there is no connection, or it was made to an earlier instance of the cache.
     pub made: Option<Serial>,
 }
 
 impl Side {
-    /// A router that was never connected.
+    /// A router that was never connected, with nothing in transit.
     pub fn new(alloc: Global) -> Side
         ensures { IsNewSide result }
     {
@@ -45,7 +45,7 @@ impl Side {
         }
     }
 
-    /// The connection is closed at the cache.
+    /// Closes the connection at the cache, if one is open. Bytes in transit are kept.
     pub fn close(&mut self, cache: &mut Cache<VersionLog>)
         ensures { Goes (λ w s. record s { conn = Option.None }) cache.old self.old cache.new self.new }
     {
@@ -55,7 +55,7 @@ impl Side {
         }
     }
 
-    /// The cache is gone: so is the connection there, and the bytes towards it.
+    /// Notes that the cache restarted: its side of the connection and the bytes in transit to it are lost.
     pub fn lose_cache(&mut self)
         ensures { Lost self.old self.new }
     {
@@ -76,8 +76,9 @@ impl Side {
         }
     }
 
-    /// Whether a version of this serial would be fewer than 2^31 after the one that the router holds of the instance with these sessions.
-    /// The same is asked of the one that was current when its connection was made.
+    /// Whether a version of serial `next` is fewer than 2^31 versions after each one that this side still uses.
+    /// These are the version that the router holds of the instance with these sessions, and the one that was current when it connected.
+    /// `true` if there is neither.
     pub fn has_room(&self, sessions: Sessions, next: Serial) -> bool
         ensures { (w : model.World) (at : ℕ → Option Conned) (r : ℕ) (s : model.Side) → Reached w → side_at r w.sides ≡ Option.Some s → HasSessions w.present sessions →
             next.0 ≡ serial_at w.present.start (length w.present.sets) → ShowsSide w at s self.now → result ≡ (room_for w.present s.router.version && room_since w.present s.home) }
@@ -156,7 +157,8 @@ impl Side {
         Ok(())
     }
 
-    /// An event at this side, with the clean-up after it. If memory runs out, the connection is cut with nothing to arrive.
+    /// Runs one event at this side, and then the clean-up. `start` is the serial of the first version of the cache's instance.
+    /// `Err`: memory ran out. The connection is cut, and nothing more arrives.
     pub fn happen(
         &mut self,
         cache: &mut Cache<VersionLog>,

@@ -22,7 +22,8 @@ fn chunk(most: u64) -> usize
 }
 
 impl Side {
-    /// At most this many bytes are pulled from the router, and put on the wire to the cache.
+    /// Moves at most `most` bytes from the router to the wire to the cache, and at most the rest of one PDU. `Err`: memory ran out, and the
+    /// bytes are lost.
     pub fn router_sends(&mut self, most: u64) -> Result<(), AllocError>
         ensures { (w : model.World) (at : ℕ → Option Conned) (s : model.Side) → ShowsSide w at s self.old →
             BeginsEvent w at (model.RouterSends most) s (λ t. AloneAt w at t self.old self.new) result }
@@ -37,7 +38,8 @@ impl Side {
         self.up.put(room, count)
     }
 
-    /// At most this many bytes arrive at the cache.
+    /// Delivers at most `most` bytes from the wire to the cache. Bytes that the cache does not consume stay. Without a connection nothing
+    /// happens.
     pub fn cache_gets(&mut self, cache: &mut Cache<VersionLog>, most: u64)
         ensures { (w : model.World) (at : ℕ → Option Conned) (s : model.Side) → ShowsBoth w at s cache.old self.old →
             Passes w at (model.CacheGets most) s (λ t. Moves w at self.old.conn t cache.new self.new) }
@@ -51,7 +53,7 @@ impl Side {
         }
     }
 
-    /// At most this many bytes are pulled from the connection, and put on the wire to the router. It answers how many.
+    /// Moves at most `most` bytes, and at most one PDU, from the connection to the wire to the router. Returns how many.
     fn send_some(
         &mut self,
         cache: &mut Cache<VersionLog>,
@@ -91,7 +93,8 @@ impl Side {
         Ok(())
     }
 
-    /// At most this many bytes of the cache's are put on the wire to the router.
+    /// Moves at most `most` bytes from the cache's connection to the wire to the router. Without a connection nothing happens.
+    /// `Err`: memory ran out. Bytes that were pulled before may be lost.
     pub fn cache_sends(
         &mut self,
         cache: &mut Cache<VersionLog>,
@@ -106,7 +109,7 @@ impl Side {
         }
     }
 
-    /// At most this many bytes arrive at the router.
+    /// Delivers at most `most` bytes from the wire to the router, at second 0 of its clock. Bytes that the router does not consume stay.
     pub fn router_gets(&mut self, most: u64)
         ensures { (w : model.World) (at : ℕ → Option Conned) (s : model.Side) → ShowsSide w at s self.old →
             Passes w at (model.RouterGets most) s (λ t. AloneAt w at t self.old self.new) }

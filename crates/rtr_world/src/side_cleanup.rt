@@ -84,7 +84,7 @@ impl Side {
         }
     }
 
-    /// The clean-up.
+    /// Cleans up after an event: closes what has ended, drops bytes in transit to a closed end, and notifies the router.
     pub fn settle(&mut self, cache: &mut Cache<VersionLog>)
         ensures { Goes (λ w s. model.settle (model.instances w) s) cache.old self.old cache.new self.new }
     {

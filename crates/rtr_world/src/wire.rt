@@ -1,11 +1,11 @@
-//! Bytes on their way.
+//! Bytes in transit in one direction of a connection.
 ghost use Rattle.std.specs.Prelude.{◌≡◌, [], ◌++◌, take, drop, is_ok, if◌then◌else◌};
 ghost use Rattle.rtr_ends.specs.Cache.{is_none};
 
 use std::alloc::{AllocError, Global};
 use std::marker::Model;
 
-/// The bytes on their way from one end of a connection to the other, in their order (an ordered transport, RFC 8210 section 9).
+/// The bytes in transit from one end of a connection to the other, in order (an ordered transport, RFC 8210 section 9).
 #[derive(Debug, Drop)]
 pub struct Wire {
     bytes: Vec<u8>,
@@ -24,7 +24,7 @@ impl Model for Wire {
 }
 
 impl Wire {
-    /// Nothing on its way.
+    /// A wire with nothing in transit.
     pub fn new(alloc: Global) -> Wire
         ensures { result ≡ [] }
     {
@@ -34,14 +34,14 @@ impl Wire {
         }
     }
 
-    /// Whether nothing is on its way.
+    /// Whether no bytes are in transit.
     pub fn is_empty(&self) -> bool
         ensures { result ≡ is_none self.now }
     {
         self.arrived == self.bytes.as_slice().len()
     }
 
-    /// What is on its way is gone.
+    /// Drops all bytes in transit.
     pub fn clear(&mut self)
         ensures { self.new ≡ [] }
     {
@@ -49,7 +49,7 @@ impl Wire {
         self.arrived = 0;
     }
 
-    /// Keeps the first of the bytes on their way, at most this many, and drops the rest.
+    /// Keeps the first `most` bytes in transit, or all if there are fewer, and drops the rest.
     pub fn keep(&mut self, most: u64)
         ensures { self.new ≡ take most self.old }
     {
@@ -58,7 +58,7 @@ impl Wire {
         self.bytes.truncate(self.arrived + kept);
     }
 
-    /// The first of the bytes on their way, at most this many.
+    /// The first `most` bytes in transit, or all if there are fewer. They stay in transit until `arrive`.
     pub fn front(&self, most: u64) -> &[u8]
         ensures { result.now ≡ take most self.now }
     {
@@ -67,7 +67,7 @@ impl Wire {
         &left[..count]
     }
 
-    /// This many of the bytes arrive, or all that there are.
+    /// Removes the first `count` bytes, or all if there are fewer: they have arrived.
     pub fn arrive(&mut self, count: usize)
         ensures { self.new ≡ drop count self.old }
     {
@@ -78,7 +78,7 @@ impl Wire {
         }
     }
 
-    /// Puts the first of these bytes on the way, at most this many, behind all others. Without memory nothing is put.
+    /// Appends the first `most` bytes of `bytes`, or all if there are fewer. `Err`: memory ran out, and nothing is appended.
     pub fn put(&mut self, bytes: &[u8], most: usize) -> Result<(), AllocError>
         ensures { self.new ≡ (if is_ok result then self.old ++ take most bytes.now else self.old) }
     {

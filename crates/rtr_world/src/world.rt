@@ -41,7 +41,7 @@ impl Model for Keep {
     ghost invariant = { λ keep. (1 ≤ keep.0) × (keep.0 ≤ 65536) };
 }
 
-/// One cache, its routers, which are numbered from 0, and the wires between them. It keeps no history.
+/// One cache, its routers and the wires between them. Routers are numbered from 0. The world keeps no history.
 #[derive(Debug, Drop)]
 pub struct World {
     alloc: Global,
@@ -57,8 +57,9 @@ pub struct World {
 }
 
 impl World {
-    /// A world of one cache and this many routers. The cache has this session, and `session0` in version 0 of the protocol. Its first version
-    /// gets the serial `start`. It keeps `keep` versions before the current one. Nothing is published, and no router has a connection.
+    /// A world of one cache and `routers` routers. Nothing is published, and no router is connected. `Err`: memory ran out.
+    /// `session` is the cache's session in protocol version 1, `session0` the one in version 0. `start` is the serial of its first version.
+    /// `keep` is how many versions before the current one the cache keeps for differences, 1 to 65,536.
     pub fn new(
         alloc: Global,
         routers: u16,
@@ -184,8 +185,9 @@ impl World {
         Ok(())
     }
 
-    /// One event. After SessionUsed, TooManyVersions and NoSuchRouter nothing is changed. After Memory the connection of that event is
-    /// cut with nothing more to arrive; a Publish or a Restart changed nothing.
+    /// Runs one event and the clean-up after it. `Err`: the event was refused.
+    /// After `SessionUsed`, `TooManyVersions` and `NoSuchRouter`, nothing is changed.
+    /// After `Memory`, a `Publish` or `Restart` changed nothing. Any other event cut its router's connection, and nothing more arrives.
     pub fn step(&mut self, event: &Event) -> Result<(), WorldFault>
         ensures { (made : Made) (history : List Entry) → LeadsTo made history self.old → StepsTo made history (event_of event.now) result self.new }
     {
@@ -200,13 +202,13 @@ impl World {
         }
     }
 
-    /// Events in their order, one outcome for each. It answers how many were refused. After every list of events, each router's table is
-    /// empty if it holds no session. Otherwise it is exactly the set that the cache published under the version, session and serial of the
-    /// End of Data that this router committed last. Each announcement and each withdrawal acted exactly once. The router's answer for every
-    /// route is RFC 6811's state over that set. Besides, each router holds what its transcript keeps. At most one answer is on its way to
-    /// it, that of the cache as it was when the question was read. It commits no version that was published before one that it committed.
-    /// Its link ends by running out of memory, by expiry, by a report that memory ran out, or by one of another session, and by nothing
-    /// else.
+    /// Runs the events in their order, and returns how many were refused. A refused event does not stop the run.
+    /// After every list of events, each router's table is empty if it holds no session. Otherwise it is exactly a set that the cache published.
+    /// It is the one under the protocol version, session and serial of the End of Data that this router committed last.
+    /// Each announcement and each withdrawal acted exactly once, and the state of every route is that of RFC 6811 over the table.
+    /// At most one answer is in transit to a router: that of the cache as it was when it read the query.
+    /// No router commits a version that was published before one that it committed earlier.
+    /// A link ends only by lack of memory, by expiry, or by an Error Report about lack of memory or another session.
     pub fn run(&mut self, events: &[Event]) -> usize
         ensures steps { (made : Made) (history : List Entry) → LeadsTo made history self.old → RunsTo made history (map event_of events.now) result self.new }
         ensures tables { (made : Made) (history : List Entry) → LeadsTo made history self.old → RunsSo made history (map event_of events.now) result self.new (λ w s. IsKept s.router s.items) }
@@ -267,11 +269,12 @@ impl World {
         Ok(())
     }
 
-    /// Catches a router up with the cache: what is open is cut with nothing to arrive, a connection is made, and all bytes are moved both
-    /// ways until nothing moves. If the router had to drop what it held of another session, it connects once more. Ok: the router holds the
-    /// newest version of the present instance, in the version of the protocol that it speaks. NoData: nothing is published, and the router
-    /// holds no session of the version that it speaks. After both the last connection stays open, idle, with nothing on its way.
-    /// NoSuchRouter: nothing is changed. Memory: it ran out at one of these events, and the connection is cut.
+    /// Brings a router up to date. Cuts its old connection, connects, and moves all bytes both ways until nothing moves.
+    /// If the router had to drop data of another session, it connects once more.
+    /// `Ok`: the router holds the newest version of the present instance, in the protocol version that it speaks.
+    /// `Err(NoData)`: nothing is published, and the router holds no session of the protocol version that it speaks.
+    /// After both, the last connection stays open and idle, with nothing in transit.
+    /// `Err(NoSuchRouter)`: nothing is changed. `Err(Memory)`: memory ran out at one of these events, and the connection is cut.
     pub fn catch_up(&mut self, router: u16) -> Result<(), CatchFault>
         ensures caught { (made : Made) (history : List Entry) → LeadsTo made history self.old → CatchesUp made history router result self.new }
         ensures no_such { (made : Made) (history : List Entry) (l : LeadsTo made history self.old) → result ≡ Result.Err CatchFault.NoSuchRouter ↔ (length l.world.sides ≤ router) }
@@ -303,7 +306,7 @@ impl World {
         }
     }
 
-    /// The committed table of a router.
+    /// The committed table of a router, empty if it holds no session. `None`: there is no such router.
     pub fn table(&self, router: u16) -> Option<&VrpSet>
         ensures { (w : model.World) → ShowsWorld w self.now → option_map (λ t. t.now) result ≡ option_map (λ s. s.router.table) (side_at router w.sides) }
     {
@@ -311,7 +314,7 @@ impl World {
         Some(side.router.table())
     }
 
-    /// The version of the protocol, the session and the serial that a router committed last.
+    /// Protocol version, session and serial of the data that a router holds. `None`: it holds no session, or there is no such router.
     pub fn committed(&self, router: u16) -> Option<(Version, u16, Serial)>
         ensures { (w : model.World) → ShowsWorld w self.now → option_map (λ name. (name.0, name.1, name.2.0)) result ≡ option_and_then (λ s. name_of s.router.version) (side_at router w.sides) }
     {
@@ -319,7 +322,7 @@ impl World {
         side.router.committed()
     }
 
-    /// The state of a route at a router (RFC 6811 section 2).
+    /// The origin validation state of a route at a router (RFC 6811 section 2). `None`: there is no such router.
     pub fn route_state(&self, router: u16, route: &Route) -> Option<OriginState>
         ensures { (w : model.World) → ShowsWorld w self.now → result ≡ option_map (λ s. state s.router.table route.now) (side_at router w.sides) }
     {

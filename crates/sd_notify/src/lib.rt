@@ -9,8 +9,8 @@
 //! assert!(rt; address.as_slice() == b"\x01\x00\x00manager".as_slice());
 //! let mut watchdog = Watchdog::new(30_000_000, 0);
 //! assert!(rt; watchdog.wait_limit(5000) == 10_000);
-//! assert!(rt; !watchdog.is_signalled(14_999));
-//! assert!(rt; watchdog.is_signalled(15_000));
+//! assert!(rt; !watchdog.take_signal(14_999));
+//! assert!(rt; watchdog.take_signal(15_000));
 //! ```
 #![tactic(auto)]
 

@@ -11,8 +11,8 @@ pub trait OpenNotifySocket: NotifySocket {
     fn open(address: &[u8]) -> io::Result<Self>;
 }
 
-/// The service manager of the process of the number `own`, at this time in milliseconds of a monotonic clock. `None`: the environment names none.
-/// An error says that it cannot be notified, or is one of memory.
+/// The service manager that the environment of this process names. `own` is the process number, `now` the time in milliseconds of a monotonic
+/// clock. `None`: the environment names none. `Err`: it names one that cannot be notified, or memory ran out.
 pub fn service_manager<R: Env + AllocGlobal, C: OpenNotifySocket>(
     rt: &R,
     own: u64,

@@ -11,7 +11,7 @@ pub trait NotifySocket {
     /// The messages that were sent, if that is known. The last one is at the end.
     ghost sent: { Self → Option (List (List ℕ)) };
 
-    /// Sends a message without blocking. Answers whether the service manager got it.
+    /// Sends a message without blocking. Returns whether the service manager got it.
     fn send(&mut self, message: &[u8]) -> bool
         ensures { sent self.new ≡ and_sent message.now (sent self.old) };
 }
@@ -26,8 +26,8 @@ pub struct Notifier<C> {
     is_ready: bool,
 }
 
-/// The watchdog that the environment turns on for the process of the number `own` (sd_watchdog_enabled(3)), signalled at this time. `WATCHDOG_PID`
-/// and `WATCHDOG_USEC` have these numbers, or none.
+/// The watchdog that the environment turns on for the process of the number `own` (sd_watchdog_enabled(3)). `process` and `microseconds` are the numbers
+/// in `WATCHDOG_PID` and `WATCHDOG_USEC`, if they are set. The last signal counts as sent at `now`. `None`: it is not on.
 pub fn enabled_watchdog(
     process: Option<u64>,
     microseconds: Option<u64>,
@@ -48,7 +48,7 @@ pub fn enabled_watchdog(
 }
 
 impl<C: NotifySocket> Notifier<C> {
-    /// The service manager of this socket, with this watchdog.
+    /// The service manager at `socket`. `watchdog` is `None` if it is not on. Readiness is not yet reported.
     pub fn new(socket: C, watchdog: Option<Watchdog>) -> Notifier<C>
         ensures { result ≡ record { socket = socket; watchdog = watchdog; is_ready = false } }
     {
@@ -59,7 +59,7 @@ impl<C: NotifySocket> Notifier<C> {
         }
     }
 
-    /// Reports that the service is ready, at the first call. Answers whether that failed.
+    /// Reports that the service is ready, at the first call only. Returns whether the report failed.
     pub fn fails_to_report_ready(&mut self) -> bool
         ensures later { self.old.is_ready ≡ true → result ≡ false }
         ensures once { self.old.is_ready ≡ true → self.new ≡ self.old }
@@ -81,7 +81,7 @@ impl<C: NotifySocket> Notifier<C> {
         let _ = self.socket.send(b"STOPPING=1");
     }
 
-    /// Signals the watchdog, if a signal is due at this time.
+    /// Signals the watchdog if a signal is due at `now`.
     pub fn signal(&mut self, now: u64)
         ensures sends { C.sent self.new.socket ≡ signal_sent self.old.watchdog now (C.sent self.old.socket) }
         ensures watchdog { self.new.watchdog ≡ after_signal self.old.watchdog now }
@@ -90,12 +90,12 @@ impl<C: NotifySocket> Notifier<C> {
         let Some(watchdog) = &mut self.watchdog else {
             return;
         };
-        if watchdog.is_signalled(now) {
+        if watchdog.take_signal(now) {
             let _ = self.socket.send(b"WATCHDOG=1");
         }
     }
 
-    /// How long the service may wait, in milliseconds, before a signal is due.
+    /// How many milliseconds after `now` the next signal is due. Without a watchdog it is `u64::MAX`.
     pub fn wait_limit(&self, now: u64) -> u64
         ensures { result ≡ notifier_wait self.now.watchdog now }
     {

@@ -23,7 +23,8 @@ impl Model for Watchdog {
 }
 
 impl Watchdog {
-    /// A watchdog of this many microseconds (`WATCHDOG_USEC`), which was signalled at this time.
+    /// A watchdog whose timeout is `microseconds` (`WATCHDOG_USEC`). The last signal was sent at `now`. A signal is due after half of the timeout,
+    /// in whole milliseconds rounded down, and at least 1.
     pub fn new(microseconds: u64, now: u64) -> Watchdog
         ensures { result ≡ (half_of microseconds, now) }
     {
@@ -33,15 +34,15 @@ impl Watchdog {
         }
     }
 
-    /// How long the service may wait before the next signal is due.
+    /// How many milliseconds after `now` the next signal is due: 0 if it is due already.
     pub fn wait_limit(&self, now: u64) -> u64
         ensures { result ≡ self.now.0 - (now - self.now.1) }
     {
         self.half.saturating_sub(now.saturating_sub(self.last))
     }
 
-    /// Whether a signal is due at this time. If it is, it counts as sent.
-    pub fn is_signalled(&mut self, now: u64) -> bool
+    /// Returns whether a signal is due at `now`. If it is, it counts as sent.
+    pub fn take_signal(&mut self, now: u64) -> bool
         ensures { (result, self.new) ≡ signalled now self.old }
     {
         if now.saturating_sub(self.last) < self.half {

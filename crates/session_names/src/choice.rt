@@ -5,40 +5,41 @@ ghost use Rattle.session_names.specs.Choices.{HostAnswers, IsChosen, IsSession, 
 use crate::names::{SessionIds, first_serial, is_machine_id, session_of, session0_of};
 use std::io;
 
-/// What the settings give of the sessions and the first serial.
+/// The session ids and the first serial, as far as the settings give them. `None`: the setting is not given.
 #[derive(Clone, Copy, Debug, PartialEq, Eq)]
 pub struct GivenIds {
-    /// The session in protocol version 1.
+    /// The session id in protocol version 1.
     pub session: Option<u16>,
-    /// The session in protocol version 0.
+    /// The session id in protocol version 0.
     pub session0: Option<u16>,
-    /// The serial of the first version.
+    /// The serial of the first version that the daemon publishes.
     pub serial: Option<u32>,
 }
 
-/// The sessions and the first serial, and whether the session is random.
+/// The session ids and the first serial that a daemon uses.
 #[derive(Clone, Copy, Debug, PartialEq, Eq)]
 pub struct SessionChoice {
-    /// The sessions and the first serial.
+    /// The session ids and the first serial.
     pub ids: SessionIds,
-    /// Whether the session is random.
+    /// Whether the session id in protocol version 1 is random.
     pub is_random: bool,
 }
 
-/// The host of a daemon.
+/// The host of a daemon: its machine id, its name, and its source of random numbers.
 pub trait HostFacts {
     /// What it may answer. Contracts that cite it hold for all such relations, so they speak of what the host answered.
     ghost answers: { HostAnswers } = { any_host };
 
-    /// The content of `/etc/machine-id` (machine-id(5)), which is empty if it cannot be read. An error is for memory alone.
+    /// Returns the content of `/etc/machine-id` (machine-id(5)), or an empty vector if it cannot be read. An error means that memory runs
+    /// out.
     fn machine_id(&mut self) -> io::Result<Vec<u8>>
         ensures { IfOk result (λ id. answers.machine_ids id.items) };
 
-    /// Its name, as the system has it, which is empty if it cannot be read. An error is for memory alone.
+    /// Returns the host name of the system, or an empty vector if it cannot be read. An error means that memory runs out.
     fn name(&mut self) -> io::Result<Vec<u8>>
         ensures { IfOk result (λ name. answers.names name.items) };
 
-    /// A random session.
+    /// Returns a random session id.
     fn random_session(&mut self) -> io::Result<u16>
         ensures { IfOk result answers.randoms };
 }
@@ -50,8 +51,12 @@ struct Session {
     is_random: bool,
 }
 
-/// The sessions and the first serial of a daemon that starts this many seconds after 1970. What is not given is made of the start, and the session of
-/// the host, of the listening addresses and of the source options. It is random if the host has no machine id. An error is one of the host.
+/// Returns the session ids and the first serial of a daemon that starts at `start`, in seconds since 1970.
+///
+/// A value in `given` is used as it is. Otherwise the first serial is [`first_serial`](crate::first_serial) of `start`,
+/// and the version 0 session id is [`session0_of`](crate::session0_of) it.
+/// The version 1 session id is [`session_of`](crate::session_of) the host, `listen` (listening addresses) and `sources` (source options).
+/// If the host has no machine id, it is random. An error is one of a call of `host`.
 pub fn choose_session<H: HostFacts>(
     given: &GivenIds,
     listen: &str,

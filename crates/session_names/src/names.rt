@@ -5,27 +5,28 @@ ghost use Rattle.session_names.specs.Names.{first_serial, is_machine_id, part_by
 
 use sha2::{Digest, Sha256};
 
-/// The sessions and the first serial of a run (RFC 8210 section 5.1).
+/// The session ids and the first serial of a daemon that runs (RFC 8210 section 5.1).
 #[derive(Clone, Copy, Debug, PartialEq, Eq)]
 pub struct SessionIds {
-    /// The session in protocol version 1.
+    /// The session id in protocol version 1.
     pub session: u16,
-    /// The session in protocol version 0.
+    /// The session id in protocol version 0.
     pub session0: u16,
-    /// The serial of the first version.
+    /// The serial of the first version that the daemon publishes.
     pub serial: u32,
 }
 
-/// The first serial of a daemon that starts this many seconds after 1970: their number modulo 2^32. As long as no two versions are published in
-/// one second ([`Pace`](crate::Pace)), no serial is ahead of the clock. So the serials of the next run are later.
+/// Returns the first serial of a daemon that starts at `seconds`, counted since 1970: `seconds` modulo 2^32.
+/// If at most one version is published in a second ([`Pace`](crate::Pace)), no serial is ahead of the clock. So the serials of the next run
+/// are later.
 pub fn first_serial(seconds: u64) -> u32
     ensures { result ≡ first_serial seconds }
 {
     (seconds % (1 << 32)) as u32
 }
 
-/// The session in protocol version 0 of a daemon that starts this many seconds after 1970: their number modulo 65,536. Two starts have different
-/// sessions, unless a multiple of 65,536 seconds (about 18 hours) is between them.
+/// Returns the protocol version 0 session id of a daemon that starts at `seconds`, counted since 1970: `seconds` modulo 65,536.
+/// Two starts have the same id only if a multiple of 65,536 seconds (about 18 hours) is between them.
 pub fn session0_of(seconds: u64) -> u16
     ensures { result ≡ session0_of seconds }
 {
@@ -41,8 +42,8 @@ fn add_part(hasher: &mut Sha256, part: &[u8])
     hasher.update(part);
 }
 
-/// Whether the content of `/etc/machine-id` is the id of a machine: it is neither empty nor `uninitialized` (machine-id(5)), each with or without
-/// a newline.
+/// Returns whether the content of `/etc/machine-id` is a machine id: neither empty nor `uninitialized` (machine-id(5)), with or without a
+/// newline.
 pub fn is_machine_id(content: &[u8]) -> bool
     ensures { result ≡ is_machine_id content.now }
 {
@@ -52,8 +53,9 @@ pub fn is_machine_id(content: &[u8]) -> bool
         || content == b"uninitialized\n".as_slice())
 }
 
-/// The session of a daemon: the first 16 bits of a SHA-256. It is over the machine id, the host name, the listening addresses and the source
-/// options, each after its length in eight bytes. So it is the same after a restart, and unlikely to be that of another daemon.
+/// Returns the protocol version 1 session id of a daemon: the first 16 bits of a SHA-256.
+/// The hash is over the machine id, the host name, the listening addresses and the source options, each after its length in eight bytes.
+/// So the id is the same after a restart, and unlikely to be that of another daemon.
 pub fn session_of(machine_id: &[u8], host: &[u8], listen: &str, sources: &str) -> u16
     ensures { result ≡ session_of machine_id.now host.now listen.now sources.now }
 {

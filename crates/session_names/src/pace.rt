@@ -4,8 +4,8 @@ ghost use Rattle.session_names.specs.Runs.{may_publish};
 
 use std::marker::Model;
 
-/// When the last version was published, in seconds since 1970. The next one is published in a later second. So serials, which increase by one
-/// with each version, are not ahead of the clock.
+/// The pace of versions: at most one a second. It keeps the second of the last version, counted since 1970.
+/// A serial increases by one with each version, so at this pace it is never ahead of the clock.
 #[derive(Clone, Copy, Debug, PartialEq, Eq)]
 pub struct Pace {
     last: Option<u64>,
@@ -22,22 +22,23 @@ impl Model for Pace {
 }
 
 impl Pace {
-    /// No version was published: the first may be published at once.
+    /// Returns a pace without a published version: the first version may be published at once.
     pub fn new() -> Pace
         ensures { result ≡ None }
     {
         Pace { last: None }
     }
 
-    /// As if a version had been published at the start, so that the first is published in a later second. The run before may have published in
-    /// the second of the start.
+    /// Returns a pace that counts a version as published at `start`, in seconds since 1970. So the first version waits for a later second.
+    /// This is for a restart: the run before may have published in the second `start`.
     pub fn after(start: u64) -> Pace
         ensures { result ≡ Some start }
     {
         Pace { last: Some(start) }
     }
 
-    /// Whether a version may be published at this second: it is later than that of the last version.
+    /// Returns whether a version may be published at `now`, in seconds since 1970: `now` is later than the second of the last version, or
+    /// there is none.
     pub fn may_publish(&self, now: u64) -> bool
         ensures { result ≡ may_publish self.now now }
     {
@@ -47,7 +48,7 @@ impl Pace {
         }
     }
 
-    /// A version was published at this second.
+    /// Notes that a version was published at `now`, in seconds since 1970.
     pub fn published(&mut self, now: u64)
         ensures { self.new ≡ Some now }
     {

@@ -22,7 +22,7 @@ pub struct TcpLine {
 }
 
 impl TcpLine {
-    /// The connection of a line. `None` if the line shows none, as the first line does.
+    /// Parses a line of `/proc/net/tcp` or `/proc/net/tcp6` (proc(5)). `None`: it shows no connection, as the first line does.
     pub fn parse(line: &[u8]) -> Option<TcpLine>
         ensures { result ≡ line_in line.now }
     {
@@ -33,7 +33,7 @@ impl TcpLine {
         }
     }
 
-    /// Whether bytes of it are sent again, as they are not acknowledged. A connection whose window is closed is none of these.
+    /// Whether the system retransmits bytes of the connection, as they are not acknowledged. It is false while the peer's window is closed.
     pub fn is_unanswered(&self) -> bool
         ensures { result ≡ is_unanswered self.now }
     {

@@ -6,7 +6,7 @@ use crate::endpoint::Endpoint;
 use crate::line::TcpLine;
 use std::alloc::{AllocError, Global};
 
-/// The connections of a table of which bytes are sent again, in its order.
+/// The connections of a table whose bytes are retransmitted, in its order. `Err`: memory ran out.
 pub fn unanswered(alloc: Global, table: &[u8]) -> Result<Vec<TcpLine>, AllocError>
     ensures { IfOk result (λ lines. lines.items ≡ unanswered table.now) }
 {
@@ -36,7 +36,7 @@ fn keep(found: &mut Vec<TcpLine>, line: &[u8]) -> Result<(), AllocError>
     Ok(())
 }
 
-/// How many bytes of the connection between these ends are sent again, by its first line. `None` if none of these lines is its own.
+/// How many bytes of the connection between these ends are retransmitted, by its first line. `None`: no line is of this connection.
 pub fn bytes_of(lines: &[TcpLine], local: &Endpoint, remote: &Endpoint) -> Option<u32>
     ensures { result ≡ bytes_of local.now remote.now lines.now }
 {

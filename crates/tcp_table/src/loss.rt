@@ -2,8 +2,8 @@
 ghost use Rattle.std.specs.Prelude.{◌≡◌};
 ghost use Rattle.tcp_table.specs.Loss.{is_lost, unanswered_after};
 
-/// Bytes of a connection that are sent again: how many at the last reading, and since which reading they have not become fewer, in milliseconds of a
-/// monotonic clock.
+/// Bytes of a connection that are retransmitted: how many at the last reading, and since which reading they have not become fewer. Times are in
+/// milliseconds of a monotonic clock.
 #[derive(Clone, Copy, Debug, PartialEq, Eq)]
 pub struct Unanswered {
     /// How many bytes.
@@ -12,8 +12,8 @@ pub struct Unanswered {
     pub since: u64,
 }
 
-/// What is known of a connection after a reading at a time, which showed this many bytes of it that are sent again, or none. Fewer bytes than before begin
-/// anew, as some were acknowledged.
+/// What is known of a connection after a reading at `now`, in milliseconds of a monotonic clock. The reading showed how many bytes are retransmitted, or
+/// `None`. If they are fewer than before, some were acknowledged, and the time begins anew.
 pub fn unanswered_after(
     before: Option<Unanswered>,
     bytes: Option<u32>,
@@ -31,7 +31,7 @@ pub fn unanswered_after(
     }
 }
 
-/// Whether a connection is lost: all readings of this many milliseconds showed bytes of it that are sent again.
+/// Whether a connection is lost at `now`: for `stall` milliseconds all readings showed bytes of it that are retransmitted.
 pub fn is_lost(known: Option<Unanswered>, now: u64, stall: u64) -> bool
     ensures { result ≡ is_lost known now stall }
 {

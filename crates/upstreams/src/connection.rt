@@ -14,28 +14,28 @@ use rtr_server::{Progress, Stream, Traffic};
 /// Why a connection was dropped.
 #[derive(Clone, Copy, Debug, PartialEq, Eq)]
 pub enum DisconnectReason {
-    /// The cache's bytes ended.
+    /// The cache closed the stream: nothing further comes.
     PeerClosed,
-    /// The link ended so (RFC 8210 section 12), and the router's Error Report is written, if it sent one.
+    /// The RTR session ended for this reason (RFC 8210 section 12). If the router sent an Error Report, that is written.
     LinkEnded(End),
-    /// The stream failed at a read.
+    /// A read from the stream failed.
     ReadFailed,
-    /// The stream failed at a write, or accepted nothing.
+    /// A write to the stream failed, or the stream accepted no byte.
     WriteFailed,
-    /// A question was outstanding and brought no byte for as long as may be.
+    /// A query was outstanding and no byte came for `stall` seconds (the parameter of `Upstream::new`).
     Stalled,
 }
 
-/// What a poll came to.
+/// The outcome of a poll: what the caller waits for, or why the connection was dropped.
 #[derive(Clone, Copy, Debug, PartialEq, Eq)]
 pub enum PollOutcome {
-    /// There is no connection, and nothing was done.
+    /// There is no connection. Nothing was done.
     NotConnected,
-    /// The stream would wait for bytes to be read, as the last call of the poll said.
+    /// The last call was a read, and the stream would block. Poll again when it is readable.
     WaitsToRead,
-    /// The stream would wait for room to write, as the last call of the poll said, which was a write.
+    /// The last call was a write, and the stream would block. Poll again when it is writable.
     WaitsToWrite,
-    /// As many calls of the stream were made as are allowed.
+    /// The budget of stream calls is used up. Poll again at once.
     Busy,
     /// The connection was dropped.
     Disconnected(DisconnectReason),

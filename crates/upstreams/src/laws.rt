@@ -5,14 +5,15 @@ use crate::upstream::Upstream;
 use rtr_server::Stream;
 use rtr_server::laws::counts_splits;
 
-/// Whatever bytes a cache sent, in whatever pieces: the bytes that were read on the latest connection are those that the router consumed, and
-/// then those that are not consumed. The PDUs of the transcript are the split of what was consumed. The table is what the transcript keeps.
-/// What was written is a beginning of the router's questions and its Error Report.
+/// Law: the table is exactly what the cache's bytes say, whatever the cache sends and in whatever pieces it arrives.
+/// The bytes read on the latest connection are those that the router consumed, followed by those not consumed yet.
+/// The router's transcript lists the PDUs of the consumed bytes in their order. The table is the result of these PDUs.
+/// The bytes written are a beginning of the router's queries and of its Error Report.
 pub fn each_holds<T: Stream + Drop>(upstream: &Upstream<T>)
     ensures { EachHolds T.remaining T.contents upstream.now }
 {}
 
-/// What `received` counts are the PDUs of the split that the transcript has, by type, as long as no fault shows in what came.
+/// Law: `received` counts the PDUs in the router's transcript by type, up to the first fault in the bytes received.
 pub fn counts_received<T: Stream + Drop>(upstream: &Upstream<T>)
     ensures { CountsReceived T.remaining T.contents upstream.now }
 {

@@ -1,4 +1,4 @@
-//! Routers of other caches (RFC 6810, RFC 8210), over non-blocking streams.
+//! The router's end of RTR connections to other caches (RFC 6810, RFC 8210), over non-blocking streams.
 //!
 //! For example, where `rt` is the runtime that `main` is handed:
 //!

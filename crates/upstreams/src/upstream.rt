@@ -1,4 +1,4 @@
-//! A cache of which this one is a router.
+//! An upstream cache: this program is its router.
 ghost use Rattle.std.specs.Prelude.{◌≡◌, ◌∷◌, [], List, None, Some, is_some, option_map, true};
 ghost use Rattle.rtr_ends.specs.FetchStream.{is_asking};
 ghost use Rattle.rtr_ends.specs.LinkRules as rules;
@@ -20,8 +20,8 @@ use rtr_server::{ByteCounts, PdusByKind, Stream};
 use std::alloc::Global;
 use vrps::{Serial, VrpSet};
 
-/// A router of another cache (RFC 6810, RFC 8210 sections 5 to 8), and its connection, if there is one. Times are in seconds of a clock that
-/// the caller supplies; to the router, one below the greatest so far counts as that one.
+/// The router's side of an upstream cache: its committed data, and its connection if there is one (RFC 6810, RFC 8210 sections 5 to 8).
+/// All times are in seconds of a clock that the caller supplies. A time below the greatest so far counts, for the router, as the greatest.
 #[derive(Debug, Drop)]
 pub struct Upstream<T> {
     router: Router,
@@ -37,8 +37,8 @@ pub struct Upstream<T> {
 }
 
 impl<T: Stream + Drop> Upstream<T> {
-    /// Nothing is committed, and there is no connection. A connection on which a question brings no byte for `stall` seconds is dropped.
-    /// Connections are of version 1. It allocates no memory.
+    /// A new upstream without data and without a connection. It allocates no memory.
+    /// A connection is dropped if a query is outstanding and no byte comes for `stall` seconds. Connections speak protocol version 1.
     pub fn new(alloc: Global, stall: u64) -> Upstream<T>
         ensures shows { (b : Begun) → ShowsUpstream T.remaining T.contents [] b result }
         ensures stall { result.stall ≡ stall }
@@ -58,7 +58,7 @@ impl<T: Stream + Drop> Upstream<T> {
         }
     }
 
-    /// Sets the version of the protocol for the next connection and those after it (RFC 8210 section 7). A connection keeps its own.
+    /// Sets the protocol version for all later connections (RFC 8210 section 7). An open connection keeps its version.
     pub fn set_version(&mut self, version: Version)
         ensures calls { CallsOn T.remaining T.contents (model.Speaks version) self.old self.new }
         ensures rest { self.new ≡ record self.old { router = self.new.router } }
@@ -66,7 +66,8 @@ impl<T: Stream + Drop> Upstream<T> {
         self.router.speak(version);
     }
 
-    /// A connection was made, over this stream: a query becomes due on it. An older connection is dropped.
+    /// Begins a connection over `stream`, which was made at second `now`. A query becomes due on it.
+    /// An older connection is dropped, and the byte and PDU counts start anew.
     pub fn connect(&mut self, stream: T, now: u64)
         ensures calls { (calls : List model.RouterCall) (b : Begun) → ShowsUpstream T.remaining T.contents calls b self.old →
             ShowsUpstream T.remaining T.contents (model.Connects now ∷ calls) (record { before = T.remaining stream; had = T.contents stream }) self.new }
@@ -78,8 +79,8 @@ impl<T: Stream + Drop> Upstream<T> {
         self.connection = Some(Connection::new(stream, now));
     }
 
-    /// A connection could not be made at this time: the next one is due after the retry interval (RFC 8210 section 6). An older connection is
-    /// dropped.
+    /// Notes that an attempt to connect failed at second `at`. An older connection is dropped.
+    /// The next attempt is due after the retry interval (RFC 8210 section 6).
     pub fn connect_failed(&mut self, at: u64)
         ensures calls { (calls : List model.RouterCall) (b : Begun) → ShowsUpstream T.remaining T.contents calls b self.old →
             ShowsUpstream T.remaining T.contents (model.Closes at ∷ model.Connects at ∷ calls) b self.new }
@@ -93,8 +94,8 @@ impl<T: Stream + Drop> Upstream<T> {
         self.close(at);
     }
 
-    /// Drops the connection, if there is one, with all that remained to be written to it. `carried`, `received` and `sent` still have what went
-    /// over it.
+    /// Drops the connection at second `now`, if there is one. Bytes that are not written yet are lost.
+    /// `carried`, `received` and `sent` keep the counts of the dropped connection.
     pub fn disconnect(&mut self, now: u64)
         ensures calls { CallsOn T.remaining T.contents (model.Closes now) self.old self.new }
         ensures gone { self.new.connection ≡ None }
@@ -106,7 +107,7 @@ impl<T: Stream + Drop> Upstream<T> {
         self.close(now);
     }
 
-    /// The same, as the router sees it.
+    /// Drops the connection, keeps its counts, and notifies the router.
     fn close(&mut self, now: u64)
         ensures calls { Calls (λ r. (called (model.Closes now) r).router) self.old.router self.new.router }
         ensures gone { self.new.connection ≡ None }
@@ -122,9 +123,9 @@ impl<T: Stream + Drop> Upstream<T> {
         self.router.closed(now);
     }
 
-    /// Advances the clock: data that has expired is dropped, and an idle link sends a query if that is due. A connection is dropped if its
-    /// question brought no byte for so long, and the result says so. Poll it afterwards: a query may have to be written, or the link may have
-    /// ended.
+    /// Advances the clock to second `now`. Expired data is dropped, and an idle link sends a query if one is due.
+    /// `Some(Stalled)`: a query was outstanding and no byte came for `stall` seconds, so the connection was dropped. Otherwise `None`.
+    /// Call `poll` afterwards: a query may have to be written, or the link may have ended.
     pub fn tick(&mut self, now: u64) -> Option<DisconnectReason>
         ensures ticks { TicksOn T.remaining T.contents now self.old result self.new }
         ensures gone { result ≡ Some DisconnectReason.Stalled → self.new.connection ≡ None }
@@ -139,10 +140,11 @@ impl<T: Stream + Drop> Upstream<T> {
         None
     }
 
-    /// Polls the connection, with at most `budget` calls of its stream. What was pulled is written, then more is pulled. If the router has
-    /// nothing to send, it receives what was read. If nothing is left of that, a piece is read. A connection that is gone is dropped, and the
-    /// outcome says why; `carried`, `received` and `sent` still have what went over it. What was committed stays, by the router's rules. After
-    /// Error Report 4, Unsupported Protocol Version, the connections from the next one on are of version 0 (RFC 8210 section 7).
+    /// Writes and reads at second `now`, with at most `budget` calls of the stream. See [`PollOutcome`] for the result.
+    /// All pending output is written before more is read. The router consumes input only while it has nothing to send.
+    /// `Disconnected`: the connection was dropped, for this reason. `carried`, `received` and `sent` keep its counts. A lost connection alone
+    /// drops no committed data.
+    /// After Error Report 4 (Unsupported Protocol Version), later connections speak version 0 (RFC 8210 section 7).
     pub fn poll(&mut self, now: u64, budget: u32) -> PollOutcome
         ensures polls { Polls T.remaining T.contents T.answers now budget self.old result self.new }
         ensures goes { GoesOn T.remaining T.contents self.old self.new }
@@ -169,8 +171,10 @@ impl<T: Stream + Drop> Upstream<T> {
         }
     }
 
-    /// When something is due, if ever. Without a connection that is to connect, at once if none was made yet. On an idle link it is to ask. If
-    /// a question is outstanding, it is to drop the connection, after `stall` seconds without a byte. A link that has ended is due at once.
+    /// When something is due next, in seconds of the caller's clock. `None`: nothing is due until another call.
+    /// Without a connection, it is when to connect: 0 (at once) if none was made yet. On an idle link, it is when to send a query.
+    /// With a query outstanding, it is when the connection is dropped: `stall` seconds after the last byte, or after the query if none came.
+    /// If the link has ended, it is 0 (at once).
     pub fn next_due(&self) -> Option<u64>
         ensures { (calls : List model.RouterCall) (b : Begun) → ShowsUpstream T.remaining T.contents calls b self.now → result ≡ next_due self.now.stall calls }
     {
@@ -184,14 +188,14 @@ impl<T: Stream + Drop> Upstream<T> {
         }
     }
 
-    /// Whether something is due.
+    /// Whether `next_due` is reached at second `now`. `false` if nothing is due at all.
     pub fn is_due(&self, now: u64) -> bool
         ensures { (calls : List model.RouterCall) (b : Begun) → ShowsUpstream T.remaining T.contents calls b self.now → result ≡ is_past (next_due self.now.stall calls) now }
     {
         is_past(self.next_due(), now)
     }
 
-    /// Whether a question is outstanding that has brought no byte for so long.
+    /// Whether, at second `now`, a query is outstanding and no byte came for `stall` seconds.
     pub fn is_stalled(&self, now: u64) -> bool
         ensures { (calls : List model.RouterCall) (b : Begun) → ShowsUpstream T.remaining T.contents calls b self.now → result ≡ is_stalled self.now.stall now calls }
     {
@@ -205,7 +209,7 @@ impl<T: Stream + Drop> Upstream<T> {
         self.connection.is_some()
     }
 
-    /// The stream of the connection, if there is one.
+    /// The stream of the connection. `None`: there is no connection.
     pub fn stream(&self) -> Option<&T>
         ensures { option_map (λ stream. stream.now) result ≡ option_map (λ c. c.stream) self.now.connection }
     {
@@ -215,7 +219,7 @@ impl<T: Stream + Drop> Upstream<T> {
         }
     }
 
-    /// How many bytes went over the latest connection.
+    /// The numbers of bytes read and written on the latest connection, also after it was dropped.
     pub fn carried(&self) -> ByteCounts
         ensures { result ≡ carried_by self.now.connection self.now.carried }
     {
@@ -225,7 +229,7 @@ impl<T: Stream + Drop> Upstream<T> {
         }
     }
 
-    /// The PDUs that came on the latest connection, by type. These are the PDUs of what the router consumed.
+    /// The number of PDUs of each type received on the latest connection. Only PDUs that the router consumed count.
     pub fn received(&self) -> PdusByKind
         ensures { result ≡ received_by self.now.connection self.now.received }
     {
@@ -235,7 +239,7 @@ impl<T: Stream + Drop> Upstream<T> {
         }
     }
 
-    /// The PDUs that were sent on the latest connection, by type. These are the PDUs that were written whole to its stream.
+    /// The number of PDUs of each type sent on the latest connection. Only PDUs that were written completely count.
     pub fn sent(&self) -> PdusByKind
         ensures { result ≡ sent_by self.now.connection self.now.sent }
     {
@@ -245,7 +249,7 @@ impl<T: Stream + Drop> Upstream<T> {
         }
     }
 
-    /// The version of the protocol, session and serial of the committed version, if there is one.
+    /// Protocol version, session and serial of the committed data. `None`: no data is committed, for example because it has expired.
     pub fn committed(&self) -> Option<(Version, u16, Serial)>
         ensures { (calls : List model.RouterCall) (b : Begun) → ShowsUpstream T.remaining T.contents calls b self.now →
             option_map (λ name. (name.0, name.1, name.2.0)) result ≡ name_of (kept (model.played calls).items).version }
@@ -253,14 +257,14 @@ impl<T: Stream + Drop> Upstream<T> {
         self.router.committed()
     }
 
-    /// The committed table: empty if nothing is committed.
+    /// The committed table. It is empty if nothing is committed.
     pub fn table(&self) -> &VrpSet
         ensures { (calls : List model.RouterCall) (b : Begun) → ShowsUpstream T.remaining T.contents calls b self.now → result.now ≡ (kept (model.played calls).items).table }
     {
         self.router.table()
     }
 
-    /// The data of the cache: the committed table, if a version is committed.
+    /// The committed table. `None`: no data is committed, for example because it has expired.
     pub fn data(&self) -> Option<&VrpSet>
         ensures { (calls : List model.RouterCall) (b : Begun) → ShowsUpstream T.remaining T.contents calls b self.now →
             option_map (λ set. set.now) result ≡ data_of (kept (model.played calls).items) }
@@ -271,7 +275,8 @@ impl<T: Stream + Drop> Upstream<T> {
         }
     }
 
-    /// Until when the data is kept without another commit (RFC 8210 section 6), if there is any: a `tick` after that time drops it.
+    /// When the committed data expires unless new data is committed, in seconds of the caller's clock (RFC 8210 section 6).
+    /// A `tick` after that second drops the data. `None`: nothing is committed.
     pub fn expires_at(&self) -> Option<u64>
         ensures { (calls : List model.RouterCall) (b : Begun) → ShowsUpstream T.remaining T.contents calls b self.now → result ≡ expiry_of (kept (model.played calls).items).version }
     {
@@ -281,7 +286,7 @@ impl<T: Stream + Drop> Upstream<T> {
         }
     }
 
-    /// The router.
+    /// The router state machine behind this upstream.
     pub fn router(&self) -> &Router
         ensures { result.now ≡ self.now.router }
     {

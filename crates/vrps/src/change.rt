@@ -12,18 +12,18 @@ use prefixes::Vrp;
 use std::alloc::{AllocError, Global};
 use std::cmp::Ordering;
 
-/// What leads from one set to another (RFC 8210 sections 5.6 and 8.2).
+/// The difference between two VRP sets: what a cache sends to a router that already has one of them (RFC 8210 sections 5.6 and 8.2).
 #[derive(Debug, Drop)]
 pub struct Change {
-    /// The records to be withdrawn.
+    /// The VRPs that the change withdraws.
     pub withdraw: VrpSet,
-    /// The records to be announced.
+    /// The VRPs that the change announces.
     pub announce: VrpSet,
 }
 
 impl Change {
-    /// The change from `s` to `t`: it withdraws the members of `s` that are none of `t`, and announces the members of `t` that are
-    /// none of `s`. Both sets are walked once, side by side.
+    /// Computes the change from `s` to `t`. It withdraws the VRPs that are only in `s`, and announces those that are only in `t`.
+    /// Both sets are walked once, side by side. `AllocError`: no memory for the change.
     pub fn between(alloc: Global, s: &VrpSet, t: &VrpSet) -> Result<Change, AllocError>
         ensures { IfOk result (λ change. change ≡ between s.now t.now) }
     {
@@ -34,8 +34,9 @@ impl Change {
         })
     }
 
-    /// The set without the withdrawn records, together with the announced ones; the set may be any. It is `TooMany` if that has more
-    /// members than a set may have, and `Memory` if memory for it runs out. The set and both lists are walked once, side by side.
+    /// Returns `set` without the withdrawn VRPs, together with the announced ones. `set` may be any set: the change need not begin at it. A VRP
+    /// that is in both lists is in the result.
+    /// `TooMany`: the result has over 16,777,215 VRPs. `Memory`: out of memory. The set and both lists are walked once, side by side.
     pub fn apply(&self, alloc: Global, set: &VrpSet) -> Result<VrpSet, SetFault>
         ensures ok { IfOk result (λ t. (t ≡ apply self.now set.now) × (size t ≤ 16777215)) }
         ensures too_many { IsErrOf result SetFault.TooMany → 16777215 < size (apply self.now set.now) }

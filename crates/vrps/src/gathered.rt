@@ -10,8 +10,8 @@ use std::alloc::{AllocError, Global};
 use std::collections::BTreeSet;
 use std::marker::Model;
 
-/// Records that come one by one, in any order. A record after all others is added in constant time, any other in amortized logarithmic
-/// time. Each is found in logarithmic time.
+/// A set of VRPs that grows VRP by VRP, in any order. Adding a VRP that sorts after all others needs constant time, any other amortized
+/// logarithmic time. Looking up a VRP needs logarithmic time.
 #[derive(Debug, Drop)]
 pub struct Gathered {
     records: Records,
@@ -42,7 +42,7 @@ impl Model for Gathered {
 }
 
 impl Gathered {
-    /// No record. It allocates no memory.
+    /// A set without VRPs. It allocates no memory. `alloc` provides the memory of later insertions.
     pub fn new(alloc: Global) -> Gathered
         ensures { result ≡ empty }
     {
@@ -52,7 +52,7 @@ impl Gathered {
         }
     }
 
-    /// How many records there are.
+    /// The number of different VRPs.
     pub fn len(&self) -> usize
         ensures { result ≡ size self.now }
     {
@@ -62,7 +62,7 @@ impl Gathered {
         }
     }
 
-    /// Whether the record is there.
+    /// Returns whether the set contains this VRP.
     pub fn contains(&self, vrp: &Vrp) -> bool
         ensures { result ≡ has self.now vrp.now }
     {
@@ -72,7 +72,8 @@ impl Gathered {
         }
     }
 
-    /// Adds a record, and answers whether it is new. Memory is needed for a new one alone; without it nothing is added.
+    /// Adds a VRP. `Ok(true)`: it is new. `Ok(false)`: it is already in the set, and nothing changes.
+    /// `AllocError`: the VRP is new and there is no memory for it. Then nothing is added.
     pub fn insert(&mut self, vrp: Vrp) -> Result<bool, AllocError>
         ensures ok { OnOk result (self.new ≡ with_member self.old vrp) }
         ensures added { IfOk result (λ added. added ≡ not (has self.old vrp)) }
@@ -97,8 +98,8 @@ impl Gathered {
         }
     }
 
-    /// The set of the records. It is `TooMany` if they are more than a set may have, and `Memory` if memory for it runs out. If the records
-    /// came in ascending order, no memory is allocated; otherwise the time is linear in their number.
+    /// Makes a `VrpSet` of the VRPs. `TooMany`: there are over 16,777,215. `Memory`: out of memory.
+    /// If the VRPs came in ascending order, no memory is allocated. Otherwise the time is linear in their number.
     pub fn into_set(self, alloc: Global) -> Result<VrpSet, SetFault>
         ensures ok { IfOk result (λ s. s ≡ self) }
         ensures too_many { IsErrOf result SetFault.TooMany → 16777215 < size self }

@@ -4,59 +4,60 @@ ghost use Rattle.vrps.specs.Origin.{CoveringMembers, OneState, StateByCovering, 
 ghost use Rattle.vrps.specs.Store.{IsBeforeNewer, KeptIsItself, NamesItself, PublishedIsInstance, SameExactly};
 ghost use Rattle.vrps.specs.VrpSet.{ListedAgain, SameMembers};
 
-/// A set that is listed and read again is the same set.
+/// Law: a set made of the listing of a set is that same set.
 pub fn listed_again()
     ensures { ListedAgain }
 {}
 
-/// Two sets with the same members are one.
+/// Law: two sets with the same members are equal.
 pub fn same_members()
     ensures { SameMembers }
 {}
 
-/// The change between two sets, applied to the first, gives the second (RFC 8210 section 8.2).
+/// Law: the change between two sets, applied to the first, gives the second (RFC 8210 section 8.2).
 pub fn change_leads()
     ensures { ChangeLeads }
 {}
 
-/// Two changes in a row, merged, are the change between the ends.
+/// Law: the change from `s` to `t`, merged with the change from `t` to `u`, is the change from `s` to `u`.
 pub fn changes_merge()
     ensures { ChangesMerge }
 {}
 
-/// A route is Valid if some member matches it, Invalid if some member covers it and none matches, and NotFound if none covers it
-/// (RFC 6811 section 2).
+/// Law: a route is Valid if some VRP of the set matches it, Invalid if some VRP covers it and none matches, and NotFound if none covers it (RFC
+/// 6811 section 2).
 pub fn state_by_members()
     ensures { StateByMembers }
 {}
 
-/// A route has one state.
+/// Law: a route has exactly one state for a set: Valid, Invalid or NotFound.
 pub fn one_state()
     ensures { OneState }
 {}
 
-/// The members that cover a route are listed in ascending order, and nothing else.
+/// Law: `covering` lists exactly the VRPs of the set that cover the route, in strictly ascending order.
 pub fn covering_members()
     ensures { CoveringMembers }
 {}
 
-/// A route is Valid if and only if one of the members that cover it matches, and NotFound if and only if there are none.
+/// Law: a route is Valid if and only if one of the VRPs that cover it matches it. It is NotFound if and only if no VRP covers it.
 pub fn state_by_covering()
     ensures { StateByCovering }
 {}
 
-/// Two sets list the same members if and only if they are one.
+/// Law: `is_same` is true if and only if the two sets are equal.
 pub fn same_exactly()
     ensures { SameExactly }
 {}
 
-/// An instance stays one when a set is published.
+/// Law: publishing a set keeps the invariants of an instance. Session and first serial keep their range, all sets are valid, and no set equals
+/// the one published before it.
 pub fn published_is_instance()
     ensures { PublishedIsInstance }
 {}
 
-/// The serial of a version names it while fewer than 2^31 versions are newer. What is kept under the serial is that version or nothing, and
-/// the serial is before those of newer versions (RFC 1982 section 3.2; RFC 8210 section 2).
+/// Law: a serial names its version while fewer than 2^31 versions are newer (RFC 1982 section 3.2; RFC 8210 section 2). Among all versions, it
+/// finds this version. Among the kept versions, it finds this version or nothing. It is before the serials of the newer versions.
 pub fn serials_name_versions()
     ensures names { NamesItself }
     ensures kept { KeptIsItself }

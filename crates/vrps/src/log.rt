@@ -14,9 +14,9 @@ use std::alloc::{AllocError, Global};
 use std::marker::Model;
 use std::rc::Rc;
 
-/// The versions of one session: the current set, and the steps to it from the versions that are kept. A publication walks both sets once,
-/// and allocates memory for its step before it changes anything. What changed since a version is merged from the steps when it is asked
-/// for, so the memory is that of one set and of the changes.
+/// The versions of one session: the current set, and the changes that lead to it from the kept versions.
+/// `publish` walks both sets once, and allocates memory for the new change before it modifies the log. `since` merges the changes on request. So
+/// the log needs the memory of one set and of the changes.
 #[derive(Debug, Drop)]
 pub struct VersionLog {
     alloc: Global,
@@ -42,8 +42,9 @@ impl Model for VersionLog {
 }
 
 impl VersionLog {
-    /// A log of a session without versions, whose first one has the serial `start`, and which keeps `keep` versions before the
-    /// current one, from 1 to 65,536. Room for as many steps is allocated here.
+    /// A log without versions. `session` is the session ID, `start` the serial of the first version.
+    /// `keep` is how many versions before the current one are kept, from 1 to 65,536. Room for `keep` changes is allocated here. `AllocError`:
+    /// no memory for them.
     pub fn new(alloc: Global, session: u16, start: u32, keep: u32) -> Result<VersionLog, AllocError>
         requires some { 1 ≤ keep }
         requires limit { keep ≤ 65536 }
@@ -59,15 +60,15 @@ impl VersionLog {
         })
     }
 
-    /// The kept step at place `i`, counted from the oldest one. Let n be the last position, and m the lesser of n and the versions that are
-    /// kept. For `i` below m it is the change from the set of position n - m + i to the next one; otherwise there is none.
+    /// The kept change at place `i`. Place 0 is the oldest, and each leads from one version to the next. `None`: there are at most `i` kept
+    /// changes.
     pub fn kept(&self, i: usize) -> Option<&Change>
         ensures { (keep : ℕ) (instance : Instance) → HoldsSteps keep instance self.now → option_map (λ step. step.now) result ≡ kept_step keep instance.sets i }
     {
         self.steps.nth_back(i)
     }
 
-    /// The step to the current version from the one before it. `None`: there is no version before it.
+    /// The change from the previous version to the current one. `None`: there is no previous version.
     pub fn newest_step(&self) -> Option<&Change>
         ensures { (keep : ℕ) (instance : Instance) → HoldsSteps keep instance self.now → option_map (λ step. step.now) result ≡ newest_step keep instance.sets }
     {

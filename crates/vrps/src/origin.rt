@@ -16,18 +16,18 @@ use std::alloc::{AllocError, Global};
 use std::fmt::{self, Display};
 use std::marker::Model;
 
-/// The state of a route (RFC 6811 section 2).
+/// The validation state of a route (RFC 6811 section 2).
 #[derive(Clone, Copy, Debug, PartialEq, Eq)]
 pub enum OriginState {
-    /// A record matches the route.
+    /// A VRP matches the route: it covers the route, the route's length is at most the maximum length, and the AS is the origin and not 0.
     Valid,
-    /// A record covers the route, and none matches it.
+    /// A VRP covers the route, and none matches it.
     Invalid,
-    /// No record covers the route.
+    /// No VRP covers the route.
     NotFound,
 }
 
-/// The word for the state: `valid`, `invalid` or `not-found`.
+/// Writes the state: `valid`, `invalid` or `not-found`.
 impl Display for OriginState {
     ghost use Rattle.vrps.specs.Origin.{state_text};
 
@@ -42,8 +42,8 @@ impl Display for OriginState {
     }
 }
 
-/// Judges routes over one set. The records of one prefix are a group. The groups that cover a route are found the longest first, by a
-/// binary search for each length that is tried.
+/// An index for origin validation against one VRP set (RFC 6811 section 2). VRPs with one prefix form a group. A lookup visits the covering
+/// groups, the longest prefix first. It does a binary search for each length that it tries.
 #[derive(Debug, Drop)]
 pub struct OriginIndex {
     groups: Groups,
@@ -65,7 +65,8 @@ impl Model for OriginIndex {
 }
 
 impl OriginIndex {
-    /// The index over a set. It has a copy of the records, and 12 bytes more for each IPv4 group and 21 for each IPv6 group.
+    /// Builds an index over a set. It copies the VRPs, and uses 12 bytes more for each IPv4 prefix and 21 for each IPv6 prefix. `AllocError`: no
+    /// memory for it.
     pub fn over(alloc: Global, set: &VrpSet) -> Result<OriginIndex, AllocError>
         ensures { IfOk result (λ index. index ≡ set.now) }
     {
@@ -74,7 +75,7 @@ impl OriginIndex {
         Ok(OriginIndex { groups })
     }
 
-    /// The index over the empty set. It allocates no memory.
+    /// An index over the empty set: every route is NotFound. It allocates no memory.
     pub fn empty(alloc: Global) -> OriginIndex
         ensures { result ≡ empty }
     {
@@ -83,15 +84,16 @@ impl OriginIndex {
         }
     }
 
-    /// The state of a route. It allocates no memory.
+    /// The validation state of a route. It allocates no memory.
     pub fn state(&self, route: &Route) -> OriginState
         ensures { result ≡ state self.now route.now }
     {
         self.state_counted(route).0
     }
 
-    /// The state of a route, and how many groups were read for it. That is at most the route's length plus 1, times the binary digits of the
-    /// number of groups. It is at least one if there is a group. Nothing is allocated.
+    /// The validation state of a route, and the number of groups that the lookup read. It allocates no memory.
+    /// The number is at most (prefix length of the route + 1) times the binary digits of the number of groups. It is at least 1 if there is a
+    /// group.
     pub fn state_counted(&self, route: &Route) -> (OriginState, u32)
         ensures state { result.0 ≡ state self.now route.now }
         ensures probes { result.1 ≤ ((block_of route.now.prefix).len + 1) * digit_count (group_count self.now) }
@@ -112,7 +114,7 @@ impl OriginIndex {
         (state, probes)
     }
 
-    /// The records that cover the route, in ascending order.
+    /// The VRPs that cover the route, in ascending order; an empty list if there are none. `AllocError`: no memory for the list.
     pub fn covering(&self, alloc: Global, route: &Route) -> Result<Vec<Vrp>, AllocError>
         ensures { IfOk result (λ records. records.items ≡ covering self.now route.now) }
     {

@@ -4,7 +4,7 @@ ghost use Rattle.vrps.specs.Path.{last_of, origin_of_path, rightmost};
 
 use thiserror::Error;
 
-/// The kind of a path segment (RFC 4271 section 4.3, RFC 5065 section 3).
+/// The type of an AS path segment (RFC 4271 section 4.3, RFC 5065 section 3).
 #[derive(Clone, Copy, Debug, PartialEq, Eq)]
 pub enum SegmentKind {
     /// AS_SEQUENCE.
@@ -17,19 +17,19 @@ pub enum SegmentKind {
     ConfedSet,
 }
 
-/// A segment of a path, with its AS numbers in their order in the path.
+/// A segment of an AS path, with its AS numbers in path order.
 #[derive(Debug, Drop)]
 pub struct Segment {
-    /// Whether it is a sequence or a set, of a confederation or not.
+    /// The type of the segment.
     pub kind: SegmentKind,
-    /// Its AS numbers, 32 bits each.
+    /// The AS numbers (32 bits each), in path order.
     pub numbers: Vec<u32>,
 }
 
-/// Why a path has no origin. The number is fixed.
+/// Why an AS path has no origin. The number of the fault is fixed.
 #[derive(Clone, Copy, Debug, PartialEq, Eq, Error)]
 pub enum PathFault {
-    /// The final segment is a sequence without a number.
+    /// The final segment is an AS_SEQUENCE without an AS number.
     #[error("the final segment of the path is an AS_SEQUENCE without an AS number (fault 1)")]
     EmptySequence = 1,
 }
@@ -37,7 +37,7 @@ pub enum PathFault {
 impl PathFault {
     ghost use Rattle.vrps.specs.SetFaults.{path_fault_number};
 
-    /// The number by which the fault is printed.
+    /// The number of the fault, as `Display` writes it: 1.
     pub fn number(self) -> u8
         ensures { result ≡ path_fault_number self }
     {
@@ -45,9 +45,9 @@ impl PathFault {
     }
 }
 
-/// The origin of a path that a speaker of the AS `own` received (RFC 6811 section 2). The final segment decides, and no other is
-/// looked at: the last number of a sequence, `own` for a segment of a confederation, and the origin NONE for a set. A path without
-/// a segment is `own`'s. It is `EmptySequence` if the final segment is a sequence without a number. Nothing is allocated.
+/// The origin of an AS path that a speaker of the AS `own` received (RFC 6811 section 2). Only the final segment counts. It allocates no memory.
+/// `Ok(Some(asn))`: the last number if it is an AS_SEQUENCE. It is `own` if it is a confederation segment, or if there is no segment.
+/// `Ok(None)`: the origin is NONE, as the final segment is an AS_SET. `EmptySequence`: it is an AS_SEQUENCE without a number.
 pub fn origin_of_path(segments: &[Segment], own: u32) -> Result<Option<u32>, PathFault>
     ensures { result ≡ origin_of_path segments.now own }
 {

@@ -5,12 +5,12 @@ ghost use Rattle.vrps.specs.Serial.{is_before};
 
 use std::fmt::{self, Display};
 
-/// The serial number of a version; it wraps from 2^32 - 1 to 0 (RFC 8210 section 2).
+/// The serial number of a version. It wraps from 2^32 - 1 to 0 (RFC 8210 section 2).
 #[derive(Clone, Copy, Debug, PartialEq, Eq)]
 pub struct Serial(pub u32);
 
 impl Serial {
-    /// Whether `other` is 1 to 2^31 - 1 versions ahead (RFC 1982 section 3.2).
+    /// Returns whether `other` is newer: 1 to 2^31 - 1 ahead of this serial, modulo 2^32 (RFC 1982 section 3.2).
     pub fn is_before(self, other: Serial) -> bool
         ensures { result ≡ is_before self.0 other.0 }
     {
@@ -19,7 +19,7 @@ impl Serial {
     }
 }
 
-/// The number in decimal.
+/// Writes the number in decimal.
 impl Display for Serial {
     ghost output = { λ s. Some (decimal s.0) };
 

@@ -14,10 +14,10 @@ use std::marker::Model;
 use std::slice::Iter;
 use thiserror::Error;
 
-/// Why there is no set. The numbers are fixed.
+/// Why no set is made. The numbers of the faults are fixed.
 #[derive(Clone, Copy, Debug, PartialEq, Eq, Error)]
 pub enum SetFault {
-    /// Over 16,777,215 different records.
+    /// There are over 16,777,215 different VRPs.
     #[error("more than 16777215 different records (fault 1)")]
     TooMany = 1,
     /// Out of memory.
@@ -28,7 +28,7 @@ pub enum SetFault {
 impl SetFault {
     ghost use Rattle.vrps.specs.SetFaults.{set_fault_number};
 
-    /// The number by which the fault is printed.
+    /// The number of the fault, as `Display` writes it: 1 or 2.
     pub fn number(self) -> u8
         ensures { result ≡ set_fault_number self }
     {
@@ -46,7 +46,7 @@ impl From<AllocError> for SetFault {
     }
 }
 
-/// A set of validated ROA payloads, at most 16,777,215 of them.
+/// A set of at most 16,777,215 validated ROA payloads (VRPs). It lists them in ascending order.
 #[derive(Debug, Drop)]
 pub struct VrpSet {
     items: Vec<Vrp>,
@@ -68,10 +68,10 @@ impl Model for VrpSet {
 }
 
 impl VrpSet {
-    /// The most records that a set may have.
+    /// The maximum number of VRPs in a set.
     pub const LIMIT: usize = 16_777_215;
 
-    /// The set without a member. It allocates no memory.
+    /// A set without VRPs. It allocates no memory.
     pub fn empty(alloc: Global) -> VrpSet
         ensures { result ≡ empty }
     {
@@ -80,7 +80,8 @@ impl VrpSet {
         }
     }
 
-    /// The set of a list, in which doubles count once. `TooMany` is its only error: the list itself is sorted.
+    /// Makes a set of a list in any order. Duplicates count once. The list is sorted in place, and no memory is allocated.
+    /// `TooMany`: there are over 16,777,215 different VRPs. It is the only error.
     pub fn from_list(list: Vec<Vrp>) -> Result<VrpSet, SetFault>
         ensures ok { IfOk result (λ s. s ≡ set_of list.items) }
         ensures too_many { result ≡ Err SetFault.TooMany ↔ (16777215 < size (set_of list.items)) }
@@ -102,7 +103,7 @@ impl VrpSet {
         VrpSet { items }
     }
 
-    /// The members in ascending order, as a list. It allocates no memory.
+    /// The VRPs in ascending order, as a list. It allocates no memory.
     pub fn into_list(self) -> Vec<Vrp>
         ensures { result.items ≡ listing self }
     {
@@ -110,7 +111,7 @@ impl VrpSet {
         items
     }
 
-    /// How many members there are.
+    /// The number of VRPs.
     pub fn len(&self) -> usize
         ensures value { result ≡ size self.now }
         ensures set { IsVrpSet self.now }
@@ -118,14 +119,14 @@ impl VrpSet {
         self.items.len()
     }
 
-    /// Whether there is no member.
+    /// Returns whether the set has no VRP.
     pub fn is_empty(&self) -> bool
         ensures { IsTrue result ↔ (size self.now ≡ 0) }
     {
         self.len() == 0
     }
 
-    /// The members in ascending order.
+    /// The VRPs in ascending order.
     pub fn as_slice(&self) -> &[Vrp]
         ensures value { result.now ≡ listing self.now }
         ensures ascends { IsStrictlySortedBy vrp_cmp result.now }
@@ -134,14 +135,14 @@ impl VrpSet {
         &self.items
     }
 
-    /// Whether the record is a member. The time is logarithmic in the number of members.
+    /// Returns whether the set contains this VRP. The time is logarithmic in the number of VRPs.
     pub fn contains(&self, vrp: &Vrp) -> bool
         ensures { result ≡ has self.now vrp.now }
     {
         is_listed(&self.items, vrp)
     }
 
-    /// Yields the members in ascending order.
+    /// An iterator over the VRPs in ascending order.
     pub fn iter(&self) -> Iter<'_, Vrp>
         ensures rest { iter_rest result ≡ listing self.now }
         ensures runs { IterYieldsInOrder Vrp }
@@ -149,14 +150,14 @@ impl VrpSet {
         self.as_slice().iter()
     }
 
-    /// Whether both sets have the same members. It allocates no memory.
+    /// Returns whether both sets have the same VRPs. It allocates no memory.
     pub fn is_same(&self, other: &VrpSet) -> bool
         ensures { result ≡ is_same self.now other.now }
     {
         self.items == other.items
     }
 
-    /// The same set in memory of its own.
+    /// Copies the set into new memory. `AllocError`: no memory for the copy.
     pub fn duplicate(&self) -> Result<VrpSet, AllocError>
         ensures { IfOk result (λ s. s ≡ self.now) }
     {
@@ -165,7 +166,7 @@ impl VrpSet {
     }
 }
 
-/// Yields the members in ascending order, as `iter` does.
+/// Yields the VRPs in ascending order, as `iter` does.
 impl<'a> IntoIterator for &'a VrpSet {
     type Item = &'a Vrp;
 
@@ -180,7 +181,7 @@ impl<'a> IntoIterator for &'a VrpSet {
     }
 }
 
-/// The set of a list, as `from_list` makes it.
+/// Makes a set of a list, as `VrpSet::from_list` does.
 impl TryFrom<Vec<Vrp>> for VrpSet {
     type Error = SetFault;
 

@@ -8,46 +8,47 @@ use crate::{Change, Serial, VrpSet};
 use std::alloc::AllocError;
 use std::rc::Rc;
 
-/// What became of a set that is published.
+/// The result of publishing a set.
 #[derive(Clone, Copy, Debug, PartialEq, Eq)]
 pub enum Published {
-    /// It is a new version, of this serial.
+    /// The set is a new version with this serial.
     New(Serial),
-    /// It equals the current version, and nothing is added.
+    /// The set equals the current version. Nothing is added, and the serial stays.
     Unchanged,
 }
 
-/// What is known since a version that is asked for by its serial (RFC 8210 sections 8.2 to 8.4).
+/// What a store knows of the time since a version with a given serial (RFC 8210 sections 8.2 to 8.4).
 #[derive(Debug, Drop)]
 pub enum Since {
-    /// The change from it to the current version.
+    /// The change from that version to the current one. It is empty if that version is the current one.
     Change(Change),
-    /// It is not kept.
+    /// No kept version has that serial. A cache answers with a Cache Reset.
     Unknown,
-    /// Nothing is published.
+    /// Nothing is published yet. A cache answers with an Error Report "No Data Available".
     NoData,
 }
 
-/// The versions that a cache publishes under one session (RFC 8210 sections 2 and 5.1). Kept are the
-/// current one and some before it.
+/// The versions that a cache publishes in one session (RFC 8210 sections 2 and 5.1). A store keeps the current version and some versions before
+/// it.
 pub trait VersionStore {
     /// This is the store after the sets of this instance were published; this many versions before
     /// the current one are kept.
     ghost holds: { ℕ → Instance → Self → Type 0 };
 
-    /// The number of the session.
+    /// The session ID.
     fn session(&self) -> u16
         ensures { (keep : ℕ) (i : Instance) → holds keep i self.now → result ≡ i.session };
 
-    /// Publishes a set. Without memory nothing is published.
+    /// Publishes a set as the current version. `New`: it has a new serial. `Unchanged`: it equals the current version.
+    /// `AllocError`: no memory. Then nothing is published.
     fn publish(&mut self, set: Rc<VrpSet>) -> Result<Published, AllocError>
         ensures { (keep : ℕ) (i : Instance) → holds keep i self.old → Publishes (holds keep) result set.value i self.new };
 
-    /// The current version: its serial and its set.
+    /// The serial and the set of the current version. `None`: nothing is published yet.
     fn current(&self) -> Option<(Serial, &Rc<VrpSet>)>
         ensures { (keep : ℕ) (i : Instance) → holds keep i self.now → option_map (λ found. record { serial = found.0.0; set = found.1.now.value }) result ≡ newest (versions i) };
 
-    /// What is known since the version of this serial.
+    /// Returns the change from the version with this serial to the current one, or why there is none. `AllocError`: no memory for the change.
     fn since(&self, serial: Serial) -> Result<Since, AllocError>
         ensures { (keep : ℕ) (i : Instance) → holds keep i self.now → IfOk result (λ found. told_since found ≡ since keep serial.0 (versions i)) };
 }

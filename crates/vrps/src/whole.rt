@@ -9,8 +9,8 @@ use std::alloc::{AllocError, Global};
 use std::collections::VecDeque;
 use std::rc::Rc;
 
-/// The versions of one session, each kept as a whole set: the current one and some before it. Room for
-/// them is allocated when the log is made, so a publication allocates nothing.
+/// The versions of one session, each kept as a whole set: the current one and some before it. Room for them is allocated by `new`, so `publish`
+/// allocates nothing.
 #[derive(Debug, Drop)]
 pub struct WholeLog {
     alloc: Global,
@@ -24,8 +24,8 @@ pub struct WholeLog {
 impl WholeLog {
     ghost use Rattle.vrps.specs.WholeLogs.{HasRoom, IsLogOf, sets_of};
 
-    /// A log of a session without versions, whose first one has the serial `start`, and which keeps `keep` versions before the
-    /// current one, from 1 to 65,536.
+    /// A log without versions. `session` is the session ID, `start` the serial of the first version.
+    /// `keep` is how many versions before the current one are kept, from 1 to 65,536. `AllocError`: no memory for them.
     pub fn new(alloc: Global, session: u16, start: u32, keep: u32) -> Result<WholeLog, AllocError>
         requires some { 1 ≤ keep }
         requires limit { keep ≤ 65536 }
