@@ -1,5 +1,5 @@
 #!/usr/bin/env python3
-"""Measures a router of another cache over the library `upstreams`, as the example `router_over_tcp` is one.
+"""Measures a router of another cache over the library `upstreams`, as the example `example_router_tcp` is one.
 
 usage: bench/upstreams.py ROUTER_OVER_TCP [--records N] [--runs N]
 

@@ -1,8 +1,8 @@
 /* rpkirtr.h: both ends of the RPKI-to-Router protocol (RFC 6810, RFC 8210), origin validation (RFC 6811), and the payloads of ROAs (RFC 9582) and
  * manifests (RFC 9286).
  *
- * The library does no input or output: the caller owns sockets and clocks. It hands over the bytes that it received, and writes the bytes
- * that it pulls. Moments are seconds of one clock that the caller chooses. They never go back, and are below RPKIRTR_NEVER.
+ * The library does no input or output: the caller owns sockets and clocks. It passes the bytes that it received to the library, and sends the
+ * bytes that it pulls. A time is in seconds of one clock that the caller chooses. Times never go back, and are below RPKIRTR_NEVER.
  *
  * What the caller must keep, which no proof covers:
  * - A handle begins as RPKIRTR_EMPTY_INIT and is changed by these functions alone. It is never copied: only its address is passed.
@@ -12,8 +12,8 @@
  *   pointer may be NULL if its length is 0. An output overlaps neither another argument nor the records of a list.
  * - malloc, realloc and free are of one allocator, and align as C wants.
  *
- * Each call but rpkirtr_abi_version answers a status, and writes each number or structure that it tells, whatever it answers. A room keeps
- * what is not copied into it. A structure with a wrong `size_` is not written.
+ * Each call except rpkirtr_abi_version returns a status, and writes all its outputs whatever it returns. The elements of a buffer after those
+ * copied are left unchanged. A structure with a wrong `size_` is not written.
  */
 #ifndef RPKIRTR_H
 #define RPKIRTR_H
@@ -25,7 +25,7 @@
 extern "C" {
 #endif
 
-/* What a call answers. The numbers are fixed. */
+/* The status that a call returns. The numbers are fixed. */
 typedef int32_t rpkirtr_status;
 #define RPKIRTR_OK 0           /* the call did what it says */
 #define RPKIRTR_EMPTY 1        /* the handle is empty: it was never made, or was freed */
@@ -37,8 +37,8 @@ typedef int32_t rpkirtr_status;
 #define RPKIRTR_RANGE 7        /* an index at or past the end, or more than 16777215 different records, or too many connections */
 #define RPKIRTR_NOT_LINKED 8   /* there is no connection, or it has ended */
 #define RPKIRTR_BUSY 9         /* a query is outstanding */
-#define RPKIRTR_BAD_PAYLOAD 10 /* a malformed payload: the fault says why */
-#define RPKIRTR_BAD_TIMING 11  /* intervals that are not valid: a number says why */
+#define RPKIRTR_BAD_PAYLOAD 10 /* a malformed payload: `fault` says why */
+#define RPKIRTR_BAD_TIMING 11  /* intervals that are not valid: `fault` says why */
 #define RPKIRTR_NO_CONNECTION 12 /* no connection of the cache has this number */
 #define RPKIRTR_NO_DATA 13     /* nothing is published */
 #define RPKIRTR_BAD_KEEP 14    /* 0, or more than 65536, versions to be kept */
@@ -48,7 +48,7 @@ typedef int32_t rpkirtr_status;
 #define RPKIRTR_TIMING_RANGE 1  /* an interval is out of its range */
 #define RPKIRTR_TIMING_EXPIRE 2 /* the expire interval is not larger than both others */
 
-/* A text that ends with a zero byte. The rest of its room is zero. */
+/* A text that ends with a zero byte. The rest of the array is zero. */
 typedef struct rpkirtr_text {
     char text[64];
 } rpkirtr_text;
@@ -92,12 +92,12 @@ typedef struct rpkirtr_link {
 #define RPKIRTR_ASKED 2      /* a query is outstanding */
 #define RPKIRTR_ANSWERING 3  /* an answer has begun */
 #define RPKIRTR_ENDED 4      /* it has ended, and the connection has yet to be closed */
-#define RPKIRTR_END_REPORTED 1   /* an Error Report of this code was sent */
-#define RPKIRTR_END_TOLD 2       /* an Error Report of this code was received */
-#define RPKIRTR_END_MALFORMED 3  /* a malformed Error Report was received */
-#define RPKIRTR_END_MEMORY 4     /* out of memory */
-#define RPKIRTR_END_EXPIRED 5    /* the committed version expired */
-#define RPKIRTR_END_TOO_MANY 6   /* an answer with more records than the router may hold */
+#define RPKIRTR_END_REPORT_SENT 1       /* an Error Report of this code was sent */
+#define RPKIRTR_END_REPORT_RECEIVED 2   /* an Error Report of this code was received */
+#define RPKIRTR_END_MALFORMED 3         /* a malformed Error Report was received */
+#define RPKIRTR_END_MEMORY 4            /* out of memory */
+#define RPKIRTR_END_EXPIRED 5           /* the committed version expired */
+#define RPKIRTR_END_TOO_MANY 6          /* an answer with more records than the router may hold */
 
 /* What a caller configures of a router: intervals of its own, in seconds, whether it keeps each of them, and the most records that it may
  * hold. An interval that is kept holds whatever the cache says. Any other holds if the cache says none: in version 0 of the protocol, and
@@ -129,8 +129,8 @@ typedef struct rpkirtr_carried {
     uint8_t zero_[5];
 } rpkirtr_carried;
 
-/* What the latest connection of a router carried: the bytes that were received and taken, and those that were pulled. `size_` is the size of
- * the structure: the caller sets it before the call. */
+/* What the latest connection of a router carried: the received bytes that the router consumed, and the bytes that were pulled. `size_` is the
+ * size of the structure: the caller sets it before the call. */
 typedef struct rpkirtr_traffic {
     uint32_t size_;
     uint32_t zero_;
@@ -152,7 +152,7 @@ typedef struct rpkirtr_committed {
     uint8_t is_committed;
 } rpkirtr_committed;
 
-/* The moment of what never happens */
+/* The time of what never happens */
 #define RPKIRTR_NEVER UINT64_MAX
 
 /* A list of records. The pointer may be NULL if the length is 0. */
@@ -203,22 +203,22 @@ typedef struct rpkirtr_cache { void *opaque_; } rpkirtr_cache;
 
 /* ---- texts and versions */
 
-/* Tells what a status means in English. Any number may be asked for. OK */
+/* Gets the meaning of a status, in English. Any number is allowed. OK */
 rpkirtr_status rpkirtr_strerror(rpkirtr_status status, rpkirtr_text *text);
 
-/* Tells the name of the state of a route: "not-found", "valid" or "invalid". Any number may be asked for. OK */
+/* Gets the name of the state of a route: "not-found", "valid" or "invalid". Any number is allowed. OK */
 rpkirtr_status rpkirtr_state_name(rpkirtr_state state, rpkirtr_text *text);
 
-/* Tells the name of the state of a link: "closed", "idle", "asked", "answering" or "ended". Any number may be asked for. OK */
+/* Gets the name of the state of a link: "closed", "idle", "asked", "answering" or "ended". Any number is allowed. OK */
 rpkirtr_status rpkirtr_link_name(uint8_t link, rpkirtr_text *text);
 
-/* Tells in English how a link ended, without the code of the Error Report. Any number may be asked for. OK */
+/* Gets how a link ended, in English, without the code of the Error Report. Any number is allowed. OK */
 rpkirtr_status rpkirtr_end_name(uint8_t end, rpkirtr_text *text);
 
-/* Tells in English what is at fault in a payload, by the number of the fault. Any number may be asked for. OK */
+/* Gets the meaning of a fault of a payload, in English, by its number. Any number is allowed. OK */
 rpkirtr_status rpkirtr_fault_name(uint32_t fault, rpkirtr_text *text);
 
-/* Tells the version of the release: "1.1.0". OK */
+/* Gets the version of the release: "1.1.0". OK */
 rpkirtr_status rpkirtr_version(rpkirtr_text *text);
 
 /* The version of this header. It changes if a program that was compiled with an older header no longer works. */
@@ -239,20 +239,21 @@ rpkirtr_status rpkirtr_router_free(rpkirtr_router *h);
 rpkirtr_status rpkirtr_router_speak(rpkirtr_router *h, uint8_t version);
 
 /* Configures the router, from now on: what is committed keeps its intervals. If the intervals are not valid, `fault` is RPKIRTR_TIMING_RANGE or
- * RPKIRTR_TIMING_EXPIRE, and 0 else. OK, EMPTY, BAD_STRUCTURE, BAD_TIMING */
+ * RPKIRTR_TIMING_EXPIRE, otherwise 0. OK, EMPTY, BAD_STRUCTURE, BAD_TIMING */
 rpkirtr_status rpkirtr_router_configure(rpkirtr_router *h, const rpkirtr_config *config, uint32_t *fault);
 
-/* Tells the configuration that was set last: that of RPKIRTR_CONFIG_INIT if none was set. OK, EMPTY */
+/* Gets the configuration that was set last, or RPKIRTR_CONFIG_INIT if none was set. OK, EMPTY */
 rpkirtr_status rpkirtr_router_config(rpkirtr_router *h, rpkirtr_config *config);
 
 /* A connection is made, and a query is ready to be pulled. An older connection is closed. OK, EMPTY */
 rpkirtr_status rpkirtr_router_connect(rpkirtr_router *h, uint64_t now);
 
-/* Hands over bytes that were received, and tells how many were taken: none while bytes are to be pulled, or if no link is open. Bytes are
- * taken up to the first PDU that gives bytes to send or ends the link. The rest is handed over again after a pull. OK, EMPTY */
+/* Passes received bytes to the router, and writes how many it consumed to `taken`. It consumes none while there are bytes to pull, or if no
+ * link is open. It consumes bytes up to the first PDU that gives bytes to send or ends the link. Pass the rest again after a pull.
+ * OK, EMPTY */
 rpkirtr_status rpkirtr_router_receive(rpkirtr_router *h, const uint8_t *bytes, size_t bytes_len, uint64_t now, size_t *taken);
 
-/* Moves bytes to be sent into the room, as many as fit, and tells how many. OK, EMPTY */
+/* Moves bytes to send into the buffer `room`, as many as fit, and writes their number to `pulled`. OK, EMPTY */
 rpkirtr_status rpkirtr_router_pull(rpkirtr_router *h, uint8_t *room, size_t room_len, size_t *pulled);
 
 /* The transport closed the connection. OK, EMPTY */
@@ -265,123 +266,125 @@ rpkirtr_status rpkirtr_router_tick(rpkirtr_router *h, uint64_t now);
 /* Makes a query ready to be pulled, on an idle link. OK, EMPTY, BUSY, NOT_LINKED */
 rpkirtr_status rpkirtr_router_ask(rpkirtr_router *h);
 
-/* Tells when the next query of an idle link is due, or when a closed connection should be made again (RFC 8210 section 6). While a query is
- * outstanding, the moment may have passed. It is RPKIRTR_NEVER at first. OK, EMPTY */
+/* Gets the time of the next query on an idle link, or of the next connection attempt on a closed one (RFC 8210 section 6). While a query is
+ * outstanding, it may be in the past. It is RPKIRTR_NEVER at first. OK, EMPTY */
 rpkirtr_status rpkirtr_router_next_query_at(rpkirtr_router *h, uint64_t *at);
 
-/* Tells the moment from which on a tick has something to do: the next query of an idle link is due, or the committed records expire. An event
- * loop calls rpkirtr_router_tick with its own moment then, at once if this one has passed, and asks again after each call on the router.
- * Before it, a tick only advances the clock. RPKIRTR_NEVER if there is no such moment. When a closed connection should be made again is not
- * among these: see rpkirtr_router_next_query_at. OK, EMPTY */
+/* Gets the earliest time at which a tick has an effect: the next query on an idle link is due, or the committed records expire. Before that, a
+ * tick only advances the clock. RPKIRTR_NEVER if there is no such time. An event loop calls rpkirtr_router_tick then, with its current time,
+ * and at once if the time has passed. It calls this function again after each call on the router. The next connection attempt does not count:
+ * see rpkirtr_router_next_query_at. OK, EMPTY */
 rpkirtr_status rpkirtr_router_wake_at(rpkirtr_router *h, uint64_t *at);
 
-/* Tells the link. OK, EMPTY */
+/* Gets the link. OK, EMPTY */
 rpkirtr_status rpkirtr_router_link(rpkirtr_router *h, rpkirtr_link *link);
 
-/* Tells the committed version. OK, EMPTY */
+/* Gets the committed version. OK, EMPTY */
 rpkirtr_status rpkirtr_router_committed(rpkirtr_router *h, rpkirtr_committed *committed);
 
-/* Tells what the latest connection carried: all is 0 before the first one. A new connection begins at 0, and nothing changes when it is closed.
+/* Gets what the latest connection carried: all is 0 before the first one. A new connection begins at 0. When it is closed, nothing changes.
  * If `size_` is not the size of the structure, nothing is written. OK, EMPTY, BAD_STRUCTURE */
 rpkirtr_status rpkirtr_router_traffic(rpkirtr_router *h, rpkirtr_traffic *traffic);
 
-/* Tells how many records are committed. OK, EMPTY */
+/* Gets the number of committed records. OK, EMPTY */
 rpkirtr_status rpkirtr_router_count(rpkirtr_router *h, size_t *count);
 
-/* Tells the state of a route over the committed records. Records whose end has passed count until the next call with a moment.
+/* Gets the state of a route over the committed records. Records that have expired count until the next call with a time.
  * OK, EMPTY, BAD_ROUTE */
 rpkirtr_status rpkirtr_router_state(rpkirtr_router *h, const rpkirtr_route *route, rpkirtr_state *state);
 
-/* Tells the record at an index of the committed records, in ascending order: family, address, length, maximum, AS. OK, EMPTY, RANGE */
+/* Gets the record at an index of the committed records, in ascending order: family, address, length, maximum, AS. OK, EMPTY, RANGE */
 rpkirtr_status rpkirtr_router_record(rpkirtr_router *h, size_t index, rpkirtr_record *out);
 
-/* Copies committed records in that order, from an index on, as many as fit, and tells how many. OK, EMPTY */
+/* Copies committed records in that order from index `first`, as many as fit, and writes their number to `copied`. OK, EMPTY */
 rpkirtr_status rpkirtr_router_records(rpkirtr_router *h, size_t first, rpkirtr_record *room, size_t room_len, size_t *copied);
 
-/* Copies the committed records that cover a route, as many as fit, and tells how many there are. OK, EMPTY, BAD_ROUTE, NO_MEMORY */
+/* Copies the committed records that cover a route, as many as fit, and writes how many there are to `count`. OK, EMPTY, BAD_ROUTE, NO_MEMORY */
 rpkirtr_status rpkirtr_router_covering(rpkirtr_router *h, const rpkirtr_route *route, rpkirtr_record *room, size_t room_len, size_t *count);
 
-/* Makes an index over the committed records in an empty handle of an index. It stays as it is if the router changes or is freed, and if the
+/* Makes an index over the committed records in an empty handle of an index. It does not change if the router changes or is freed, nor if the
  * records expire: free it then. OK, EMPTY if there is no router, LIVE if there is an index, NO_MEMORY */
 rpkirtr_status rpkirtr_router_index(rpkirtr_router *h, rpkirtr_index *index);
 
-/* ---- what changed since it was last taken */
+/* ---- changes of the committed records */
 
-/* Compares the committed records with those that were taken last (none at first), and tells how many were withdrawn and announced. That
- * change is told until another begins or this one is taken. OK, EMPTY, NO_MEMORY */
+/* Compares the committed records with those of the last acknowledged change (none at first), and writes how many were withdrawn and announced.
+ * The change stays available until another begins or it is acknowledged. OK, EMPTY, NO_MEMORY */
 rpkirtr_status rpkirtr_router_changes_begin(rpkirtr_router *h, size_t *withdraws, size_t *announces);
 
-/* Copies the withdrawn records of the change in ascending order, from an index on, as many as fit, and tells how many. OK, EMPTY */
+/* Copies the withdrawn records of the change in ascending order from index `first`, as many as fit, and writes their number to `copied`.
+ * OK, EMPTY */
 rpkirtr_status rpkirtr_router_withdrawn(rpkirtr_router *h, size_t first, rpkirtr_record *room, size_t room_len, size_t *copied);
 
 /* Copies the announced records of the change, in the same way. OK, EMPTY */
 rpkirtr_status rpkirtr_router_announced(rpkirtr_router *h, size_t first, rpkirtr_record *room, size_t room_len, size_t *copied);
 
-/* Takes the change: the next one begins at the records that it led to. If none has begun, nothing changes. OK, EMPTY */
+/* Acknowledges the change: the next one begins at the records that it led to. If none has begun, nothing changes. OK, EMPTY */
 rpkirtr_status rpkirtr_router_changes_taken(rpkirtr_router *h);
 
 /* ---- an index over records */
 
-/* Makes an index over records in an empty handle; what is listed twice counts once. If a record is malformed, the index of the first
- * such is told. OK, LIVE, NO_MEMORY, BAD_RECORD, RANGE */
+/* Makes an index over records in an empty handle. A record that is listed twice counts once. If a record is malformed, `bad` is the index of
+ * the first one. OK, LIVE, NO_MEMORY, BAD_RECORD, RANGE */
 rpkirtr_status rpkirtr_index_new(rpkirtr_index *h, const rpkirtr_record *records, size_t records_len, size_t *bad);
 
-/* Makes an index over the records of several lists in an empty handle; what is listed twice counts once. If a record is malformed, the list
- * of the first such is told, and its index there. OK, LIVE, NO_MEMORY, BAD_RECORD, RANGE */
+/* Makes an index over the records of several lists in an empty handle. A record that is listed twice counts once. If a record is malformed,
+ * `list` is the list of the first one, and `bad` its index there. OK, LIVE, NO_MEMORY, BAD_RECORD, RANGE */
 rpkirtr_status rpkirtr_index_new_of(rpkirtr_index *h, const rpkirtr_list *lists, size_t lists_len, size_t *list, size_t *bad);
 
 /* Frees the index, and empties the handle. OK, EMPTY */
 rpkirtr_status rpkirtr_index_free(rpkirtr_index *h);
 
-/* Tells how many different records the index is over. OK, EMPTY */
+/* Gets the number of different records in the index. OK, EMPTY */
 rpkirtr_status rpkirtr_index_count(rpkirtr_index *h, size_t *count);
 
-/* Tells the state of a route. OK, EMPTY, BAD_ROUTE */
+/* Gets the state of a route. OK, EMPTY, BAD_ROUTE */
 rpkirtr_status rpkirtr_index_state(rpkirtr_index *h, const rpkirtr_route *route, rpkirtr_state *state);
 
-/* Copies the records that cover a route in ascending order, as many as fit, and tells how many there are. OK, EMPTY, BAD_ROUTE, NO_MEMORY */
+/* Copies the records that cover a route in ascending order, as many as fit, and writes how many there are to `count`.
+ * OK, EMPTY, BAD_ROUTE, NO_MEMORY */
 rpkirtr_status rpkirtr_index_covering(rpkirtr_index *h, const rpkirtr_route *route, rpkirtr_record *room, size_t room_len, size_t *count);
 
 /* ---- payloads of ROAs */
 
-/* Decodes the payload of a ROA in an empty handle (RFC 9582 section 4). Whether the object around it is valid is for the caller to judge. If
- * it is malformed, the first fault is told. Faults 12, 19 and 20 are stricter than RFC 9582. OK, LIVE, NO_MEMORY, BAD_PAYLOAD */
+/* Decodes the payload of a ROA into an empty handle (RFC 9582 section 4). The caller checks that the signed object around it is valid. If the
+ * payload is malformed, `fault` is the first fault. Faults 12, 19 and 20 are stricter than RFC 9582. OK, LIVE, NO_MEMORY, BAD_PAYLOAD */
 rpkirtr_status rpkirtr_roa_new(rpkirtr_roa *h, const uint8_t *bytes, size_t bytes_len, rpkirtr_fault *fault);
 
 /* Frees the ROA, and empties the handle. OK, EMPTY */
 rpkirtr_status rpkirtr_roa_free(rpkirtr_roa *h);
 
-/* Tells the AS that may originate the prefixes. OK, EMPTY */
+/* Gets the AS that may originate the prefixes. OK, EMPTY */
 rpkirtr_status rpkirtr_roa_asn(rpkirtr_roa *h, uint32_t *asn);
 
-/* Tells how many prefixes the ROA lists. OK, EMPTY */
+/* Gets the number of prefixes that the ROA lists. OK, EMPTY */
 rpkirtr_status rpkirtr_roa_count(rpkirtr_roa *h, size_t *count);
 
-/* Copies the records that the ROA authorizes in its order, from an index on, as many as fit, and tells how many. OK, EMPTY */
+/* Copies the records that the ROA authorizes in its order from index `first`, as many as fit, and writes their number to `copied`. OK, EMPTY */
 rpkirtr_status rpkirtr_roa_records(rpkirtr_roa *h, size_t first, rpkirtr_record *room, size_t room_len, size_t *copied);
 
 /* ---- payloads of manifests */
 
-/* Decodes the payload of a manifest in an empty handle (RFC 9286 section 4). Whether the object around it is valid is for the caller to judge,
- * and so is whether it is stale, or older than another. If it is malformed, the first fault is told. Faults 13, 16 and 19 are stricter than RFC
- * 9286. OK, LIVE, NO_MEMORY, BAD_PAYLOAD */
+/* Decodes the payload of a manifest into an empty handle (RFC 9286 section 4). The caller checks that the signed object around it is valid,
+ * and whether the manifest is stale, or older than another. If the payload is malformed, `fault` is the first fault. Faults 13, 16 and 19 are
+ * stricter than RFC 9286. OK, LIVE, NO_MEMORY, BAD_PAYLOAD */
 rpkirtr_status rpkirtr_manifest_new(rpkirtr_manifest *h, const uint8_t *bytes, size_t bytes_len, rpkirtr_fault *fault);
 
 /* Frees the manifest, and empties the handle. OK, EMPTY */
 rpkirtr_status rpkirtr_manifest_free(rpkirtr_manifest *h);
 
-/* Copies the octets of the manifest number, the highest first, as many as fit, and tells how many there are: from 1 to 20. It may begin with a
- * zero octet. OK, EMPTY */
+/* Copies the octets of the manifest number, the highest first, as many as fit, and writes how many there are to `len`: from 1 to 20. The number
+ * may begin with a zero octet. OK, EMPTY */
 rpkirtr_status rpkirtr_manifest_number(rpkirtr_manifest *h, uint8_t *room, size_t room_len, size_t *len);
 
-/* Tells thisUpdate and nextUpdate, in seconds after the beginning of 1970 in UTC. OK, EMPTY */
+/* Gets thisUpdate and nextUpdate, in seconds since the beginning of 1970 in UTC. OK, EMPTY */
 rpkirtr_status rpkirtr_manifest_times(rpkirtr_manifest *h, uint64_t *this_update, uint64_t *next_update);
 
-/* Tells how many files the manifest lists. OK, EMPTY */
+/* Gets the number of files that the manifest lists. OK, EMPTY */
 rpkirtr_status rpkirtr_manifest_count(rpkirtr_manifest *h, size_t *count);
 
-/* Copies the name of the file at an index, as much as fits, without a zero octet after it. It tells how long the name is, at most 255 octets,
- * and the digest of the file. OK, EMPTY, RANGE */
+/* Copies the name of the file at an index, as much as fits, without a zero octet after it. Writes the length of the name, at most 255 octets,
+ * to `len`, and the digest of the file to `digest`. OK, EMPTY, RANGE */
 rpkirtr_status rpkirtr_manifest_file(rpkirtr_manifest *h, size_t index, uint8_t *room, size_t room_len, size_t *len, rpkirtr_digest *digest);
 
 /* ---- a cache */
@@ -391,46 +394,46 @@ rpkirtr_status rpkirtr_manifest_file(rpkirtr_manifest *h, size_t index, uint8_t 
  * `keep` versions before the current one, from 1 to 65536. A cache that starts again without its earlier versions needs another session, or
  * later serials (RFC 8210 section 5.1). It sends these intervals, in seconds: `refresh` from 1 to 86400, `retry` from 1 to 7200, `expire`
  * from 600 to 172800 and larger than both others (section 6). If they are not valid, `fault` is RPKIRTR_TIMING_RANGE or
- * RPKIRTR_TIMING_EXPIRE, and 0 else. OK, LIVE, BAD_TIMING, BAD_KEEP, NO_MEMORY */
+ * RPKIRTR_TIMING_EXPIRE, otherwise 0. OK, LIVE, BAD_TIMING, BAD_KEEP, NO_MEMORY */
 rpkirtr_status rpkirtr_cache_new(rpkirtr_cache *h, uint16_t session, uint16_t session0, uint32_t start, uint32_t keep, uint32_t refresh,
                                  uint32_t retry, uint32_t expire, uint32_t *fault);
 
 /* Frees the cache with its connections, and empties the handle. OK, EMPTY */
 rpkirtr_status rpkirtr_cache_free(rpkirtr_cache *h);
 
-/* Publishes the set of records; what is listed twice counts once. It is a new version under the next serial. If it is the set of the current
- * version, `unchanged` is 1, and no version is added. An answer that is under way stays one of its own version. Call rpkirtr_cache_notify for
- * each connection then. If a record is malformed, the index of the first such is told, and nothing is published.
+/* Publishes the set of records, as a new version under the next serial. A record that is listed twice counts once. If the current
+ * version has the same set, `unchanged` is 1, and no version is added. An answer that has begun keeps its own version. Then call rpkirtr_cache_notify
+ * for each connection. If a record is malformed, `bad` is the index of the first one, and nothing is published.
  * OK, EMPTY, BAD_RECORD, RANGE, NO_MEMORY */
 rpkirtr_status rpkirtr_cache_publish(rpkirtr_cache *h, const rpkirtr_record *records, size_t records_len, size_t *bad, uint8_t *unchanged);
 
-/* Tells the serial of the current version, and how many records it has. OK, EMPTY, NO_DATA */
+/* Gets the serial of the current version, and the number of its records. OK, EMPTY, NO_DATA */
 rpkirtr_status rpkirtr_cache_current(rpkirtr_cache *h, uint32_t *serial, size_t *count);
 
-/* Opens a connection to a router, and tells its number: the least that no connection has. It has it until it is closed. RANGE if each number
- * of 32 bits has a connection. OK, EMPTY, NO_MEMORY, RANGE */
+/* Opens a connection to a router, and writes its number, the least that is free. It is free again after rpkirtr_cache_close. RANGE if each
+ * number of 32 bits has a connection. OK, EMPTY, NO_MEMORY, RANGE */
 rpkirtr_status rpkirtr_cache_open(rpkirtr_cache *h, uint32_t *conn);
 
-/* Closes a connection, and drops what was due on it. Its number is free then. OK, EMPTY, NO_CONNECTION */
+/* Closes a connection, and drops the bytes that are not yet pulled. Its number is then free. OK, EMPTY, NO_CONNECTION */
 rpkirtr_status rpkirtr_cache_close(rpkirtr_cache *h, uint32_t conn);
 
-/* Hands over bytes that were received on a connection, and tells how many were taken: none while bytes are to be pulled, or if the connection
- * has ended. Bytes are taken up to the end of the first PDU, or up to a fault. The rest is handed over again after a pull. If memory runs out
- * for an answer, an Error Report is due, and the connection ends. OK, EMPTY, NO_CONNECTION */
+/* Passes bytes received on a connection to the cache, and writes how many it consumed to `taken`. It consumes none while there are bytes to
+ * pull, or if the connection has ended. It consumes bytes up to the end of the first PDU, or up to a fault. Pass the rest again after a pull.
+ * If memory runs out for an answer, an Error Report is ready to be pulled, and the connection ends. OK, EMPTY, NO_CONNECTION */
 rpkirtr_status rpkirtr_cache_receive(rpkirtr_cache *h, uint32_t conn, const uint8_t *bytes, size_t bytes_len, size_t *taken);
 
-/* Moves bytes that are to be sent on a connection into the room, as many as fit, and tells how many. OK, EMPTY, NO_CONNECTION */
+/* Moves bytes to send on a connection into the buffer `room`, as many as fit, and writes their number to `pulled`. OK, EMPTY, NO_CONNECTION */
 rpkirtr_status rpkirtr_cache_pull(rpkirtr_cache *h, uint32_t conn, uint8_t *room, size_t room_len, size_t *pulled);
 
-/* Makes a Serial Notify ready to be pulled on a connection (RFC 8210 section 5.2), if something is published, nothing is to be pulled, and the
- * connection has not ended. `sent` is 1 then, and 0 else. OK, EMPTY, NO_CONNECTION */
+/* Makes a Serial Notify ready to be pulled on a connection (RFC 8210 section 5.2), and writes 1 to `sent`. If nothing is published, if there
+ * are bytes to pull, or if the connection has ended, `sent` is 0. OK, EMPTY, NO_CONNECTION */
 rpkirtr_status rpkirtr_cache_notify(rpkirtr_cache *h, uint32_t conn, uint8_t *sent);
 
-/* Tells whether bytes are to be pulled on a connection: 1 or 0. OK, EMPTY, NO_CONNECTION */
+/* Gets whether there are bytes to pull on a connection: 1 or 0. OK, EMPTY, NO_CONNECTION */
 rpkirtr_status rpkirtr_cache_has_bytes(rpkirtr_cache *h, uint32_t conn, uint8_t *has);
 
-/* Tells whether a connection continues: 1 or 0. If it has ended, pull what is to be sent, close the socket, and call rpkirtr_cache_close.
- * OK, EMPTY, NO_CONNECTION */
+/* Gets whether a connection continues: 1 or 0. If it has ended, pull and send the remaining bytes, close the socket, and call
+ * rpkirtr_cache_close. OK, EMPTY, NO_CONNECTION */
 rpkirtr_status rpkirtr_cache_is_open(rpkirtr_cache *h, uint32_t conn, uint8_t *continues);
 
 #ifdef __cplusplus

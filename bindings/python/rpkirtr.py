@@ -31,7 +31,7 @@ class State(enum.IntEnum):
 
 
 class Status(enum.IntEnum):
-    """What a call answers."""
+    """The status that a call returns."""
 
     OK = 0
     EMPTY = 1
@@ -124,7 +124,7 @@ class Carried(NamedTuple):
 
 
 class Traffic(NamedTuple):
-    """What a connection of a router carried: what was received and taken, and what was pulled."""
+    """What a connection of a router carried: the received bytes that the router consumed, and the bytes that were pulled."""
 
     received: Carried
     sent: Carried
@@ -360,7 +360,7 @@ class Index(_Judge):
     _name = "index"
 
     def __init__(self, *lists: Iterable[Record]) -> None:
-        """An index over the records of these lists. What is listed twice counts once."""
+        """An index over the records of these lists. A record that is listed twice counts once."""
         super().__init__()
         given = [[_record(record) for record in records] for records in lists]
         rooms = [(_Record * len(records))(*records) for records in given]
@@ -419,18 +419,18 @@ class Router(_Judge):
         _check(self._call("ask"))
 
     def receive(self, received: bytes, now: int) -> int:
-        """Hands over bytes that were received; how many were taken: none while bytes are to be pulled, or if no link is open."""
+        """Passes received bytes to the router, and returns how many it consumed: none while there are bytes to pull, or if no link is open."""
         piece = bytes(memoryview(received))
         return self._size("receive", piece, ctypes.c_size_t(len(piece)), _moment(now))
 
     def pull(self, most: int = 4096) -> bytes:
-        """The bytes to be sent, at most so many."""
+        """The bytes to send, at most `most`."""
         room = (ctypes.c_uint8 * most)()
         pulled = self._size("pull", room, ctypes.c_size_t(most))
         return bytes(room[:pulled])
 
     def next_query_at(self) -> int:
-        """When the next query of an idle link is due, or when a closed connection should be made again. NEVER at first."""
+        """The time of the next query on an idle link, or of the next connection attempt on a closed one. NEVER at first."""
         at = ctypes.c_uint64()
         _check(self._call("next_query_at", ctypes.byref(at)))
         return at.value
@@ -448,19 +448,19 @@ class Router(_Judge):
         return Committed(*(getattr(it, name) for name in Committed._fields)) if it.is_committed else None
 
     def wake_at(self) -> int:
-        """The moment from which on a tick has something to do: a query is due, or the records expire. NEVER if there is none."""
+        """The earliest time at which a tick has an effect: a query is due, or the records expire. NEVER if there is none."""
         at = ctypes.c_uint64()
         _check(self._call("wake_at", ctypes.byref(at)))
         return at.value
 
     def traffic(self) -> Traffic:
-        """What the latest connection carried. What is told stays once it is closed."""
+        """What the latest connection carried. When it is closed, nothing changes."""
         it = _Traffic(ctypes.sizeof(_Traffic))
         _check(self._call("traffic", ctypes.byref(it)))
         return Traffic(_carried(it.received), _carried(it.sent))
 
     def index(self) -> Index:
-        """An index over the committed records. It stays as it is if the router changes."""
+        """An index over the committed records. It does not change if the router changes."""
         index = Index._empty()
         _check(self._call("index", ctypes.byref(index._handle)))
         return index
@@ -470,7 +470,7 @@ class Router(_Judge):
         return self._records(len(self))
 
     def changes(self) -> Tuple[List[Record], List[Record]]:
-        """The records that were withdrawn and announced since the last call, which takes them."""
+        """The records that were withdrawn and announced since the last call. The call acknowledges the change."""
         sizes = (ctypes.c_size_t * 2)()
         _check(self._call("changes_begin", ctypes.byref(sizes, 0), ctypes.byref(sizes, ctypes.sizeof(ctypes.c_size_t))))
         told = []
@@ -532,7 +532,7 @@ class Manifest(_Payload):
 
     @property
     def times(self) -> Tuple[int, int]:
-        """thisUpdate and nextUpdate, in seconds after the beginning of 1970 in UTC."""
+        """thisUpdate and nextUpdate, in seconds since the beginning of 1970 in UTC."""
         times = (ctypes.c_uint64 * 2)()
         _check(self._call("times", ctypes.byref(times, 0), ctypes.byref(times, ctypes.sizeof(ctypes.c_uint64))))
         return times[0], times[1]
@@ -565,7 +565,7 @@ class Cache(_Handle):
         _check(status)
 
     def publish(self, records: Iterable[Record]) -> bool:
-        """Publishes the set of records: whether it is a new version. If it is the set of the current version, none is added."""
+        """Publishes the set of records, and returns whether it is a new version. If the current version has the same set, none is added."""
         given = [_record(record) for record in records]
         bad, unchanged = ctypes.c_size_t(), ctypes.c_uint8()
         status = self._call("publish", (_Record * len(given))(*given), ctypes.c_size_t(len(given)), ctypes.byref(bad), ctypes.byref(unchanged))
@@ -591,37 +591,37 @@ class Cache(_Handle):
         return True
 
     def open(self) -> int:
-        """Opens a connection to a router. Its number is the least that no connection has."""
+        """Opens a connection to a router. Its number is the least that is free."""
         conn = ctypes.c_uint32()
         _check(self._call("open", ctypes.byref(conn)))
         return conn.value
 
     def close(self, conn: int) -> None:
-        """Closes a connection, and drops what was due on it."""
+        """Closes a connection, and drops the bytes that are not yet pulled."""
         _check(self._call("close", self._conn(conn)))
 
     def receive(self, conn: int, received: bytes) -> int:
-        """Hands over bytes that were received; how many were taken: none while bytes are to be pulled, or if the connection has ended."""
+        """Passes received bytes to the cache, and returns how many it consumed: none while there are bytes to pull, or if the connection has ended."""
         piece = bytes(memoryview(received))
         return self._size("receive", self._conn(conn), piece, ctypes.c_size_t(len(piece)))
 
     def pull(self, conn: int, most: int = 4096) -> bytes:
-        """The bytes to be sent, at most so many."""
+        """The bytes to send, at most `most`."""
         room = (ctypes.c_uint8 * most)()
         pulled = self._size("pull", self._conn(conn), room, ctypes.c_size_t(most))
         return bytes(room[:pulled])
 
     def notify(self, conn: int) -> bool:
-        """Makes a Serial Notify ready to be pulled, if something is published, nothing is to be pulled, and the connection has not ended:
-        whether it did."""
+        """Makes a Serial Notify ready to be pulled, and returns True. It returns False if nothing is published, if there are bytes to pull, or if
+        the connection has ended."""
         return self._flag("notify", conn)
 
     def has_bytes(self, conn: int) -> bool:
-        """Whether bytes are to be pulled."""
+        """Whether there are bytes to pull."""
         return self._flag("has_bytes", conn)
 
     def is_open(self, conn: int) -> bool:
-        """Whether a connection continues. What is to be pulled can be pulled after its end too."""
+        """Whether a connection continues. The remaining bytes can be pulled after its end, too."""
         return self._flag("is_open", conn)
 
     @staticmethod

@@ -139,8 +139,8 @@ static void names(void)
     NAMES(rpkirtr_link_name, RPKIRTR_ENDED, "ended");
     NAMES(rpkirtr_link_name, 5, "no such link");
     NAMES(rpkirtr_end_name, 0, "no such end");
-    NAMES(rpkirtr_end_name, RPKIRTR_END_REPORTED, "the cache was sent an Error Report");
-    NAMES(rpkirtr_end_name, RPKIRTR_END_TOLD, "the cache sent an Error Report");
+    NAMES(rpkirtr_end_name, RPKIRTR_END_REPORT_SENT, "the cache was sent an Error Report");
+    NAMES(rpkirtr_end_name, RPKIRTR_END_REPORT_RECEIVED, "the cache sent an Error Report");
     NAMES(rpkirtr_end_name, RPKIRTR_END_MALFORMED, "the cache sent a malformed Error Report");
     NAMES(rpkirtr_end_name, RPKIRTR_END_MEMORY, "out of memory");
     NAMES(rpkirtr_end_name, RPKIRTR_END_EXPIRED, "the committed version expired");
@@ -822,7 +822,7 @@ static void a_router_tells_reports(void)
     EXPECT(rpkirtr_router_pull(&h, room, sizeof room, &n) == RPKIRTR_OK && n == 8);
     EXPECT(rpkirtr_router_receive(&h, second, sizeof second, 201, &n) == RPKIRTR_OK && n == sizeof second);
     EXPECT(rpkirtr_router_pull(&h, room, sizeof room, &n) == RPKIRTR_OK && n > 16 && room[1] == 10);
-    EXPECT(rpkirtr_router_link(&h, &link) == RPKIRTR_OK && link.end == RPKIRTR_END_REPORTED);
+    EXPECT(rpkirtr_router_link(&h, &link) == RPKIRTR_OK && link.end == RPKIRTR_END_REPORT_SENT);
     EXPECT(rpkirtr_router_traffic(&h, &traffic) == RPKIRTR_OK && traffic.sent.bytes == 8 + n);
     EXPECT(traffic.sent.has_report == 1 && traffic.sent.code == link.code && link.code == room[3] && traffic.sent.pdus[10] == 1);
     EXPECT(traffic.received.has_report == 0 && traffic.received.bytes == sizeof second);

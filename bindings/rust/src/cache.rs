@@ -66,8 +66,8 @@ impl Cache {
         self.handle.get()
     }
 
-    /// Publishes the set of records, and returns whether it is a new version. If it is the set of the current version, none is added. An
-    /// answer that is under way stays one of its own version.
+    /// Publishes the set of records, and returns whether it is a new version. If the current version has the same set, none is added. An
+    /// answer that has begun keeps its own version.
     pub fn publish(&mut self, records: &[Vrp]) -> Result<bool, Error> {
         let records: Vec<_> = records.iter().map(|vrp| vrp.to_record()).collect();
         let (mut bad, mut unchanged) = (0, 0);
@@ -89,19 +89,19 @@ impl Cache {
         }
     }
 
-    /// Opens a connection to a router. Its number is the least that no connection has.
+    /// Opens a connection to a router. Its number is the least that is free.
     pub fn open(&mut self) -> Result<u32, Error> {
         let mut conn = 0;
         check(unsafe { ffi::rpkirtr_cache_open(self.at(), &mut conn) })?;
         Ok(conn)
     }
 
-    /// Closes a connection, and drops what was due on it.
+    /// Closes a connection, and drops the bytes that are not yet pulled.
     pub fn close(&mut self, conn: u32) -> Result<(), Error> {
         check(unsafe { ffi::rpkirtr_cache_close(self.at(), conn) })
     }
 
-    /// Hands over bytes that were received, and returns how many were taken: none while bytes are to be pulled, or if the connection has
+    /// Passes received bytes to the cache, and returns how many it consumed: none while there are bytes to pull, or if the connection has
     /// ended.
     pub fn receive(&mut self, conn: u32, bytes: &[u8]) -> Result<usize, Error> {
         let mut taken = 0;
@@ -109,29 +109,29 @@ impl Cache {
         Ok(taken)
     }
 
-    /// Moves bytes to be sent into the room, and returns how many.
+    /// Moves bytes to send into the buffer, as many as fit, and returns how many.
     pub fn pull(&mut self, conn: u32, room: &mut [u8]) -> Result<usize, Error> {
         let mut pulled = 0;
         check(unsafe { ffi::rpkirtr_cache_pull(self.at(), conn, room.as_mut_ptr(), room.len(), &mut pulled) })?;
         Ok(pulled)
     }
 
-    /// Makes a Serial Notify ready to be pulled, if something is published, nothing is to be pulled, and the connection has not ended.
-    /// Returns whether it did.
+    /// Makes a Serial Notify ready to be pulled, and returns true. It returns false if nothing is published, if there are bytes to pull, or if
+    /// the connection has ended.
     pub fn notify(&mut self, conn: u32) -> Result<bool, Error> {
         let mut sent = 0;
         check(unsafe { ffi::rpkirtr_cache_notify(self.at(), conn, &mut sent) })?;
         Ok(sent != 0)
     }
 
-    /// Whether bytes are to be pulled.
+    /// Whether there are bytes to pull.
     pub fn has_bytes(&self, conn: u32) -> Result<bool, Error> {
         let mut has = 0;
         check(unsafe { ffi::rpkirtr_cache_has_bytes(self.at(), conn, &mut has) })?;
         Ok(has != 0)
     }
 
-    /// Whether a connection continues. What is to be pulled can be pulled after its end too.
+    /// Whether a connection continues. The remaining bytes can be pulled after its end, too.
     pub fn is_open(&self, conn: u32) -> Result<bool, Error> {
         let mut continues = 0;
         check(unsafe { ffi::rpkirtr_cache_is_open(self.at(), conn, &mut continues) })?;

@@ -16,7 +16,7 @@ pub struct Index {
 unsafe impl Send for Index {}
 
 impl Index {
-    /// An index over records; what is listed twice counts once.
+    /// An index over records. A record that is listed twice counts once.
     pub fn new(records: &[Vrp]) -> Result<Index, Error> {
         let index = Index::empty();
         let records: Vec<_> = records.iter().map(|vrp| vrp.to_record()).collect();
@@ -28,7 +28,7 @@ impl Index {
         }
     }
 
-    /// An index over the records of several lists; what is listed twice counts once.
+    /// An index over the records of several lists. A record that is listed twice counts once.
     pub fn of_lists(lists: &[&[Vrp]]) -> Result<Index, Error> {
         let index = Index::empty();
         let rooms: Vec<Vec<_>> = lists.iter().map(|list| list.iter().map(|vrp| vrp.to_record()).collect()).collect();
@@ -50,7 +50,7 @@ impl Index {
         self.handle.get()
     }
 
-    /// How many different records there are.
+    /// The number of different records.
     pub fn len(&self) -> usize {
         let mut count = 0;
         // SAFETY: the handle is of an index, and no other call is made on it meanwhile.
@@ -87,7 +87,7 @@ impl Drop for Index {
     }
 }
 
-/// The records that a call copies into a room and counts: into a larger one if the first was too small.
+/// The records that a call copies into a buffer and counts: into a larger one if the first was too small.
 pub(crate) fn covering(copy: impl Fn(&mut [ffi::rpkirtr_record], &mut usize) -> ffi::rpkirtr_status) -> Result<Vec<Vrp>, Error> {
     let mut room = vec![ffi::rpkirtr_record::default(); 16];
     let mut count = 0;

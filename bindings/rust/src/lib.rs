@@ -1,7 +1,7 @@
 //! Both ends of the RPKI-to-Router protocol (RFC 6810, RFC 8210) and origin validation (RFC 6811), over `librpkirtr`.
 //!
-//! The library does no input or output: the caller owns sockets and clocks. It hands over the bytes that it received, and sends the bytes that
-//! it pulls. Moments are seconds of one clock that the caller chooses.
+//! The library does no input or output: the caller owns sockets and clocks. It passes the bytes that it received to the library, and sends the
+//! bytes that it pulls. A time is in seconds of one clock that the caller chooses.
 //!
 //! ```
 //! use rpkirtr::{Index, OriginState, Route, Vrp};

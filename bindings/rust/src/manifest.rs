@@ -54,14 +54,14 @@ impl Manifest {
         room
     }
 
-    /// thisUpdate and nextUpdate, in seconds after the beginning of 1970 in UTC.
+    /// thisUpdate and nextUpdate, in seconds since the beginning of 1970 in UTC.
     pub fn times(&self) -> (u64, u64) {
         let (mut this_update, mut next_update) = (0, 0);
         done(unsafe { ffi::rpkirtr_manifest_times(self.at(), &mut this_update, &mut next_update) });
         (this_update, next_update)
     }
 
-    /// How many files the manifest lists.
+    /// The number of files that the manifest lists.
     pub fn len(&self) -> usize {
         let mut count = 0;
         done(unsafe { ffi::rpkirtr_manifest_count(self.at(), &mut count) });

@@ -37,9 +37,9 @@ pub enum Link {
 #[derive(Clone, Copy, Debug, PartialEq, Eq)]
 pub enum End {
     /// An Error Report of this code was sent (RFC 8210 section 12).
-    Reported(u16),
+    ReportSent(u16),
     /// An Error Report of this code was received.
-    Told(u16),
+    ReportReceived(u16),
     /// A malformed Error Report was received.
     Malformed,
     /// Out of memory.
@@ -53,8 +53,8 @@ pub enum End {
 impl End {
     fn number(&self) -> u8 {
         match self {
-            End::Reported(_) => 1,
-            End::Told(_) => 2,
+            End::ReportSent(_) => 1,
+            End::ReportReceived(_) => 2,
             End::Malformed => 3,
             End::OutOfMemory => 4,
             End::Expired => 5,
@@ -67,7 +67,7 @@ impl fmt::Display for End {
     fn fmt(&self, f: &mut fmt::Formatter<'_>) -> fmt::Result {
         f.write_str(&crate::texts::end_name(self.number()))?;
         match self {
-            End::Reported(code) | End::Told(code) => write!(f, " of code {code}"),
+            End::ReportSent(code) | End::ReportReceived(code) => write!(f, " of code {code}"),
             _ => Ok(()),
         }
     }
@@ -228,28 +228,28 @@ impl Router {
         check(unsafe { ffi::rpkirtr_router_ask(self.at()) })
     }
 
-    /// Hands over bytes that were received, and returns how many were taken: none while bytes are to be pulled, or if no link is open.
+    /// Passes received bytes to the router, and returns how many it consumed: none while there are bytes to pull, or if no link is open.
     pub fn receive(&mut self, bytes: &[u8], now: u64) -> usize {
         let mut taken = 0;
         done(unsafe { ffi::rpkirtr_router_receive(self.at(), bytes.as_ptr(), bytes.len(), now, &mut taken) });
         taken
     }
 
-    /// Moves bytes to be sent into the room, as many as fit, and returns how many.
+    /// Moves bytes to send into the buffer, as many as fit, and returns how many.
     pub fn pull(&mut self, room: &mut [u8]) -> usize {
         let mut pulled = 0;
         done(unsafe { ffi::rpkirtr_router_pull(self.at(), room.as_mut_ptr(), room.len(), &mut pulled) });
         pulled
     }
 
-    /// When the next query of an idle link is due, or when a closed connection should be made again (RFC 8210 section 6). None at first.
+    /// The time of the next query on an idle link, or of the next connection attempt on a closed one (RFC 8210 section 6). None at first.
     pub fn next_query_at(&self) -> Option<u64> {
         let mut moment = 0;
         done(unsafe { ffi::rpkirtr_router_next_query_at(self.at(), &mut moment) });
         (moment != ffi::NEVER).then_some(moment)
     }
 
-    /// The moment from which on a tick has something to do, if any: the next query is due, or the records expire.
+    /// The earliest time at which a tick has an effect, if any: the next query is due, or the records expire.
     pub fn wake_at(&self) -> Option<u64> {
         let mut moment = 0;
         done(unsafe { ffi::rpkirtr_router_wake_at(self.at(), &mut moment) });
@@ -266,8 +266,8 @@ impl Router {
             2 => Link::Asked,
             3 => Link::Answering,
             _ => Link::Ended(match link.end {
-                1 => End::Reported(link.code),
-                2 => End::Told(link.code),
+                1 => End::ReportSent(link.code),
+                2 => End::ReportReceived(link.code),
                 3 => End::Malformed,
                 4 => End::OutOfMemory,
                 5 => End::Expired,
@@ -291,14 +291,14 @@ impl Router {
         })
     }
 
-    /// What the latest connection carried. What is told stays once it is closed.
+    /// What the latest connection carried. When it is closed, nothing changes.
     pub fn traffic(&self) -> Traffic {
         let mut traffic = no_traffic();
         done(unsafe { ffi::rpkirtr_router_traffic(self.at(), &mut traffic) });
         Traffic::of_c(&traffic)
     }
 
-    /// How many records are committed.
+    /// The number of committed records.
     pub fn len(&self) -> usize {
         let mut count = 0;
         done(unsafe { ffi::rpkirtr_router_count(self.at(), &mut count) });
@@ -324,7 +324,7 @@ impl Router {
         })
     }
 
-    /// An index over the committed records. It stays as it is if the router changes.
+    /// An index over the committed records. It does not change if the router changes.
     pub fn index(&self) -> Result<Index, Error> {
         let index = Index::empty();
         check(unsafe { ffi::rpkirtr_router_index(self.at(), index.at()) })?;
@@ -336,7 +336,7 @@ impl Router {
         Records::of(self, ffi::rpkirtr_router_records)
     }
 
-    /// What changed between the records that were taken last, none at first, and those committed now.
+    /// The change from the records of the last acknowledged change, none at first, to those committed now.
     pub fn changes(&mut self) -> Result<Changes<'_>, Error> {
         let (mut withdraws, mut announces) = (0, 0);
         check(unsafe { ffi::rpkirtr_router_changes_begin(self.at(), &mut withdraws, &mut announces) })?;
@@ -380,7 +380,7 @@ impl Changes<'_> {
         Records::of(self.router, ffi::rpkirtr_router_announced)
     }
 
-    /// Takes the change: the next one begins at the records that it led to. A change that is dropped is told again.
+    /// Acknowledges the change: the next one begins at the records that it led to. The next one repeats a change that is dropped.
     pub fn take(self) {
         done(unsafe { ffi::rpkirtr_router_changes_taken(self.router.at()) });
     }

@@ -25,7 +25,7 @@ pub struct Carried {
 /// What a connection of a router carried.
 #[derive(Clone, Debug, PartialEq, Eq)]
 pub struct Traffic {
-    /// What was received and taken.
+    /// The received bytes that the router consumed.
     pub received: Carried,
     /// What was pulled.
     pub sent: Carried,

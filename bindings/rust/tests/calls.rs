@@ -198,7 +198,7 @@ fn states_links_ends_and_faults_have_names() {
     let states = [OriginState::NotFound, OriginState::Valid, OriginState::Invalid];
     assert_eq!(states.map(|state| state.to_string()), ["not-found", "valid", "invalid"]);
     assert_eq!(Link::Answering.to_string(), "answering");
-    assert_eq!(Link::Ended(End::Told(2)).to_string(), "ended: the cache sent an Error Report of code 2");
+    assert_eq!(Link::Ended(End::ReportReceived(2)).to_string(), "ended: the cache sent an Error Report of code 2");
     assert_eq!(End::Expired.to_string(), "the committed version expired");
     assert_eq!(rpkirtr::fault_name(14), "nextUpdate is not later than thisUpdate");
     assert_eq!(rpkirtr::fault_name(21), "no such fault");

@@ -11,8 +11,8 @@ use Rattle.vrps.specs.Steps.{HoldsSteps, Steps}
 use Rattle.rpkirtr_c.specs.Answers.{number}
 use Rattle.rpkirtr_c.specs.Caches.{IsOpening, Opens, number_at}
 use Rattle.rpkirtr_c.specs.declared.conns.Conns.{Conns}
-use Rattle.rpkirtr_c.specs.declared.service.Service.{Service}
-use Rattle.rpkirtr_c.specs.declared.status.Status.TheVariants.{Done, OutOfRange}
+use Rattle.rpkirtr_c.specs.declared.served_cache.ServedCache.{ServedCache}
+use Rattle.rpkirtr_c.specs.declared.call_status.CallStatus.TheVariants.{Done, OutOfRange}
 
 -- past the end of a table is no connection
 past_end : (slots : List (Option Number)) (c : ℕ) → length slots ≤ c → number_at slots c ≡ None
@@ -22,7 +22,7 @@ no_conn : (c : ℕ) (o : Option Conn) → None ≡ option_map (λ (_ : Conn). c)
 no_conn c None h some = absurd (let k : false ≡ true = some in cc)
 no_conn c (Some o) h some = absurd (let k : ◌≡◌ {A = Option ℕ} None (Some c) = h in cc)
 
-module _ (m : CacheState) (c : ℕ) (s : Service) (opening : IsOpening m c s) where
+module _ (m : CacheState) (c : ℕ) (s : ServedCache) (opening : IsOpening m c s) where
   -- The least free number is at most the length of the table.
   within : c ≤ length s.conns.slots.items
   within = elim (cases_lt (length s.conns.slots.items) c) [

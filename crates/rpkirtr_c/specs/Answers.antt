@@ -1,10 +1,10 @@
 -- The numbers of a call's answers, as the header has them.
 use Rattle.std.specs.Prelude.{ℤ, pos}
-use Rattle.rpkirtr_c.specs.declared.status.Status.{Status}
-use Rattle.rpkirtr_c.specs.declared.status.Status.TheVariants.{Done, Empty, Live, NoMemory, BadRecord, BadRoute, BadVersion, OutOfRange, NotLinked, Busy, BadPayload, BadTiming, NoConnection, NoData, BadKeep, BadStructure}
+use Rattle.rpkirtr_c.specs.declared.call_status.CallStatus.{CallStatus}
+use Rattle.rpkirtr_c.specs.declared.call_status.CallStatus.TheVariants.{Done, Empty, Live, NoMemory, BadRecord, BadRoute, BadVersion, OutOfRange, NotLinked, Busy, BadPayload, BadTiming, NoConnection, NoData, BadKeep, BadStructure}
 
 -- the number of an answer
-abbrev pub number : Status → ℤ
+abbrev pub number : CallStatus → ℤ
 number Done = pos 0
 number Empty = pos 1
 number Live = pos 2

@@ -9,7 +9,7 @@ use Rattle.rtr_server.specs.declared.tally.PdusByKind.{PdusByKind}
 use Rattle.rtr_server.specs.declared.turn.Traffic.{Traffic}
 use Rattle.rpkirtr_c.specs.Answers.{number}
 use Rattle.rpkirtr_c.specs.Texts.{in_room}
-use Rattle.rpkirtr_c.specs.declared.status.Status.TheVariants.{Done, BadStructure}
+use Rattle.rpkirtr_c.specs.declared.call_status.CallStatus.TheVariants.{Done, BadStructure}
 use Rattle.rpkirtr_c.specs.declared.traffic.CCarried.{CCarried}
 use Rattle.rpkirtr_c.specs.declared.traffic.CTraffic.{CTraffic}
 

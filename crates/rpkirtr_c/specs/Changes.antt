@@ -7,7 +7,7 @@ use Rattle.rpkirtr_c.specs.Answers.{number}
 use Rattle.rpkirtr_c.specs.Sessions.{Shows}
 use Rattle.rpkirtr_c.specs.declared.session.Pending.{Pending}
 use Rattle.rpkirtr_c.specs.declared.session.Session.{Session}
-use Rattle.rpkirtr_c.specs.declared.status.Status.TheVariants.{Done, NoMemory}
+use Rattle.rpkirtr_c.specs.declared.call_status.CallStatus.TheVariants.{Done, NoMemory}
 
 -- the change from the accepted records to the table
 abbrev pub IsBegun : VrpSet → VrpSet → Pending → Type 0

@@ -12,8 +12,8 @@ use Rattle.rpkirtr_c.specs.declared.configuration.ConfigFault.{ConfigFault}
 use Rattle.rpkirtr_c.specs.declared.configuration.ConfigFault.TheVariants.{Structure}
 use Rattle.rpkirtr_c.specs.declared.configuration.ConfigFault.TheVariants.{Intervals as BadIntervals}
 use Rattle.rpkirtr_c.specs.declared.session.Session.{Session}
-use Rattle.rpkirtr_c.specs.declared.status.Status.{Status}
-use Rattle.rpkirtr_c.specs.declared.status.Status.TheVariants.{Done, BadStructure, BadTiming}
+use Rattle.rpkirtr_c.specs.declared.call_status.CallStatus.{CallStatus}
+use Rattle.rpkirtr_c.specs.declared.call_status.CallStatus.TheVariants.{Done, BadStructure, BadTiming}
 
 -- whether a byte says yes
 abbrev pub is_yes : ℕ → Bool
@@ -55,7 +55,7 @@ IsConfigFault c Structure = ¬ (IsStructure c)
 IsConfigFault c (BadIntervals timing.OutOfRange) = IsStructure c × ¬ (InRange (own_intervals c))
 IsConfigFault c (BadIntervals timing.ExpireTooSmall) = IsStructure c × InRange (own_intervals c) × ¬ (OutlastsOthers (own_intervals c))
 
-abbrev pub config_status : ConfigFault → Status
+abbrev pub config_status : ConfigFault → CallStatus
 config_status Structure = BadStructure
 config_status (BadIntervals fault) = BadTiming
 

@@ -9,8 +9,8 @@ use Rattle.rpkirtr_c.specs.declared.index.IndexFault.{IndexFault}
 use Rattle.rpkirtr_c.specs.declared.index.IndexFault.TheVariants.{Bad, TooMany, Memory}
 use Rattle.rpkirtr_c.specs.declared.judge.Judge.{Judge}
 use Rattle.rpkirtr_c.specs.declared.lists.CList.{CList}
-use Rattle.rpkirtr_c.specs.declared.status.Status.{Status}
-use Rattle.rpkirtr_c.specs.declared.status.Status.TheVariants.{Done, Live, NoMemory, BadRecord, OutOfRange}
+use Rattle.rpkirtr_c.specs.declared.call_status.CallStatus.{CallStatus}
+use Rattle.rpkirtr_c.specs.declared.call_status.CallStatus.TheVariants.{Done, Live, NoMemory, BadRecord, OutOfRange}
 use Rattle.rpkirtr_c.specs.declared.values.CRecord.{CRecord}
 
 -- the records of these payloads, in their order
@@ -47,7 +47,7 @@ IsSetFault vs Memory = ⊤
 abbrev pub IsOver : List CRecord → Judge → Type 0
 IsOver records t = (vs : List Payload) × AreRecords vs records × (t.index ≡ set_of vs)
 
-abbrev pub fault_status : IndexFault → Status
+abbrev pub fault_status : IndexFault → CallStatus
 fault_status (Bad i) = BadRecord
 fault_status TooMany = OutOfRange
 fault_status Memory = NoMemory

@@ -1,7 +1,7 @@
 -- What a call does with a handle's value. A live handle has one value, and an empty one has none.
 use Rattle.std.specs.Prelude.{◌≡◌, ℤ, Option, Some, None}
 use Rattle.rpkirtr_c.specs.Answers.{number}
-use Rattle.rpkirtr_c.specs.declared.status.Status.TheVariants.{Done, Empty, Live, NoMemory}
+use Rattle.rpkirtr_c.specs.declared.call_status.CallStatus.TheVariants.{Done, Empty, Live, NoMemory}
 
 -- An empty handle stays empty, and is answered so. A live handle stays live, and its value makes this step.
 abbrev pub On : {X : Type 0} → Option X → Option X → ℤ → (X → X → Type 0) → Type 0

@@ -11,7 +11,7 @@ use Rattle.rpkirtr_c.specs.Octets.{IsFilled, no_digest}
 use Rattle.rpkirtr_c.specs.declared.contents.Contents.{Contents}
 use Rattle.rpkirtr_c.specs.declared.objects.CFault.{CFault}
 use Rattle.rpkirtr_c.specs.declared.octets.CDigest.{CDigest}
-use Rattle.rpkirtr_c.specs.declared.status.Status.TheVariants.{Done, OutOfRange}
+use Rattle.rpkirtr_c.specs.declared.call_status.CallStatus.TheVariants.{Done, OutOfRange}
 
 -- This is the manifest that the bytes spell.
 abbrev pub IsContents : List ℕ → Contents → Type 0

@@ -8,8 +8,8 @@ use Rattle.payloads.specs.declared.fault.PayloadFault.TheVariants.{At, Memory}
 use Rattle.rpkirtr_c.specs.Answers.{number}
 use Rattle.rpkirtr_c.specs.declared.authorization.Authorization.{Authorization}
 use Rattle.rpkirtr_c.specs.declared.objects.CFault.{CFault}
-use Rattle.rpkirtr_c.specs.declared.status.Status.{Status}
-use Rattle.rpkirtr_c.specs.declared.status.Status.TheVariants.{Done, Live, NoMemory, BadPayload}
+use Rattle.rpkirtr_c.specs.declared.call_status.CallStatus.{CallStatus}
+use Rattle.rpkirtr_c.specs.declared.call_status.CallStatus.TheVariants.{Done, Live, NoMemory, BadPayload}
 
 abbrev pub no_fault : CFault
 no_fault = record { offset = 0; kind = 0; zero_ = 0 }
@@ -22,7 +22,7 @@ abbrev pub told_fault : PayloadFault → CFault
 told_fault (At fault) = fault_of fault
 told_fault Memory = no_fault
 
-abbrev pub payload_status : PayloadFault → Status
+abbrev pub payload_status : PayloadFault → CallStatus
 payload_status (At fault) = BadPayload
 payload_status Memory = NoMemory
 

@@ -14,14 +14,14 @@ use Rattle.rpkirtr_c.specs.Answers.{number}
 use Rattle.rpkirtr_c.specs.Carried.{and_came}
 use Rattle.rpkirtr_c.specs.Links.{moment_of, version_of}
 use Rattle.rpkirtr_c.specs.Spelled.{IsCopied, SpellsRoute, state_number}
-use Rattle.rpkirtr_c.specs.declared.status.Status.{Status}
+use Rattle.rpkirtr_c.specs.declared.call_status.CallStatus.{CallStatus}
 use Rattle.rpkirtr_c.specs.declared.values.CRecord.{CRecord}
 use Rattle.rtr_ends.specs.declared.link.AskFault.{AskFault}
 use Rattle.rtr_ends.specs.declared.link.AskFault.TheVariants.{NotConnected}
 use Rattle.rtr_ends.specs.declared.link.AskFault.TheVariants.{Busy as AskBusy}
 use Rattle.rtr_pdu.specs.declared.version.Version.{Version}
 use Rattle.rpkirtr_c.specs.declared.session.Session.{Session}
-use Rattle.rpkirtr_c.specs.declared.status.Status.TheVariants.{Done, BadRoute, BadVersion, Busy, NoMemory, NotLinked}
+use Rattle.rpkirtr_c.specs.declared.call_status.CallStatus.TheVariants.{Done, BadRoute, BadVersion, Busy, NoMemory, NotLinked}
 use Rattle.rpkirtr_c.specs.declared.values.CRoute.{CRoute}
 
 -- The router makes this call, and its latest connection has carried this then. The accepted records stay.
@@ -67,7 +67,7 @@ abbrev pub IsSpoken : ℕ → ℤ → Session → Session → Type 0
 IsSpoken version answer s t = IsSpokenOf (version_of version) answer s t
 
 -- the answer to a call that asks a question
-abbrev pub ask_answer : Result ⊤ AskFault → Status
+abbrev pub ask_answer : Result ⊤ AskFault → CallStatus
 ask_answer (Ok asked) = Done
 ask_answer (Err AskBusy) = Busy
 ask_answer (Err NotConnected) = NotLinked

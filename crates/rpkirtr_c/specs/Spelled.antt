@@ -9,7 +9,7 @@ use Rattle.prefixes.specs.declared.route.Route.{Route}
 use Rattle.vrps.specs.declared.origin.OriginState.{OriginState}
 use Rattle.vrps.specs.declared.origin.OriginState.TheVariants.{Valid, Invalid, NotFound}
 use Rattle.rpkirtr_c.specs.Answers.{number}
-use Rattle.rpkirtr_c.specs.declared.status.Status.TheVariants.{Done, OutOfRange}
+use Rattle.rpkirtr_c.specs.declared.call_status.CallStatus.TheVariants.{Done, OutOfRange}
 use Rattle.rpkirtr_c.specs.declared.values.CRecord.{CRecord}
 use Rattle.rpkirtr_c.specs.declared.values.CRoute.{CRoute}
 

@@ -8,13 +8,13 @@ ghost use Rattle.rtr_ends.specs.CacheState.{can_notify_at, has_bytes_at, is_open
 ghost use Rattle.rpkirtr_c.specs.Answers.{number};
 ghost use Rattle.rpkirtr_c.specs.Caches.{AtConn, Gives, IsCacheFault, IsCurrent, IsNew, IsServing, NewCache, Opens, Publishes, Serves, Takes};
 ghost use Rattle.rpkirtr_c.specs.Live.{Freed, On};
-ghost use Rattle.rpkirtr_c.specs.declared.service.Service.{Service};
-ghost use Rattle.rpkirtr_c.specs.contracts.service.Service as service;
-ghost use Rattle.rpkirtr_c.specs.declared.status.Status.TheVariants.{Done};
+ghost use Rattle.rpkirtr_c.specs.declared.served_cache.ServedCache.{ServedCache};
+ghost use Rattle.rpkirtr_c.specs.contracts.served_cache.ServedCache as served;
+ghost use Rattle.rpkirtr_c.specs.declared.call_status.CallStatus.TheVariants.{Done};
 
+use crate::call_status::CallStatus;
 use crate::loose::Loose;
-use crate::service::{CacheFault, Service, Settings};
-use crate::status::Status;
+use crate::served_cache::{CacheFault, ServedCache, Settings};
 use crate::values::CRecord;
 use std::alloc::Global;
 use std::fmt::{self, Debug};
@@ -26,12 +26,12 @@ use std::marker::Model;
 pub struct CacheHandle {
     at: *mut (),
     alloc: Global,
-    ghost value: { Option Service } by { coded_option service.the_row.coded },
+    ghost value: { Option ServedCache } by { coded_option served.the_row.coded },
 }
 
 impl Model for CacheHandle {
     ghost use Rattle.rpkirtr_c.specs.Held.{held};
-    ghost use Rattle.rpkirtr_c.specs.contracts.service.Service.{the_row};
+    ghost use Rattle.rpkirtr_c.specs.contracts.served_cache.ServedCache.{the_row};
     ghost use Rattle.std.specs.Box.Ownership.{box_owns};
     ghost use Rattle.std.specs.contracts.impls.GlobalAllocator.TheImpl as heap_impl;
 
@@ -46,7 +46,7 @@ impl Debug for CacheHandle {
 }
 
 impl CacheHandle {
-    fn of(l: Loose<Service, Global>) -> CacheHandle
+    fn of(l: Loose<ServedCache, Global>) -> CacheHandle
         ensures { result.value ≡ Some l.value }
     {
         let Loose { at, alloc } = l;
@@ -56,13 +56,13 @@ impl CacheHandle {
         }
     }
 
-    fn into_loose(self) -> Loose<Service, Global>
+    fn into_loose(self) -> Loose<ServedCache, Global>
         requires { is_none self.value ≡ false }
         ensures { Some result.value ≡ self.value }
     {
         let CacheHandle { at, alloc } = self;
         Loose {
-            at: at as *mut Service,
+            at: at as *mut ServedCache,
             alloc,
         }
     }
@@ -85,7 +85,7 @@ impl CacheHandle {
     }
 
     /// Moves the cache out, if there is one. The handle is empty then.
-    fn take(&mut self, alloc: Global) -> Option<Box<Service>>
+    fn take(&mut self, alloc: Global) -> Option<Box<ServedCache>>
         ensures taken { option_map (λ s. s.value) result ≡ self.old.value }
         ensures empty { self.new.value ≡ None }
     {
@@ -99,41 +99,41 @@ impl CacheHandle {
 }
 
 /// The handle of a cache.
-fn shut_cache(service: Box<Service>) -> CacheHandle
-    ensures { result.value ≡ Some service.value }
+fn shut_cache(served: Box<ServedCache>) -> CacheHandle
+    ensures { result.value ≡ Some served.value }
 {
-    CacheHandle::of(Loose::of(service))
+    CacheHandle::of(Loose::of(served))
 }
 
 /// A block of a cache of these settings, or why there is none.
-fn boxed(alloc: Global, settings: &Settings) -> Result<Box<Service>, CacheFault>
+fn boxed(alloc: Global, settings: &Settings) -> Result<Box<ServedCache>, CacheFault>
     ensures ok { IfOk result (λ b. IsNew settings.now b.value) }
     ensures err { IfErr result (IsCacheFault settings.now) }
 {
-    let service = Service::new(alloc, settings)?;
-    match Box::new(alloc, service) {
+    let served = ServedCache::new(alloc, settings)?;
+    match Box::new(alloc, served) {
         Err(_) => Err(CacheFault::Memory),
-        Ok(service) => Ok(service),
+        Ok(served) => Ok(served),
     }
 }
 
 /// Makes a cache of these settings in an empty handle. If there is none, what is at fault in the intervals is written.
-fn make(alloc: Global, h: &mut CacheHandle, settings: &Settings, fault: &mut u32) -> Status
+fn make(alloc: Global, h: &mut CacheHandle, settings: &Settings, fault: &mut u32) -> CallStatus
     ensures { NewCache settings.now h.old.value h.new.value (number result) fault.new }
 {
     *fault = 0;
-    if let Some(service) = h.take(alloc) {
-        *h = shut_cache(service);
-        return Status::Live;
+    if let Some(served) = h.take(alloc) {
+        *h = shut_cache(served);
+        return CallStatus::Live;
     }
     match boxed(alloc, settings) {
         Err(found) => {
             *fault = found.timing();
             found.status()
         }
-        Ok(service) => {
-            *h = shut_cache(service);
-            Status::Done
+        Ok(served) => {
+            *h = shut_cache(served);
+            CallStatus::Done
         }
     }
 }
@@ -173,31 +173,31 @@ pub extern "C" fn rpkirtr_cache_free(alloc: Global, h: &mut CacheHandle) -> i32
     ensures { Freed h.old.value h.new.value result }
 {
     match h.take(alloc) {
-        None => Status::Empty.number(),
-        Some(_service) => Status::Done.number(),
+        None => CallStatus::Empty.number(),
+        Some(_served) => CallStatus::Done.number(),
     }
 }
 
 /// Publishes the set of records, and writes the fault if there is one, and whether the set was that of the current version.
 fn publish(
     alloc: Global,
-    service: &mut Service,
+    served: &mut ServedCache,
     records: &[CRecord],
     bad: &mut usize,
     unchanged: &mut u8,
-) -> Status
-    ensures { Serves service.old (λ m. Publishes m records.now (number result) bad.new unchanged.new service.new) }
+) -> CallStatus
+    ensures { Serves served.old (λ m. Publishes m records.now (number result) bad.new unchanged.new served.new) }
 {
     *bad = 0;
     *unchanged = 0;
-    match service.publish(alloc, records) {
+    match served.publish(alloc, records) {
         Err(fault) => {
             *bad = fault.bad();
             fault.status()
         }
         Ok(is_same) => {
             *unchanged = u8::from(is_same);
-            Status::Done
+            CallStatus::Done
         }
     }
 }
@@ -217,11 +217,11 @@ pub extern "C" fn rpkirtr_cache_publish(
 {
     *bad = 0;
     *unchanged = 0;
-    let Some(mut service) = h.take(alloc) else {
-        return Status::Empty.number();
+    let Some(mut served) = h.take(alloc) else {
+        return CallStatus::Empty.number();
     };
-    let answer = publish(alloc, &mut service, records, bad, unchanged);
-    *h = shut_cache(service);
+    let answer = publish(alloc, &mut served, records, bad, unchanged);
+    *h = shut_cache(served);
     answer.number()
 }
 
@@ -232,11 +232,11 @@ pub extern "C" fn rpkirtr_cache_open(alloc: Global, h: &mut CacheHandle, conn: &
     ensures empty { h.old.value ≡ None → conn.new ≡ 0 }
 {
     *conn = 0;
-    let Some(mut service) = h.take(alloc) else {
-        return Status::Empty.number();
+    let Some(mut served) = h.take(alloc) else {
+        return CallStatus::Empty.number();
     };
-    let answer = service.open(conn);
-    *h = shut_cache(service);
+    let answer = served.open(conn);
+    *h = shut_cache(served);
     answer.number()
 }
 
@@ -245,11 +245,11 @@ pub extern "C" fn rpkirtr_cache_open(alloc: Global, h: &mut CacheHandle, conn: &
 pub extern "C" fn rpkirtr_cache_close(alloc: Global, h: &mut CacheHandle, conn: u32) -> i32
     ensures { On h.old.value h.new.value result (λ s t. Serves s (λ m. AtConn (m.at conn) result (IsServing (with_conn conn None m) t) (t ≡ s))) }
 {
-    let Some(mut service) = h.take(alloc) else {
-        return Status::Empty.number();
+    let Some(mut served) = h.take(alloc) else {
+        return CallStatus::Empty.number();
     };
-    let answer = service.close(conn);
-    *h = shut_cache(service);
+    let answer = served.close(conn);
+    *h = shut_cache(served);
     answer.number()
 }
 
@@ -267,11 +267,11 @@ pub extern "C" fn rpkirtr_cache_receive(
     ensures within { taken.new ≤ length bytes.now }
 {
     *taken = 0;
-    let Some(mut service) = h.take(alloc) else {
-        return Status::Empty.number();
+    let Some(mut served) = h.take(alloc) else {
+        return CallStatus::Empty.number();
     };
-    let answer = service.receive(conn, bytes, taken);
-    *h = shut_cache(service);
+    let answer = served.receive(conn, bytes, taken);
+    *h = shut_cache(served);
     answer.number()
 }
 
@@ -289,11 +289,11 @@ pub extern "C" fn rpkirtr_cache_pull(
     ensures within { pulled.new ≤ length room.old }
 {
     *pulled = 0;
-    let Some(mut service) = h.take(alloc) else {
-        return Status::Empty.number();
+    let Some(mut served) = h.take(alloc) else {
+        return CallStatus::Empty.number();
     };
-    let answer = service.pull(conn, room, pulled);
-    *h = shut_cache(service);
+    let answer = served.pull(conn, room, pulled);
+    *h = shut_cache(served);
     answer.number()
 }
 
@@ -309,11 +309,11 @@ pub extern "C" fn rpkirtr_cache_notify(
     ensures empty { h.old.value ≡ None → sent.new ≡ 0 }
 {
     *sent = 0;
-    let Some(mut service) = h.take(alloc) else {
-        return Status::Empty.number();
+    let Some(mut served) = h.take(alloc) else {
+        return CallStatus::Empty.number();
     };
-    let answer = service.notify(conn, sent);
-    *h = shut_cache(service);
+    let answer = served.notify(conn, sent);
+    *h = shut_cache(served);
     answer.number()
 }
 
@@ -329,11 +329,11 @@ pub extern "C" fn rpkirtr_cache_has_bytes(
     ensures empty { h.old.value ≡ None → has.new ≡ 0 }
 {
     *has = 0;
-    let Some(service) = h.take(alloc) else {
-        return Status::Empty.number();
+    let Some(served) = h.take(alloc) else {
+        return CallStatus::Empty.number();
     };
-    let answer = service.has_bytes(conn, has);
-    *h = shut_cache(service);
+    let answer = served.has_bytes(conn, has);
+    *h = shut_cache(served);
     answer.number()
 }
 
@@ -349,11 +349,11 @@ pub extern "C" fn rpkirtr_cache_is_open(
     ensures empty { h.old.value ≡ None → continues.new ≡ 0 }
 {
     *continues = 0;
-    let Some(service) = h.take(alloc) else {
-        return Status::Empty.number();
+    let Some(served) = h.take(alloc) else {
+        return CallStatus::Empty.number();
     };
-    let answer = service.is_open(conn, continues);
-    *h = shut_cache(service);
+    let answer = served.is_open(conn, continues);
+    *h = shut_cache(served);
     answer.number()
 }
 
@@ -370,10 +370,10 @@ pub extern "C" fn rpkirtr_cache_current(
 {
     *serial = 0;
     *count = 0;
-    let Some(service) = h.take(alloc) else {
-        return Status::Empty.number();
+    let Some(served) = h.take(alloc) else {
+        return CallStatus::Empty.number();
     };
-    let answer = service.current(serial, count);
-    *h = shut_cache(service);
+    let answer = served.current(serial, count);
+    *h = shut_cache(served);
     answer.number()
 }

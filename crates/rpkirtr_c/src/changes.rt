@@ -4,13 +4,13 @@ ghost use Rattle.rpkirtr_c.specs.Answers.{number};
 ghost use Rattle.rpkirtr_c.specs.Changes.{Begins, IsBegun, Takes, announced_of, withdrawn_of};
 ghost use Rattle.rpkirtr_c.specs.Live.{On};
 ghost use Rattle.rpkirtr_c.specs.Spelled.{IsCopied};
-ghost use Rattle.rpkirtr_c.specs.declared.status.Status.TheVariants.{Done};
+ghost use Rattle.rpkirtr_c.specs.declared.call_status.CallStatus.TheVariants.{Done};
 ghost use Rattle.vrps.specs.Change.{between};
 ghost use Rattle.vrps.specs.VrpSet.{VrpSet as Vrps};
 
+use crate::call_status::CallStatus;
 use crate::router::{RouterHandle, shut};
 use crate::session::{Pending, Session};
-use crate::status::Status;
 use crate::values::{CRecord, copy_records, from_index};
 use prefixes::Vrp;
 use std::alloc::{AllocError, Global};
@@ -52,19 +52,19 @@ fn begin(
     session: &mut Session,
     withdraws: &mut usize,
     announces: &mut usize,
-) -> Status
+) -> CallStatus
     ensures { Begins (number result) withdraws.new announces.new session.old session.new }
 {
     *withdraws = 0;
     *announces = 0;
     let begun = match pending(alloc, &session.taken, session.router.table()) {
-        Err(_) => return Status::NoMemory,
+        Err(_) => return CallStatus::NoMemory,
         Ok(begun) => begun,
     };
     *withdraws = begun.change.withdraw.len();
     *announces = begun.change.announce.len();
     session.pending = Some(begun);
-    Status::Done
+    CallStatus::Done
 }
 
 /// Compares the committed records with those accepted last, and counts those withdrawn and announced. That change is
@@ -82,7 +82,7 @@ pub extern "C" fn rpkirtr_router_changes_begin(
     *withdraws = 0;
     *announces = 0;
     let Some(mut session) = h.take(alloc) else {
-        return Status::Empty.number();
+        return CallStatus::Empty.number();
     };
     let answer = begin(alloc, &mut session, withdraws, announces);
     *h = shut(session);
@@ -103,11 +103,11 @@ pub extern "C" fn rpkirtr_router_withdrawn(
 {
     *copied = 0;
     let Some(session) = h.take(alloc) else {
-        return Status::Empty.number();
+        return CallStatus::Empty.number();
     };
     *copied = copy_records(from_index(withdrawn(&session.pending), first), room);
     *h = shut(session);
-    Status::Done.number()
+    CallStatus::Done.number()
 }
 
 /// Copies the announced records of the change, in the same way.
@@ -124,11 +124,11 @@ pub extern "C" fn rpkirtr_router_announced(
 {
     *copied = 0;
     let Some(session) = h.take(alloc) else {
-        return Status::Empty.number();
+        return CallStatus::Empty.number();
     };
     *copied = copy_records(from_index(announced(&session.pending), first), room);
     *h = shut(session);
-    Status::Done.number()
+    CallStatus::Done.number()
 }
 
 /// Accepts the change: the next one begins at the records that it led to. If none has begun, nothing changes.
@@ -137,12 +137,12 @@ pub extern "C" fn rpkirtr_router_changes_taken(alloc: Global, h: &mut RouterHand
     ensures { On h.old.value h.new.value result (λ s t. (result ≡ number Done) × Takes s t) }
 {
     let Some(mut session) = h.take(alloc) else {
-        return Status::Empty.number();
+        return CallStatus::Empty.number();
     };
     let pending = session.pending.take();
     if let Some(pending) = pending {
         session.taken = pending.table;
     }
     *h = shut(session);
-    Status::Done.number()
+    CallStatus::Done.number()
 }

@@ -2,7 +2,7 @@
 ghost use Rattle.std.specs.Prelude.{◌≡◌, IfOk, IfErr};
 ghost use Rattle.rpkirtr_c.specs.Configurations.{IsConfigFault, IsValid, config_number, config_of, config_status, told_config};
 
-use crate::status::Status;
+use crate::call_status::CallStatus;
 use rtr_ends::{RouterConfig, Timing, TimingFault};
 
 /// The size of a configuration, in bytes.
@@ -35,12 +35,12 @@ pub(crate) enum ConfigFault {
 
 impl ConfigFault {
     /// What a call answers of it.
-    pub(crate) fn status(self) -> Status
+    pub(crate) fn status(self) -> CallStatus
         ensures { result ≡ config_status self }
     {
         match self {
-            ConfigFault::Structure => Status::BadStructure,
-            ConfigFault::Intervals(_) => Status::BadTiming,
+            ConfigFault::Structure => CallStatus::BadStructure,
+            ConfigFault::Intervals(_) => CallStatus::BadTiming,
         }
     }
 

@@ -9,14 +9,14 @@ ghost use Rattle.rpkirtr_c.specs.Sessions.{AreCovering, IsJudged};
 ghost use Rattle.rpkirtr_c.specs.Spelled.{state_number};
 ghost use Rattle.rpkirtr_c.specs.declared.judge.Judge.{Judge};
 ghost use Rattle.rpkirtr_c.specs.contracts.judge.Judge as judge;
-ghost use Rattle.rpkirtr_c.specs.declared.status.Status.TheVariants.{Done};
+ghost use Rattle.rpkirtr_c.specs.declared.call_status.CallStatus.TheVariants.{Done};
 ghost use Rattle.rpkirtr_c.specs.declared.values.CRecord.{CRecord as Records};
 ghost use Rattle.vrps.specs.VrpSet.{set_of, size};
 ghost use Rattle.vrps.specs.declared.origin.OriginState.TheVariants.{NotFound};
 
+use crate::call_status::CallStatus;
 use crate::judge::Judge;
 use crate::loose::Loose;
-use crate::status::Status;
 use crate::values::{CRecord, CRoute, copy_records, route_of, state_number, vrp_of};
 use prefixes::Vrp;
 use std::alloc::{AllocError, Global};
@@ -197,13 +197,13 @@ fn index_over(alloc: Global, records: &[CRecord]) -> Result<Judge, IndexFault>
 
 impl IndexFault {
     /// What a call answers of it.
-    pub(crate) fn status(self) -> Status
+    pub(crate) fn status(self) -> CallStatus
         ensures { result ≡ fault_status self }
     {
         match self {
-            IndexFault::Bad(_) => Status::BadRecord,
-            IndexFault::TooMany => Status::OutOfRange,
-            IndexFault::Memory => Status::NoMemory,
+            IndexFault::Bad(_) => CallStatus::BadRecord,
+            IndexFault::TooMany => CallStatus::OutOfRange,
+            IndexFault::Memory => CallStatus::NoMemory,
         }
     }
 
@@ -244,7 +244,7 @@ pub extern "C" fn rpkirtr_index_new(
     *bad = 0;
     if let Some(judge) = h.take(alloc) {
         *h = shut_index(judge);
-        return Status::Live.number();
+        return CallStatus::Live.number();
     }
     match boxed_over(alloc, records) {
         Err(fault) => {
@@ -253,7 +253,7 @@ pub extern "C" fn rpkirtr_index_new(
         }
         Ok(judge) => {
             *h = shut_index(judge);
-            Status::Done.number()
+            CallStatus::Done.number()
         }
     }
 }
@@ -270,18 +270,18 @@ fn boxed_set(alloc: Global, set: &VrpSet) -> Result<Box<Judge>, IndexFault>
 }
 
 /// Makes an index over a set in an empty handle.
-pub(crate) fn fill_index(alloc: Global, set: &VrpSet, h: &mut IndexHandle) -> Status
+pub(crate) fn fill_index(alloc: Global, set: &VrpSet, h: &mut IndexHandle) -> CallStatus
     ensures { New h.old.value h.new.value (number result) (λ s. s.index ≡ set.now) }
 {
     if let Some(judge) = h.take(alloc) {
         *h = shut_index(judge);
-        return Status::Live;
+        return CallStatus::Live;
     }
     match boxed_set(alloc, set) {
-        Err(_) => Status::NoMemory,
+        Err(_) => CallStatus::NoMemory,
         Ok(judge) => {
             *h = shut_index(judge);
-            Status::Done
+            CallStatus::Done
         }
     }
 }
@@ -292,8 +292,8 @@ pub extern "C" fn rpkirtr_index_free(alloc: Global, h: &mut IndexHandle) -> i32
     ensures { Freed h.old.value h.new.value result }
 {
     match h.take(alloc) {
-        None => Status::Empty.number(),
-        Some(_judge) => Status::Done.number(),
+        None => CallStatus::Empty.number(),
+        Some(_judge) => CallStatus::Done.number(),
     }
 }
 
@@ -305,11 +305,11 @@ pub extern "C" fn rpkirtr_index_count(alloc: Global, h: &mut IndexHandle, count:
 {
     *count = 0;
     let Some(judge) = h.take(alloc) else {
-        return Status::Empty.number();
+        return CallStatus::Empty.number();
     };
     *count = judge.count;
     *h = shut_index(judge);
-    Status::Done.number()
+    CallStatus::Done.number()
 }
 
 /// Writes the state of a route over the index: 0 not found, 1 valid, 2 invalid.
@@ -325,13 +325,13 @@ pub extern "C" fn rpkirtr_index_state(
 {
     *state = state_number(OriginState::NotFound);
     let Some(judge) = h.take(alloc) else {
-        return Status::Empty.number();
+        return CallStatus::Empty.number();
     };
     let answer = match route_of(route) {
-        None => Status::BadRoute,
+        None => CallStatus::BadRoute,
         Some(route) => {
             *state = state_number(judge.index.state(&route));
-            Status::Done
+            CallStatus::Done
         }
     };
     *h = shut_index(judge);
@@ -352,16 +352,16 @@ pub extern "C" fn rpkirtr_index_covering(
 {
     *count = 0;
     let Some(judge) = h.take(alloc) else {
-        return Status::Empty.number();
+        return CallStatus::Empty.number();
     };
     let answer = match route_of(route) {
-        None => Status::BadRoute,
+        None => CallStatus::BadRoute,
         Some(route) => match judge.index.covering(alloc, &route) {
-            Err(_) => Status::NoMemory,
+            Err(_) => CallStatus::NoMemory,
             Ok(records) => {
                 *count = records.len();
                 let _copied = copy_records(records.as_slice(), room);
-                Status::Done
+                CallStatus::Done
             }
         },
     };

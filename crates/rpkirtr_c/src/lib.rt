@@ -3,6 +3,7 @@
 
 mod authorization;
 mod cache;
+mod call_status;
 mod changes;
 mod configuration;
 mod conns;
@@ -19,9 +20,8 @@ mod octets;
 mod records;
 mod roa;
 mod router;
-mod service;
+mod served_cache;
 mod session;
-mod status;
 mod texts;
 mod traffic;
 mod values;

@@ -6,7 +6,7 @@ ghost use Rattle.rtr_ends.specs.Seen.{seen_versions};
 use rtr_ends::{CommittedVersion, End, Link};
 use rtr_pdu::Version;
 
-/// The moment of what never happens.
+/// The time, in seconds of the caller's clock, that means an event that never happens.
 pub const NEVER: u64 = u64::MAX;
 
 /// A link: 0 closed, 1 idle, 2 asked, 3 answering, 4 ended. If it ended, `end` is the number of the end, and `code` the code of
@@ -45,7 +45,7 @@ fn code_of(end: End) -> u16
     }
 }
 
-/// A link as C has it.
+/// Converts a link to the C interface.
 pub fn link_of(link: Link) -> CLink
     ensures { result ≡ link_of link }
 {
@@ -59,7 +59,7 @@ pub fn link_of(link: Link) -> CLink
     CLink { state, end, code }
 }
 
-/// A committed version as C has it.
+/// Converts a committed version to the C interface. `None`: all fields are 0.
 pub fn committed_of(version: Option<CommittedVersion>) -> CCommitted
     ensures { result ≡ committed_of (seen_versions version) }
 {
@@ -89,7 +89,7 @@ pub fn committed_of(version: Option<CommittedVersion>) -> CCommitted
     }
 }
 
-/// The version of the protocol of this number, if there is one.
+/// The protocol version of this number, 0 or 1. `None` for any other number.
 pub fn version_of(number: u8) -> Option<Version>
     ensures { result ≡ version_of number }
 {

@@ -2,9 +2,9 @@
 ghost use Rattle.std.specs.Prelude.{◌≡◌, IfOk, IfErr};
 ghost use Rattle.rpkirtr_c.specs.Indexes.{AreRecords, IsFaultIn, IsOver, NewIndexOf, list_of, records_in};
 
+use crate::call_status::CallStatus;
 use crate::index::{IndexFault, IndexHandle, add_vrps, judge_over, shut_index};
 use crate::judge::Judge;
-use crate::status::Status;
 use crate::values::CRecord;
 use prefixes::Vrp;
 use std::alloc::Global;
@@ -93,7 +93,7 @@ pub extern "C" fn rpkirtr_index_new_of(
     *bad = 0;
     if let Some(judge) = h.take(alloc) {
         *h = shut_index(judge);
-        return Status::Live.number();
+        return CallStatus::Live.number();
     }
     match boxed_in(alloc, lists) {
         Err(found) => {
@@ -103,7 +103,7 @@ pub extern "C" fn rpkirtr_index_new_of(
         }
         Ok(judge) => {
             *h = shut_index(judge);
-            Status::Done.number()
+            CallStatus::Done.number()
         }
     }
 }

@@ -7,13 +7,13 @@ ghost use Rattle.rpkirtr_c.specs.Manifests.{AreTimes, IsContents, IsFileAt, IsMa
 ghost use Rattle.rpkirtr_c.specs.Octets.{IsFilled, no_digest};
 ghost use Rattle.rpkirtr_c.specs.declared.contents.Contents.{Contents};
 ghost use Rattle.rpkirtr_c.specs.contracts.contents.Contents as contents;
-ghost use Rattle.rpkirtr_c.specs.declared.status.Status.TheVariants.{Done};
+ghost use Rattle.rpkirtr_c.specs.declared.call_status.CallStatus.TheVariants.{Done};
 
+use crate::call_status::CallStatus;
 use crate::contents::Contents;
 use crate::loose::Loose;
 use crate::objects::{CFault, fault_of, no_fault};
 use crate::octets::{CDigest, copy_octets, no_digest};
-use crate::status::Status;
 use payloads::{ListedFile, PayloadFault, decode_manifest};
 use std::alloc::Global;
 use std::fmt::{self, Debug};
@@ -131,17 +131,17 @@ pub extern "C" fn rpkirtr_manifest_new(
     *fault = no_fault();
     if let Some(contents) = h.take(alloc) {
         *h = shut_manifest(contents);
-        return Status::Live.number();
+        return CallStatus::Live.number();
     }
     match boxed(alloc, bytes) {
         Err(PayloadFault::At(found)) => {
             *fault = fault_of(found);
-            Status::BadPayload.number()
+            CallStatus::BadPayload.number()
         }
-        Err(PayloadFault::Memory) => Status::NoMemory.number(),
+        Err(PayloadFault::Memory) => CallStatus::NoMemory.number(),
         Ok(contents) => {
             *h = shut_manifest(contents);
-            Status::Done.number()
+            CallStatus::Done.number()
         }
     }
 }
@@ -152,8 +152,8 @@ pub extern "C" fn rpkirtr_manifest_free(alloc: Global, h: &mut ManifestHandle) -
     ensures { Freed h.old.value h.new.value result }
 {
     match h.take(alloc) {
-        None => Status::Empty.number(),
-        Some(_contents) => Status::Done.number(),
+        None => CallStatus::Empty.number(),
+        Some(_contents) => CallStatus::Done.number(),
     }
 }
 
@@ -170,11 +170,11 @@ pub extern "C" fn rpkirtr_manifest_number(
 {
     *len = 0;
     let Some(contents) = h.take(alloc) else {
-        return Status::Empty.number();
+        return CallStatus::Empty.number();
     };
     *len = copy_octets(contents.manifest.number(), room);
     *h = shut_manifest(contents);
-    Status::Done.number()
+    CallStatus::Done.number()
 }
 
 /// Writes thisUpdate and nextUpdate, in seconds after the beginning of 1970.
@@ -191,12 +191,12 @@ pub extern "C" fn rpkirtr_manifest_times(
     *this_update = 0;
     *next_update = 0;
     let Some(contents) = h.take(alloc) else {
-        return Status::Empty.number();
+        return CallStatus::Empty.number();
     };
     *this_update = contents.manifest.this_update().seconds();
     *next_update = contents.manifest.next_update().seconds();
     *h = shut_manifest(contents);
-    Status::Done.number()
+    CallStatus::Done.number()
 }
 
 /// Writes how many files it lists.
@@ -211,11 +211,11 @@ pub extern "C" fn rpkirtr_manifest_count(
 {
     *count = 0;
     let Some(contents) = h.take(alloc) else {
-        return Status::Empty.number();
+        return CallStatus::Empty.number();
     };
     *count = contents.manifest.files().len();
     *h = shut_manifest(contents);
-    Status::Done.number()
+    CallStatus::Done.number()
 }
 
 /// Writes the file at an index.
@@ -225,21 +225,21 @@ fn write_file(
     room: &mut [u8],
     len: &mut usize,
     digest: &mut CDigest,
-) -> Status
+) -> CallStatus
     ensures { IsFileAt files.now index (number result) room.old room.new len.new digest.new }
 {
     match files.get(index) {
         None => {
             *len = 0;
             *digest = no_digest();
-            Status::OutOfRange
+            CallStatus::OutOfRange
         }
         Some(file) => {
             *len = copy_octets(file.name().as_bytes(), room);
             *digest = CDigest {
                 octets: *file.hash(),
             };
-            Status::Done
+            CallStatus::Done
         }
     }
 }
@@ -260,7 +260,7 @@ pub extern "C" fn rpkirtr_manifest_file(
     *len = 0;
     *digest = no_digest();
     let Some(contents) = h.take(alloc) else {
-        return Status::Empty.number();
+        return CallStatus::Empty.number();
     };
     let answer = write_file(contents.manifest.files(), index, room, len, digest);
     *h = shut_manifest(contents);

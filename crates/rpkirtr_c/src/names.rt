@@ -5,14 +5,14 @@ ghost use Rattle.payloads.specs.declared.fault.GrammarFaultKind.{GrammarFaultKin
 ghost use Rattle.rpkirtr_c.specs.Answers.{number};
 ghost use Rattle.rpkirtr_c.specs.Names.{IsNamed, element_name, end_name, fault_name, link_name, link_number};
 ghost use Rattle.rpkirtr_c.specs.Spelled.{state_number};
-ghost use Rattle.rpkirtr_c.specs.declared.status.Status.TheVariants.{Done};
+ghost use Rattle.rpkirtr_c.specs.declared.call_status.CallStatus.TheVariants.{Done};
 ghost use Rattle.rtr_ends.specs.RouterLink.{end_number};
 ghost use Rattle.rtr_ends.specs.declared.link.End.{End as Ends};
 ghost use Rattle.rtr_ends.specs.declared.link.Link.{Link as Links};
 ghost use Rattle.vrps.specs.Origin.{state_text};
 ghost use Rattle.vrps.specs.declared.origin.OriginState.{OriginState as States};
 
-use crate::status::Status;
+use crate::call_status::CallStatus;
 use crate::texts::{CText, in_room};
 use der_lite::DerFaultKind;
 use payloads::GrammarFaultKind;
@@ -187,7 +187,7 @@ pub extern "C" fn rpkirtr_state_name(state: i32, text: &mut CText) -> i32
         None => in_room(b"no such state"),
         Some(found) => in_room(state_name(found)),
     };
-    Status::Done.number()
+    CallStatus::Done.number()
 }
 
 /// Writes the name of the state of a link.
@@ -200,7 +200,7 @@ pub extern "C" fn rpkirtr_link_name(link: u8, text: &mut CText) -> i32
         None => in_room(b"no such link"),
         Some(found) => in_room(link_name(found)),
     };
-    Status::Done.number()
+    CallStatus::Done.number()
 }
 
 /// Writes how a link ended. The code of its Error Report is not in the text.
@@ -213,7 +213,7 @@ pub extern "C" fn rpkirtr_end_name(end: u8, text: &mut CText) -> i32
         None => in_room(b"no such end"),
         Some(found) => in_room(end_name(found)),
     };
-    Status::Done.number()
+    CallStatus::Done.number()
 }
 
 /// Writes what is at fault in a payload.
@@ -226,5 +226,5 @@ pub extern "C" fn rpkirtr_fault_name(fault: u32, text: &mut CText) -> i32
         None => in_room(b"no such fault"),
         Some(found) => in_room(fault_name(found)),
     };
-    Status::Done.number()
+    CallStatus::Done.number()
 }

@@ -5,13 +5,13 @@ ghost use Rattle.rpkirtr_c.specs.Answers.{number};
 ghost use Rattle.rpkirtr_c.specs.Live.{New, On};
 ghost use Rattle.rpkirtr_c.specs.Sessions.{AreCovering, IsJudged, Shows};
 ghost use Rattle.rpkirtr_c.specs.Spelled.{IsCopied, IsRecordAt, no_record, state_number};
-ghost use Rattle.rpkirtr_c.specs.declared.status.Status.TheVariants.{Done};
+ghost use Rattle.rpkirtr_c.specs.declared.call_status.CallStatus.TheVariants.{Done};
 ghost use Rattle.vrps.specs.VrpSet.{listing, size};
 ghost use Rattle.vrps.specs.declared.origin.OriginState.TheVariants.{NotFound};
 
+use crate::call_status::CallStatus;
 use crate::index::{IndexHandle, fill_index};
 use crate::router::{RouterHandle, shut};
-use crate::status::Status;
 use crate::values::{
     CRecord, CRoute, copy_records, from_index, no_record, record_at, route_of, state_number,
 };
@@ -30,11 +30,11 @@ pub extern "C" fn rpkirtr_router_count(
 {
     *count = 0;
     let Some(session) = h.take(alloc) else {
-        return Status::Empty.number();
+        return CallStatus::Empty.number();
     };
     *count = session.router.table().len();
     *h = shut(session);
-    Status::Done.number()
+    CallStatus::Done.number()
 }
 
 /// Writes the state of a route over the committed records: 0 not found, 1 valid, 2 invalid.
@@ -50,13 +50,13 @@ pub extern "C" fn rpkirtr_router_state(
 {
     *state = state_number(OriginState::NotFound);
     let Some(session) = h.take(alloc) else {
-        return Status::Empty.number();
+        return CallStatus::Empty.number();
     };
     let answer = match route_of(route) {
-        None => Status::BadRoute,
+        None => CallStatus::BadRoute,
         Some(route) => {
             *state = state_number(session.router.route_state(&route));
-            Status::Done
+            CallStatus::Done
         }
     };
     *h = shut(session);
@@ -76,7 +76,7 @@ pub extern "C" fn rpkirtr_router_record(
 {
     *out = no_record();
     let Some(session) = h.take(alloc) else {
-        return Status::Empty.number();
+        return CallStatus::Empty.number();
     };
     let answer = record_at(session.router.table().as_slice(), index, out);
     *h = shut(session);
@@ -97,11 +97,11 @@ pub extern "C" fn rpkirtr_router_records(
 {
     *copied = 0;
     let Some(session) = h.take(alloc) else {
-        return Status::Empty.number();
+        return CallStatus::Empty.number();
     };
     *copied = copy_records(from_index(session.router.table().as_slice(), first), room);
     *h = shut(session);
-    Status::Done.number()
+    CallStatus::Done.number()
 }
 
 /// Copies the committed records that cover a route in ascending order, as many as fit, and writes how many there are.
@@ -118,16 +118,16 @@ pub extern "C" fn rpkirtr_router_covering(
 {
     *count = 0;
     let Some(session) = h.take(alloc) else {
-        return Status::Empty.number();
+        return CallStatus::Empty.number();
     };
     let answer = match route_of(route) {
-        None => Status::BadRoute,
+        None => CallStatus::BadRoute,
         Some(route) => match session.router.covering(&route) {
-            Err(_) => Status::NoMemory,
+            Err(_) => CallStatus::NoMemory,
             Ok(records) => {
                 *count = records.len();
                 let _copied = copy_records(records.as_slice(), room);
-                Status::Done
+                CallStatus::Done
             }
         },
     };
@@ -147,7 +147,7 @@ pub extern "C" fn rpkirtr_router_index(
     ensures empty { h.old.value ≡ None → index.new.value ≡ index.old.value }
 {
     let Some(session) = h.take(alloc) else {
-        return Status::Empty.number();
+        return CallStatus::Empty.number();
     };
     let answer = fill_index(alloc, session.router.table(), index);
     *h = shut(session);

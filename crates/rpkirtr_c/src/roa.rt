@@ -7,12 +7,12 @@ ghost use Rattle.rpkirtr_c.specs.Objects.{IsAuthorization, IsRoaFault, NewRoa};
 ghost use Rattle.rpkirtr_c.specs.Spelled.{IsCopied};
 ghost use Rattle.rpkirtr_c.specs.declared.authorization.Authorization.{Authorization};
 ghost use Rattle.rpkirtr_c.specs.contracts.authorization.Authorization as authorization;
-ghost use Rattle.rpkirtr_c.specs.declared.status.Status.TheVariants.{Done};
+ghost use Rattle.rpkirtr_c.specs.declared.call_status.CallStatus.TheVariants.{Done};
 
 use crate::authorization::Authorization;
+use crate::call_status::CallStatus;
 use crate::loose::Loose;
 use crate::objects::{CFault, fault_of, no_fault};
-use crate::status::Status;
 use crate::values::{CRecord, copy_records, from_index};
 use payloads::{PayloadFault, decode_roa};
 use std::alloc::Global;
@@ -144,17 +144,17 @@ pub extern "C" fn rpkirtr_roa_new(
     *fault = no_fault();
     if let Some(value) = h.take(alloc) {
         *h = shut_roa(value);
-        return Status::Live.number();
+        return CallStatus::Live.number();
     }
     match boxed(alloc, bytes) {
         Err(PayloadFault::At(found)) => {
             *fault = fault_of(found);
-            Status::BadPayload.number()
+            CallStatus::BadPayload.number()
         }
-        Err(PayloadFault::Memory) => Status::NoMemory.number(),
+        Err(PayloadFault::Memory) => CallStatus::NoMemory.number(),
         Ok(value) => {
             *h = shut_roa(value);
-            Status::Done.number()
+            CallStatus::Done.number()
         }
     }
 }
@@ -165,8 +165,8 @@ pub extern "C" fn rpkirtr_roa_free(alloc: Global, h: &mut RoaHandle) -> i32
     ensures { Freed h.old.value h.new.value result }
 {
     match h.take(alloc) {
-        None => Status::Empty.number(),
-        Some(_value) => Status::Done.number(),
+        None => CallStatus::Empty.number(),
+        Some(_value) => CallStatus::Done.number(),
     }
 }
 
@@ -178,11 +178,11 @@ pub extern "C" fn rpkirtr_roa_asn(alloc: Global, h: &mut RoaHandle, asn: &mut u3
 {
     *asn = 0;
     let Some(value) = h.take(alloc) else {
-        return Status::Empty.number();
+        return CallStatus::Empty.number();
     };
     *asn = value.asn.0;
     *h = shut_roa(value);
-    Status::Done.number()
+    CallStatus::Done.number()
 }
 
 /// Writes how many prefixes it lists.
@@ -193,11 +193,11 @@ pub extern "C" fn rpkirtr_roa_count(alloc: Global, h: &mut RoaHandle, count: &mu
 {
     *count = 0;
     let Some(value) = h.take(alloc) else {
-        return Status::Empty.number();
+        return CallStatus::Empty.number();
     };
     *count = value.vrps.len();
     *h = shut_roa(value);
-    Status::Done.number()
+    CallStatus::Done.number()
 }
 
 /// Copies what it validates in its order, from an index on, as many as fit, and writes how many.
@@ -214,9 +214,9 @@ pub extern "C" fn rpkirtr_roa_records(
 {
     *copied = 0;
     let Some(value) = h.take(alloc) else {
-        return Status::Empty.number();
+        return CallStatus::Empty.number();
     };
     *copied = copy_records(from_index(value.vrps.as_slice(), first), room);
     *h = shut_roa(value);
-    Status::Done.number()
+    CallStatus::Done.number()
 }

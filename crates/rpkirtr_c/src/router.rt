@@ -12,18 +12,18 @@ ghost use Rattle.rtr_ends.specs.Configuration.{default_config};
 ghost use Rattle.rpkirtr_c.specs.Links.{committed_of, link_of, moment_of, never};
 ghost use Rattle.rtr_ends.specs.RouterLink.{asked_on, told_link};
 ghost use Rattle.rtr_ends.specs.declared.link.Link.TheVariants as links;
-ghost use Rattle.rpkirtr_c.specs.declared.status.Status.TheVariants.{Done};
+ghost use Rattle.rpkirtr_c.specs.declared.call_status.CallStatus.TheVariants.{Done};
 ghost use Rattle.rtr_ends.specs.LinkRules as rules;
 ghost use Rattle.rtr_ends.specs.Router as model;
 ghost use Rattle.rtr_ends.specs.RouterShown.{IsShown};
 ghost use Rattle.rtr_server.specs.Turns.{no_traffic};
 ghost use Rattle.vrps.specs.VrpSet.{empty};
 
+use crate::call_status::CallStatus;
 use crate::configuration::{CConfig, config_of, told_config};
 use crate::links::{CCommitted, CLink, NEVER, committed_of, link_of, version_of};
 use crate::loose::Loose;
 use crate::session::Session;
-use crate::status::Status;
 use crate::traffic::{CTraffic, tell};
 use rtr_ends::{AskFault, Link, Router, RouterConfig};
 use rtr_server::Traffic;
@@ -128,7 +128,7 @@ pub extern "C" fn rpkirtr_router_new(alloc: Global, h: &mut RouterHandle) -> i32
 {
     if let Some(session) = h.take(alloc) {
         *h = shut(session);
-        return Status::Live.number();
+        return CallStatus::Live.number();
     }
     let session = Session {
         router: Router::new(alloc),
@@ -137,10 +137,10 @@ pub extern "C" fn rpkirtr_router_new(alloc: Global, h: &mut RouterHandle) -> i32
         traffic: Traffic::new(),
     };
     match Box::new(alloc, session) {
-        Err(_) => Status::NoMemory.number(),
+        Err(_) => CallStatus::NoMemory.number(),
         Ok(session) => {
             *h = shut(session);
-            Status::Done.number()
+            CallStatus::Done.number()
         }
     }
 }
@@ -151,8 +151,8 @@ pub extern "C" fn rpkirtr_router_free(alloc: Global, h: &mut RouterHandle) -> i3
     ensures { Freed h.old.value h.new.value result }
 {
     match h.take(alloc) {
-        None => Status::Empty.number(),
-        Some(_session) => Status::Done.number(),
+        None => CallStatus::Empty.number(),
+        Some(_session) => CallStatus::Done.number(),
     }
 }
 
@@ -162,13 +162,13 @@ pub extern "C" fn rpkirtr_router_speak(alloc: Global, h: &mut RouterHandle, vers
     ensures { On h.old.value h.new.value result (λ s t. IsSpoken version result s t) }
 {
     let Some(mut session) = h.take(alloc) else {
-        return Status::Empty.number();
+        return CallStatus::Empty.number();
     };
     let answer = match version_of(version) {
-        None => Status::BadVersion,
+        None => CallStatus::BadVersion,
         Some(version) => {
             session.router.speak(version);
-            Status::Done
+            CallStatus::Done
         }
     };
     *h = shut(session);
@@ -189,7 +189,7 @@ pub extern "C" fn rpkirtr_router_configure(
 {
     *fault = 0;
     let Some(mut session) = h.take(alloc) else {
-        return Status::Empty.number();
+        return CallStatus::Empty.number();
     };
     let answer = match config_of(config) {
         Err(found) => {
@@ -198,7 +198,7 @@ pub extern "C" fn rpkirtr_router_configure(
         }
         Ok(config) => {
             session.router.configure(config);
-            Status::Done
+            CallStatus::Done
         }
     };
     *h = shut(session);
@@ -217,11 +217,11 @@ pub extern "C" fn rpkirtr_router_config(
 {
     *config = told_config(&RouterConfig::default());
     let Some(session) = h.take(alloc) else {
-        return Status::Empty.number();
+        return CallStatus::Empty.number();
     };
     *config = told_config(session.router.config());
     *h = shut(session);
-    Status::Done.number()
+    CallStatus::Done.number()
 }
 
 /// A connection is made at the moment `now`, and a query is ready to be pulled.
@@ -230,11 +230,11 @@ pub extern "C" fn rpkirtr_router_connect(alloc: Global, h: &mut RouterHandle, no
     ensures call { On h.old.value h.new.value result (λ s t. (result ≡ number Done) × Carries (model.Connects now) no_traffic s t) }
 {
     let Some(mut session) = h.take(alloc) else {
-        return Status::Empty.number();
+        return CallStatus::Empty.number();
     };
     session.connect(now);
     *h = shut(session);
-    Status::Done.number()
+    CallStatus::Done.number()
 }
 
 /// The transport closed the connection.
@@ -247,11 +247,11 @@ pub extern "C" fn rpkirtr_router_connection_closed(
     ensures { On h.old.value h.new.value result (λ s t. (result ≡ number Done) × Makes (model.Closes now) s t) }
 {
     let Some(mut session) = h.take(alloc) else {
-        return Status::Empty.number();
+        return CallStatus::Empty.number();
     };
     session.router.closed(now);
     *h = shut(session);
-    Status::Done.number()
+    CallStatus::Done.number()
 }
 
 /// Hands over bytes that were received at the moment `now`, and writes how many were consumed.
@@ -269,11 +269,11 @@ pub extern "C" fn rpkirtr_router_receive(
 {
     *taken = 0;
     let Some(mut session) = h.take(alloc) else {
-        return Status::Empty.number();
+        return CallStatus::Empty.number();
     };
     *taken = session.receive(bytes, now);
     *h = shut(session);
-    Status::Done.number()
+    CallStatus::Done.number()
 }
 
 /// Moves bytes to be sent into the room, as many as fit, and writes how many.
@@ -290,11 +290,11 @@ pub extern "C" fn rpkirtr_router_pull(
 {
     *pulled = 0;
     let Some(mut session) = h.take(alloc) else {
-        return Status::Empty.number();
+        return CallStatus::Empty.number();
     };
     *pulled = session.pull(room);
     *h = shut(session);
-    Status::Done.number()
+    CallStatus::Done.number()
 }
 
 /// Advances the clock. A query is sent if it is due, and the records are dropped if they have expired.
@@ -303,11 +303,11 @@ pub extern "C" fn rpkirtr_router_tick(alloc: Global, h: &mut RouterHandle, now: 
     ensures { On h.old.value h.new.value result (λ s t. (result ≡ number Done) × Makes (model.Ticks now) s t) }
 {
     let Some(mut session) = h.take(alloc) else {
-        return Status::Empty.number();
+        return CallStatus::Empty.number();
     };
     session.router.tick(now);
     *h = shut(session);
-    Status::Done.number()
+    CallStatus::Done.number()
 }
 
 /// Sends a query on an idle link.
@@ -316,12 +316,12 @@ pub extern "C" fn rpkirtr_router_ask(alloc: Global, h: &mut RouterHandle) -> i32
     ensures { On h.old.value h.new.value result (λ s t. Makes model.AsksNow s t × Shows s (λ r. result ≡ number (ask_answer (asked_on r.link)))) }
 {
     let Some(mut session) = h.take(alloc) else {
-        return Status::Empty.number();
+        return CallStatus::Empty.number();
     };
     let answer = match session.router.ask() {
-        Ok(()) => Status::Done,
-        Err(AskFault::Busy) => Status::Busy,
-        Err(AskFault::NotConnected) => Status::NotLinked,
+        Ok(()) => CallStatus::Done,
+        Err(AskFault::Busy) => CallStatus::Busy,
+        Err(AskFault::NotConnected) => CallStatus::NotLinked,
     };
     *h = shut(session);
     answer.number()
@@ -339,11 +339,11 @@ pub extern "C" fn rpkirtr_router_next_query_at(
 {
     *at = NEVER;
     let Some(session) = h.take(alloc) else {
-        return Status::Empty.number();
+        return CallStatus::Empty.number();
     };
     *at = session.router.due().unwrap_or(NEVER);
     *h = shut(session);
-    Status::Done.number()
+    CallStatus::Done.number()
 }
 
 /// Writes the moment from which on a tick has something to do, in seconds of the caller's clock: `NEVER` if there is none. It is that of the
@@ -355,11 +355,11 @@ pub extern "C" fn rpkirtr_router_wake_at(alloc: Global, h: &mut RouterHandle, at
 {
     *at = NEVER;
     let Some(session) = h.take(alloc) else {
-        return Status::Empty.number();
+        return CallStatus::Empty.number();
     };
     *at = session.router.wake_at().unwrap_or(NEVER);
     *h = shut(session);
-    Status::Done.number()
+    CallStatus::Done.number()
 }
 
 /// Writes the state of the link, and how it ended.
@@ -370,11 +370,11 @@ pub extern "C" fn rpkirtr_router_link(alloc: Global, h: &mut RouterHandle, link:
 {
     *link = link_of(Link::Closed);
     let Some(session) = h.take(alloc) else {
-        return Status::Empty.number();
+        return CallStatus::Empty.number();
     };
     *link = link_of(session.router.link());
     *h = shut(session);
-    Status::Done.number()
+    CallStatus::Done.number()
 }
 
 /// Writes the committed version: all zero if nothing is committed.
@@ -389,11 +389,11 @@ pub extern "C" fn rpkirtr_router_committed(
 {
     *committed = committed_of(None);
     let Some(session) = h.take(alloc) else {
-        return Status::Empty.number();
+        return CallStatus::Empty.number();
     };
     *committed = committed_of(session.router.committed_version());
     *h = shut(session);
-    Status::Done.number()
+    CallStatus::Done.number()
 }
 
 /// Writes what the latest connection carried, in each direction. If the structure has another size than this header says, nothing is written.
@@ -408,7 +408,7 @@ pub extern "C" fn rpkirtr_router_traffic(
 {
     let Some(session) = h.take(alloc) else {
         tell(&Traffic::new(), traffic);
-        return Status::Empty.number();
+        return CallStatus::Empty.number();
     };
     let answer = tell(&session.traffic, traffic);
     *h = shut(session);

@@ -2,10 +2,10 @@
 ghost use Rattle.std.specs.Prelude.{◌≡◌, ◌<◌, length, codes, IfSome, IfNone};
 ghost use Rattle.rpkirtr_c.specs.Answers.{number};
 ghost use Rattle.rpkirtr_c.specs.Texts.{Means, in_room, meaning};
-ghost use Rattle.rpkirtr_c.specs.declared.status.Status.{Status as Statuses};
-ghost use Rattle.rpkirtr_c.specs.declared.status.Status.TheVariants.{Done};
+ghost use Rattle.rpkirtr_c.specs.declared.call_status.CallStatus.{CallStatus as Statuses};
+ghost use Rattle.rpkirtr_c.specs.declared.call_status.CallStatus.TheVariants.{Done};
 
-use crate::status::Status;
+use crate::call_status::CallStatus;
 
 /// The version of the release.
 const VERSION: &[u8] = b"1.1.0";
@@ -33,29 +33,29 @@ pub(crate) fn in_room(text: &[u8]) -> CText
     CText { text: room }
 }
 
-impl Status {
+impl CallStatus {
     /// The status of this number, if there is one.
-    fn of_number(code: i32) -> Option<Status>
+    fn of_number(code: i32) -> Option<CallStatus>
         ensures some { IfSome result (λ s. number s ≡ code) }
         ensures none { IfNone result ((s : Statuses) → ¬ (number s ≡ code)) }
     {
         match code {
-            0 => Some(Status::Done),
-            1 => Some(Status::Empty),
-            2 => Some(Status::Live),
-            3 => Some(Status::NoMemory),
-            4 => Some(Status::BadRecord),
-            5 => Some(Status::BadRoute),
-            6 => Some(Status::BadVersion),
-            7 => Some(Status::OutOfRange),
-            8 => Some(Status::NotLinked),
-            9 => Some(Status::Busy),
-            10 => Some(Status::BadPayload),
-            11 => Some(Status::BadTiming),
-            12 => Some(Status::NoConnection),
-            13 => Some(Status::NoData),
-            14 => Some(Status::BadKeep),
-            15 => Some(Status::BadStructure),
+            0 => Some(CallStatus::Done),
+            1 => Some(CallStatus::Empty),
+            2 => Some(CallStatus::Live),
+            3 => Some(CallStatus::NoMemory),
+            4 => Some(CallStatus::BadRecord),
+            5 => Some(CallStatus::BadRoute),
+            6 => Some(CallStatus::BadVersion),
+            7 => Some(CallStatus::OutOfRange),
+            8 => Some(CallStatus::NotLinked),
+            9 => Some(CallStatus::Busy),
+            10 => Some(CallStatus::BadPayload),
+            11 => Some(CallStatus::BadTiming),
+            12 => Some(CallStatus::NoConnection),
+            13 => Some(CallStatus::NoData),
+            14 => Some(CallStatus::BadKeep),
+            15 => Some(CallStatus::BadStructure),
             _ => None,
         }
     }
@@ -66,22 +66,22 @@ impl Status {
         ensures short { length result.now < 64 }
     {
         match self {
-            Status::Done => b"the call succeeded",
-            Status::Empty => b"the handle is empty",
-            Status::Live => b"the handle is live and has to be freed first",
-            Status::NoMemory => b"out of memory",
-            Status::BadRecord => b"a malformed record",
-            Status::BadRoute => b"a malformed route",
-            Status::BadVersion => b"no such version of the protocol",
-            Status::OutOfRange => b"an index at or past the end, or too many records",
-            Status::NotLinked => b"no connection, or one that has ended",
-            Status::Busy => b"a query is outstanding",
-            Status::BadPayload => b"a malformed payload",
-            Status::BadTiming => b"intervals that are not valid",
-            Status::NoConnection => b"no connection has this number",
-            Status::NoData => b"nothing is published",
-            Status::BadKeep => b"no version to be kept, or too many",
-            Status::BadStructure => b"a structure of another size, or a malformed one",
+            CallStatus::Done => b"the call succeeded",
+            CallStatus::Empty => b"the handle is empty",
+            CallStatus::Live => b"the handle is live and has to be freed first",
+            CallStatus::NoMemory => b"out of memory",
+            CallStatus::BadRecord => b"a malformed record",
+            CallStatus::BadRoute => b"a malformed route",
+            CallStatus::BadVersion => b"no such version of the protocol",
+            CallStatus::OutOfRange => b"an index at or past the end, or too many records",
+            CallStatus::NotLinked => b"no connection, or one that has ended",
+            CallStatus::Busy => b"a query is outstanding",
+            CallStatus::BadPayload => b"a malformed payload",
+            CallStatus::BadTiming => b"intervals that are not valid",
+            CallStatus::NoConnection => b"no connection has this number",
+            CallStatus::NoData => b"nothing is published",
+            CallStatus::BadKeep => b"no version to be kept, or too many",
+            CallStatus::BadStructure => b"a structure of another size, or a malformed one",
         }
     }
 }
@@ -92,11 +92,11 @@ pub extern "C" fn rpkirtr_strerror(status: i32, text: &mut CText) -> i32
     ensures text { Means status text.new }
     ensures answer { result ≡ number Done }
 {
-    *text = match Status::of_number(status) {
+    *text = match CallStatus::of_number(status) {
         None => in_room(b"no such status"),
         Some(status) => in_room(status.meaning()),
     };
-    Status::Done.number()
+    CallStatus::Done.number()
 }
 
 /// Writes the version of the release.
@@ -106,7 +106,7 @@ pub extern "C" fn rpkirtr_version(text: &mut CText) -> i32
     ensures answer { result ≡ number Done }
 {
     *text = in_room(VERSION);
-    Status::Done.number()
+    CallStatus::Done.number()
 }
 
 /// The version of the header. A program needs the one that it was compiled with.

@@ -5,7 +5,7 @@ ghost use Rattle.rpkirtr_c.specs.Answers.{number};
 ghost use Rattle.rpkirtr_c.specs.Carried.{IsTold, carried_of, line_of, pdus_of, report_code, report_line, traffic_of};
 ghost use Rattle.rpkirtr_c.specs.Texts.{in_room};
 
-use crate::status::Status;
+use crate::call_status::CallStatus;
 use crate::texts::{CText, in_room};
 use rtr_pdu::Kind;
 use rtr_server::{PdusByKind, Report, Tally, Traffic};
@@ -127,12 +127,12 @@ fn traffic_of(traffic: &Traffic) -> CTraffic
 }
 
 /// Writes what a connection carried, if the structure has the size of this header.
-pub(crate) fn tell(traffic: &Traffic, out: &mut CTraffic) -> Status
+pub(crate) fn tell(traffic: &Traffic, out: &mut CTraffic) -> CallStatus
     ensures { IsTold traffic.now (number result) out.old out.new }
 {
     if out.size_ != TRAFFIC_SIZE {
-        return Status::BadStructure;
+        return CallStatus::BadStructure;
     }
     *out = traffic_of(traffic);
-    Status::Done
+    CallStatus::Done
 }

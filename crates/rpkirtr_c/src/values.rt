@@ -7,7 +7,7 @@ ghost use Rattle.prefixes.specs.declared.route.Route.{Route};
 ghost use Rattle.rpkirtr_c.specs.Answers.{number};
 ghost use Rattle.rpkirtr_c.specs.Spelled.{IsCopied, IsRecordAt, SpellsPrefix, SpellsRecord, SpellsRoute, address_bytes, family_number, no_record, state_number, v4_bytes, v6_bytes};
 
-use crate::status::Status;
+use crate::call_status::CallStatus;
 use byteorder::{BigEndian, ByteOrder};
 use prefixes::{Asn, IpPrefix, Prefix, Route, V4, V6, Vrp};
 use vrps::OriginState;
@@ -90,7 +90,7 @@ fn prefix_of(family: u8, addr: &[u8; 16], len: u8) -> Option<IpPrefix>
     }
 }
 
-/// The route, if it is one.
+/// Converts a route of the C interface. `None`: its family, address or length does not give a prefix. `zero_` is not checked.
 pub fn route_of(route: &CRoute) -> Option<Route>
     ensures some { IfSome result (λ r. SpellsRoute route.now r) }
     ensures none { IfNone result ((r : Route) → ¬ (SpellsRoute route.now r)) }
@@ -104,7 +104,7 @@ pub fn route_of(route: &CRoute) -> Option<Route>
     Some(Route { prefix, origin })
 }
 
-/// The payload of a record, if it is one.
+/// Converts a record of the C interface to a VRP. `None`: its prefix or maximum length is not valid, or `zero_` is not 0.
 pub fn vrp_of(from: &CRecord) -> Option<Vrp>
     ensures some { IfSome result (λ v. SpellsRecord from.now v) }
     ensures none { IfNone result ((v : Payload) → ¬ (SpellsRecord from.now v)) }
@@ -157,7 +157,7 @@ fn family_of(prefix: &IpPrefix) -> u8
     }
 }
 
-/// The record of a payload.
+/// Converts a VRP to a record of the C interface.
 pub fn record_of(vrp: &Vrp) -> CRecord
     ensures { SpellsRecord result vrp.now }
 {
@@ -172,7 +172,7 @@ pub fn record_of(vrp: &Vrp) -> CRecord
     }
 }
 
-/// The record of nothing.
+/// The record whose fields are all 0. It is written in place of a record that does not exist.
 pub fn no_record() -> CRecord
     ensures { result ≡ no_record }
 {
@@ -186,7 +186,7 @@ pub fn no_record() -> CRecord
     }
 }
 
-/// The records from an index on: none if it is at or past the end.
+/// The part of the list from index `first` on. Empty if `first` is the length or more.
 pub fn from_index(list: &[Vrp], first: usize) -> &[Vrp]
     ensures { result.now ≡ drop first list.now }
 {
@@ -196,7 +196,7 @@ pub fn from_index(list: &[Vrp], first: usize) -> &[Vrp]
     }
 }
 
-/// Copies records into the room, as many as fit, and writes how many.
+/// Copies the first records of the list to `room`, as many as fit, and returns how many. The rest of `room` stays.
 pub fn copy_records(list: &[Vrp], room: &mut [CRecord]) -> usize
     ensures { IsCopied list.now room.old room.new result }
 {
@@ -207,23 +207,23 @@ pub fn copy_records(list: &[Vrp], room: &mut [CRecord]) -> usize
     count
 }
 
-/// Writes the record at an index.
-pub fn record_at(list: &[Vrp], index: usize, told: &mut CRecord) -> Status
+/// Writes the record at this index to `told`. `OutOfRange`: the index is the length or more, and `no_record` is written.
+pub fn record_at(list: &[Vrp], index: usize, told: &mut CRecord) -> CallStatus
     ensures { IsRecordAt list.now index (number result) told.new }
 {
     match list.get(index) {
         None => {
             *told = no_record();
-            Status::OutOfRange
+            CallStatus::OutOfRange
         }
         Some(vrp) => {
             *told = record_of(vrp);
-            Status::Done
+            CallStatus::Done
         }
     }
 }
 
-/// The number of a state.
+/// The state's number in the C interface: `RPKIRTR_NOT_FOUND` (0), `RPKIRTR_VALID` (1) or `RPKIRTR_INVALID` (2).
 pub fn state_number(state: OriginState) -> i32
     ensures { result ≡ state_number state }
 {

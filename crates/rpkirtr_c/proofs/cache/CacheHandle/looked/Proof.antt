@@ -32,8 +32,8 @@ use Rattle.std.proofs.raw_atomic.Walks.{proved_at, leaves}
 use Rattle.std.specs.contracts.alloc.Global as heap
 use Rattle.std.proofs.alloc.Global.TheLaws as heap_laws
 use Rattle.std.specs.contracts.impls.GlobalAllocator.TheImpl as heap_impl
-use Rattle.rpkirtr_c.specs.contracts.service.Service as held
-use Rattle.rpkirtr_c.proofs.service.Service.TheLaws as held_laws
+use Rattle.rpkirtr_c.specs.contracts.served_cache.ServedCache as held
+use Rattle.rpkirtr_c.proofs.served_cache.ServedCache.TheLaws as held_laws
 use Rattle.rpkirtr_c.specs.Held.{held as held_at, is_live}
 use Rattle.rpkirtr_c.specs.contracts.cache.CacheHandle as handle
 use denote.Struct.Tuple.{Tuple}

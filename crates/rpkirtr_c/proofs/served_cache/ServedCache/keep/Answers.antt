@@ -1,9 +1,9 @@
 use Rattle.std.proofs.Common.{sym, subst, arith}
 use Rattle.rpkirtr_c.specs.Answers.{number}
 use Rattle.rpkirtr_c.specs.Caches.{Opens}
-use Rattle.rpkirtr_c.specs.declared.status.Status.TheVariants.{Done, OutOfRange}
+use Rattle.rpkirtr_c.specs.declared.call_status.CallStatus.TheVariants.{Done, OutOfRange}
 use Rattle.rpkirtr_c.proofs.CacheLaws.{closes, keeps}
-use Rattle.rpkirtr_c.proofs.service.Service.keep.Goals as goal
+use Rattle.rpkirtr_c.proofs.served_cache.ServedCache.keep.Goals as goal
 
 pub returns-in-Err : goal.returns-in-Err
 returns-in-Err c = λ empty m opening.

@@ -9,9 +9,9 @@ ghost use Rattle.rpkirtr_c.specs.Answers.{number};
 ghost use Rattle.rpkirtr_c.specs.Indexes.{IsFaultOf};
 ghost use Rattle.rpkirtr_c.specs.Caches.{AtConn, Gives, IsCacheFault, IsCurrent, IsNew, IsOpening, IsPublished, IsServing, Opens, Serves, Takes, cache_status, intervals_in, timing_number};
 
+use crate::call_status::CallStatus;
 use crate::conns::Conns;
 use crate::index::{IndexFault, set_over, vrps_of};
-use crate::status::Status;
 use crate::values::CRecord;
 use rtr_ends::{Cache, Conn, Timing, TimingFault};
 use std::alloc::{AllocError, Global};
@@ -19,7 +19,7 @@ use vrps::{Published, VersionLog};
 
 /// A cache, and its connections by their numbers.
 #[derive(Debug, Drop)]
-pub struct Service {
+pub struct ServedCache {
     pub(crate) cache: Cache<VersionLog>,
     pub(crate) conns: Conns,
 }
@@ -49,7 +49,7 @@ pub(crate) enum CacheFault {
 }
 
 impl From<AllocError> for CacheFault {
-    ghost use Rattle.rpkirtr_c.specs.declared.service.CacheFault.TheVariants.{Memory};
+    ghost use Rattle.rpkirtr_c.specs.declared.served_cache.CacheFault.TheVariants.{Memory};
 
     ghost from_gives = { λ _ e. e ≡ Memory };
 
@@ -60,13 +60,13 @@ impl From<AllocError> for CacheFault {
 
 impl CacheFault {
     /// What a call answers of it.
-    pub(crate) fn status(self) -> Status
+    pub(crate) fn status(self) -> CallStatus
         ensures { result ≡ cache_status self }
     {
         match self {
-            CacheFault::Timing(_) => Status::BadTiming,
-            CacheFault::Keep => Status::BadKeep,
-            CacheFault::Memory => Status::NoMemory,
+            CacheFault::Timing(_) => CallStatus::BadTiming,
+            CacheFault::Keep => CallStatus::BadKeep,
+            CacheFault::Memory => CallStatus::NoMemory,
         }
     }
 
@@ -93,9 +93,9 @@ fn timing_of(settings: &Settings) -> Result<Timing, CacheFault>
     }
 }
 
-impl Service {
+impl ServedCache {
     /// A cache that has published nothing and has no connection, or why there is none.
-    pub(crate) fn new(alloc: Global, settings: &Settings) -> Result<Service, CacheFault>
+    pub(crate) fn new(alloc: Global, settings: &Settings) -> Result<ServedCache, CacheFault>
         ensures ok { IfOk result (IsNew settings.now) }
         ensures err { IfErr result (IsCacheFault settings.now) }
     {
@@ -104,7 +104,7 @@ impl Service {
             return Err(CacheFault::Keep);
         }
         let log = VersionLog::new(alloc, settings.session, settings.start, settings.keep)?;
-        Ok(Service {
+        Ok(ServedCache {
             cache: Cache::new_both(alloc, log, settings.session0, timing),
             conns: Conns::new(alloc),
         })
@@ -125,135 +125,135 @@ impl Service {
     }
 
     /// Opens a connection, and writes its number.
-    pub(crate) fn open(&mut self, conn: &mut u32) -> Status
+    pub(crate) fn open(&mut self, conn: &mut u32) -> CallStatus
         ensures { Serves self.old (λ m. Opens m (number result) conn.new self.new) }
     {
         *conn = 0;
         if self.conns.reserve().is_err() {
-            return Status::NoMemory;
+            return CallStatus::NoMemory;
         }
         match self.cache.open() {
-            Err(_) => Status::NoMemory,
+            Err(_) => CallStatus::NoMemory,
             Ok(opened) => self.keep(opened, conn),
         }
     }
 
     /// Keeps a connection that was opened, if its number has at most 32 bits. If it has more, it is closed.
-    fn keep(&mut self, opened: Conn, conn: &mut u32) -> Status
+    fn keep(&mut self, opened: Conn, conn: &mut u32) -> CallStatus
         requires { vec_len self.old.conns.slots < vec_capacity self.old.conns.slots }
         ensures { conn.old ≡ 0 → (m : CacheState) → IsOpening m opened.0 self.old → Opens m (number result) conn.new self.new }
     {
         match u32::try_from(opened.number()) {
             Err(_) => {
                 self.cache.close(opened);
-                Status::OutOfRange
+                CallStatus::OutOfRange
             }
             Ok(fits) => {
                 *conn = fits;
                 self.conns.insert(opened);
-                Status::Done
+                CallStatus::Done
             }
         }
     }
 
     /// Closes a connection.
-    pub(crate) fn close(&mut self, conn: u32) -> Status
+    pub(crate) fn close(&mut self, conn: u32) -> CallStatus
         ensures { Serves self.old (λ m. AtConn (m.at conn) (number result) (IsServing (with_conn conn None m) self.new) (self.new ≡ self.old)) }
     {
         match self.conns.get(conn) {
-            None => Status::NoConnection,
+            None => CallStatus::NoConnection,
             Some(found) => {
                 self.cache.close(found);
                 self.conns.remove(conn);
-                Status::Done
+                CallStatus::Done
             }
         }
     }
 
     /// Receives bytes on a connection, and writes how many were consumed.
-    pub(crate) fn receive(&mut self, conn: u32, piece: &[u8], taken: &mut usize) -> Status
+    pub(crate) fn receive(&mut self, conn: u32, piece: &[u8], taken: &mut usize) -> CallStatus
         ensures call { Serves self.old (λ m. AtConn (m.at conn) (number result) (Takes m conn piece.now taken.new self.new) ((self.new ≡ self.old) × (taken.new ≡ 0))) }
         ensures within { taken.new ≤ length piece.now }
     {
         *taken = 0;
         match self.conns.get(conn) {
-            None => Status::NoConnection,
+            None => CallStatus::NoConnection,
             Some(found) => {
                 *taken = self.cache.receive(found, piece);
-                Status::Done
+                CallStatus::Done
             }
         }
     }
 
     /// Moves bytes that are due on a connection into the room, and writes how many.
-    pub(crate) fn pull(&mut self, conn: u32, room: &mut [u8], pulled: &mut usize) -> Status
+    pub(crate) fn pull(&mut self, conn: u32, room: &mut [u8], pulled: &mut usize) -> CallStatus
         ensures call { Serves self.old (λ m. AtConn (m.at conn) (number result) (Gives m conn room.old pulled.new room.new self.new) ((self.new ≡ self.old) × (room.new ≡ room.old) × (pulled.new ≡ 0))) }
         ensures within { pulled.new ≤ length room.old }
     {
         *pulled = 0;
         match self.conns.get(conn) {
-            None => Status::NoConnection,
+            None => CallStatus::NoConnection,
             Some(found) => {
                 *pulled = self.cache.pull(found, room);
-                Status::Done
+                CallStatus::Done
             }
         }
     }
 
     /// Sends a Serial Notify on a connection, if it can be sent, and writes whether it was.
-    pub(crate) fn notify(&mut self, conn: u32, sent: &mut u8) -> Status
+    pub(crate) fn notify(&mut self, conn: u32, sent: &mut u8) -> CallStatus
         ensures { Serves self.old (λ m. AtConn (m.at conn) (number result) ((sent.new ≡ from_bool (can_notify_at m.cache (m.at conn))) × IsServing (notified conn m) self.new) ((self.new ≡ self.old) × (sent.new ≡ 0))) }
     {
         *sent = 0;
         match self.conns.get(conn) {
-            None => Status::NoConnection,
+            None => CallStatus::NoConnection,
             Some(found) => {
                 *sent = u8::from(self.cache.notify(found));
-                Status::Done
+                CallStatus::Done
             }
         }
     }
 
     /// Writes whether bytes are due on a connection.
-    pub(crate) fn has_bytes(&self, conn: u32, has: &mut u8) -> Status
+    pub(crate) fn has_bytes(&self, conn: u32, has: &mut u8) -> CallStatus
         ensures { Serves self.now (λ m. AtConn (m.at conn) (number result) (has.new ≡ from_bool (has_bytes_at (m.at conn))) (has.new ≡ 0)) }
     {
         *has = 0;
         match self.conns.get(conn) {
-            None => Status::NoConnection,
+            None => CallStatus::NoConnection,
             Some(found) => {
                 *has = u8::from(self.cache.has_bytes(found));
-                Status::Done
+                CallStatus::Done
             }
         }
     }
 
     /// Writes whether a connection continues.
-    pub(crate) fn is_open(&self, conn: u32, continues: &mut u8) -> Status
+    pub(crate) fn is_open(&self, conn: u32, continues: &mut u8) -> CallStatus
         ensures { Serves self.now (λ m. AtConn (m.at conn) (number result) (continues.new ≡ from_bool (is_open_at (m.at conn))) (continues.new ≡ 0)) }
     {
         *continues = 0;
         match self.conns.get(conn) {
-            None => Status::NoConnection,
+            None => CallStatus::NoConnection,
             Some(found) => {
                 *continues = u8::from(self.cache.is_open(found));
-                Status::Done
+                CallStatus::Done
             }
         }
     }
 
     /// Writes the serial of the current version, and how many records it has.
-    pub(crate) fn current(&self, serial: &mut u32, count: &mut usize) -> Status
+    pub(crate) fn current(&self, serial: &mut u32, count: &mut usize) -> CallStatus
         ensures { Serves self.now (λ m. IsCurrent (newest (versions m.cache)) (number result) serial.new count.new) }
     {
         *serial = 0;
         *count = 0;
         match self.cache.current() {
-            None => Status::NoData,
+            None => CallStatus::NoData,
             Some((newest, set)) => {
                 *serial = newest.0;
                 *count = set.len();
-                Status::Done
+                CallStatus::Done
             }
         }
     }

@@ -4,7 +4,7 @@ ghost use Rattle.rpkirtr_c.specs.Answers.{number};
 
 /// What a call answers. The numbers are fixed, and none is given twice.
 #[derive(Clone, Copy, Debug, PartialEq, Eq)]
-pub enum Status {
+pub enum CallStatus {
     /// The call did what it says.
     Done,
     /// The handle is empty: it was never made, or was freed.
@@ -39,28 +39,28 @@ pub enum Status {
     BadStructure,
 }
 
-impl Status {
-    /// The number by which C knows it.
+impl CallStatus {
+    /// The number of the status in the C interface.
     pub fn number(self) -> i32
         ensures { result ≡ number self }
     {
         match self {
-            Status::Done => 0,
-            Status::Empty => 1,
-            Status::Live => 2,
-            Status::NoMemory => 3,
-            Status::BadRecord => 4,
-            Status::BadRoute => 5,
-            Status::BadVersion => 6,
-            Status::OutOfRange => 7,
-            Status::NotLinked => 8,
-            Status::Busy => 9,
-            Status::BadPayload => 10,
-            Status::BadTiming => 11,
-            Status::NoConnection => 12,
-            Status::NoData => 13,
-            Status::BadKeep => 14,
-            Status::BadStructure => 15,
+            CallStatus::Done => 0,
+            CallStatus::Empty => 1,
+            CallStatus::Live => 2,
+            CallStatus::NoMemory => 3,
+            CallStatus::BadRecord => 4,
+            CallStatus::BadRoute => 5,
+            CallStatus::BadVersion => 6,
+            CallStatus::OutOfRange => 7,
+            CallStatus::NotLinked => 8,
+            CallStatus::Busy => 9,
+            CallStatus::BadPayload => 10,
+            CallStatus::BadTiming => 11,
+            CallStatus::NoConnection => 12,
+            CallStatus::NoData => 13,
+            CallStatus::BadKeep => 14,
+            CallStatus::BadStructure => 15,
         }
     }
 }

@@ -3,7 +3,7 @@ use Rattle.rtr_ends.specs.CacheState.{ShowsCache, without_conns}
 use Rattle.rtr_ends.specs.Timing.{Intervals, IsTiming}
 use Rattle.vrps.specs.Instance.{Instance}
 use Rattle.vrps.specs.Steps.{HoldsSteps}
-use Rattle.rpkirtr_c.proofs.service.Service.new.Goals as goal
+use Rattle.rpkirtr_c.proofs.served_cache.ServedCache.new.Goals as goal
 
 pub returns-clause-ok : goal.returns-clause-ok
 returns-clause-ok c =
