@@ -129,6 +129,19 @@ class Object:
         return sequence(oid(self.id), element(0xA0, data)) + self.behind
 
 
+def spoil_oid(it):
+    """Puts octets that are no OBJECT IDENTIFIER as the type of the content, as the attribute or as the name of an extension."""
+    rng = it.rng
+    wrong = rng.choice([b"", b"\x80", it.content_type[:-1] + bytes([it.content_type[-1] | 128]), b"\x80" + it.content_type, b"\x2a\x80\3", b"\x2a\x86\xff"])
+    place = rng.randrange(3)
+    if place == 0:
+        it.content_type = wrong
+    elif place == 1:
+        it.extensions.insert(rng.randrange(len(it.extensions) + 1), it.extension(wrong, b""))
+    if place != 1:
+        it.attributes = [it.attribute(CONTENT_TYPE, oid(wrong)) if CONTENT_TYPE in a else a for a in it.attributes]
+
+
 def spoil(it, what):
     """Breaks one rule of an object."""
     rng = it.rng
@@ -174,6 +187,7 @@ def spoil(it, what):
         "parameters of the signature algorithm": lambda: setattr(it, "signature_algorithm", sequence(oid(RSA), sequence())),
         "unsigned attributes": lambda: setattr(it, "unsigned", element(0xA1, it.attribute(SIGNING_TIME, element(23, b"260101000000Z")))),
         "something behind the signature": lambda: setattr(it, "unsigned", element(4, b"")),
+        "an OBJECT IDENTIFIER that is none": lambda: spoil_oid(it),
         "another content type": lambda: setattr(it, "content_type", it.content_type[:-1] + b"\x30"),
         "another content": lambda: setattr(it, "content", it.content + b"\0"),
         "another digest": lambda: setattr(it, "attributes", [it.attribute(MESSAGE_DIGEST, element(4, rng.randbytes(32))) if MESSAGE_DIGEST in a else a for a in it.attributes]),
@@ -189,6 +203,18 @@ def spoil(it, what):
         return list(others)
     others[what]()
     return it
+
+
+def is_oid(content):
+    """Whether the octets are subidentifiers, at least one: X.690 section 8.19.2, in the way of its words."""
+    while content:
+        end = next((at for at, octet in enumerate(content) if octet < 128), None)
+        if end is None or content[0] == 0x80:
+            return False
+        if end + 1 == len(content):
+            return True
+        content = content[end + 1:]
+    return False
 
 
 class Reader:
@@ -238,6 +264,12 @@ class Reader:
             self.fault(4, inner.outer)
         return inner
 
+    def identifier(self):
+        inner = self.open(6)
+        if not is_oid(inner.rest):
+            self.fault(4, inner.outer)
+        return inner
+
     def fixed(self, inner, number, *wanted):
         if inner.rest not in wanted:
             self.fault(number, inner.outer)
@@ -281,7 +313,7 @@ def read_certificate(members):
     extensions, identifier = wrapped.open(0x30), None
     while extensions.rest:
         one = extensions.open(0x30)
-        name = one.open(6)
+        name = one.identifier()
         if name.rest == KEY_IDENTIFIER:
             if identifier is not None:
                 name.fault(16, name.outer)
@@ -316,7 +348,7 @@ def read_attributes(whole):
         elif name.rest == BINARY_TIME:
             value = members.integer()
         else:
-            value = members.open(6 if name.rest == CONTENT_TYPE else 4)
+            value = members.identifier() if name.rest == CONTENT_TYPE else members.open(4)
         members.end(25)
         one.end()
         values[name.rest] = value.rest
@@ -367,7 +399,7 @@ def judge(octets, is_strict):
         data.fixed(data.open(2), 7, b"\3")
         one_member(data.open(0x31), 8, lambda members: members.fixed(members.open(0x30), 9, *algorithms(SHA_256)))
         encapsulated = data.open(0x30)
-        content_type = encapsulated.open(6).rest
+        content_type = encapsulated.identifier().rest
         explicit = encapsulated.open(0xA0, missing=10)
         content = explicit.open(4).rest
         explicit.end()
@@ -390,6 +422,14 @@ def judge(octets, is_strict):
     except Refused as fault:
         return fault.args
     return None
+
+
+def is_rewritten(octets):
+    """Whether other octets than those of the file are read as DER, so that offsets are of those."""
+    try:
+        return to_der(octets) != octets
+    except Refused:
+        return False
 
 
 class Program:
@@ -418,8 +458,7 @@ class Program:
             expected = judge(octets, False)
             number = expected[0] if expected else 0
             self.faults[number] = self.faults.get(number, 0) + 1
-            is_der = expected or octets == to_der(octets)
-            right = self.says(lines[0], expected, is_der) and self.says(lines[1], judge(octets, True), True)
+            right = self.says(lines[0], expected, is_rewritten(octets)) and self.says(lines[1], judge(octets, True), False)
             if self.openssl > 0 and not expected and certificate and certificate in octets:
                 self.openssl -= 1
                 right = right and self.verified(name)
@@ -438,12 +477,12 @@ class Program:
         return told
 
     @staticmethod
-    def says(text, expected, is_der):
-        """Whether this is what is said of an object with this fault, or with none."""
+    def says(text, expected, other):
+        """Whether this is what is said of an object with this fault, or with none, if other octets than those of the file were read."""
         lines = text.split("\n")[1:]
         if expected:
-            return lines[0] == f"refused {expected[0]} at {expected[1]}"
-        if not is_der:
+            return lines[0].startswith(f"refused {expected[0]} at {expected[1]}{' of its DER' if other else ''}: ")
+        if other:
             return lines[0].startswith("not DER") and lines[1].startswith("type ")
         return lines[0].startswith("type ")
 

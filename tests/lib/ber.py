@@ -163,11 +163,14 @@ class Forms:
         return self.element(PIECES, b"".join(self.pieces(part, level + 1) for part in parts))
 
     def elements(self, der, depth=0, keeps=False):
-        """Elements in DER, one after the other. Those that are kept stay."""
+        """Elements in DER, one after the other. Those that are kept stay. An indefinite length is not in DER, and is refused."""
         octets, out = Octets(der, 0, len(der)), b""
         while octets.at < octets.end:
             tag, start = octets.head()
-            content = octets.take(octets.length(start), start)
+            length = octets.length(start)
+            if length is None:
+                raise Refused(40, start)
+            content = octets.take(length, start)
             if keeps:
                 out += der[start:octets.at]
             elif tag == OCTET_STRING:

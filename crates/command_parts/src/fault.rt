@@ -5,16 +5,16 @@ use std::alloc::AllocError;
 use std::io::{self, ErrorKind, Write};
 use thiserror::Error;
 
-/// Why a command fails. The text is written on standard error.
+/// Why a command fails. Its text is written to standard error.
 #[derive(Debug, Drop, Error)]
 pub enum ProgramFault {
-    /// The words do not parse. Status 2.
+    /// The command line does not parse. Exit status 2.
     #[error("rpkirtr: bad words")]
     Words,
-    /// A file, a socket or an output failed. Status 3.
+    /// A file, a socket or an output failed. Exit status 3.
     #[error("rpkirtr: device failed")]
     Device,
-    /// Out of memory. Status 4.
+    /// Memory ran out. Exit status 4.
     #[error("rpkirtr: out of memory")]
     Memory,
 }
@@ -35,7 +35,7 @@ impl From<io::Error> for ProgramFault {
     }
 }
 
-/// Prints a refusal as a line, and answers the exit status.
+/// Prints the line `refused ` and `what` to `out`, and returns exit status 1. `Err`: the output failed.
 pub fn refuse<O: Write>(what: &str, out: &mut O) -> Result<u8, ProgramFault>
     ensures { IfOk result (λ s. s ≤ 1) }
 {

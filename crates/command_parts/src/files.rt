@@ -5,7 +5,7 @@ use std::rt::Files;
 use std::{fs, io};
 use vrps::VrpSet;
 
-/// The bytes of a file.
+/// Reads a whole file into memory. `file` is its path. `Err`: the file cannot be read, or memory ran out.
 pub fn read_file<R: Files + AllocGlobal>(rt: &R, file: &str) -> io::Result<Vec<u8>> {
     let mut opened = fs::open(rt, file)?;
     let mut bytes = Vec::new(rt.alloc());
@@ -13,7 +13,8 @@ pub fn read_file<R: Files + AllocGlobal>(rt: &R, file: &str) -> io::Result<Vec<u
     Ok(bytes)
 }
 
-/// The set of the payload list in a file, or `None` if the file is not a payload list.
+/// Reads a payload list from a file, and returns its set. `file` is its path. `Ok(None)`: the file is not a payload list.
+/// `Err`: the file cannot be read, or memory ran out.
 pub fn read_set<R: Files + AllocGlobal>(
     rt: &R,
     file: &str,

@@ -21,7 +21,8 @@ fn print_piece<W: Write>(piece: &[u8], out: &mut W) -> io::Result<()>
     out.write_all(written)
 }
 
-/// Prints bytes. It allocates nothing.
+/// Prints the bytes in lower-case hexadecimal, two digits for each byte, without separators. It allocates no memory.
+/// `Err`: the output failed, perhaps after some of the digits.
 pub fn print_hex<W: Write>(bytes: &[u8], out: &mut W) -> io::Result<()>
     ensures { OnOk result (Appends (W.contents out.old) (W.contents out.new) (encode_lower bytes.now)) }
 {
@@ -48,7 +49,8 @@ fn push_piece(text: &mut String, piece: &[u8]) -> Result<(), AllocError>
     text.push_str(more)
 }
 
-/// Appends bytes to a text. Only the text allocates.
+/// Appends the bytes to `text` in lower-case hexadecimal, two digits for each byte, without separators.
+/// `Err`: memory ran out, perhaps after some of the digits. Only `text` allocates.
 pub fn push_hex(text: &mut String, bytes: &[u8]) -> Result<(), AllocError>
     ensures { OnOk result (string_bytes text.new ≡ string_bytes text.old ++ encode_lower bytes.now) }
 {

@@ -1,6 +1,4 @@
-//! What the commands of the program share: their faults ([`ProgramFault`]), the files that they read ([`read_file`], [`read_set`]), their
-//! refusals ([`refuse`]), and bytes in hexadecimal ([`print_hex`], [`push_hex`]). Also the words of a route and of its state ([`read_route`],
-//! [`word_of`]), numbers ([`decimal`]) and the name of a version ([`CacheName`]).
+//! What the commands of the program share.
 //!
 //! For example, where `rt` is the runtime that `main` is handed:
 //!
@@ -12,6 +10,9 @@
 //! assert!(rt; read_route("192.0.2.0/24", "none").is_some());
 //! assert!(rt; word_of(OriginState::NotFound) == "not-found");
 //! ```
+//!
+//! Faults: [`ProgramFault`]. Files: [`read_file`], [`read_set`]. Refusals: [`refuse`]. Hexadecimal: [`print_hex`], [`push_hex`].
+//! Routes and their states: [`read_route`], [`word_of`]. Numbers: [`decimal`]. The name of a version: [`CacheName`].
 #![tactic(auto)]
 
 mod fault;

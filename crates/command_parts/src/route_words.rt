@@ -1,4 +1,4 @@
-//! The words of a route, and of its state.
+//! Routes on the command line, and their states as text.
 ghost use Rattle.std.specs.Prelude.{◌≡◌, ℕ, IfNone, IfSome, Option};
 ghost use Rattle.prefixes.specs.declared.route.Route.{Route};
 ghost use Rattle.command_parts.specs.RouteWords.{OriginText, RouteText, state_word};
@@ -6,7 +6,8 @@ ghost use Rattle.command_parts.specs.RouteWords.{OriginText, RouteText, state_wo
 use prefixes::{Asn, IpPrefix, Route};
 use vrps::OriginState;
 
-/// The route of two words: a prefix, and the number of an AS or `none`.
+/// Parses a route: a prefix such as `192.0.2.0/24`, and an origin, which is an AS number without `AS` or `none`.
+/// `None`: one of them does not parse.
 pub fn read_route(prefix: &str, origin: &str) -> Option<Route>
     ensures some { IfSome result (λ route. RouteText route prefix.now origin.now) }
     ensures none { IfNone result ((route : Route) → ¬ (RouteText route prefix.now origin.now)) }
@@ -32,7 +33,7 @@ fn read_origin(word: &str) -> Option<Option<u32>>
     }
 }
 
-/// The word for a state.
+/// The origin validation state as text: `valid`, `invalid` or `not-found` (RFC 6811 section 2).
 pub fn word_of(state: OriginState) -> &'static str
     ensures { result.now ≡ state_word state }
 {

@@ -1,17 +1,18 @@
-//! Words that several commands parse.
+//! Values that several commands read from the command line.
 
-/// The name of a published version: the session in protocol version 1, the session in version 0, and the serial.
+/// The name of a published version: the cache's session in both protocol versions, and the serial.
 #[derive(Clone, Copy, Debug, PartialEq, Eq)]
 pub struct CacheName {
-    /// The session in version 1.
+    /// The session in protocol version 1.
     pub session: u16,
-    /// The session in version 0.
+    /// The session in protocol version 0.
     pub session0: u16,
     /// The serial.
     pub serial: u32,
 }
 
-/// The number of a text in decimal digits, without a leading zero or a sign.
+/// Parses a number in decimal digits.
+/// `None`: the text is no such number, has a sign or a leading zero, or the number is over `u64::MAX`.
 pub fn decimal(text: &str) -> Option<u64> {
     match text.as_bytes() {
         [b'+', ..] => None,

@@ -15,7 +15,9 @@ use std::alloc::Global;
 use std::io::{BufWriter, Write};
 use std::rt::Files;
 
-/// The command `roa`: the entries of the payload of a ROA in a file. Status 1 if it is refused; its first fault is printed.
+/// The command `roa`: prints the entries of a ROA payload as `print_roa` does. `file` is the path of the payload.
+/// `Ok`: the exit status, 0, or 1 if the payload is refused. Then its first fault and the byte offset are printed.
+/// `Err`: the file cannot be read, the output failed, or memory ran out.
 pub fn roa<R: Files + AllocGlobal, O: Write>(
     rt: &R,
     file: &str,
@@ -35,8 +37,9 @@ pub fn roa<R: Files + AllocGlobal, O: Write>(
     }
 }
 
-/// The command `manifest`: the fields and the files of the payload of a manifest in a file. Status 1 if it is refused; its first fault is
-/// printed.
+/// The command `manifest`: prints a manifest payload as `print_manifest` does. `file` is the path of the payload.
+/// `Ok`: the exit status, 0, or 1 if the payload is refused. Then its first fault and the byte offset are printed.
+/// `Err`: the file cannot be read, the output failed, or memory ran out.
 pub fn manifest<R: Files + AllocGlobal, O: Write>(
     rt: &R,
     file: &str,
@@ -56,8 +59,11 @@ pub fn manifest<R: Files + AllocGlobal, O: Write>(
     }
 }
 
-/// The command `payloads`: the payloads in use at a moment, after each directory was offered to the point of its name. All files are read
-/// before anything is printed. Status 1 if an offer is refused, or `now` is no moment.
+/// The command `payloads`: offers each directory to the point of its name, and prints the payloads valid at `now` as a list.
+/// `now` is a time in UTC such as `20250101000000Z`. `names` are the paths of the directories. All files are read before anything is printed.
+/// What became of each offer is printed to `err`.
+/// `Ok`: the exit status, 0, or 1 if an offer is refused or `now` is not a time.
+/// `Err`: a file cannot be read, an output failed, or memory ran out.
 pub fn payloads<R: Files + AllocGlobal + Clone + Drop, O: Write, E: Write>(
     rt: &R,
     now: &str,
@@ -116,8 +122,11 @@ fn refuse_payload<O: Write>(fault: PayloadFault, out: &mut O) -> Result<u8, Prog
     }
 }
 
-/// The command `route`: the state of the route that the words name, over the list of the file `vrps`. Status 1 if they name none, or the
-/// file holds no list.
+/// The command `route`: prints the state of a route over a payload list as one line: `valid`, `invalid` or `not-found` (RFC 6811 section 2).
+/// `vrps` is the path of the list. `prefix` and `origin` are as for `read_route`.
+///
+/// `Ok`: the exit status, 0, or 1 if an input is refused. Then the line `refused word` or `refused list` is printed to `out` instead: `word` if
+/// the route does not parse, `list` if the file is not a payload list. `Err`: the file cannot be read, the output failed, or memory ran out.
 pub fn route<R: Files + AllocGlobal, O: Write>(
     rt: &R,
     vrps: &str,

@@ -17,7 +17,7 @@ struct ReadFile {
     content: Vec<u8>,
 }
 
-/// What a directory holds: a manifest, and files, sorted by their names.
+/// A directory that is offered to a publication point: a manifest, and files sorted by their names.
 #[derive(Debug, Drop)]
 pub struct Directory<'a> {
     name: &'a str,
@@ -26,21 +26,21 @@ pub struct Directory<'a> {
 }
 
 impl<'a> Directory<'a> {
-    /// The name by which it was read.
+    /// The path by which the directory was read, which is also the name of its publication point.
     pub fn name(&self) -> &str
         ensures { result.now ≡ self.now.name.now }
     {
         self.name
     }
 
-    /// The content of the manifest.
+    /// The bytes of the file `manifest.der`.
     pub fn manifest(&self) -> &[u8]
         ensures { result.now ≡ self.now.manifest.items }
     {
         &self.manifest
     }
 
-    /// The files, as they are supplied.
+    /// The files in the form that a publication point reads: name, object and content of each. `Err`: memory ran out.
     pub fn files(&self, alloc: Global) -> Result<Vec<FileIn<'_>>, AllocError>
         ensures { IfOk result (λ files. Supplies self.now files.items) }
     {
@@ -56,7 +56,9 @@ impl<'a> Directory<'a> {
     }
 }
 
-/// Reads directories, in their order.
+/// Reads the directories with these paths, in their order. Each has a file `manifest.der` and a directory `objects`.
+/// The content of an object is the file of the same name in the directory `contents`, or empty if there is none.
+/// `Err`: a directory or a file cannot be read, `manifest.der` is not a regular file, or memory ran out.
 pub fn read_directories<'a, R: Files + AllocGlobal + Clone + Drop>(
     rt: &R,
     names: &[&'a str],

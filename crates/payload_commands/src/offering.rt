@@ -9,7 +9,8 @@ use points::{Offered, PointFault, Repository};
 use std::alloc::{AllocError, Global};
 use std::io::{self, Write};
 
-/// Offers what a directory holds to the point of its name.
+/// Offers a directory to the publication point of its name, at the time `now` (UTC).
+/// `Ok(Ok)`: the point accepted it, or already holds the same. `Ok(Err)`: the point refused it, for this reason. `Err`: memory ran out.
 pub fn offer_directory(
     alloc: Global,
     repository: &mut Repository,
@@ -29,8 +30,8 @@ pub fn offer_directory(
     }
 }
 
-/// Prints what became of an offer: the name and `new`, `same`, or `refused` with the number of the
-/// fault and the index of the file, if one is meant.
+/// Prints the result of an offer to `err` as one line: `name`, and `new`, `same` or `refused`. `Err`: the output failed.
+/// After `refused` come the number of the fault and the index of the file, if the fault is about one.
 pub fn tell_answer<E: Write>(
     name: &str,
     answer: &Result<Offered, PointFault>,

@@ -15,7 +15,8 @@ fn print_entry<W: Write>(asn: Asn, entry: &RoaEntry, out: &mut W) -> io::Result<
     writeln!(out, "{} {} {}", entry.prefix, max_len, asn)
 }
 
-/// Prints a line for each entry, in their order.
+/// Prints one line for each ROA entry, in the ROA's order: prefix, maximum length, AS number without `AS`, with spaces between.
+/// Without a maximum length, the prefix length is printed. `Err`: the output failed.
 pub fn print_roa<W: Write>(roa: &Roa, out: &mut W) -> io::Result<()>
     ensures { OnOk result (Appends (W.contents out.old) (W.contents out.new) (roa_lines roa.now)) }
 {

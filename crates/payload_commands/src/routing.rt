@@ -10,7 +10,8 @@ use std::alloc::Global;
 use std::io::{self, Write};
 use vrps::{OriginIndex, VrpSet};
 
-/// Prints the state of the route over the set, as a line.
+/// Prints the state of the route over the set as one line: `valid`, `invalid` or `not-found` (RFC 6811 section 2).
+/// `Err`: the output failed, or memory ran out.
 pub fn print_state<W: Write>(
     alloc: Global,
     set: &VrpSet,

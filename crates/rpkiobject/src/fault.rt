@@ -7,9 +7,15 @@ use thiserror::Error;
 #[derive(Debug, Drop, Error)]
 pub(crate) enum ProgramFault {
     /// The words do not parse. Status 2.
-    #[error("rpkiobject: bad words: rpkiobject [--strict] [--content OUT] FILE..")]
+    #[error("rpkiobject: bad words: rpkiobject [OPTION].. FILE..\nTry rpkiobject --help.")]
     Words,
-    /// A file or an output failed. Status 3.
+    /// An output is a file that is read, or both outputs are one file. Status 2.
+    #[error("rpkiobject: bad words: OUT is FILE, or another OUT")]
+    SameFile,
+    /// A file could not be written. It is named before. Status 3.
+    #[error("rpkiobject: OUT was not written")]
+    Output,
+    /// Standard output failed. Status 3.
     #[error("rpkiobject: device failed")]
     Device,
     /// Out of memory. Status 4.

@@ -1,4 +1,7 @@
 //! Kinds of signed objects.
+ghost use Rattle.std.specs.Prelude.{◌≡◌};
+ghost use Rattle.rpkiobject.specs.Kinds.{kind_of, extension_kind};
+
 use std::fmt::{self, Display, Formatter, Write};
 
 /// The kind of a signed object, by its eContentType.
@@ -20,21 +23,80 @@ pub(crate) enum ObjectKind {
     Other,
 }
 
-/// id-ct, 1.2.840.113549.1.9.16.1, in which each kind has one number.
-const ID_CT: [u8; 10] = [0x2a, 0x86, 0x48, 0x86, 0xf7, 0x0d, 0x01, 0x09, 0x10, 0x01];
+/// The eContentTypes: id-ct, 1.2.840.113549.1.9.16.1, and one number for each kind.
+const ROA: [u8; 11] = [
+    0x2a, 0x86, 0x48, 0x86, 0xf7, 0x0d, 0x01, 0x09, 0x10, 0x01, 24,
+];
+
+const MANIFEST: [u8; 11] = [
+    0x2a, 0x86, 0x48, 0x86, 0xf7, 0x0d, 0x01, 0x09, 0x10, 0x01, 26,
+];
+
+const GHOSTBUSTERS: [u8; 11] = [
+    0x2a, 0x86, 0x48, 0x86, 0xf7, 0x0d, 0x01, 0x09, 0x10, 0x01, 35,
+];
+
+const CHECKLIST: [u8; 11] = [
+    0x2a, 0x86, 0x48, 0x86, 0xf7, 0x0d, 0x01, 0x09, 0x10, 0x01, 48,
+];
+
+const ASPA: [u8; 11] = [
+    0x2a, 0x86, 0x48, 0x86, 0xf7, 0x0d, 0x01, 0x09, 0x10, 0x01, 49,
+];
+
+const TRUST_ANCHOR_KEY: [u8; 11] = [
+    0x2a, 0x86, 0x48, 0x86, 0xf7, 0x0d, 0x01, 0x09, 0x10, 0x01, 50,
+];
 
 impl ObjectKind {
     /// The kind of this content of the OBJECT IDENTIFIER eContentType.
-    pub(crate) fn of(content_type: &[u8]) -> ObjectKind {
-        match content_type.strip_prefix(ID_CT.as_slice()) {
-            Some([24]) => ObjectKind::Roa,
-            Some([26]) => ObjectKind::Manifest,
-            Some([35]) => ObjectKind::Ghostbusters,
-            Some([48]) => ObjectKind::Checklist,
-            Some([49]) => ObjectKind::Aspa,
-            Some([50]) => ObjectKind::TrustAnchorKey,
-            _ => ObjectKind::Other,
+    #[tactic(auto, unfolding(crate::specs::Kinds::kind_of))]
+    pub(crate) fn of(content_type: &[u8]) -> ObjectKind
+        ensures { result ≡ kind_of content_type.now }
+    {
+        if content_type == ROA.as_slice() {
+            ObjectKind::Roa
+        } else if content_type == MANIFEST.as_slice() {
+            ObjectKind::Manifest
+        } else if content_type == GHOSTBUSTERS.as_slice() {
+            ObjectKind::Ghostbusters
+        } else if content_type == CHECKLIST.as_slice() {
+            ObjectKind::Checklist
+        } else if content_type == ASPA.as_slice() {
+            ObjectKind::Aspa
+        } else if content_type == TRUST_ANCHOR_KEY.as_slice() {
+            ObjectKind::TrustAnchorKey
+        } else {
+            ObjectKind::Other
         }
+    }
+
+    /// The kind that files of this extension hold, if it is one of a signed object (RFC 6481 section 7).
+    #[tactic(auto, unfolding(crate::specs::Kinds::extension_kind))]
+    pub(crate) fn with_extension(extension: &str) -> Option<ObjectKind>
+        ensures { result ≡ extension_kind extension.now }
+    {
+        if extension == "roa" {
+            Some(ObjectKind::Roa)
+        } else if extension == "mft" {
+            Some(ObjectKind::Manifest)
+        } else if extension == "gbr" {
+            Some(ObjectKind::Ghostbusters)
+        } else if extension == "sig" {
+            Some(ObjectKind::Checklist)
+        } else if extension == "asa" {
+            Some(ObjectKind::Aspa)
+        } else if extension == "tak" {
+            Some(ObjectKind::TrustAnchorKey)
+        } else {
+            None
+        }
+    }
+
+    /// The kind that a file of this name holds, by its extension.
+    pub(crate) fn of_file(name: &str) -> Option<ObjectKind> {
+        let (_, extension) = name.rsplit_once('.')?;
+        ObjectKind::with_extension(extension)
     }
 }
 

@@ -1,8 +1,13 @@
-//! The program: `run_words` answers its words.
+//! The program: `runner::run_words` runs it for a command line.
 #![tactic(auto)]
 
 mod fault;
+mod files;
+mod help;
+mod json;
+mod judging;
 mod kinds;
+mod names;
 mod printing;
 pub mod runner;
 mod words;

@@ -1,95 +1,95 @@
-//! What the program prints of an object.
-use crate::fault::ProgramFault;
+//! What the program prints of a file, in lines.
+use crate::judging::{ContentRefusal, JudgedObject, ObjectRefusal, Payload, Report};
 use crate::kinds::ObjectKind;
+use crate::names::write_escaped;
 use command_parts::print_hex;
 use payload_commands::{print_manifest, print_roa};
-use payloads::{PayloadFault, decode_manifest, decode_roa};
-use signed_objects::SignedObject;
-use std::alloc::Global;
 use std::io::{self, Write};
 
 /// What was checked, and what was not.
 const SENTENCE: &str =
-    "digest and signature hold under the certificate inside the file; who issued that certificate was not checked";
+    "digest and signature are valid under the embedded certificate; its issuer was not checked";
 
-/// Prints the first fault of a content.
-fn refuse_content<W: Write>(fault: PayloadFault, out: &mut W) -> Result<bool, ProgramFault> {
-    match fault {
-        PayloadFault::At(fault) => {
-            writeln!(
-                out,
-                "content refused {} at {}",
-                fault.kind.number(),
-                fault.offset
-            )?;
-            Ok(false)
-        }
-        PayloadFault::Memory => Err(ProgramFault::Memory),
-    }
-}
+/// Why a file that has too many bytes is refused.
+pub(crate) const TOO_LONG: &str = "the file has more than 20000000 bytes";
 
-/// Prints the payload of a ROA, and returns whether it is one.
-fn print_roa_content<W: Write>(
-    alloc: Global,
-    content: &[u8],
-    out: &mut W,
-) -> Result<bool, ProgramFault> {
-    match decode_roa(alloc, content) {
-        Ok(roa) => {
-            print_roa(&roa, out)?;
-            Ok(true)
-        }
-        Err(fault) => refuse_content(fault, out),
-    }
-}
-
-/// Prints the payload of a manifest, and returns whether it is one.
-fn print_manifest_content<W: Write>(
-    alloc: Global,
-    content: &[u8],
-    out: &mut W,
-) -> Result<bool, ProgramFault> {
-    match decode_manifest(alloc, content) {
-        Ok(manifest) => {
-            print_manifest(&manifest, out)?;
-            Ok(true)
-        }
-        Err(fault) => refuse_content(fault, out),
-    }
-}
-
-/// Prints what the content says, and returns whether it is one of its kind. A content of other kinds is not read.
-fn print_content<W: Write>(
-    alloc: Global,
-    kind: ObjectKind,
-    content: &[u8],
-    out: &mut W,
-) -> Result<bool, ProgramFault> {
-    match kind {
-        ObjectKind::Roa => print_roa_content(alloc, content, out),
-        ObjectKind::Manifest => print_manifest_content(alloc, content, out),
-        _ => Ok(true),
-    }
+/// Prints why a file is no signed object, and in which bytes the offset counts.
+fn print_refusal<W: Write>(refusal: &ObjectRefusal, out: &mut W) -> io::Result<()> {
+    let fault = refusal.fault;
+    let place = if refusal.is_in_der { " of its DER" } else { "" };
+    writeln!(
+        out,
+        "refused {} at {}{}: {}",
+        fault.kind.number(),
+        fault.offset,
+        place,
+        fault.kind
+    )
 }
 
 /// Prints the kind of an object, and the identifier of its key.
-fn print_front<W: Write>(kind: ObjectKind, object: &SignedObject, out: &mut W) -> io::Result<()> {
-    write!(out, "type {kind} ")?;
-    print_hex(object.content_type, out)?;
+fn print_front<W: Write>(object: &JudgedObject, out: &mut W) -> io::Result<()> {
+    if !object.object.is_der {
+        writeln!(out, "not DER: lengths or OCTET STRINGs are in BER")?;
+    }
+    write!(out, "type {} ", object.kind)?;
+    print_hex(&object.object.content_type, out)?;
     write!(out, "\nkey ")?;
-    print_hex(object.key_identifier, out)?;
+    print_hex(&object.object.key_identifier, out)?;
     writeln!(out)
 }
 
-/// Prints an object, and returns whether its content is one of its kind.
-pub(crate) fn print_object<W: Write>(
-    alloc: Global,
-    object: &SignedObject,
+/// Prints what a content says.
+fn print_payload<W: Write>(payload: &Payload, out: &mut W) -> io::Result<()> {
+    match payload {
+        Payload::Roa(roa) => print_roa(roa, out)?,
+        Payload::Manifest(manifest) => print_manifest(manifest, out)?,
+        Payload::Unread => writeln!(out, "content not judged")?,
+    }
+    writeln!(out, "{SENTENCE}")
+}
+
+/// Prints why a content is refused, of which this is the kind.
+fn print_content_refusal<W: Write>(
+    kind: ObjectKind,
+    refusal: &ContentRefusal,
     out: &mut W,
-) -> Result<bool, ProgramFault> {
-    let kind = ObjectKind::of(object.content_type);
-    print_front(kind, object, out)?;
-    let is_right = print_content(alloc, kind, object.content, out)?;
-    writeln!(out, "{SENTENCE}")?;
-    Ok(is_right)
+) -> io::Result<()> {
+    match refusal {
+        ContentRefusal::Kind(wanted) => {
+            writeln!(
+                out,
+                "refused: the content is of type {kind}, but {wanted} is required"
+            )
+        }
+        ContentRefusal::Fault(fault) => {
+            let number = fault.kind.number();
+            writeln!(
+                out,
+                "content refused {} at {}: {}",
+                number, fault.offset, fault.kind
+            )
+        }
+    }
+}
+
+/// Prints an object.
+fn print_object<W: Write>(object: &JudgedObject, out: &mut W) -> io::Result<()> {
+    print_front(object, out)?;
+    match &object.content {
+        Ok(payload) => print_payload(payload, out),
+        Err(refusal) => print_content_refusal(object.kind, refusal, out),
+    }
+}
+
+/// Prints a file, of which this was found.
+pub(crate) fn print_report<W: Write>(file: &str, report: &Report, out: &mut W) -> io::Result<()> {
+    write!(out, "file ")?;
+    write_escaped(out, file)?;
+    writeln!(out)?;
+    match report {
+        Report::TooLong => writeln!(out, "refused: {TOO_LONG}"),
+        Report::Refused(refusal) => print_refusal(refusal, out),
+        Report::Object(object) => print_object(object, out),
+    }
 }

@@ -1,16 +1,26 @@
-//! Running the words.
-ghost use Rattle.std.specs.Prelude.{◌≡◌, ◌≤◌};
+//! Runs the program for a command line.
+ghost use Rattle.std.specs.Prelude.{◌≡◌, ◌≤◌, IfOk};
 
 use crate::fault::ProgramFault;
-use crate::printing::print_object;
-use crate::words::{Words, read_words};
-use command_parts::read_file;
-use signed_objects::{ObjectFault, SignedObject, read_der_object, read_signed_object};
-use std::fs;
-use std::io::{BufWriter, Write};
+use crate::files::{prepare_outputs, read_input, reason_of, tell_file, write_outputs};
+use crate::help::{HELP, VERSION};
+use crate::json::{write_report, write_unread};
+use crate::judging::{Report, judge};
+use crate::printing::print_report;
+use crate::words::{Request, Words, read_words};
+use std::io::{self, BufWriter, ErrorKind, Input, Write};
 use std::rt::Files;
 
-/// Answers words that do not parse, with the status.
+/// The status of a file that is accepted.
+const ACCEPTED: u8 = 0;
+
+/// The status of a file that is refused.
+const REFUSED: u8 = 1;
+
+/// The status of a file that could not be read.
+const UNREAD: u8 = 3;
+
+/// Writes to standard error that the command line does not parse, and returns exit status 2. A failed write is ignored.
 pub fn bad_words<E: Write>(err: &mut E) -> u8
     ensures { result ≡ 2 }
 {
@@ -18,7 +28,7 @@ pub fn bad_words<E: Write>(err: &mut E) -> u8
     2
 }
 
-/// Reports that memory ran out, with the status.
+/// Writes to standard error that memory ran out, and returns exit status 4. A failed write is ignored.
 pub fn out_of_memory<E: Write>(err: &mut E) -> u8
     ensures { result ≡ 4 }
 {
@@ -31,9 +41,10 @@ fn tell<E: Write>(fault: ProgramFault, err: &mut E) {
     let _ = writeln!(err, "{fault}");
 }
 
-/// Does all that the program does for these words, and answers its status. It is 0 if each file is an object, 1 if one is refused, and 2 if
-/// the words do not parse. It is 3 if a file or an output failed, and 4 if out of memory.
-pub fn run_words<R: Files + AllocGlobal, O: Write, E: Write>(
+/// Runs the program for these command-line arguments, without the program name, and returns its exit status.
+/// The status is the greatest over the files: 0 accepted, 1 refused, 3 unreadable. It is 0 for help and version.
+/// 2: the arguments do not parse, or an output file is also an input or the other output. 3: an output failed. 4: memory ran out.
+pub fn run_words<R: Files + Input + AllocGlobal, O: Write, E: Write>(
     rt: &R,
     words: &[String],
     out: &mut O,
@@ -41,101 +52,135 @@ pub fn run_words<R: Files + AllocGlobal, O: Write, E: Write>(
 ) -> u8
     ensures { result ≤ 4 }
 {
-    match run(rt, words, out) {
-        Ok(true) => 0,
-        Ok(false) => 1,
+    let ran = run(rt, words, out, err);
+    status_of(ran, err)
+}
+
+/// The status of what was done. A fault is reported.
+fn status_of<E: Write>(ran: Result<u8, ProgramFault>, err: &mut E) -> u8
+    requires { IfOk ran (λ status. status ≤ 3) }
+    ensures { result ≤ 4 }
+{
+    match ran {
+        Ok(status) => status,
         Err(ProgramFault::Words) => bad_words(err),
         Err(ProgramFault::Memory) => out_of_memory(err),
-        Err(ProgramFault::Device) => {
-            tell(ProgramFault::Device, err);
-            3
+        Err(ProgramFault::SameFile) => {
+            tell(ProgramFault::SameFile, err);
+            2
+        }
+        Err(fault) => {
+            tell(fault, err);
+            UNREAD
         }
     }
 }
 
-/// Does what the words ask for, and returns whether each file is an object.
-fn run<R: Files + AllocGlobal, O: Write>(
+/// Does what the words ask for, with the status.
+fn run<R: Files + Input + AllocGlobal, O: Write, E: Write>(
     rt: &R,
     words: &[String],
     out: &mut O,
-) -> Result<bool, ProgramFault> {
-    let words = read_words(rt.alloc(), words)?;
-    let mut lines = BufWriter::new(rt.alloc(), out)?;
-    let all_right = run_files(rt, &words, &mut lines)?;
-    lines.flush()?;
-    Ok(all_right)
+    err: &mut E,
+) -> Result<u8, ProgramFault>
+    ensures { IfOk result (λ status. status ≤ 3) }
+{
+    match read_words(rt.alloc(), words)? {
+        Request::Help => print_text(HELP, out),
+        Request::Version => print_text(VERSION, out),
+        Request::Judge(words) => {
+            prepare_outputs(rt, &words, err)?;
+            run_files(rt, &words, out, err)
+        }
+    }
 }
 
-/// Prints each file, and returns whether each is an object.
-fn run_files<R: Files + AllocGlobal, W: Write>(
+/// Prints a text.
+fn print_text<O: Write>(text: &str, out: &mut O) -> Result<u8, ProgramFault>
+    ensures { IfOk result (λ status. status ≡ 0) }
+{
+    out.write_all(text.as_bytes())?;
+    Ok(ACCEPTED)
+}
+
+/// Prints each file, with the greatest of their statuses.
+fn run_files<R: Files + Input + AllocGlobal, O: Write, E: Write>(
     rt: &R,
     words: &Words<'_>,
-    out: &mut W,
-) -> Result<bool, ProgramFault> {
-    let mut all_right = true;
-    for file in &words.files {
-        let is_right = run_file(rt, file, words, out)?;
-        all_right = all_right && is_right;
+    out: &mut O,
+    err: &mut E,
+) -> Result<u8, ProgramFault>
+    ensures { IfOk result (λ status. status ≤ 3) }
+{
+    let mut lines = BufWriter::new(rt.alloc(), out)?;
+    let mut status = ACCEPTED;
+    for &file in &words.files {
+        let own = run_file(rt, file, words, &mut lines, err)?;
+        if own > status {
+            status = own;
+        }
+        lines.flush()?;
     }
-    Ok(all_right)
+    Ok(status)
 }
 
-/// Prints a file, and returns whether it is an object. Its content is written to the file that is named.
-fn run_file<R: Files + AllocGlobal, W: Write>(
+/// Prints a file, with its status.
+fn run_file<R: Files + Input + AllocGlobal, W: Write, E: Write>(
     rt: &R,
     file: &str,
     words: &Words<'_>,
     out: &mut W,
-) -> Result<bool, ProgramFault> {
-    let bytes = read_file(rt, file)?;
-    writeln!(out, "file {file}")?;
-    if words.is_strict {
-        return run_der(rt, bytes.as_slice(), words.content, out);
-    }
-    match read_signed_object(rt.alloc(), bytes.as_slice()) {
-        Ok(object) => {
-            if !object.is_der {
-                writeln!(out, "not DER: lengths or OCTET STRINGs are in BER")?;
-            }
-            run_object(rt, &object.as_object(), words.content, out)
+    err: &mut E,
+) -> Result<u8, ProgramFault>
+    ensures { IfOk result (λ status. status ≤ 3) }
+{
+    let report = match read_input(rt, file) {
+        Ok(Some(bytes)) => judge(rt.alloc(), words.wanted(file), words.is_strict, &bytes)?,
+        Ok(None) => Report::TooLong,
+        Err(error) => return pass_over(file, error.kind(), words, out, err),
+    };
+    let status = match report.accepted() {
+        Some(object) => {
+            write_outputs(rt, words, object, err)?;
+            ACCEPTED
         }
-        Err(fault) => refuse(fault, out),
-    }
+        None => REFUSED,
+    };
+    print(file, status, &report, words, out)?;
+    Ok(status)
 }
 
-/// The same of a file that is in DER, or is refused.
-fn run_der<R: Files + AllocGlobal, W: Write>(
-    rt: &R,
-    bytes: &[u8],
-    content: Option<&str>,
+/// Prints what a file was found to be.
+fn print<W: Write>(
+    file: &str,
+    status: u8,
+    report: &Report,
+    words: &Words<'_>,
     out: &mut W,
-) -> Result<bool, ProgramFault> {
-    match read_der_object(rt.alloc(), bytes) {
-        Ok(object) => run_object(rt, &object, content, out),
-        Err(fault) => refuse(fault, out),
+) -> io::Result<()> {
+    if words.is_json {
+        write_report(file, status, report, out)
+    } else {
+        print_report(file, report, out)
     }
 }
 
-/// Prints an object, and writes its content to the file that is named.
-fn run_object<R: Files + AllocGlobal, W: Write>(
-    rt: &R,
-    object: &SignedObject,
-    content: Option<&str>,
+/// Names a file that could not be read, with the reason. The others are still judged.
+fn pass_over<W: Write, E: Write>(
+    file: &str,
+    kind: ErrorKind,
+    words: &Words<'_>,
     out: &mut W,
-) -> Result<bool, ProgramFault> {
-    if let Some(path) = content {
-        fs::write(rt, path, object.content)?;
+    err: &mut E,
+) -> Result<u8, ProgramFault>
+    ensures { IfOk result (λ status. status ≤ 3) }
+{
+    if kind == ErrorKind::OutOfMemory {
+        return Err(ProgramFault::Memory);
     }
-    print_object(rt.alloc(), object, out)
-}
-
-/// Prints why a file is refused.
-fn refuse<W: Write>(fault: ObjectFault, out: &mut W) -> Result<bool, ProgramFault> {
-    match fault {
-        ObjectFault::At(fault) => {
-            writeln!(out, "refused {} at {}", fault.kind.number(), fault.offset)?;
-            Ok(false)
-        }
-        ObjectFault::Memory => Err(ProgramFault::Memory),
+    if words.is_json {
+        write_unread(file, UNREAD, reason_of(kind), out)?;
     }
+    tell_file(file, kind, err);
+    Ok(UNREAD)
 }

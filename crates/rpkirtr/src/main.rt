@@ -1,4 +1,4 @@
-//! The program: `run_words` answers its words.
+//! The program: `runner::run_words` runs it for a command line.
 #![tactic(auto)]
 
 pub mod runner;

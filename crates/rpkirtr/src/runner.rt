@@ -1,4 +1,4 @@
-//! Running the words.
+//! Runs the program for a command line.
 ghost use Rattle.std.specs.Prelude.{◌≡◌, ◌≤◌, IfOk};
 
 use command_parts::ProgramFault;
@@ -10,7 +10,7 @@ use std::net::Net;
 use std::rt::Files;
 use world_scripts::world;
 
-/// Answers words that do not parse, with the status.
+/// Writes to standard error that the command line does not parse, and returns exit status 2. A failed write is ignored.
 pub fn bad_words<E: Write>(err: &mut E) -> u8
     ensures { result ≡ 2 }
 {
@@ -18,7 +18,7 @@ pub fn bad_words<E: Write>(err: &mut E) -> u8
     2
 }
 
-/// Reports that memory ran out, with the status.
+/// Writes to standard error that memory ran out, and returns exit status 4. A failed write is ignored.
 pub fn out_of_memory<E: Write>(err: &mut E) -> u8
     ensures { result ≡ 4 }
 {
@@ -31,8 +31,8 @@ fn tell<E: Write>(fault: ProgramFault, err: &mut E) {
     let _ = writeln!(err, "{fault}");
 }
 
-/// Does all that the program does for these words, and answers its status. It is 0 if done, 1 at refused input, and 2 if the words do not
-/// parse. It is 3 if a file, a socket or an output failed, and 4 if out of memory.
+/// Runs the program for these command-line arguments, without the program name, and returns its exit status.
+/// 0: done. 1: an input is refused. 2: the arguments do not parse. 3: a file, a socket or an output failed. 4: memory ran out.
 pub fn run_words<R: Files + Net + AllocGlobal + Clone + Drop, O: Write, E: Write>(
     rt: &R,
     words: &[String],

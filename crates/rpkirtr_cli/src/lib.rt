@@ -1,4 +1,4 @@
-//! The command line of the program `rpkirtr`: [`read_words`] parses it to a [`Command`].
+//! The command line of the program `rpkirtr`. [`read_words`] parses it to a [`Command`].
 //!
 //! For example, where `rt` is the runtime that `main` is handed:
 //!

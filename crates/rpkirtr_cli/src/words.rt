@@ -6,10 +6,10 @@ use rtr_pdu::Version;
 use std::alloc::{AllocError, Global};
 use thiserror::Error;
 
-/// Why a command line is refused.
+/// Why a command line is not accepted.
 #[derive(Debug, Drop, Error)]
 pub enum CommandFault {
-    /// The words do not parse.
+    /// The command line does not parse.
     #[error("the words do not parse")]
     Invalid,
     /// Out of memory.
@@ -153,56 +153,58 @@ fn command_line<'a>(alloc: Global) -> Result<ClapCommand<'a>, AllocError> {
 /// The parsed command line.
 #[derive(Debug, Drop)]
 pub enum Command<'a> {
-    /// Prints the payload of the ROA in FILE.
+    /// `roa`: prints the ROA payload in `file`.
     Roa {
         file: &'a str,
     },
-    /// Prints the payload of the manifest in FILE.
+    /// `manifest`: prints the manifest payload in `file`.
     Manifest {
         file: &'a str,
     },
-    /// Prints the payloads in use at the time `now`, after the directories were offered to their points.
+    /// `payloads`: offers the directories to their publication points, and prints the payloads valid at the time `now`.
     Payloads {
         now: &'a str,
         directories: Vec<&'a str>,
     },
-    /// Prints the PDUs at the start of the bytes of FILE.
+    /// `units`: prints the PDUs at the beginning of `file`.
     Units {
         file: &'a str,
     },
-    /// Prints the replies of a cache with this name to the bytes that HEX spells. It has published the list of the file `vrps`.
+    /// `answer`: prints a cache's replies to the bytes that `hex` gives in hexadecimal. It has published the list in the file `vrps` under
+    /// `name`.
     Answer {
         name: CacheName,
         vrps: &'a str,
         hex: &'a str,
     },
-    /// Prints the state of the route of PREFIX and ORIGIN.
+    /// `route`: prints the state of the route of `prefix` and `origin` over the list in the file `vrps`.
     Route {
         vrps: &'a str,
         prefix: &'a str,
         origin: &'a str,
     },
-    /// Serves this many connections on a local port, one after the other. The cache has this name, and one version, the list of the file `vrps`.
+    /// `serve`: serves `connections` connections on `port` of 127.0.0.1, one after the other. The cache publishes the list in the file `vrps`
+    /// under `name`.
     Serve {
         port: u16,
         name: CacheName,
         vrps: &'a str,
         connections: u32,
     },
-    /// Fetches from a cache on a local port in this protocol version, and prints the set.
+    /// `fetch`: fetches from a cache on `port` of 127.0.0.1 in this protocol version, and prints the set.
     Fetch {
         port: u16,
         version: Version,
     },
-    /// Fetches from a cache over a local connection, and prints the state of the route of PREFIX and ORIGIN. The cache has this name and the list
-    /// of the file `vrps`.
+    /// `loop`: fetches from a cache over a local connection, and prints the state of the route of `prefix` and `origin`.
+    /// The cache has published the list in the file `vrps` under `name`.
     Loop {
         name: CacheName,
         vrps: &'a str,
         prefix: &'a str,
         origin: &'a str,
     },
-    /// Runs the script in FILE on a world of one cache and its routers.
+    /// `world`: runs the script in `file` on a world of one cache and its routers.
     World {
         file: &'a str,
     },
@@ -346,7 +348,7 @@ fn world_command<'a>(found: &ArgMatches<'a>) -> Result<Command<'a>, CommandFault
     })
 }
 
-/// Parses the words of a command line.
+/// Parses the command line, without the program name. `Err(Invalid)`: it does not parse. `Err(Memory)`: memory ran out.
 pub fn read_words(alloc: Global, words: &[String]) -> Result<Command<'_>, CommandFault> {
     let command = command_line(alloc)?;
     let matches = command.try_get_matches_from(words).map_err(fault_of)?;

@@ -18,19 +18,19 @@ use std::alloc::{AllocError, Global};
 use thiserror::Error;
 use vrps::{Serial, VersionLog, VrpSet};
 
-/// The answers of a cache to the bytes that came on a connection.
+/// A cache's replies to the bytes of one connection.
 #[derive(Debug, Drop, PartialEq, Eq)]
 pub struct Answered {
-    /// A line for each PDU of the replies: its bytes in lower-case hexadecimal.
+    /// One line for each PDU of the replies: its bytes in lower-case hexadecimal.
     pub lines: String,
-    /// The offset in bytes of the beginning of a PDU that remains on a connection that has not ended.
+    /// The offset of an incomplete PDU at the end of the router's bytes. `None`: there is none, or the connection has ended.
     pub left: Option<usize>,
 }
 
-/// Why nothing is answered. The numbers are fixed.
+/// Why there is no answer. Each kind has a fixed number, 1 or 2.
 #[derive(Clone, Copy, Debug, PartialEq, Eq, Error)]
 pub enum AnswerFault {
-    /// The text is no hexadecimal.
+    /// The text is not pairs of hexadecimal digits.
     #[error("not hexadecimal digits in pairs (fault 1)")]
     BadHex = 1,
     /// Out of memory.
@@ -41,7 +41,7 @@ pub enum AnswerFault {
 impl AnswerFault {
     ghost use Rattle.rtr_commands.specs.AnswerFaults.{answer_fault_number};
 
-    /// The number by which the fault is printed.
+    /// The fixed number of the fault, 1 or 2.
     pub fn number(self) -> u8
         ensures { result ≡ answer_fault_number self }
     {
@@ -219,10 +219,10 @@ fn answers_of(
     Ok(Answered { lines, left })
 }
 
-/// The answers, a PDU a line, of a cache that has published this set alone, under this serial, to the bytes that come on a connection.
-/// Its session is `session` in version 1 of the protocol and `session0` in version 0; it answers in the version of the first header
-/// (RFC 8210 section 7). The bytes are given in hexadecimal. `BadHex`: they are not. `Memory`: memory ran out, for an answer or for
-/// its lines.
+/// Returns the replies of a cache to the bytes that `hex` gives, which come on a new connection.
+/// The cache has published only `set`, under `serial`. Its session is `session` in protocol version 1 and `session0` in version 0.
+/// It replies in the version of the first PDU's header (RFC 8210 section 7).
+/// `Err(BadHex)`: `hex` is not hexadecimal. `Err(Memory)`: memory ran out, for a reply or its line.
 pub fn answer_lines(
     alloc: Global,
     session: u16,

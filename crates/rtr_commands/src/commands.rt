@@ -15,7 +15,9 @@ use std::net::Net;
 use std::rt::Files;
 use vrps::{VersionLog, VrpSet};
 
-/// The command `units`: the PDUs with which the bytes of a file begin, as a cache reads them. Status 1 if other bytes follow.
+/// The command `units`: prints the PDUs at the beginning of a file as `print_units` does. `file` is its path.
+/// `Ok`: the exit status, 0, or 1 if other bytes follow. Then the fault's number and its byte offset are printed.
+/// `Err`: the file cannot be read, the output failed, or memory ran out.
 pub fn units<R: Files + AllocGlobal, O: Write>(
     rt: &R,
     file: &str,
@@ -49,8 +51,10 @@ fn cache_of(alloc: Global, name: CacheName, set: VrpSet) -> Result<Cache<Version
     cache_with(alloc, name.session, name.session0, name.serial, set)
 }
 
-/// The command `answer`: the answers of a cache whose one version is the list of the file `vrps`, to the bytes that `hex` spells. Status 1
-/// if the file holds no list, `hex` is no hexadecimal, or the beginning of a PDU is left.
+/// The command `answer`: prints the replies of a cache to the bytes that `hex` gives, one PDU a line, in hexadecimal.
+/// `vrps` is the path of the payload list that the cache has published under `name`.
+/// `Ok`: the exit status, 0, or 1 if the file is not a list, `hex` is not hexadecimal, or its last PDU is incomplete.
+/// `Err`: the file cannot be read, the output failed, or memory ran out.
 pub fn answer<R: Files + AllocGlobal, O: Write>(
     rt: &R,
     name: CacheName,
@@ -77,8 +81,10 @@ pub fn answer<R: Files + AllocGlobal, O: Write>(
     }
 }
 
-/// The command `serve`: serves this many connections on a port of this machine, by a cache that has published the list of the file `vrps`
-/// under `name`. A connection that failed is counted too, and the first one's fault is answered. Status 1 if the file holds no list.
+/// The command `serve`: serves `connections` connections on `port` of 127.0.0.1, one after the other.
+/// `vrps` is the path of the payload list that the cache has published under `name`. Failed connections count too.
+/// `Ok`: the exit status, 0, or 1 if the file is not a list, and then nothing is served.
+/// `Err`: a connection, the listener, the file or the output failed, or memory ran out. For connections, the first fault decides.
 pub fn serve<R: Files + Net + AllocGlobal, O: Write>(
     rt: &R,
     port: u16,
@@ -103,8 +109,9 @@ pub fn serve<R: Files + Net + AllocGlobal, O: Write>(
     }
 }
 
-/// The command `fetch`: what a router that speaks this version of the protocol fetches from a cache on a port of this machine. Status 1 if
-/// that is no list, which is reported.
+/// The command `fetch`: fetches all data from a cache on `port` of 127.0.0.1 in this protocol version, and prints it as `tell_fetched` does.
+/// `Ok`: the exit status, 0, or 1 if no data was fetched, and then the reason is printed.
+/// `Err`: the connection or the output failed, or memory ran out.
 pub fn fetch<R: Net + AllocGlobal, O: Write>(
     rt: &R,
     port: u16,
@@ -118,9 +125,12 @@ pub fn fetch<R: Net + AllocGlobal, O: Write>(
     tell_fetched(rt.alloc(), &router, fetched, out)
 }
 
-/// The command `loop`: both ends in this process over a connection of this machine. The cache has published the list of the file `vrps`
-/// under `name`; what the router judges is the route of two words. Status 1 if they name none, the file holds no list, or the router gets
-/// none.
+/// The command `loop`: a router fetches from a cache in this process, over a local TCP connection.
+/// Then the line of `tell_committed` and the state of a route are printed.
+/// `vrps` is the path of the payload list that the cache has published under `name`. `words` are the route's prefix and origin, as for
+/// `read_route`.
+/// `Ok`: the exit status, 0, or 1 if the route does not parse, the file is not a list, or the router fetched no data.
+/// `Err`: the file, the connection or the output failed, or memory ran out.
 pub fn both_ends<R: Files + Net + AllocGlobal, O: Write>(
     rt: &R,
     name: CacheName,

@@ -29,12 +29,12 @@ fn loopback(port: u16) -> SocketAddr {
     SocketAddr::new(IpAddr::V4(Ipv4Addr::LOCALHOST), port)
 }
 
-/// Opens a listener on a port of 127.0.0.1.
+/// Opens a listener on this port of 127.0.0.1. With port 0, the system chooses a free one.
 pub fn listen<R: Net>(rt: &R, port: u16) -> io::Result<R::Listener> {
     TcpListener::bind(rt, loopback(port))
 }
 
-/// Opens a connection to a port of 127.0.0.1.
+/// Opens a connection to this port of 127.0.0.1.
 pub fn dial<R: Net>(rt: &R, port: u16) -> io::Result<R::Stream> {
     TcpStream::connect(rt, loopback(port))
 }
@@ -56,7 +56,9 @@ fn is_passing(kind: ErrorKind) -> bool {
     matches!(kind, ErrorKind::ConnectionAborted | ErrorKind::Interrupted)
 }
 
-/// Serves this many connections, one after the other. It answers how the first failed that did, and fails if none can be accepted.
+/// Accepts and serves `connections` connections, one after the other. `Ok(None)`: none failed.
+/// `Ok(Some(fault))`: the fault of the first connection that failed. The connections after it are served nevertheless.
+/// `Err`: an accept failed. No further connection is served.
 pub fn serve_all<L: OpenListener>(
     listener: &L,
     cache: &mut Cache<VersionLog>,
@@ -118,7 +120,8 @@ fn let_go<T: Read + OpenStream>(stream: &mut T) {
     }
 }
 
-/// What a new router that speaks this version of the protocol fetches over a connection, and the router after that. Its moment is 0.
+/// Fetches all data with a new router over a connection, in this protocol version. The router's clock stays at second 0.
+/// `Ok`: the router, and how the fetch ended. `Err`: a read or a write failed, or memory ran out.
 pub fn fetch_all<T: Read + Write + OpenStream + Drop>(
     alloc: Global,
     stream: T,
@@ -135,7 +138,7 @@ pub fn fetch_all<T: Read + Write + OpenStream + Drop>(
     }
 }
 
-/// The two sockets of one connection of this machine: that of a router, and that of a cache.
+/// Opens a TCP connection from this process to itself over 127.0.0.1. Returns the router's socket and the cache's socket.
 pub fn connected<R: Net>(rt: &R) -> io::Result<(R::Stream, R::Stream)> {
     let listener = listen(rt, 0)?;
     let near = TcpStream::connect(rt, listener.local_addr()?)?;
@@ -143,8 +146,9 @@ pub fn connected<R: Net>(rt: &R) -> io::Result<(R::Stream, R::Stream)> {
     Ok((near, far))
 }
 
-/// What a new router fetches from a cache over such a connection, and the router after that. Both ends move bytes in turns of at most
-/// 4,096. Its moment is 0.
+/// Fetches all data with a new router from `cache`. `near` is the router's socket and `far` the cache's, of one connection.
+/// Both ends move bytes in turns of at most 4,096. The router's clock stays at second 0.
+/// `Ok`: the router, and how the fetch ended. `Err`: a read or a write failed, or memory ran out.
 pub fn fetch_in_turns<T: Read + Write + Drop>(
     alloc: Global,
     cache: &mut Cache<VersionLog>,
@@ -215,7 +219,8 @@ fn reached(router: &Router) -> Fetched {
     }
 }
 
-/// Prints the session and the serial of the version that a router committed.
+/// Prints the line `committed SESSION SERIAL` for the data that a router holds. Prints nothing if it holds none.
+/// `Err`: the output failed.
 pub fn tell_committed<O: Write>(router: &Router, out: &mut O) -> io::Result<()> {
     match router.committed() {
         None => Ok(()),
@@ -223,7 +228,9 @@ pub fn tell_committed<O: Write>(router: &Router, out: &mut O) -> io::Result<()> 
     }
 }
 
-/// Prints what was fetched: the name of the version and its list, with status 0, or why there is none, with status 1.
+/// Prints the result of a fetch, and returns the exit status. `router` is the router that fetched.
+/// Status 0 (`Committed`): prints the line of `tell_committed`, and then the table as a payload list.
+/// Status 1: prints one line with the reason, `no-data`, `ended NUMBER`, `closed` or `limit`. `Err`: the output failed, or memory ran out.
 pub fn tell_fetched<O: Write>(
     alloc: Global,
     router: &Router,

@@ -8,12 +8,12 @@ use prefixes::Vrp;
 use rtr_pdu::{Counted, ReadFault, Unit, Version, read_unit_of};
 use std::io::{self, ErrorKind, Write};
 
-/// What follows the PDUs with which an input begins.
+/// What follows the PDUs at the beginning of an input.
 #[derive(Clone, Copy, Debug, PartialEq, Eq)]
 pub enum UnitsEnd {
-    /// Nothing.
+    /// Nothing follows: the input ends after a PDU, or is empty.
     Whole,
-    /// Bytes that are no PDU, or the beginning of one: the number of the fault, 1 to 7, and the offset in bytes of the PDU.
+    /// Bytes follow that are not a PDU, or only its beginning. `number` is the fault, 1 to 7. `offset` is its place, in bytes from the start.
     Refused { number: u8, offset: usize },
 }
 
@@ -52,7 +52,7 @@ fn print_report<W: Write>(code: u16, copy: &[u8], out: &mut W) -> io::Result<()>
     writeln!(out)
 }
 
-/// Prints a PDU as a line.
+/// Prints a PDU as one line: its type and its fields, such as `serial-query 4660 5`. `Err`: the output failed.
 #[tactic(auto, unfolding(crate::specs::UnitLines::unit_line))]
 pub fn print_unit<W: Write>(unit: &Unit, out: &mut W) -> io::Result<()>
     ensures { OnOk result (Appends (W.contents out.old) (W.contents out.new) (unit_line unit.now)) }
@@ -82,8 +82,9 @@ pub fn print_unit<W: Write>(unit: &Unit, out: &mut W) -> io::Result<()>
     }
 }
 
-/// Prints the PDUs with which the bytes begin, a line each, as a cache reads them (RFC 6810 section 5, RFC 8210 section 5), and says
-/// what follows them. The first header gives the version of all; another version later is a fault.
+/// Prints the PDUs at the beginning of the bytes, one a line (RFC 6810 section 5, RFC 8210 section 5).
+/// Returns what follows them. The first header gives the protocol version of all PDUs; another version later is a fault.
+/// `Err`: the output failed.
 pub fn print_units<W: Write>(bytes: &[u8], out: &mut W) -> io::Result<UnitsEnd>
     ensures { IfOk result (λ end. TellsUnits bytes.now (W.contents out.old) (W.contents out.new) end) }
 {

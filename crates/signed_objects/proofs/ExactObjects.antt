@@ -6,7 +6,7 @@ use Rattle.std.proofs.lemmas.Slice.Eq.{bytes_eq-Decides}
 use Rattle.der_lite.specs.Place.{Fault, place_of}
 use Rattle.der_lite.specs.Der.{IsBytes, is_integer, head_rules}
 use Rattle.der_lite.specs.Grammar.{Element, Members, element, primitive, constructed, plain, last, member, each}
-use Rattle.der_lite.specs.DerReading.{integer_at, octets_at, oid_at}
+use Rattle.der_lite.specs.DerReading.{integer_at, octets_at}
 use Rattle.der_lite.specs.Decoding.{Read, ReadAll, read_primitive, read_constructed, read_member, read_each}
 use Rattle.der_lite.specs.Fields.{last_at}
 use Rattle.der_lite.proofs.Rules.{kept_first}
@@ -17,12 +17,19 @@ use Rattle.signed_objects.specs.declared.attribute.AttributeType.{AttributeType}
 use Rattle.signed_objects.specs.declared.attribute.AttributeType.TheVariants.{ContentType, MessageDigest, SigningTime, BinarySigningTime}
 use Rattle.signed_objects.specs.Combinators.{no_rules, needed, barred, nothing, told, told_content, first_part, holding_one, with_octets, spelling}
 use Rattle.signed_objects.specs.CombinatorReading.{nothing_at, told_at, told_content_at, with_octets_at, one_of, read_value}
+use Rattle.signed_objects.specs.Oids.{oid_rules, object_identifier}
 use Rattle.signed_objects.specs.Attributes.{SET, UTC_TIME, GENERAL_TIME, Attribute, oid_of, type_in, is_among, type_rules, TypeSpells, attribute_type, needed_octets, signing_time, integer_rules, attribute_value, attribute_values, attribute_members, attribute, attribute_rules, said_by, attributes_content}
 use Rattle.signed_objects.specs.Certificates as c
 use Rattle.signed_objects.specs.Cms as cms
 use Rattle.signed_objects.specs.Reading as r
 use Rattle.signed_objects.specs.Reading.{Found, found_in, is_found, found_rules, found_type, type_of, attribute_type_at, signing_time_at, attribute_value_at, attribute_values_at, attribute_from, attribute_at, attributes_at}
 use Rattle.signed_objects.proofs.ExactCombinators.{exact_behind, exact_opened, exact_needed_octets, exact_fixed_content, exact_fixed, exact_nothing, exact_told, exact_told_content, exact_one, exact_anything, exact_octets, exact_standing, exact_either, exact_spelling, needed_follow, barred_follow}
+
+-- ---- identifiers
+
+exact_oid : ExactElement object_identifier r.object_identifier_at
+unfolding object_identifier r.object_identifier_at
+exact_oid = exact_plain 6 oid_rules
 
 -- ---- attributes
 
@@ -80,7 +87,7 @@ exact_time = exact_either UTC_TIME (plain UTC_TIME no_rules) (needed_octets 26 G
 
 exact_value : (type : AttributeType) → ExactElement (attribute_value type) (attribute_value_at type)
 unfolding attribute_value attribute_value_at
-exact_value ContentType = exact_plain 6 no_rules
+exact_value ContentType = exact_oid
 exact_value MessageDigest = exact_plain 4 no_rules
 exact_value SigningTime = exact_time
 exact_value BinarySigningTime = exact_plain 2 integer_rules
@@ -179,10 +186,10 @@ exact_key_info =
 -- ---- extensions
 
 exact_id : (came : Bool) → ExactElement (c.extension_id came) (r.extension_id_at came)
-unfolding c.extension_id r.extension_id_at
+unfolding c.extension_id r.extension_id_at r.object_identifier_at
 exact_id came =
-    exact_field 6 no_rules (c.id_rules came) (λ id. id) (λ v inner. v ≡ inner)
-    (exact_primitive (λ v inner. v ≡ inner) (c.id_rules came) (λ id. id) (λ inner bytes k. refl) (λ inner v k s. sym s))
+    exact_field 6 oid_rules (c.id_rules came) (λ id. id) (λ v inner. v ≡ inner)
+    (exact_primitive (λ v inner. v ≡ inner) (c.extension_rules came) (λ id. id) (λ inner bytes k. refl) (λ inner v k s. sym s))
 
 exact_key_identifier : ExactElement c.key_identifier r.key_identifier_at
 unfolding c.key_identifier r.key_identifier_at
@@ -341,10 +348,11 @@ exact_content =
 exact_encapsulated : ExactElement cms.encapsulated r.encapsulated_at
 unfolding cms.encapsulated r.encapsulated_at
 exact_encapsulated =
-    let oid = plain 6 no_rules in
-    exact_opened 48 (constructed no_rules (member oid (λ _. last cms.content)) no_rules) (read_constructed no_rules (read_member oid_at (λ _. last_at r.content_here)) no_rules)
-    (exact_constructed no_rules (member oid (λ _. last cms.content)) (read_member oid_at (λ _. last_at r.content_here)) no_rules
-    (exact_member oid oid_at (exact_plain 6 no_rules) (λ _. last cms.content) (λ _. last_at r.content_here) (λ _. exact_last_at cms.content r.content_here exact_content)))
+    let oid = object_identifier in
+    let read = r.object_identifier_at in
+    exact_opened 48 (constructed no_rules (member oid (λ _. last cms.content)) no_rules) (read_constructed no_rules (read_member read (λ _. last_at r.content_here)) no_rules)
+    (exact_constructed no_rules (member oid (λ _. last cms.content)) (read_member read (λ _. last_at r.content_here)) no_rules
+    (exact_member oid read exact_oid (λ _. last cms.content) (λ _. last_at r.content_here) (λ _. exact_last_at cms.content r.content_here exact_content)))
 
 exact_certificates : ExactElement cms.certificates r.certificates_at
 unfolding cms.certificates r.certificates_at

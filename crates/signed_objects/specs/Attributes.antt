@@ -6,6 +6,7 @@ use Rattle.der_lite.specs.Grammar.{Element, Members, Content, element, primitive
 use Rattle.signed_objects.specs.declared.attribute.AttributeType.{AttributeType}
 use Rattle.signed_objects.specs.declared.attribute.AttributeType.TheVariants.{ContentType, MessageDigest, SigningTime, BinarySigningTime}
 use Rattle.signed_objects.specs.Combinators.{no_rules, needed, element_behind, told_content, or_empty, holding_one, either}
+use Rattle.signed_objects.specs.Oids.{object_identifier}
 
 -- X.690 section 8.1.2: the tags of SET and UTCTime, and of a GeneralizedTime
 abbrev pub SET : ℕ
@@ -88,7 +89,7 @@ integer_rules content = (4, not (is_integer content)) ∷ []
 
 -- the value of an attribute
 unfoldable pub attribute_value : AttributeType → Element (List ℕ)
-attribute_value ContentType = plain OBJECT_IDENTIFIER no_rules
+attribute_value ContentType = object_identifier
 attribute_value MessageDigest = plain OCTET_STRING no_rules
 attribute_value SigningTime = signing_time
 attribute_value BinarySigningTime = plain INTEGER integer_rules

@@ -1,9 +1,10 @@
 -- What a signed object needs of the certificate inside it (RFC 5280 section 4.1, RFC 6487 section 4): the key and its identifier.
-use Rattle.std.specs.Prelude.{◌≡◌, ℕ, ◌==◌, ◌&&◌, Bool, true, false, not, bytes_eq, if◌then◌else◌, List, [], ◌∷◌, Option, Some, None, is_none, is_some}
+use Rattle.std.specs.Prelude.{◌≡◌, ℕ, ◌==◌, ◌&&◌, Bool, true, false, not, bytes_eq, if◌then◌else◌, List, [], ◌∷◌, ◌++◌, Option, Some, None, is_none, is_some}
 use Rattle.std.specs.Option.{option_or}
 use Rattle.der_lite.specs.Der.{BIT_STRING, INTEGER, OBJECT_IDENTIFIER, OCTET_STRING, SEQUENCE, EXPLICIT_0, head_rules, is_integer}
 use Rattle.der_lite.specs.Grammar.{Element, Members, element, primitive, constructed, plain, last, member, each}
 use Rattle.signed_objects.specs.Combinators.{no_rules, needed, element_behind, anything, told, told_content, or_empty, first_part, spelling, standing}
+use Rattle.signed_objects.specs.Oids.{oid_rules}
 use Rattle.signed_objects.specs.Attributes.{integer_rules}
 
 -- [3], EXPLICIT
@@ -104,9 +105,13 @@ has_identifier extensions = is_some (identifier_in extensions)
 abbrev pub id_rules : Bool → List ℕ → List (ℕ × Bool)
 id_rules came id = (16, names_key id && came) ∷ []
 
+-- an identifier, which is there once if it is that of the key's
+abbrev pub extension_rules : Bool → List ℕ → List (ℕ × Bool)
+extension_rules came id = oid_rules id ++ id_rules came id
+
 -- extnID, after the extensions before it
 unfoldable pub extension_id : Bool → Element (List ℕ)
-extension_id came = plain OBJECT_IDENTIFIER (id_rules came)
+extension_id came = plain OBJECT_IDENTIFIER (extension_rules came)
 
 -- an OCTET STRING that holds the OCTET STRING of the identifier
 unfoldable pub key_identifier : Element (List ℕ)

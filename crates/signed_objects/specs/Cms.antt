@@ -3,6 +3,7 @@ use Rattle.std.specs.Prelude.{ℕ, ◌||◌, Bool, not, bytes_eq, if◌then◌el
 use Rattle.der_lite.specs.Der.{INTEGER, OBJECT_IDENTIFIER, OCTET_STRING, SEQUENCE, EXPLICIT_0, head_rules}
 use Rattle.der_lite.specs.Grammar.{Element, Members, element, constructed, plain, last, member}
 use Rattle.signed_objects.specs.Combinators.{no_rules, begins, needed, barred, element_behind, nothing, told, holding_one, with_octets}
+use Rattle.signed_objects.specs.Oids.{object_identifier}
 use Rattle.signed_objects.specs.Attributes.{SET, Said, needed_octets, attributes_content}
 use Rattle.signed_objects.specs.Certificates.{fixed, Key, certificate}
 
@@ -102,7 +103,7 @@ content = element_behind (needed 10 EXPLICIT_0) EXPLICIT_0 (constructed no_rules
 
 -- encapContentInfo: eContentType and eContent
 unfoldable pub encapsulated : Element (List ℕ × List ℕ)
-encapsulated = element SEQUENCE (head_rules SEQUENCE) (constructed no_rules (member (plain OBJECT_IDENTIFIER no_rules) (λ _. last content)) no_rules)
+encapsulated = element SEQUENCE (head_rules SEQUENCE) (constructed no_rules (member object_identifier (λ _. last content)) no_rules)
 
 -- certificates [0]: one
 unfoldable pub certificates : Element (List ℕ × Key)

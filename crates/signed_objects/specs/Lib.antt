@@ -1,5 +1,7 @@
 pub mod Combinators
 pub mod CombinatorReading
+pub mod Oids
+pub mod OidRows
 pub mod Attributes
 pub mod Certificates
 pub mod Cms

@@ -1,7 +1,7 @@
 -- Reading a signed object in DER over what the reads of a cursor give.
 use Rattle.std.specs.Prelude.{ℕ, zero, suc, Bool, true, false, List, [], ◌∷◌, drop, Option, Some, None, is_some, is_none, Result}
 use Rattle.der_lite.specs.Place.{Place, Fault, place_of}
-use Rattle.der_lite.specs.Der.{BIT_STRING, INTEGER, OCTET_STRING, SEQUENCE, EXPLICIT_0}
+use Rattle.der_lite.specs.Der.{BIT_STRING, INTEGER, OBJECT_IDENTIFIER, OCTET_STRING, SEQUENCE, EXPLICIT_0}
 use Rattle.der_lite.specs.DerReading.{content_at, element_at, integer_at, octets_at, oid_at}
 use Rattle.der_lite.specs.Decoding.{Read, ReadAll, ReadContent, read_primitive, read_constructed, read_member, read_each}
 use Rattle.der_lite.specs.Fields.{field_at, last_at}
@@ -9,6 +9,7 @@ use Rattle.signed_objects.specs.declared.attribute.AttributeType.{AttributeType}
 use Rattle.signed_objects.specs.declared.attribute.AttributeType.TheVariants.{ContentType, MessageDigest, SigningTime, BinarySigningTime}
 use Rattle.signed_objects.specs.Combinators.{no_rules, needed, barred, first_part}
 use Rattle.signed_objects.specs.CombinatorReading.{found_at, opened_at, nothing_at, anything_at, told_at, told_content_at, with_octets_at, standing_at, one_of, either_at, or_fault, read_value}
+use Rattle.signed_objects.specs.Oids.{oid_rules}
 use Rattle.signed_objects.specs.Attributes.{SET, UTC_TIME, GENERAL_TIME, Attribute, value_of, type_in, attribute_rules, Said, said_by}
 use Rattle.signed_objects.specs.Certificates.{EXPLICIT_3, fixed_rules, zero_rules, rsa_key_algorithm, second_part, names_key, Extension, has_identifier, id_rules, identifier_rules, identifier_told, key_of_parts, version_3, Key}
 use Rattle.signed_objects.specs.Cms.{digest_rules, signature_rules, IMPLICIT_0, EXPLICIT_1, unsigned_number, Signer, SignedParts, signer_of, ObjectParts, SignedBy, object_of, id_signed_data, second_of}
@@ -28,6 +29,10 @@ needed_octets_at number tag p = opened_at (found_at (needed number tag) tag p) p
 -- an element that is skipped
 abbrev pub octets_of : ℕ → Read (List ℕ)
 octets_of tag = content_at tag no_rules
+
+-- an OBJECT IDENTIFIER of any value
+unfoldable pub object_identifier_at : Read (List ℕ)
+object_identifier_at = content_at OBJECT_IDENTIFIER oid_rules
 
 -- ---- attributes
 
@@ -85,7 +90,7 @@ unfoldable pub signing_time_at : Read (List ℕ)
 signing_time_at = either_at UTC_TIME (octets_of UTC_TIME) (needed_octets_at 26 GENERAL_TIME)
 
 unfoldable pub attribute_value_at : AttributeType → Read (List ℕ)
-attribute_value_at ContentType = oid_at
+attribute_value_at ContentType = object_identifier_at
 attribute_value_at MessageDigest = octets_at
 attribute_value_at SigningTime = signing_time_at
 attribute_value_at BinarySigningTime = integer_at
@@ -138,7 +143,7 @@ unfoldable pub key_info_at : Read (List ℕ)
 key_info_at p = opened_at (element_at SEQUENCE p) p.at (read_constructed no_rules (told_at second_part (read_member key_algorithm_at (λ _. last_at public_key_at))) no_rules)
 
 unfoldable pub extension_id_at : Bool → Read (List ℕ)
-extension_id_at came p = field_at (oid_at p) p.at (id_rules came) (λ id. id)
+extension_id_at came p = field_at (object_identifier_at p) p.at (id_rules came) (λ id. id)
 
 unfoldable pub key_identifier_at : Read (List ℕ)
 key_identifier_at p = opened_at (element_at OCTET_STRING p) p.at (read_constructed no_rules (last_at octets_at) no_rules)
@@ -222,7 +227,7 @@ unfoldable pub content_here : Read (List ℕ)
 content_here p = opened_at (found_at (needed 10 EXPLICIT_0) EXPLICIT_0 p) p.at (read_constructed no_rules (last_at octets_at) no_rules)
 
 unfoldable pub encapsulated_at : Read (List ℕ × List ℕ)
-encapsulated_at p = opened_at (element_at SEQUENCE p) p.at (read_constructed no_rules (read_member oid_at (λ _. last_at content_here)) no_rules)
+encapsulated_at p = opened_at (element_at SEQUENCE p) p.at (read_constructed no_rules (read_member object_identifier_at (λ _. last_at content_here)) no_rules)
 
 unfoldable pub certificates_at : Read (List ℕ × Key)
 certificates_at p = opened_at (found_at (needed 11 EXPLICIT_0) EXPLICIT_0 p) p.at (one_of 11 certificate_at)

@@ -7,6 +7,7 @@ ghost use Rattle.signed_objects.specs.Reading.{put_in, attribute_type_at, signin
 
 use crate::attribute::AttributeType;
 use crate::elements::{EXPLICIT_0, SET, begins, end, needed_element, needed_octets};
+use crate::oid::object_identifier;
 use crate::{CmsFault, CmsFaultKind};
 use der_lite::Cursor;
 use std::marker::Model;
@@ -108,7 +109,7 @@ fn attribute_value<'a>(cursor: &mut Cursor<'a>, kind: AttributeType) -> Result<&
     ensures { GivesNext (λ content. content.now) result cursor.new (attribute_value_at kind cursor.old) }
 {
     match kind {
-        AttributeType::ContentType => Ok(cursor.oid()?),
+        AttributeType::ContentType => object_identifier(cursor),
         AttributeType::MessageDigest => Ok(cursor.octets()?),
         AttributeType::SigningTime => signing_time(cursor),
         AttributeType::BinarySigningTime => Ok(cursor.integer()?),

@@ -127,9 +127,10 @@ fn element(
     level(alloc, levels - 1, form, cursor)
 }
 
-/// The element that the bytes are in BER, written anew with lengths as in DER, or the first fault. Lengths become definite and as short as can
-/// be, and OCTET STRINGs in pieces become primitive. Nothing else is changed: the order stays, and the certificates and the signed attributes of
-/// SignedData are copied. An element is in at most 15 others. Bytes after the element are a fault.
+/// Rewrites one element from BER to DER lengths: definite, and as short as possible. OCTET STRINGs in pieces become primitive.
+/// Nothing else is changed: the order stays, and the certificates and the signed attributes of SignedData are copied.
+/// `Err(At)`: the first fault. Bytes after the element are a fault, and so is an element inside more than 15 others. `Err(Memory)`: memory ran
+/// out.
 pub fn to_der(alloc: Global, bytes: &[u8]) -> Result<Vec<u8>, ObjectFault>
     ensures { ReadsBer (λ v. v.items) result bytes.now }
 {

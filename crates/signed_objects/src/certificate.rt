@@ -7,6 +7,7 @@ ghost use Rattle.signed_objects.specs.Certificates.{names_key as names_key_of};
 ghost use Rattle.signed_objects.specs.Reading.{modulus_at, exponent_at, key_in, key_of, public_key_at, key_algorithm_at, key_info_at, extension_id_at, key_identifier_at, extension_from, extension_at, extension_list_at, extensions_at, certificate_version_at, certificate_content_at, extension_value_at, rsa_public_key_all, key_members_at, names_members_at, tbs_members_at, tbs_certificate_at, certificate_at};
 
 use crate::elements::{EXPLICIT_0, INTEGER, needed_element};
+use crate::oid::object_identifier;
 use crate::{CmsFault, CmsFaultKind};
 use der_lite::Cursor;
 
@@ -135,7 +136,7 @@ fn extension_id<'a>(cursor: &mut Cursor<'a>, came: bool) -> Result<&'a [u8], Cms
     ensures { GivesNext (λ id. id.now) result cursor.new (extension_id_at came cursor.old) }
 {
     let offset = cursor.offset();
-    let id = cursor.oid()?;
+    let id = object_identifier(cursor)?;
     if names_key(id) && came {
         return Err(CmsFaultKind::KeyIdentifierTwice.at(offset));
     }

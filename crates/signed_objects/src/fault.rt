@@ -6,10 +6,10 @@ use der_lite::{DerFault, DerFaultKind};
 use std::alloc::AllocError;
 use thiserror::Error;
 
-/// What is wrong with a signed object. Each kind has a fixed number, which ends its text.
+/// What is wrong with a signed object. Each kind has a fixed number, 1 to 43, which is at the end of its text.
 #[derive(Clone, Copy, Debug, PartialEq, Eq, Error)]
 pub enum CmsFaultKind {
-    /// 1 to 5: the element is none of DER.
+    /// 1 to 5: an element is not DER. Kind 4 is also an OBJECT IDENTIFIER with wrong content (X.690 section 8.19).
     #[error("{0}")]
     Element(DerFaultKind),
     /// 6: the content type is not id-signedData (RFC 6488 section 2).
@@ -36,8 +36,8 @@ pub enum CmsFaultKind {
     /// 13: the certificate's key is not of rsaEncryption with NULL parameters (RFC 7935 section 3.1).
     #[error("the algorithm of the public key is not rsaEncryption with NULL parameters (fault 13)")]
     KeyAlgorithm,
-    /// 14: the certificate's key is no RSAPublicKey in DER with the exponent 65537 (RFC 7935 section 3).
-    #[error("the public key is not an RSAPublicKey with the exponent 65537 (fault 14)")]
+    /// 14: the certificate's key is no RSAPublicKey in DER with the exponent 65537 (RFC 7935 section 3) and a modulus whose first bit is set.
+    #[error("the public key is not an RSAPublicKey whose exponent is 65537 and whose modulus fills whole octets (fault 14)")]
     PublicKey,
     /// 15: the certificate has no extensions after its key (RFC 6487 section 4.8).
     #[error("the certificate has no extensions behind its key (fault 15)")]
@@ -66,7 +66,7 @@ pub enum CmsFaultKind {
     /// 23: an attribute is none of the four that are allowed (RFC 6488 section 2.1.6.4).
     #[error("an attribute other than content-type, message-digest, signing-time and binary-signing-time (fault 23)")]
     UnknownAttribute,
-    /// 24: an attribute came before (RFC 6488 section 2.1.6.4).
+    /// 24: a signed attribute is there twice; this is the second (RFC 6488 section 2.1.6.4).
     #[error("the attribute stands twice (fault 24)")]
     AttributeTwice,
     /// 25: an attribute does not have exactly one value (RFC 6488 section 2.1.6.4).
@@ -109,8 +109,8 @@ pub enum CmsFaultKind {
     /// 37: the tag is that of end-of-contents octets, and none are here (X.690 section 8.1.5).
     #[error("end-of-contents octets where none belong (fault 37)")]
     EndOfContents,
-    /// 38: an OCTET STRING in pieces has a piece that is no OCTET STRING (X.690 section 8.7.3.2).
-    #[error("a piece of an OCTET STRING is no OCTET STRING (fault 38)")]
+    /// 38: an OCTET STRING in pieces has a piece that is not an OCTET STRING (X.690 section 8.7.3.2).
+    #[error("a piece of an OCTET STRING is not an OCTET STRING (fault 38)")]
     Piece,
     /// 39: the first length octet is 255, or the length is 2^32 or more (X.690 section 8.1.3.5).
     #[error("a first length octet of 255, or a length of 2^32 or more (fault 39)")]
@@ -132,7 +132,7 @@ pub enum CmsFaultKind {
 impl CmsFaultKind {
     ghost use Rattle.signed_objects.specs.Faults.{kind_number};
 
-    /// The number of the kind, 1 to 43.
+    /// The fixed number of the kind, 1 to 43.
     pub fn number(self) -> u8
         ensures { result ≡ kind_number self }
     {
@@ -193,8 +193,8 @@ impl CmsFaultKind {
 pub struct CmsFault {
     /// What is wrong.
     pub kind: CmsFaultKind,
-    /// The offset of the first byte of the element that is wrong, in bytes from the start of the object. For bytes that remain it is that of
-    /// the first of them. For kinds 31 to 35, which are about the whole object, it is 0.
+    /// The offset of the first byte of the wrong element, in bytes from the start of the object.
+    /// For surplus bytes it is the offset of the first of them. For kinds 31 to 35, which are about the whole object, it is 0.
     pub offset: usize,
 }
 
@@ -211,10 +211,10 @@ impl From<DerFault> for CmsFault {
     }
 }
 
-/// Why bytes give no signed object.
+/// Why bytes cannot be read as a signed object.
 #[derive(Clone, Copy, Debug, PartialEq, Eq, Error)]
 pub enum ObjectFault {
-    /// They are none: the first fault.
+    /// The bytes are not a signed object. This is the first fault.
     #[error(transparent)]
     At(CmsFault),
     /// Out of memory.

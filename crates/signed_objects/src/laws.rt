@@ -1,29 +1,29 @@
-//! What holds of the definitions of signed objects. Nothing here runs.
+//! Laws of the definitions of signed objects. These functions do nothing: their contracts are the laws.
 
 ghost use Rattle.signed_objects.specs.ObjectLaws.{OneDerFault, OneDerObject};
 ghost use Rattle.signed_objects.specs.BerObjects.{OneContent, OneObject, OneFault};
 
-/// Bytes have at most one fault, and none if they are a signed object in DER.
+/// Law: if everything must be in DER, bytes have at most one fault (its offset and its kind). Bytes that are a signed object have none.
 pub fn one_fault()
     ensures { OneDerFault }
 {}
 
-/// No bytes are two signed objects.
+/// Law: in DER, bytes are at most one signed object.
 pub fn one_object()
     ensures { OneDerObject }
 {}
 
-/// No bytes in BER become two in DER.
+/// Law: there is at most one rewriting of given bytes with the lengths of DER.
 pub fn one_content()
     ensures { OneContent }
 {}
 
-/// No bytes are two signed objects, if their lengths may be in BER.
+/// Law: if lengths may be in BER, bytes are at most one signed object.
 pub fn one_object_in_ber()
     ensures { OneObject }
 {}
 
-/// Bytes whose lengths may be in BER have at most one fault, and none if they are a signed object.
+/// Law: if lengths may be in BER, bytes have at most one fault (its offset and its kind). Bytes that are a signed object have none.
 pub fn one_fault_in_ber()
     ensures { OneFault }
 {}

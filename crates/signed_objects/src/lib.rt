@@ -25,6 +25,7 @@ mod fault;
 mod form;
 pub mod laws;
 mod object;
+mod oid;
 mod signed_data;
 mod signer;
 

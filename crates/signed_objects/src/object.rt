@@ -14,15 +14,15 @@ use rsa_sha256::PublicKey;
 use sha2::{Digest, Sha256};
 use std::alloc::{AllocError, Global};
 
-/// A signed object whose digest and signature hold under the key of the certificate inside it (RFC 6488). Who issued that certificate was
-/// not checked.
+/// A signed object whose digest and signature were verified with the key of the certificate inside it (RFC 6488).
+/// The certificate itself was not verified: not its signature, its issuer or its validity.
 #[derive(Clone, Copy, Debug, PartialEq, Eq)]
 pub struct SignedObject<'a> {
-    /// The content of the OBJECT IDENTIFIER eContentType: what kind of object it is.
+    /// What kind of object it is: the content octets of the OBJECT IDENTIFIER eContentType, without tag and length.
     pub content_type: &'a [u8],
-    /// eContent.
+    /// The content octets of eContent, such as the payload of a ROA or a manifest.
     pub content: &'a [u8],
-    /// The certificate, in DER.
+    /// The certificate, in DER, with tag and length.
     pub certificate: &'a [u8],
     /// The subjectKeyIdentifier of the certificate, which names its key as the signer.
     pub key_identifier: &'a [u8],
@@ -77,8 +77,9 @@ fn judge(alloc: Global, parts: &ObjectParts) -> Result<(), ObjectFault>
     Ok(())
 }
 
-/// The signed object that the bytes are in DER, or the first fault (RFC 6488 section 3). The elements are judged from the first to the last,
-/// and then digest and signature. Bytes after the object are a fault. Memory is asked for last, to verify the signature.
+/// Reads a signed object in DER, and verifies its digest and its signature (RFC 6488 section 3). The result borrows from `der`.
+/// `Err(At)`: the first fault. The elements are checked in their order, then digest and signature. Bytes after the object are a fault.
+/// `Err(Memory)`: memory ran out. Memory is allocated only to verify the signature.
 pub fn read_der_object(alloc: Global, der: &[u8]) -> Result<SignedObject<'_>, ObjectFault>
     ensures { ReadsDer (λ o. record { content_type = o.content_type.now; content = o.content.now; certificate = o.certificate.now; key_identifier = o.key_identifier.now }) result der.now }
 {
@@ -92,24 +93,24 @@ pub fn read_der_object(alloc: Global, der: &[u8]) -> Result<SignedObject<'_>, Ob
     })
 }
 
-/// A signed object like [`SignedObject`], with parts of its own.
+/// A signed object like [`SignedObject`], which owns its parts.
 #[derive(Debug, Drop, PartialEq, Eq)]
 pub struct OwnedObject {
-    /// The content of the OBJECT IDENTIFIER eContentType: what kind of object it is.
+    /// What kind of object it is: the content octets of the OBJECT IDENTIFIER eContentType, without tag and length.
     pub content_type: Vec<u8>,
-    /// eContent.
+    /// The content octets of eContent, such as the payload of a ROA or a manifest.
     pub content: Vec<u8>,
-    /// The certificate, in DER.
+    /// The certificate, in DER, with tag and length.
     pub certificate: Vec<u8>,
     /// The subjectKeyIdentifier of the certificate, which names its key as the signer.
     pub key_identifier: Vec<u8>,
-    /// Whether nothing was rewritten: lengths and OCTET STRINGs are as in DER (RFC 6488 section 3, 1.l). What is not read of the certificate,
-    /// and the order of the attributes, are not judged.
+    /// Whether nothing was rewritten: all lengths and OCTET STRINGs that were read are as in DER (RFC 6488 section 3, 1.l).
+    /// Parts of the certificate that are not read, and the order of the attributes, do not count.
     pub is_der: bool,
 }
 
 impl OwnedObject {
-    /// The same object, whose parts are borrowed.
+    /// A view of this object that borrows its parts.
     pub fn as_object(&self) -> SignedObject<'_>
         ensures its_type { result.content_type.now ≡ self.now.content_type.items }
         ensures content { result.content.now ≡ self.now.content.items }
@@ -138,9 +139,10 @@ fn owned(alloc: Global, object: &SignedObject, is_der: bool) -> Result<OwnedObje
     })
 }
 
-/// The signed object that the bytes of a file are, or the first fault. Lengths and OCTET STRINGs may be in BER: [`to_der`] writes the bytes
-/// anew, and [`read_der_object`] reads what it wrote. A fault of the rewriting, 36 to 43 and some of 1 and 5, has an offset in the file. Any
-/// other has one in what was written, which is the file if nothing was rewritten.
+/// Reads a signed object whose lengths and OCTET STRINGs may be in BER, and verifies its digest and its signature.
+/// [`to_der`] rewrites the bytes, and [`read_der_object`] reads the result. `Err(At)`: the first fault. `Err(Memory)`: memory ran out.
+/// The offset of a fault of [`to_der`] (kinds 36 to 43, some of 1 and 5) is an offset in `bytes`. Any other is an offset in the rewritten bytes.
+/// If nothing was rewritten, both are the same.
 #[tactic(auto, using(crate::proofs::BerSteps::no_content, crate::proofs::BerSteps::no_object, crate::proofs::BerSteps::object_of_file))]
 pub fn read_signed_object(alloc: Global, bytes: &[u8]) -> Result<OwnedObject, ObjectFault>
     ensures exact { ReadsObject (λ o. record { content_type = o.content_type.items; content = o.content.items; certificate = o.certificate.items; key_identifier = o.key_identifier.items }) result bytes.now }

@@ -8,6 +8,7 @@ ghost use Rattle.signed_objects.specs.Reading.{digest_algorithms_at, content_her
 
 use crate::certificate::{Certificate, read_certificate};
 use crate::elements::{EXPLICIT_0, SET, begins, end, needed_element, version};
+use crate::oid::object_identifier;
 use crate::signer::{Signer, digest_algorithm, signer_info};
 use crate::{CmsFault, CmsFaultKind};
 use der_lite::Cursor;
@@ -57,7 +58,7 @@ fn encapsulated_content<'a>(cursor: &mut Cursor<'a>) -> Result<Encapsulated<'a>,
     ensures { GivesNext (λ e. (e.content_type.now, e.content.now)) result cursor.new (encapsulated_at cursor.old) }
 {
     let mut members = cursor.sequence()?;
-    let content_type = members.oid()?;
+    let content_type = object_identifier(&mut members)?;
     let content = content(&mut members)?;
     members.finish()?;
     Ok(Encapsulated {

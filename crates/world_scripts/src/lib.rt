@@ -1,5 +1,5 @@
-//! Scripts of a world: what their lines say ([`read_beginning`], [`read_line`]), and what they do when they are played ([`play`], and the
-//! command [`world`]).
+//! Scripts of a world of one cache and its routers. [`read_beginning`] and [`read_line`] parse their lines. [`play`] runs a script,
+//! and [`world`] is the command that runs one.
 //!
 //! For example, where `rt` is the runtime that `main` is handed:
 //!

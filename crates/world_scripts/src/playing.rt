@@ -38,8 +38,9 @@ impl<'a> Lines<'a> {
     }
 }
 
-/// Plays a script, and prints what it shows and what is refused, with the status. 0: it reached its end. 1: a line could not be read, at
-/// which it ends.
+/// Runs a script on a new world, and prints what it shows and which events are refused. Returns the exit status.
+/// 0: the script was run to its end. 1: a line does not parse. Its number is printed, and nothing after it is run.
+/// `Err`: the output failed, or memory ran out.
 pub fn play<O: Write>(alloc: Global, script: &[u8], out: &mut O) -> Result<u8, ProgramFault>
     ensures { IfOk result (λ s. s ≤ 1) }
 {

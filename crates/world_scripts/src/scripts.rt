@@ -1,4 +1,4 @@
-//! Scripts of a world: what a line says. Words are parted by exactly one blank.
+//! Parses the lines of a script of a world. Words are separated by exactly one space.
 ghost use Rattle.std.specs.Prelude.{◌≤◌, IfSome};
 
 use command_parts::{ProgramFault, decimal, read_route};
@@ -8,32 +8,31 @@ use rtr_world::{Event, SideEvent};
 use std::alloc::Global;
 use vrps::{SetFault, VrpSet};
 
-/// With what a world begins: how many routers it has, the session of the cache, and that in version 0 of the protocol. Then the serial of
-/// its first version, and how many versions before the current one it keeps, from 1 to 65,536.
+/// The parameters of a script's world, from its first line.
 #[derive(Clone, Copy, Debug, PartialEq, Eq)]
 pub struct Beginning {
-    /// How many routers.
+    /// The number of routers.
     pub routers: u16,
-    /// The session of the cache.
+    /// The cache's session in protocol version 1.
     pub session: u16,
-    /// Its session in version 0 of the protocol.
+    /// The cache's session in protocol version 0.
     pub session0: u16,
-    /// The serial of its first version.
+    /// The serial of the cache's first version.
     pub start: u32,
-    /// How many versions before the current one it keeps.
+    /// How many versions before the current one the cache keeps, 1 to 65,536.
     pub keep: u32,
 }
 
-/// What a line says.
+/// A parsed line of a script after the first. Routers are numbered from 0.
 #[derive(Debug, Drop)]
 pub enum Line {
-    /// An event.
+    /// Runs an event of the world.
     Event(Event),
-    /// A router catches up with the cache.
+    /// Brings a router up to date with the cache.
     CatchUp { router: u16 },
-    /// What a router has committed is shown.
+    /// Prints what a router has committed.
     Show { router: u16 },
-    /// The state of a route at a router is shown.
+    /// Prints the state of a route at a router.
     Route { router: u16, route: Route },
 }
 
@@ -103,7 +102,8 @@ impl<'a> Words<'a> {
     }
 }
 
-/// What the first line says: `world ROUTERS SESSION START KEEP [SESSION0]`. Without the last word both sessions are the same.
+/// Parses the first line of a script: `world ROUTERS SESSION START KEEP [SESSION0]`. Without SESSION0 it is SESSION.
+/// `None`: the line does not parse, or KEEP is not 1 to 65,536.
 pub fn read_beginning(line: &str) -> Option<Beginning>
     ensures some { IfSome result (λ beginning. 1 ≤ beginning.keep) }
     ensures limit { IfSome result (λ beginning. beginning.keep ≤ 65536) }
@@ -129,7 +129,7 @@ pub fn read_beginning(line: &str) -> Option<Beginning>
     })
 }
 
-/// What a later line says, or `None` if it cannot be read.
+/// Parses a line of a script after the first. `Ok(None)`: it does not parse, or publishes too many records. `Err`: memory ran out.
 pub fn read_line(alloc: Global, line: &str) -> Result<Option<Line>, ProgramFault> {
     let mut words = Words::of(line);
     let Some(name) = words.next() else {

@@ -1,0 +1,4 @@
+pub mod Kinds
+pub mod KindRows
+pub mod Names
+pub mod NameRows
