@@ -6,13 +6,12 @@ use Rattle.std.specs.String.{string_bytes}
 use Rattle.sources.specs.declared.sources.Sources.{Sources}
 use Rattle.rtr_daemon.specs.DiskAnswers.{DiskAnswers, ReadsWhole}
 use Rattle.rtr_daemon.specs.declared.environment.Stamp.{Stamp}
-use Rattle.std.specs.Prelude.{slice_get, Option, Some, None, Ok}
+use Rattle.std.specs.Prelude.{slice_get, Option, Some, None}
 use Rattle.std.proofs.Common.{inl, inr, ◌⊎◌}
 use Rattle.std.proofs.lemmas.Bool.{cases_lt}
 use Rattle.std.proofs.lemmas.List.{get_or_default}
-use Rattle.rtr_daemon.specs.Shrinking.{sinces_of}
 use Rattle.rtr_daemon.specs.declared.shrink_guard.ShrinkGuard.{ShrinkGuard}
-use Rattle.rtr_daemon.specs.Files.{AreContents, AreNumbered, FollowsEach, FollowsOne, Loads, LoadsEach, names_of, path_of, paths_of}
+use Rattle.rtr_daemon.specs.Files.{AreContents, AreNumbered, FollowsEach, FollowsOne, LoadsEach, LoadsOne, Mark, mark_of, marks_of, names_of, path_of, paths_of}
 use Rattle.rtr_daemon.specs.PointOffers.{OffersEach, OffersPoint, points_of}
 use Rattle.rtr_daemon.specs.declared.point_polling.WatchedPoint.{WatchedPoint}
 use Rattle.rtr_daemon.specs.declared.watched_file.WatchedExport.{WatchedExport}
@@ -37,39 +36,50 @@ each_more P xs i x less is last so_far k d within = by (cases_lt k i) where
       subst (λ n. P (get_or xs n d)) (sym same) (subst P (is ∙ get_or_default xs i x d less) last)
 
 -- One export more was polled.
-follows_then : {W : Type 0} (answers : DiskAnswers W) (clock ticks : ℕ → Type 0) (guard : Option ShrinkGuard) (exports : List WatchedExport) (last : WatchedExport) (sinces : List (Option ℕ)) (since : Option ℕ) (old mid new : Sources) → FollowsEach answers clock ticks guard exports sinces old mid
-    → FollowsOne answers clock ticks guard last since mid new → FollowsEach answers clock ticks guard (exports ++ last ∷ []) (sinces ++ since ∷ []) old new
-follows_then answers clock ticks guard [] last [] since old mid new so_far follows = (new, subst (λ s. FollowsOne answers clock ticks guard last since s new) so_far follows, refl)
-follows_then answers clock ticks guard [] last (first ∷ sinces) since old mid new so_far follows = absurd so_far
-follows_then answers clock ticks guard (export ∷ exports) last [] since old mid new so_far follows = absurd so_far
-follows_then answers clock ticks guard (export ∷ exports) last (first ∷ sinces) since old mid new so_far follows =
-    (so_far.0, so_far.1, follows_then answers clock ticks guard exports last sinces since so_far.0 mid new so_far.2 follows)
+follows_then : {W : Type 0} (answers : DiskAnswers W) (clock ticks : ℕ → Type 0) (guard : Option ShrinkGuard) (exports : List WatchedExport) (last : WatchedExport) (marks : List Mark) (mark : Mark) (old mid new : Sources) → FollowsEach answers clock ticks guard exports marks old mid
+    → FollowsOne answers clock ticks guard last mark mid new → FollowsEach answers clock ticks guard (exports ++ last ∷ []) (marks ++ mark ∷ []) old new
+follows_then answers clock ticks guard [] last [] mark old mid new so_far follows = (new, subst (λ s. FollowsOne answers clock ticks guard last mark s new) so_far follows, refl)
+follows_then answers clock ticks guard [] last (first ∷ marks) mark old mid new so_far follows = absurd so_far
+follows_then answers clock ticks guard (export ∷ exports) last [] mark old mid new so_far follows = absurd so_far
+follows_then answers clock ticks guard (export ∷ exports) last (first ∷ marks) mark old mid new so_far follows =
+    (so_far.0, so_far.1, follows_then answers clock ticks guard exports last marks mark so_far.0 mid new so_far.2 follows)
 
--- An export is written, and since when its contents are refused.
-sinces_more : (exports : List WatchedExport) (i : ℕ) (new : WatchedExport) → i < length exports → take (suc i) (sinces_of (set exports i new)) ≡ take i (sinces_of exports) ++ new.short_since ∷ []
-sinces_more [] i new less = absurd (omega (arith, less))
-sinces_more (export ∷ exports) zero new less = refl
-sinces_more (export ∷ exports) (suc i) new less = ap (λ s. export.short_since ∷ s) (sinces_more exports i new (omega (arith, less)))
+-- An export is written, with what is noted of it.
+marks_more : (exports : List WatchedExport) (i : ℕ) (new : WatchedExport) → i < length exports → take (suc i) (marks_of (set exports i new)) ≡ take i (marks_of exports) ++ mark_of new ∷ []
+marks_more [] i new less = absurd (omega (arith, less))
+marks_more (export ∷ exports) zero new less = refl
+marks_more (export ∷ exports) (suc i) new less = ap (λ s. mark_of export ∷ s) (marks_more exports i new (omega (arith, less)))
 
 pub follows_more : {W : Type 0} (answers : DiskAnswers W) (clock ticks : ℕ → Type 0) (guard : Option ShrinkGuard) (exports written : List WatchedExport) (i : ℕ) (d new_export : WatchedExport) (old mid new : Sources) → i < length exports → i < length written
-    → FollowsEach answers clock ticks guard (take i exports) (take i (sinces_of written)) old mid → FollowsOne answers clock ticks guard (get_or exports i d) new_export.short_since mid new
-    → FollowsEach answers clock ticks guard (take (suc i) exports) (take (suc i) (sinces_of (set written i new_export))) old new
+    → FollowsEach answers clock ticks guard (take i exports) (take i (marks_of written)) old mid → FollowsOne answers clock ticks guard (get_or exports i d) (mark_of new_export) mid new
+    → FollowsEach answers clock ticks guard (take (suc i) exports) (take (suc i) (marks_of (set written i new_export))) old new
 follows_more answers clock ticks guard exports written i d new_export old mid new less within so_far follows =
-    subst (λ all. FollowsEach answers clock ticks guard all (take (suc i) (sinces_of (set written i new_export))) old new) (sym (take-suc exports i d less))
-    (subst (λ all. FollowsEach answers clock ticks guard (take i exports ++ get_or exports i d ∷ []) all old new) (sym (sinces_more written i new_export within))
-    (follows_then answers clock ticks guard (take i exports) (get_or exports i d) (take i (sinces_of written)) new_export.short_since old mid new so_far follows))
+    subst (λ all. FollowsEach answers clock ticks guard all (take (suc i) (marks_of (set written i new_export))) old new) (sym (take-suc exports i d less))
+    (subst (λ all. FollowsEach answers clock ticks guard (take i exports ++ get_or exports i d ∷ []) all old new) (sym (marks_more written i new_export within))
+    (follows_then answers clock ticks guard (take i exports) (get_or exports i d) (take i (marks_of written)) (mark_of new_export) old mid new so_far follows))
 
--- An export is written whose contents are refused since the same time.
-pub sinces_kept : (exports : List WatchedExport) (i : ℕ) (d new : WatchedExport) → new.short_since ≡ (get_or exports i d).short_since → sinces_of (set exports i new) ≡ sinces_of exports
-sinces_kept exports i d new same = map-set_same (λ e. e.short_since) exports i new d same
+-- An export is written of which the same is noted.
+pub marks_kept : (exports : List WatchedExport) (i : ℕ) (d new : WatchedExport) → mark_of new ≡ mark_of (get_or exports i d) → marks_of (set exports i new) ≡ marks_of exports
+marks_kept exports i d new same = map-set_same mark_of exports i new d same
+
+-- the same marks
+pub mark_is : (a b : Option ℕ) (s t : Option Stamp) → a ≡ b → s ≡ t → ◌≡◌ {A = Mark} (a, s) (b, t)
+mark_is a b s t since loaded = subst (λ x. ◌≡◌ {A = Mark} (a, s) (x, t)) since (subst (λ y. ◌≡◌ {A = Mark} (a, s) (a, y)) loaded refl)
 
 -- One export more was loaded.
-loads_then : {W : Type 0} (answers : DiskAnswers W) (now : ℕ) (exports : List WatchedExport) (last : WatchedExport) (old mid new : Sources) (expired : ℕ) → LoadsEach answers now exports old mid → Loads answers None last now (Ok expired) mid new → LoadsEach answers now (exports ++ last ∷ []) old new
-loads_then answers now [] last old mid new expired so_far loads = (expired, new, subst (λ s. Loads answers None last now (Ok expired) s new) so_far loads, refl)
-loads_then answers now (first ∷ exports) last old mid new expired so_far loads = (so_far.0, so_far.1, so_far.2, loads_then answers now exports last so_far.1 mid new expired so_far.3 loads)
+loads_then : {W : Type 0} (answers : DiskAnswers W) (now : ℕ) (exports : List WatchedExport) (last : WatchedExport) (marks : List Mark) (mark : Mark) (old mid new : Sources) (expired : ℕ) → LoadsEach answers now exports marks old mid → LoadsOne answers last now expired mark.1 mid new
+    → LoadsEach answers now (exports ++ last ∷ []) (marks ++ mark ∷ []) old new
+loads_then answers now [] last [] mark old mid new expired so_far loads = (expired, new, subst (λ s. LoadsOne answers last now expired mark.1 s new) so_far loads, refl)
+loads_then answers now [] last (first ∷ marks) mark old mid new expired so_far loads = absurd so_far
+loads_then answers now (first ∷ exports) last [] mark old mid new expired so_far loads = absurd so_far
+loads_then answers now (first ∷ exports) last (one ∷ marks) mark old mid new expired so_far loads = (so_far.0, so_far.1, so_far.2, loads_then answers now exports last marks mark so_far.1 mid new expired so_far.3 loads)
 
-pub loads_more : {W : Type 0} (answers : DiskAnswers W) (now : ℕ) (exports : List WatchedExport) (i : ℕ) (d : WatchedExport) (old mid new : Sources) (expired : ℕ) → i < length exports → LoadsEach answers now (take i exports) old mid → Loads answers None (get_or exports i d) now (Ok expired) mid new → LoadsEach answers now (take (suc i) exports) old new
-loads_more answers now exports i d old mid new expired less so_far loads = subst (λ all. LoadsEach answers now all old new) (sym (take-suc exports i d less)) (loads_then answers now (take i exports) (get_or exports i d) old mid new expired so_far loads)
+pub loads_more : {W : Type 0} (answers : DiskAnswers W) (now : ℕ) (exports written : List WatchedExport) (i : ℕ) (d new_export : WatchedExport) (old mid new : Sources) (expired : ℕ) → i < length exports → i < length written
+    → LoadsEach answers now (take i exports) (take i (marks_of written)) old mid → LoadsOne answers (get_or exports i d) now expired (mark_of new_export).1 mid new → LoadsEach answers now (take (suc i) exports) (take (suc i) (marks_of (set written i new_export))) old new
+loads_more answers now exports written i d new_export old mid new expired less within so_far loads =
+    subst (λ all. LoadsEach answers now all (take (suc i) (marks_of (set written i new_export))) old new) (sym (take-suc exports i d less))
+    (subst (λ all. LoadsEach answers now (take i exports ++ get_or exports i d ∷ []) all old new) (sym (marks_more written i new_export within))
+    (loads_then answers now (take i exports) (get_or exports i d) (take i (marks_of written)) (mark_of new_export) old mid new expired so_far loads))
 
 -- One publication point more was offered its directory.
 offers_then : {W : Type 0} (answers : DiskAnswers W) (clock : ℕ → Type 0) (points : List WatchedPoint) (last : WatchedPoint) (old mid new : Sources) (now : ℕ) → clock now → OffersEach answers clock points old mid → OffersPoint answers (string_bytes last.path) now mid new → OffersEach answers clock (points ++ last ∷ []) old new

@@ -1,18 +1,17 @@
 -- The parts of a turn, and what it does by the clock.
 use Rattle.std.proofs.Common.{◌≡◌, ℕ, ◌≤◌, ◌<◌, ◌⊎◌, inl, inr, subst, sym, ◌∙◌, ap, refl, arith}
 use Rattle.std.specs.Prelude.{false, max, IfErr, IfOk, Option, None, Some, Result, Ok, Err}
-use Rattle.rtr_daemon.specs.declared.service.PublishReport.{PublishReport}
+use Rattle.rtr_daemon.specs.declared.versions.PublishReport.{PublishReport}
 use Rattle.rtr_daemon.specs.declared.refusal.Refusal.{Refusal}
 use Rattle.rtr_daemon.specs.declared.statistics.Failure.{Failure}
 use Rattle.session_names.specs.Runs.{may_publish}
-use Rattle.rtr_daemon.specs.Files.{FollowsEach, FollowsSlurms, names_of, paths_of}
+use Rattle.rtr_daemon.specs.Files.{FollowsEach, FollowsSlurms, marks_of, names_of, paths_of}
 use Rattle.rtr_daemon.specs.DiskAnswers.{DiskAnswers}
-use Rattle.rtr_daemon.specs.Due.{DoesWhatIsDue, FailsToPublish, FailureNoted, IsBetween, IsChecked, IsKept, JudgesAges, KeepsFiles, NextAfter, NextPoll, OnlyClients, OnlyFiles, OnlyNotes, PollsAll, PublishesIfDue, SamePaths, WakesIfPublished, later_by, second_of_pace}
+use Rattle.rtr_daemon.specs.Due.{DoesWhatIsDue, FailsToPublish, FailureNoted, IsBetween, IsChecked, IsKept, JudgesAges, KeepsFiles, NextAfter, NextPoll, OnlyClients, OnlyFiles, OnlyNotes, PollsAll, PublishesIfDue, SamePaths, WakesIfPublished, failing_since, later_by, second_of_pace}
 use Rattle.rtr_daemon.specs.Overdue.{LeavesNoneOverdue}
 use Rattle.rtr_daemon.specs.PointOffers.{OffersEach, points_of}
 use Rattle.rtr_daemon.specs.Queue.{WakesIfNew}
 use Rattle.rtr_daemon.specs.Serving.{IsFresh, IsOfSecond, IsReason, OnlySources, PacesSo, StaysFresh}
-use Rattle.rtr_daemon.specs.Shrinking.{sinces_of}
 use Rattle.vrps.specs.declared.store.Published.{Published}
 use Rattle.vrps.specs.declared.store.Published.TheVariants.{New, Unchanged}
 use Rattle.rtr_daemon.specs.declared.client_table.ClientTable.{ClientTable}
@@ -35,15 +34,13 @@ then_queued {S} {T} a b table only = ap {A = Daemon S T} (λ d. record d { clien
 pub sources_on : {S T : Type 0} (a b c : Service S T) → OnlySources a b → OnlySources b c → OnlySources a c
 sources_on a b c first second = subst (λ z. c ≡ record z { sources = c.sources; is_pending = c.is_pending; current_at = c.current_at; has_points = c.has_points }) first second
 
--- Only whether a version is pending has changed.
-pub pending_only : {S T : Type 0} (a b : Service S T) → b ≡ record a { is_pending = b.is_pending } → OnlySources a b
-pending_only a b h = subst (λ z. z ≡ record a { sources = z.sources; is_pending = z.is_pending; current_at = z.current_at; has_points = z.has_points }) (sym h) refl
-
 -- When a version is published depends on the pace alone, and on when the daemon was opened.
-pub publishes_from : {S T : Type 0} (clock ticks : ℕ → Type 0) (held : ℕ) (a b c : Daemon S T) → b.service.pace ≡ a.service.pace → b.started ≡ a.started → b.opened ≡ a.opened → PublishesIfDue clock ticks held b c → PublishesIfDue clock ticks held a c
-publishes_from clock ticks held a b c pace started opened (inl done) = inl done
-publishes_from clock ticks held a b c pace started opened (inr (inl fails)) = inr (inl fails)
-publishes_from clock ticks held a b c pace started opened (inr (inr waits)) = inr (inr (record { millis = waits.millis; ticked = waits.ticked; reason = by waits.reason })) where
+pub publishes_from : {S T : Type 0} (clock ticks : ℕ → Type 0) (held : ℕ) (a b c : Daemon S T) → b.service.pace ≡ a.service.pace → b.started ≡ a.started → b.opened ≡ a.opened → b.failing ≡ a.failing
+    → PublishesIfDue clock ticks held b c → PublishesIfDue clock ticks held a c
+publishes_from clock ticks held a b c pace started opened failing (inl done) = inl done
+publishes_from clock ticks held a b c pace started opened failing (inr (inl f)) =
+    inr (inl (record { now = f.now; answered = f.answered; tried = f.tried; ticked = f.ticked; since = f.since ∙ ap (λ z. Some (failing_since f.tried z)) failing; failure = f.failure; kept = f.kept; reason = f.reason; held = f.held }))
+publishes_from clock ticks held a b c pace started opened failing (inr (inr waits)) = inr (inr (record { millis = waits.millis; ticked = waits.ticked; reason = by waits.reason; failing = waits.failing ∙ failing })) where
   by : (waits.millis < held) ⊎ (may_publish b.service.pace (second_of_pace b.started b.opened waits.millis) ≡ false) → (waits.millis < held) ⊎ (may_publish a.service.pace (second_of_pace a.started a.opened waits.millis) ≡ false)
   by (inl early) = inl early
   by (inr same) = inr (rw (sym pace, sym started, sym opened) same)
@@ -82,11 +79,11 @@ postponed_by {S} {T} ticks a new s began second (Ok report) ticked is paced late
   by (New serial) paced after = inr (record { began = began; ticked = ticked; paced = ap (λ d. d.service.pace) only ∙ paced ∙ ap (λ n. Some n) is; ended = after.0; answered = after.1; next_check = after.2 })
   by Unchanged paced after = inl (ap (λ d. d.service.pace) only ∙ paced, after)
 
-polls_to : {S T W : Type 0} (answers : DiskAnswers W) (clock ticks : ℕ → Type 0) (a b c : Daemon S T) → c.service.sources ≡ b.service.sources → sinces_of c.exports.items ≡ sinces_of b.exports.items → PollsAll answers clock ticks a b → PollsAll answers clock ticks a c
-polls_to answers clock ticks a b c same sinces p = record {
+polls_to : {S T W : Type 0} (answers : DiskAnswers W) (clock ticks : ℕ → Type 0) (a b c : Daemon S T) → c.service.sources ≡ b.service.sources → marks_of c.exports.items ≡ marks_of b.exports.items → PollsAll answers clock ticks a b → PollsAll answers clock ticks a c
+polls_to answers clock ticks a b c same marks p = record {
   followed = p.followed;
   excepted = p.excepted;
-  exports = subst (λ since. FollowsEach answers clock ticks a.plan.shrink a.exports.items since a.service.sources p.followed) (sym sinces) p.exports;
+  exports = subst (λ since. FollowsEach answers clock ticks a.plan.shrink a.exports.items since a.service.sources p.followed) (sym marks) p.exports;
   slurms = p.slurms;
   points = subst (OffersEach answers clock a.points.items p.excepted) (sym same) p.points;
 }
@@ -111,10 +108,10 @@ due_of {S} {T} answers clock ticks now a b c d ticked polls fresh paths checked 
     now = now;
     ticked = ticked;
     due = λ is. record {
-      polls = polls_to answers clock ticks a b d r.kept.sources (ap (λ e. sinces_of e.items) r.kept.exports) (polls is);
+      polls = polls_to answers clock ticks a b d r.kept.sources (ap (λ e. marks_of e.items) r.kept.exports) (polls is);
       fresh = r.fresh (fresh is);
       publishes =
-          publishes_from clock ticks now a (with_clients b c) d checked.pace checked.rest.1 checked.rest.2
+          publishes_from clock ticks now a (with_clients b c) d checked.pace checked.rest.1 checked.rest.2 checked.failing
           (subst (λ held. PublishesIfDue clock ticks held (with_clients b c) d) (checked.held_until is) (r.due (early_enough is)));
       next_poll =
           next_from ticks (later_by a.plan.check now) a (with_clients b c) d checked.pace checked.rest.0 checked.rest.1 checked.rest.2
@@ -140,39 +137,11 @@ due_of {S} {T} answers clock ticks now a b c d ticked polls fresh paths checked 
       again s = record {
         kept = record { sources = s.kept.sources; exports = s.kept.exports; slurms = s.kept.slurms; points = s.kept.points; rest = s.kept.rest };
         next_poll = next_from ticks a.next_check a (with_clients a c) d refl refl refl refl s.next;
-        publishes = λ is. publishes_from clock ticks a.held_until a (with_clients a c) d refl refl refl (s.due is);
+        publishes = λ due. publishes_from clock ticks a.held_until a (with_clients a c) d refl refl refl refl (s.due due);
         next_round = s.round;
         overdue = s.overdue;
         early = s.early;
       }
-
--- A turn of clients, and then what is due by the clock
-pub due_after : {S T W : Type 0} (answers : DiskAnswers W) (clock ticks : ℕ → Type 0) (a b c : Daemon S T) → OnlyClients a b → DoesWhatIsDue answers clock ticks b c → DoesWhatIsDue answers clock ticks a c
-due_after {S} {T} answers clock ticks a b c only h = again (subst (λ z. DoesWhatIsDue answers clock ticks z c) only h) where
-  again : DoesWhatIsDue answers clock ticks (with_clients a b) c → DoesWhatIsDue answers clock ticks a c
-  again d = record {
-    now = d.now;
-    ticked = d.ticked;
-    due = λ is. let p = d.due is in record {
-      polls = record { followed = p.polls.followed; excepted = p.polls.excepted; exports = p.polls.exports; slurms = p.polls.slurms; points = p.polls.points };
-      fresh = p.fresh;
-      publishes = publishes_from clock ticks d.now a (with_clients a b) c refl refl refl p.publishes;
-      next_poll = next_from ticks (later_by a.plan.check d.now) a (with_clients a b) c refl refl refl refl p.next_poll;
-      next_round = p.next_round;
-      overdue = p.overdue;
-      paths = record { exports = p.paths.exports; slurms = p.paths.slurms; points = p.paths.points };
-    };
-    between = λ is. let p = d.between is in record {
-      kept = record { sources = p.kept.sources; exports = p.kept.exports; slurms = p.kept.slurms; points = p.kept.points; rest = p.kept.rest };
-      next_poll = next_from ticks a.next_check a (with_clients a b) c refl refl refl refl p.next_poll;
-      publishes = λ due. publishes_from clock ticks a.held_until a (with_clients a b) c refl refl refl (p.publishes due);
-      next_round = p.next_round;
-      overdue = p.overdue;
-      early = p.early;
-    };
-    wakes = wakes_from a (with_clients a b) c refl d.wakes;
-    rest = d.rest;
-  }
 
 -- old with the files of new, and what is noted of them
 abbrev pub with_files : {S T : Type 0} → Daemon S T → Daemon S T → Daemon S T
@@ -200,7 +169,7 @@ ages_only a b h = subst (λ z. z ≡ with_files a z) (sym h.rest) refl
 -- A poll by its parts: the clock, exports, local exceptions, publication points, and ages
 pub record Parts {S T W : Type 0} (answers : DiskAnswers W) (clock ticks : ℕ → Type 0) (a b c d e f : Daemon S T) : Type 0 where
   pub judged : b ≡ record a { clock_behind = b.clock_behind }
-  pub exports : FollowsEach answers clock ticks b.plan.shrink b.exports.items (sinces_of c.exports.items) b.service.sources c.service.sources
+  pub exports : FollowsEach answers clock ticks b.plan.shrink b.exports.items (marks_of c.exports.items) b.service.sources c.service.sources
   pub names : names_of c.exports.items ≡ names_of b.exports.items
   pub after_exports : (c.slurms ≡ b.slurms) × (c.points ≡ b.points)
   pub slurms : FollowsSlurms answers c.slurms.items c.service.sources d.service.sources
@@ -213,17 +182,17 @@ pub record Parts {S T W : Type 0} (answers : DiskAnswers W) (clock ticks : ℕ �
 
 pub polls_of : {S T W : Type 0} (answers : DiskAnswers W) (clock ticks : ℕ → Type 0) (a b c d e f : Daemon S T) → Parts answers clock ticks a b c d e f → PollsAll answers clock ticks a f
 polls_of answers clock ticks a b c d e f p =
-    let at_start : FollowsEach answers clock ticks a.plan.shrink a.exports.items (sinces_of c.exports.items) a.service.sources c.service.sources =
-    subst (λ z. FollowsEach answers clock ticks z.plan.shrink z.exports.items (sinces_of c.exports.items) z.service.sources c.service.sources) p.judged p.exports in
-    let sinces : sinces_of f.exports.items ≡ sinces_of c.exports.items =
-    p.ages.sinces ∙ ap (λ z. sinces_of z.items) p.after_points.0 ∙ ap (λ z. sinces_of z.items) p.after_slurms.0 in
+    let at_start : FollowsEach answers clock ticks a.plan.shrink a.exports.items (marks_of c.exports.items) a.service.sources c.service.sources =
+    subst (λ z. FollowsEach answers clock ticks z.plan.shrink z.exports.items (marks_of c.exports.items) z.service.sources c.service.sources) p.judged p.exports in
+    let marks : marks_of f.exports.items ≡ marks_of c.exports.items =
+    p.ages.marks ∙ ap (λ z. marks_of z.items) p.after_points.0 ∙ ap (λ z. marks_of z.items) p.after_slurms.0 in
     let slurms : c.slurms ≡ a.slurms = p.after_exports.0 ∙ ap (λ z. z.slurms) p.judged in
     let points : d.points ≡ a.points = p.after_slurms.1 ∙ p.after_exports.1 ∙ ap (λ z. z.points) p.judged in
     let last : f.service.sources ≡ e.service.sources = ap (λ z. z.service.sources) p.ages.rest in
     record {
       followed = c.service.sources;
       excepted = d.service.sources;
-      exports = subst (λ since. FollowsEach answers clock ticks a.plan.shrink a.exports.items since a.service.sources c.service.sources) (sym sinces) at_start;
+      exports = subst (λ since. FollowsEach answers clock ticks a.plan.shrink a.exports.items since a.service.sources c.service.sources) (sym marks) at_start;
       slurms = subst (λ z. FollowsSlurms answers z.items c.service.sources d.service.sources) slurms p.slurms;
       points = subst (OffersEach answers clock a.points.items d.service.sources) (sym last) (subst (λ z. OffersEach answers clock z.items d.service.sources e.service.sources) points p.points);
     }
@@ -247,26 +216,26 @@ kept_failure refusal None kept = absurd kept
 kept_failure refusal (Some f) kept = (f, refl, kept)
 
 -- Publication failed, and that was noted.
-pub fails_on : {S T : Type 0} (clock : ℕ → Type 0) (a new : Daemon S T) (s : Service S T) (now : ℕ) (refusal : Refusal) → clock now → s.sources ≡ a.service.sources → IsReason now a.service.sources refusal → OnlyNotes (record a { service = s }) new → new.held_until ≡ new.next_check → IsKept refusal new.statistics.failure → FailsToPublish clock new
-fails_on clock a new s now refusal answered same reason only held kept =
-    let f = kept_failure refusal new.statistics.failure kept in
+pub fails_on : {S T : Type 0} (clock ticks : ℕ → Type 0) (a new : Daemon S T) (s : Service S T) (now tried : ℕ) (refusal : Refusal) → clock now → ticks tried → s.sources ≡ a.service.sources → IsReason now a.service.sources refusal → OnlyNotes (record a { service = s }) new → FailureNoted refusal tried (record a { service = s }) new → FailsToPublish clock ticks a new
+fails_on clock ticks a new s now tried refusal answered ticked same reason only noted =
+    let f = kept_failure refusal new.statistics.failure noted.kept in
     let sources : new.service.sources ≡ a.service.sources = ap (λ d. d.service.sources) only ∙ same in
-    record { now = now; answered = answered; failure = f.0; kept = f.1; reason = subst (λ r. IsReason now new.service.sources r) (sym f.2) (subst (λ z. IsReason now z refusal) (sym sources) reason); held = held }
+    record { now = now; answered = answered; tried = tried; ticked = ticked; since = noted.since; failure = f.0; kept = f.1; reason = subst (λ r. IsReason now new.service.sources r) (sym f.2) (subst (λ z. IsReason now z refusal) (sym sources) reason); held = noted.held }
 
 -- A publication was tried: no version is pending, or it failed.
-pub tried_due : {S T : Type 0} (clock ticks : ℕ → Type 0) (held : ℕ) (a new : Daemon S T) (s : Service S T) (now : ℕ) (tried : Result PublishReport Refusal) → clock now → s.sources ≡ a.service.sources → IfOk tried (λ x. s.is_pending ≡ false) → IfErr tried (λ r. IsReason now a.service.sources r) → OnlyNotes (record a { service = s }) new
-    → IfErr tried (λ r. FailureNoted r new) → PublishesIfDue clock ticks held a new
-tried_due clock ticks held a new s now (Ok report) answered same done fails only noted = inl (ap (λ d. d.service.is_pending) only ∙ done)
-tried_due clock ticks held a new s now (Err refusal) answered same done fails only noted = inr (inl (fails_on clock a new s now refusal answered same fails only noted.held noted.kept))
+pub tried_due : {S T : Type 0} (clock ticks : ℕ → Type 0) (held : ℕ) (a new : Daemon S T) (s : Service S T) (now began : ℕ) (tried : Result PublishReport Refusal) → clock now → ticks began → s.sources ≡ a.service.sources → IfOk tried (λ x. s.is_pending ≡ false) → IfErr tried (λ r. IsReason now a.service.sources r) → OnlyNotes (record a { service = s }) new
+    → IfErr tried (λ r. FailureNoted r began (record a { service = s }) new) → IfOk tried (λ x. new.failing ≡ None) → PublishesIfDue clock ticks held a new
+tried_due clock ticks held a new s now began (Ok report) answered ticked same done fails only noted none = inl (ap (λ d. d.service.is_pending) only ∙ done, none)
+tried_due clock ticks held a new s now began (Err refusal) answered ticked same done fails only noted none = inr (inl (fails_on clock ticks a new s now began refusal answered ticked same fails only noted))
 
 -- What was published, and what was noted of it, leaves the files.
-pub published_kept : {S T : Type 0} (a new : Daemon S T) (s : Service S T) → s.sources ≡ a.service.sources → OnlyNotes (record a { service = s }) new → KeepsFiles a new
-published_kept a new s same only = record {
+pub published_kept : {S T : Type 0} (a new : Daemon S T) (s : Service S T) → s.sources ≡ a.service.sources → s.settings ≡ a.service.settings → OnlyNotes (record a { service = s }) new → KeepsFiles a new
+published_kept a new s same settings only = record {
   sources = ap (λ d. d.service.sources) only ∙ same;
   exports = ap (λ d. d.exports) only;
   slurms = ap (λ d. d.slurms) only;
   points = ap (λ d. d.points) only;
-  rest = (ap (λ d. d.plan) only, ap (λ d. d.started) only, ap (λ d. d.opened) only);
+  rest = (ap (λ d. d.plan) only, ap (λ d. d.started) only, ap (λ d. d.opened) only, ap (λ d. d.service.settings) only ∙ settings);
 }
 
 fresh_on : {S T : Type 0} (clock : ℕ → Type 0) (a b : Service S T) (now : ℕ) → clock now → StaysFresh now a b → IsFresh clock a → IsFresh clock b
@@ -291,8 +260,8 @@ clients_kept a b c only kept = again (subst (λ z. KeepsFiles z c) only kept) wh
 
 -- A poll, when the next one was noted, and what has expired
 pub polled_then : {S T W : Type 0} (answers : DiskAnswers W) (clock ticks : ℕ → Type 0) (a b c d : Daemon S T) → b ≡ record a { next_check = b.next_check; next_round = b.next_round; held_until = b.held_until } → PollsAll answers clock ticks b c
-    → d.service.sources ≡ c.service.sources → sinces_of d.exports.items ≡ sinces_of c.exports.items → PollsAll answers clock ticks a d
-polled_then answers clock ticks a b c d times polls same sinces =
+    → d.service.sources ≡ c.service.sources → marks_of d.exports.items ≡ marks_of c.exports.items → PollsAll answers clock ticks a d
+polled_then answers clock ticks a b c d times polls same marks =
     let p = subst (λ z. PollsAll answers clock ticks z c) times polls in
     let at_start : PollsAll answers clock ticks a c = record { followed = p.followed; excepted = p.excepted; exports = p.exports; slurms = p.slurms; points = p.points } in
-    polls_to answers clock ticks a c d same sinces at_start
+    polls_to answers clock ticks a c d same marks at_start

@@ -1,17 +1,18 @@
 -- What the sources have still comes from the paths that are watched.
-use Rattle.std.proofs.Common.{◌≡◌, ℕ, suc, ◌<◌, ◌≤◌, ◌⊎◌, List, [], ◌∷◌, inl, inr, length, subst, sym, ap, refl, ◌∙◌, arith}
-use Rattle.std.specs.Prelude.{All, slice_get, slice_set, Contains, Option, Some, None, Result, Ok, Err}
+use Rattle.std.proofs.Common.{◌≡◌, ℕ, zero, suc, ◌<◌, ◌≤◌, ◌⊎◌, List, [], ◌∷◌, ◌++◌, inl, inr, length, subst, sym, ap, refl, ◌∙◌, arith}
+use Rattle.std.specs.Prelude.{slice_get, slice_set, Contains, Option, Some, None, Result, Ok, Err}
 use Rattle.std.specs.String.{string_bytes}
-use Rattle.std.proofs.Common.{get_or}
-use Rattle.std.specs.Option.{unwrap_or}
-use Rattle.std.proofs.lemmas.Option.{slice_get_within, unwrap_or-slice_get}
+use Rattle.std.proofs.lemmas.Option.{slice_get_within}
 use Rattle.std.specs.Prelude.{Bool, true, false, bytes_eq}
 use Rattle.std.specs.FinMap.{get-empty}
 use Rattle.std.specs.Ordering.{nat_cmp}
 use Rattle.std.specs.Cmp.Lexicographic.{slice_cmp}
+use Rattle.std.proofs.lemmas.List.{append_assoc}
+use Rattle.std.proofs.lemmas.List.Elements.{Contains-append_cases, Contains-append_left, Contains-append_right}
 use Rattle.std.proofs.lemmas.Slice.Eq.{bytes_eq-Decides}
 use Rattle.std.proofs.lemmas.Bool.{cases_eq, cases_lt}
 use Rattle.prefixes.proofs.Basics.{set_same, set_other}
+use Rattle.points.proofs.Named.{contains_cases}
 use Rattle.points.proofs.Using.{contains_map}
 use Rattle.points.specs.Accepted.{Accepted as AcceptedPoint, Holds}
 use Rattle.points.specs.Answers.{BecomesAt}
@@ -20,16 +21,17 @@ use Rattle.points.specs.declared.fault.Offered.{Offered}
 use Rattle.points.specs.declared.fault.Offered.TheVariants as offered
 use Rattle.points.specs.declared.fault.PointFault.{PointFault}
 use Rattle.payload_commands.specs.declared.directories.Directory.{Directory}
-use Rattle.sources.specs.Served.{IsNothing}
 use Rattle.sources.specs.declared.fault.TakeFault.{TakeFault}
 use Rattle.sources.specs.declared.listed.Listed.{Listed}
 use Rattle.sources.specs.declared.sources.Sources.{Sources}
 use Rattle.rtr_daemon.specs.DiskAnswers.{DiskAnswers}
-use Rattle.rtr_daemon.specs.Due.{DoesWhatIsDue, PollsAll}
-use Rattle.rtr_daemon.specs.Files.{Follows, FollowsEach, FollowsSlurms, Loads, LoadsEach, ReadsSlurms, names_of, path_of, paths_of}
-use Rattle.rtr_daemon.specs.Origins.{ExceptionsComeFrom, ExportComesFrom, ExportsComeFrom, PointComesFrom, PointsComeFrom, SourcesComeFrom}
+use Rattle.rtr_daemon.specs.Due.{DoesWhatIsDue, OnlyClients, OnlyServed, PollsAll}
+use Rattle.rtr_daemon.specs.Files.{AreNumbered, Follows, FollowsEach, FollowsSlurms, Loads, LoadsEach, Mark, marks_of, names_of, path_of, paths_of}
+use Rattle.rtr_daemon.specs.Origins.{ComesAt, ExceptionsComeFrom, ExportComesFrom, ExportsComeFrom, Place, PointComesFrom, PointsComeFrom, SourcesComeFrom, places_of}
 use Rattle.rtr_daemon.specs.PointOffers.{IsOffered, OffersEach, OffersPoint, points_of}
-use Rattle.rtr_daemon.specs.Shrinking.{percent_at, sinces_of}
+use Rattle.rtr_daemon.specs.Shrinking.{percent_at}
+use Rattle.rtr_daemon.specs.Starting.{ReadsAll}
+use Rattle.rtr_daemon.specs.declared.environment.Stamp.{Stamp}
 use Rattle.rtr_daemon.specs.declared.daemon.Daemon.{Daemon}
 use Rattle.rtr_daemon.specs.declared.point_polling.WatchedPoint.{WatchedPoint}
 use Rattle.rtr_daemon.specs.declared.shrink_guard.ShrinkGuard.{ShrinkGuard}
@@ -42,19 +44,49 @@ names_equal a b = by (bytes_eq a b) refl where
   by true e = inl ((bytes_eq-Decides a b).0 e)
   by false e = inr (λ same. absurd (let never : true ≡ false = sym ((bytes_eq-Decides a b).1 same) ∙ e in cc))
 
+not_in_none : {X : Type 0} (x : X) → Contains [] x → ⊥
+not_in_none x among = absurd (omega (arith, among.1))
+
 -- An element behind the first one
 later : {X : Type 0} (first x : X) (xs : List X) → Contains xs x → Contains (first ∷ xs) x
 later first x xs h = (suc h.0, omega (arith, h.1), h.2)
 
--- A list is replaced by one that comes from the path of its number.
-set_comes : {W : Type 0} (answers : DiskAnswers W) (clock : ℕ → Type 0) (names : List (List ℕ × ℕ)) (lists : List Listed) (n : ℕ) (l : Listed) (path : List ℕ) → n < length lists → Contains names (path, n) → ExportComesFrom answers clock path l → ExportsComeFrom answers clock names lists → ExportsComeFrom answers clock names (slice_set lists n l)
-set_comes answers clock names lists n l path less among comes before i x got = by_place (cases_eq i n) where
-  by_place : (i ≡ n) ⊎ (¬ (i ≡ n)) → IsNothing x ⊎ ((p : List ℕ) × Contains names (p, i) × ExportComesFrom answers clock p x)
-  by_place (inl same) =
-      let is : Some l ≡ Some x = sym (set_same lists n l less) ∙ ap (slice_get (slice_set lists n l)) (sym same) ∙ got in
-      let l_is : l ≡ x = cc in
-      inr (path, subst (λ k. Contains names (path, k)) (sym same) among, subst (ExportComesFrom answers clock path) l_is comes)
-  by_place (inr other) = before i x (sym (set_other lists n i l other) ∙ got)
+-- What is noted of one export changes. The places of the others stay.
+other_place : (done rest : List Place) (a b x : Place) → (¬ (a ≡ x)) → Contains (done ++ a ∷ rest) x → Contains (done ++ b ∷ rest) x
+other_place done rest a b x differs among = by (Contains-append_cases done (a ∷ rest) x among) where
+  behind : (a ≡ x) ⊎ Contains rest x → Contains (done ++ b ∷ rest) x
+  behind (inl same) = absurd (differs same)
+  behind (inr after) = Contains-append_right done (b ∷ rest) x (later b x rest after)
+
+  by : Contains done x ⊎ Contains (a ∷ rest) x → Contains (done ++ b ∷ rest) x
+  by (inl before) = Contains-append_left done (b ∷ rest) x before
+  by (inr from) = behind (contains_cases x a rest from)
+
+-- the place of an export with this stamp
+abbrev place : WatchedExport → Option Stamp → Place
+place export loaded = (path_of export.file, export.number, loaded)
+
+-- the places of exports of which this is noted
+abbrev placed : List WatchedExport → List Mark → List Place
+placed [] marks = []
+placed (export ∷ exports) [] = []
+placed (export ∷ exports) (mark ∷ marks) = place export mark.1 ∷ placed exports marks
+
+place_is : (p q : List ℕ) (m n : ℕ) (loaded : Option Stamp) → p ≡ q → m ≡ n → ◌≡◌ {A = Place} (p, m, loaded) (q, n, loaded)
+place_is p q m n loaded paths numbers = subst (λ x. ◌≡◌ {A = Place} (p, m, loaded) (x, n, loaded)) paths (subst (λ k. ◌≡◌ {A = Place} (p, m, loaded) (p, k, loaded)) numbers refl)
+
+placed_as : (before after : List WatchedExport) → names_of after ≡ names_of before → placed before (marks_of after) ≡ places_of after
+placed_as [] [] same = refl
+placed_as [] (b ∷ after) same = absurd (let never : (path_of b.file, b.number) ∷ names_of after ≡ [] = same in cc)
+placed_as (a ∷ before) [] same = absurd (let never : [] ≡ (path_of a.file, a.number) ∷ names_of before = same in cc)
+placed_as (a ∷ before) (b ∷ after) same =
+    let heads : (path_of b.file, b.number) ∷ names_of after ≡ (path_of a.file, a.number) ∷ names_of before = same in
+    let one : List ℕ × ℕ = (path_of b.file, b.number) in
+    let other : List ℕ × ℕ = (path_of a.file, a.number) in
+    let head : other ≡ one = cc in
+    let tails : names_of after ≡ names_of before = cc in
+    ap (λ first. first ∷ placed before (marks_of after)) (place_is (path_of a.file) (path_of b.file) a.number b.number b.file.loaded (ap (λ name. name.0) head) (ap (λ name. name.1) head))
+    ∙ ap (λ ps. place b b.file.loaded ∷ ps) (placed_as before after tails)
 
 -- what a poll of an export keeps
 pub record KeepsRest (old new : Sources) : Type 0 where
@@ -64,46 +96,68 @@ pub record KeepsRest (old new : Sources) : Type 0 where
 then_rest : (a b c : Sources) → KeepsRest a b → KeepsRest b c → KeepsRest a c
 then_rest a b c first second = record { exceptions = second.exceptions ∙ first.exceptions; repository = second.repository ∙ first.repository }
 
-load_rest : {W : Type 0} (answers : DiskAnswers W) (percent : Option ℕ) (export : WatchedExport) (now : ℕ) (result : Result ℕ TakeFault) (old new : Sources) → Loads answers percent export now result old new → KeepsRest old new
-load_rest answers percent export now (Ok expired) old new (stamp, bytes, whole, taken) = record { exceptions = taken.1; repository = taken.2 }
-load_rest answers percent export now (Err fault) old new (stamp, bytes, whole, taken) = record { exceptions = taken.1; repository = taken.2 }
+load_rest : {W : Type 0} (answers : DiskAnswers W) (percent : Option ℕ) (export : WatchedExport) (now : ℕ) (stamp : Stamp) (result : Result ℕ TakeFault) (old new : Sources) → Loads answers percent export now stamp result old new → KeepsRest old new
+load_rest answers percent export now stamp (Ok expired) old new (bytes, whole, taken) = record { exceptions = taken.1; repository = taken.2 }
+load_rest answers percent export now stamp (Err fault) old new (bytes, whole, taken) = record { exceptions = taken.1; repository = taken.2 }
 
-load_comes : {W : Type 0} (answers : DiskAnswers W) (clock : ℕ → Type 0) (names : List (List ℕ × ℕ)) (percent : Option ℕ) (export : WatchedExport) (now : ℕ) (result : Result ℕ TakeFault) (old new : Sources) → clock now → Contains names (path_of export.file, export.number)
-    → Loads answers percent export now result old new → ExportsComeFrom answers clock names old.lists.items → ExportsComeFrom answers clock names new.lists.items
-load_comes answers clock names percent export now (Ok expired) old new at among (stamp, bytes, whole, taken) before =
-    let less = taken.0.0 in
-    let kept = taken.0.1 in
-    subst (ExportsComeFrom answers clock names) (sym kept.3)
-    (set_comes answers clock names old.lists.items export.number kept.0 (path_of export.file) less among (record { stamp = stamp; bytes = bytes; whole = whole; now = now; answered = at; expired = expired; taken = kept.1 }) before)
-load_comes answers clock names percent export now (Err fault) old new at among (stamp, bytes, whole, taken) before = subst (ExportsComeFrom answers clock names) (sym taken.0.1) before
+-- An export was loaded, and its stamp is noted.
+loaded_comes : {W : Type 0} (answers : DiskAnswers W) (clock : ℕ → Type 0) (done rest : List Place) (percent : Option ℕ) (export : WatchedExport) (now expired : ℕ) (stamp : Stamp) (old new : Sources) → clock now → Loads answers percent export now stamp (Ok expired) old new
+    → (i : ℕ) → ((¬ (i ≡ export.number)) → ComesAt answers clock (done ++ place export export.file.loaded ∷ rest) old.lists.items i) → ComesAt answers clock (done ++ place export (Some stamp) ∷ rest) new.lists.items i
+loaded_comes answers clock done rest percent export now expired stamp old new at (bytes, whole, taken) i before = subst (λ lists. ComesAt answers clock (done ++ place export (Some stamp) ∷ rest) lists i) (sym taken.0.1.3) at_i where
+  at_i : ComesAt answers clock (done ++ place export (Some stamp) ∷ rest) (slice_set old.lists.items export.number taken.0.1.0) i
+  at_i x got = by_place (cases_eq i export.number) where
+    by_place : (i ≡ export.number) ⊎ (¬ (i ≡ export.number)) → (p : List ℕ) × (s : Stamp) × Contains (done ++ place export (Some stamp) ∷ rest) (p, i, Some s) × ExportComesFrom answers clock p s x
+    by_place (inl same) =
+        let is : Some taken.0.1.0 ≡ Some x = sym (set_same old.lists.items export.number taken.0.1.0 taken.0.0) ∙ ap (slice_get (slice_set old.lists.items export.number taken.0.1.0)) (sym same) ∙ got in
+        let l_is : taken.0.1.0 ≡ x = cc in
+        let here : Contains (done ++ place export (Some stamp) ∷ rest) (place export (Some stamp)) = Contains-append_right done (place export (Some stamp) ∷ rest) (place export (Some stamp)) (0, omega arith, refl) in (
+          path_of export.file,
+          stamp,
+          subst (λ k. Contains (done ++ place export (Some stamp) ∷ rest) (path_of export.file, k, Some stamp)) (sym same) here,
+          subst (ExportComesFrom answers clock (path_of export.file) stamp) l_is (record { bytes = bytes; whole = whole; now = now; answered = at; expired = expired; taken = taken.0.1.1 }),
+        )
+    by_place (inr other) =
+        let b = before other x (sym (set_other old.lists.items export.number i taken.0.1.0 other) ∙ got) in
+        (b.0, b.1, other_place done rest (place export export.file.loaded) (place export (Some stamp)) (b.0, i, Some b.1) (λ same. other (sym (ap (λ p. p.1) same))) b.2, b.3)
 
-follow_rest : {W : Type 0} (answers : DiskAnswers W) (percent : Option ℕ) (export : WatchedExport) (now millis : ℕ) (since : Option ℕ) (old new : Sources) → Follows answers percent export now millis since old new → KeepsRest old new
-follow_rest answers percent export now millis since old new (inl (result, loads, after)) = load_rest answers percent export now result old new loads
-follow_rest answers percent export now millis since old new (inr (news, same)) = record { exceptions = ap (λ s. s.exceptions) same; repository = ap (λ s. s.repository) same }
+-- Nothing was loaded of an export, and its stamp stays.
+kept_comes : {W : Type 0} (answers : DiskAnswers W) (clock : ℕ → Type 0) (done rest : List Place) (export : WatchedExport) (loaded : Option Stamp) (old new : List Listed) → loaded ≡ export.file.loaded → new ≡ old
+    → ExportsComeFrom answers clock (done ++ place export export.file.loaded ∷ rest) old → ExportsComeFrom answers clock (done ++ place export loaded ∷ rest) new
+kept_comes answers clock done rest export loaded old new noted same before =
+    subst (λ l. ExportsComeFrom answers clock (done ++ place export l ∷ rest) new) (sym noted) (subst (ExportsComeFrom answers clock (done ++ place export export.file.loaded ∷ rest)) (sym same) before)
 
-follow_comes : {W : Type 0} (answers : DiskAnswers W) (clock : ℕ → Type 0) (names : List (List ℕ × ℕ)) (percent : Option ℕ) (export : WatchedExport) (now millis : ℕ) (since : Option ℕ) (old new : Sources) → clock now → Contains names (path_of export.file, export.number)
-    → Follows answers percent export now millis since old new → ExportsComeFrom answers clock names old.lists.items → ExportsComeFrom answers clock names new.lists.items
-follow_comes answers clock names percent export now millis since old new at among (inl (result, loads, after)) before = load_comes answers clock names percent export now result old new at among loads before
-follow_comes answers clock names percent export now millis since old new at among (inr (news, same)) before = subst (λ s. ExportsComeFrom answers clock names s.lists.items) (sym same) before
+follow_rest : {W : Type 0} (answers : DiskAnswers W) (percent : Option ℕ) (export : WatchedExport) (now millis : ℕ) (mark : Mark) (old new : Sources) → Follows answers percent export now millis mark old new → KeepsRest old new
+follow_rest answers percent export now millis mark old new (inl (result, stamp, loads, noted)) = load_rest answers percent export now stamp result old new loads
+follow_rest answers percent export now millis mark old new (inr (news, same)) = record { exceptions = ap (λ s. s.exceptions) same; repository = ap (λ s. s.repository) same }
 
-each_rest : {W : Type 0} (answers : DiskAnswers W) (clock ticks : ℕ → Type 0) (guard : Option ShrinkGuard) (exports : List WatchedExport) (sinces : List (Option ℕ)) (old new : Sources) → FollowsEach answers clock ticks guard exports sinces old new → KeepsRest old new
+follow_comes : {W : Type 0} (answers : DiskAnswers W) (clock : ℕ → Type 0) (done rest : List Place) (percent : Option ℕ) (export : WatchedExport) (now millis : ℕ) (mark : Mark) (old new : Sources) → clock now → Follows answers percent export now millis mark old new
+    → ExportsComeFrom answers clock (done ++ place export export.file.loaded ∷ rest) old.lists.items → ExportsComeFrom answers clock (done ++ place export mark.1 ∷ rest) new.lists.items
+follow_comes answers clock done rest percent export now millis mark old new at (inl (Ok expired, stamp, loads, noted)) before = λ i.
+    subst (λ l. ComesAt answers clock (done ++ place export l ∷ rest) new.lists.items i) (sym (ap (λ m. m.1) noted)) (loaded_comes answers clock done rest percent export now expired stamp old new at loads i (λ other. before i))
+follow_comes answers clock done rest percent export now millis mark old new at (inl (Err fault, stamp, (bytes, whole, taken), noted)) before = kept_comes answers clock done rest export mark.1 old.lists.items new.lists.items (ap (λ m. m.1) noted) taken.0.1 before
+follow_comes answers clock done rest percent export now millis mark old new at (inr (inl (unchanged, noted), same)) before = kept_comes answers clock done rest export mark.1 old.lists.items new.lists.items (ap (λ m. m.1) noted) (ap (λ s. s.lists.items) same) before
+follow_comes answers clock done rest percent export now millis mark old new at (inr (inr (cannot, noted), same)) before = kept_comes answers clock done rest export mark.1 old.lists.items new.lists.items (ap (λ m. m.1) noted) (ap (λ s. s.lists.items) same) before
+
+each_rest : {W : Type 0} (answers : DiskAnswers W) (clock ticks : ℕ → Type 0) (guard : Option ShrinkGuard) (exports : List WatchedExport) (marks : List Mark) (old new : Sources) → FollowsEach answers clock ticks guard exports marks old new → KeepsRest old new
 each_rest answers clock ticks guard [] [] old new h = record { exceptions = ap (λ s. s.exceptions) h; repository = ap (λ s. s.repository) h }
-each_rest answers clock ticks guard [] (since ∷ sinces) old new h = absurd h
+each_rest answers clock ticks guard [] (mark ∷ marks) old new h = absurd h
 each_rest answers clock ticks guard (export ∷ exports) [] old new h = absurd h
-each_rest answers clock ticks guard (export ∷ exports) (since ∷ sinces) old new h =
+each_rest answers clock ticks guard (export ∷ exports) (mark ∷ marks) old new h =
     let one = h.1 in
-    then_rest old h.0 new (follow_rest answers (percent_at guard export.short_since one.1) export one.0 one.1 since old h.0 one.4) (each_rest answers clock ticks guard exports sinces h.0 new h.2)
+    then_rest old h.0 new (follow_rest answers (percent_at guard export.short_since one.1) export one.0 one.1 mark old h.0 one.4) (each_rest answers clock ticks guard exports marks h.0 new h.2)
 
-each_comes : {W : Type 0} (answers : DiskAnswers W) (clock ticks : ℕ → Type 0) (guard : Option ShrinkGuard) (names : List (List ℕ × ℕ)) (exports : List WatchedExport) (sinces : List (Option ℕ)) (old new : Sources)
-    → ((export : WatchedExport) → Contains exports export → Contains names (path_of export.file, export.number)) → FollowsEach answers clock ticks guard exports sinces old new
-    → ExportsComeFrom answers clock names old.lists.items → ExportsComeFrom answers clock names new.lists.items
-each_comes answers clock ticks guard names [] [] old new within h before = subst (λ s. ExportsComeFrom answers clock names s.lists.items) (sym h) before
-each_comes answers clock ticks guard names [] (since ∷ sinces) old new within h before = absurd h
-each_comes answers clock ticks guard names (export ∷ exports) [] old new within h before = absurd h
-each_comes answers clock ticks guard names (export ∷ exports) (since ∷ sinces) old new within h before =
+-- Those before are done.
+each_comes : {W : Type 0} (answers : DiskAnswers W) (clock ticks : ℕ → Type 0) (guard : Option ShrinkGuard) (done : List Place) (exports : List WatchedExport) (marks : List Mark) (old new : Sources) → FollowsEach answers clock ticks guard exports marks old new
+    → ExportsComeFrom answers clock (done ++ places_of exports) old.lists.items → ExportsComeFrom answers clock (done ++ placed exports marks) new.lists.items
+each_comes answers clock ticks guard done [] [] old new h before = subst (λ s. ExportsComeFrom answers clock (done ++ []) s.lists.items) (sym h) before
+each_comes answers clock ticks guard done [] (mark ∷ marks) old new h before = absurd h
+each_comes answers clock ticks guard done (export ∷ exports) [] old new h before = absurd h
+each_comes answers clock ticks guard done (export ∷ exports) (mark ∷ marks) old new h before =
     let one = h.1 in
-    each_comes answers clock ticks guard names exports sinces h.0 new (λ e is. within e (later export e exports is)) h.2
-    (follow_comes answers clock names (percent_at guard export.short_since one.1) export one.0 one.1 since old h.0 one.2 (within export (0, omega arith, refl)) one.4 before)
+    let here = place export mark.1 in
+    let step = follow_comes answers clock done (places_of exports) (percent_at guard export.short_since one.1) export one.0 one.1 mark old h.0 one.2 one.4 before in
+    subst (λ ps. ExportsComeFrom answers clock ps new.lists.items) (append_assoc done (here ∷ []) (placed exports marks))
+    (each_comes answers clock ticks guard (done ++ here ∷ []) exports marks h.0 new h.2 (subst (λ ps. ExportsComeFrom answers clock ps h.0.lists.items) (sym (append_assoc done (here ∷ []) (places_of exports))) step))
 
 -- The local exceptions, and what a poll of them keeps
 pub record SlurmsKeep (old new : Sources) : Type 0 where
@@ -175,23 +229,30 @@ offers_come answers clock paths (point ∷ points) old new within h before =
 polled_comes : {S T W : Type 0} (answers : DiskAnswers W) (clock ticks : ℕ → Type 0) (old new : Daemon S T) → PollsAll answers clock ticks old new → names_of new.exports.items ≡ names_of old.exports.items → paths_of new.slurms.items ≡ paths_of old.slurms.items → points_of new.points.items ≡ points_of old.points.items
     → SourcesComeFrom answers clock old → SourcesComeFrom answers clock new
 polled_comes answers clock ticks old new p names slurms points before =
-    let name_of : WatchedExport → List ℕ × ℕ = λ e. (path_of e.file, e.number) in
-    let followed = each_rest answers clock ticks old.plan.shrink old.exports.items (sinces_of new.exports.items) old.service.sources p.followed p.exports in
+    let followed = each_rest answers clock ticks old.plan.shrink old.exports.items (marks_of new.exports.items) old.service.sources p.followed p.exports in
     let excepted = slurms_rest answers old.slurms.items p.followed p.excepted p.slurms in
     let offered = offers_rest answers clock old.points.items p.excepted new.service.sources p.points in
-    let exports = each_comes answers clock ticks old.plan.shrink (names_of old.exports.items) old.exports.items (sinces_of new.exports.items) old.service.sources p.followed (λ e is. contains_map name_of old.exports.items e is) p.exports before.exports in
+    let exports = each_comes answers clock ticks old.plan.shrink [] old.exports.items (marks_of new.exports.items) old.service.sources p.followed p.exports before.exports in
     let exceptions = slurms_come answers old.slurms.items p.followed p.excepted p.slurms (subst (ExceptionsComeFrom answers (paths_of old.slurms.items)) (sym followed.exceptions) before.exceptions) in
     let held = subst (PointsComeFrom answers (points_of old.points.items)) (sym (excepted.repository ∙ followed.repository)) before.points in
     let offers = offers_come answers clock (points_of old.points.items) old.points.items p.excepted new.service.sources (λ q is. contains_map (λ w. string_bytes w.path) old.points.items q is) p.points held in
     record {
       exports =
-          subst (λ n. ExportsComeFrom answers clock n new.service.sources.lists.items) (sym names)
-          (subst (ExportsComeFrom answers clock (names_of old.exports.items)) (sym (ap (λ l. l.items) offered.lists ∙ excepted.lists)) exports);
+          subst (λ places. ExportsComeFrom answers clock places new.service.sources.lists.items) (placed_as old.exports.items new.exports.items names)
+          (subst (ExportsComeFrom answers clock (placed old.exports.items (marks_of new.exports.items))) (sym (ap (λ l. l.items) offered.lists ∙ excepted.lists)) exports);
       exceptions =
           subst (λ n. ExceptionsComeFrom answers n new.service.sources.exceptions) (sym slurms)
           (subst (ExceptionsComeFrom answers (paths_of old.slurms.items)) (sym offered.exceptions) exceptions);
       points = subst (λ n. PointsComeFrom answers n new.service.sources.repository) (sym points) offers;
     }
+
+-- Only clients have changed.
+pub clients_come : {S T W : Type 0} (answers : DiskAnswers W) (clock : ℕ → Type 0) (old new : Daemon S T) → OnlyClients old new → SourcesComeFrom answers clock old → SourcesComeFrom answers clock new
+clients_come answers clock old new only before = subst (SourcesComeFrom answers clock) (sym only) (record { exports = before.exports; exceptions = before.exceptions; points = before.points })
+
+-- Versions may have been dropped.
+pub served_comes : {S T W : Type 0} (answers : DiskAnswers W) (clock : ℕ → Type 0) (old new : Daemon S T) → OnlyServed old new → SourcesComeFrom answers clock old → SourcesComeFrom answers clock new
+served_comes answers clock old new only before = subst (SourcesComeFrom answers clock) (sym only.rest) (record { exports = before.exports; exceptions = before.exceptions; points = before.points })
 
 -- A turn
 pub turn_comes : {S T W : Type 0} (answers : DiskAnswers W) (clock ticks : ℕ → Type 0) (old new : Daemon S T) → DoesWhatIsDue answers clock ticks old new → SourcesComeFrom answers clock old → SourcesComeFrom answers clock new
@@ -201,57 +262,76 @@ turn_comes answers clock ticks old new does before = by_time (cases_lt does.now 
   by_time (inl early) =
       let k = (does.between early).kept in
       record {
-        exports = subst (λ e. ExportsComeFrom answers clock (names_of e.items) new.service.sources.lists.items) (sym k.exports) (subst (λ s. ExportsComeFrom answers clock (names_of old.exports.items) s.lists.items) (sym k.sources) before.exports);
+        exports = subst (λ e. ExportsComeFrom answers clock (places_of e.items) new.service.sources.lists.items) (sym k.exports) (subst (λ s. ExportsComeFrom answers clock (places_of old.exports.items) s.lists.items) (sym k.sources) before.exports);
         exceptions = subst (λ e. ExceptionsComeFrom answers (paths_of e.items) new.service.sources.exceptions) (sym k.slurms) (subst (λ s. ExceptionsComeFrom answers (paths_of old.slurms.items) s.exceptions) (sym k.sources) before.exceptions);
         points = subst (λ e. PointsComeFrom answers (points_of e.items) new.service.sources.repository) (sym k.points) (subst (λ s. PointsComeFrom answers (points_of old.points.items) s.repository) (sym k.sources) before.points);
       }
 
--- Each export is loaded at the start.
-loads_come : {W : Type 0} (answers : DiskAnswers W) (clock : ℕ → Type 0) (names : List (List ℕ × ℕ)) (now : ℕ) (exports : List WatchedExport) (old new : Sources) → clock now → ((export : WatchedExport) → Contains exports export → Contains names (path_of export.file, export.number)) → LoadsEach answers now exports old new
-    → ExportsComeFrom answers clock names old.lists.items → ExportsComeFrom answers clock names new.lists.items
-loads_come answers clock names now [] old new at within h before = subst (λ s. ExportsComeFrom answers clock names s.lists.items) (sym h) before
-loads_come answers clock names now (export ∷ exports) old new at within h before =
-    loads_come answers clock names now exports h.1 new at (λ e is. within e (later export e exports is)) h.3
-    (load_comes answers clock names None export now (Ok h.0) old h.1 at (within export (0, omega arith, refl)) h.2 before)
+-- Each export is loaded at the start. What is kept under the number of one of them comes from its path.
+loads_come : {W : Type 0} (answers : DiskAnswers W) (clock : ℕ → Type 0) (now : ℕ) (done : List Place) (exports : List WatchedExport) (marks : List Mark) (old new : Sources) → clock now → LoadsEach answers now exports marks old new
+    → (i : ℕ) → ComesAt answers clock (done ++ places_of exports) old.lists.items i ⊎ ((export : WatchedExport) × Contains exports export × (export.number ≡ i)) → ComesAt answers clock (done ++ placed exports marks) new.lists.items i
+loads_come answers clock now done [] [] old new at h i (inl before) = subst (λ s. ComesAt answers clock (done ++ []) s.lists.items i) (sym h) before
+loads_come answers clock now done [] [] old new at h i (inr (export, among, is)) = absurd (not_in_none export among)
+loads_come answers clock now done [] (mark ∷ marks) old new at h i start = absurd h
+loads_come answers clock now done (first ∷ exports) [] old new at h i start = absurd h
+loads_come answers clock now done (first ∷ exports) (mark ∷ marks) old new at h i start =
+    subst (λ ps. ComesAt answers clock ps new.lists.items i) (append_assoc done (place first mark.1 ∷ []) (placed exports marks))
+    (loads_come answers clock now (done ++ place first mark.1 ∷ []) exports marks h.1 new at h.3 i (again (by (cases_eq i first.number))))
+  where
+    load : ((¬ (i ≡ first.number)) → ComesAt answers clock (done ++ place first first.file.loaded ∷ places_of exports) old.lists.items i) → ComesAt answers clock (done ++ place first mark.1 ∷ places_of exports) h.1.lists.items i
+    load before = subst (λ l. ComesAt answers clock (done ++ place first l ∷ places_of exports) h.1.lists.items i) (sym h.2.2) (loaded_comes answers clock done (places_of exports) None first now h.0 h.2.0 old h.1 at h.2.1 i before)
 
-loads_rest : {W : Type 0} (answers : DiskAnswers W) (now : ℕ) (exports : List WatchedExport) (old new : Sources) → LoadsEach answers now exports old new → KeepsRest old new
-loads_rest answers now [] old new h = record { exceptions = ap (λ s. s.exceptions) h; repository = ap (λ s. s.repository) h }
-loads_rest answers now (export ∷ exports) old new h = then_rest old h.1 new (load_rest answers None export now (Ok h.0) old h.1 h.2) (loads_rest answers now exports h.1 new h.3)
+    by_start : (¬ (i ≡ first.number)) → ComesAt answers clock (done ++ places_of (first ∷ exports)) old.lists.items i ⊎ ((export : WatchedExport) × Contains (first ∷ exports) export × (export.number ≡ i))
+        → ComesAt answers clock (done ++ place first mark.1 ∷ places_of exports) h.1.lists.items i ⊎ ((export : WatchedExport) × Contains exports export × (export.number ≡ i))
+    by_start other (inl before) = inl (load (λ o. before))
+    by_start other (inr (export, among, is)) = by_export (contains_cases export first exports among) where
+      by_export : (first ≡ export) ⊎ Contains exports export → ComesAt answers clock (done ++ place first mark.1 ∷ places_of exports) h.1.lists.items i ⊎ ((e : WatchedExport) × Contains exports e × (e.number ≡ i))
+      by_export (inl same) = absurd (other (sym (ap (λ e. e.number) same ∙ is)))
+      by_export (inr behind) = inr (export, behind, is)
 
-all_at : (lists : List Listed) → All IsNothing lists → (i : ℕ) (l : Listed) → slice_get lists i ≡ Some l → IsNothing l
-all_at lists none i l got =
-    let is : get_or lists i l ≡ l = sym (unwrap_or-slice_get lists i l) ∙ ap (λ o. unwrap_or o l) got in
-    subst IsNothing is (none i l (slice_get_within lists i l got))
+    by : (i ≡ first.number) ⊎ (¬ (i ≡ first.number)) → ComesAt answers clock (done ++ place first mark.1 ∷ places_of exports) h.1.lists.items i ⊎ ((export : WatchedExport) × Contains exports export × (export.number ≡ i))
+    by (inl here) = inl (load (λ other. absurd (other here)))
+    by (inr other) = by_start other start
 
-nothing_comes : {W : Type 0} (answers : DiskAnswers W) (clock : ℕ → Type 0) (names : List (List ℕ × ℕ)) (lists : List Listed) → All IsNothing lists → ExportsComeFrom answers clock names lists
-nothing_comes answers clock names lists none i l got = inl (all_at lists none i l got)
+    again : ComesAt answers clock (done ++ place first mark.1 ∷ places_of exports) h.1.lists.items i ⊎ ((export : WatchedExport) × Contains exports export × (export.number ≡ i))
+        → ComesAt answers clock ((done ++ place first mark.1 ∷ []) ++ places_of exports) h.1.lists.items i ⊎ ((export : WatchedExport) × Contains exports export × (export.number ≡ i))
+    again (inl comes) = inl (subst (λ ps. ComesAt answers clock ps h.1.lists.items i) (sym (append_assoc done (place first mark.1 ∷ []) (places_of exports))) comes)
+    again (inr loads) = inr loads
 
--- All is read at the start.
-pub record Read {W : Type 0} (answers : DiskAnswers W) (now : ℕ) (exports : List WatchedExport) (slurms : List WatchedFile) (points : List WatchedPoint) (start loaded excepted end : Sources) : Type 0 where
-  pub none : All IsNothing start.lists.items
-  pub no_points : start.repository ≡ no_points
-  pub loads : LoadsEach answers now exports start loaded
-  pub reads : ReadsSlurms answers slurms loaded excepted
-  pub offers : OffersEach answers (λ at. at ≡ now) points excepted end
+loads_rest : {W : Type 0} (answers : DiskAnswers W) (now : ℕ) (exports : List WatchedExport) (marks : List Mark) (old new : Sources) → LoadsEach answers now exports marks old new → KeepsRest old new
+loads_rest answers now [] [] old new h = record { exceptions = ap (λ s. s.exceptions) h; repository = ap (λ s. s.repository) h }
+loads_rest answers now [] (mark ∷ marks) old new h = absurd h
+loads_rest answers now (export ∷ exports) [] old new h = absurd h
+loads_rest answers now (export ∷ exports) (mark ∷ marks) old new h = then_rest old h.1 new (load_rest answers None export now h.2.0 (Ok h.0) old h.1 h.2.1) (loads_rest answers now exports marks h.1 new h.3)
 
-pub opened_comes : {S T W : Type 0} (answers : DiskAnswers W) (clock : ℕ → Type 0) (now : ℕ) (exports : List WatchedExport) (slurms : List WatchedFile) (points : List WatchedPoint) (start loaded excepted : Sources) (d : Daemon S T) → clock now → Read answers now exports slurms points start loaded excepted d.service.sources
-    → names_of d.exports.items ≡ names_of exports → paths_of d.slurms.items ≡ paths_of slurms → points_of d.points.items ≡ points_of points → SourcesComeFrom answers clock d
-opened_comes answers clock now exports slurms points start loaded excepted d at r names paths point_paths =
-    let name_of : WatchedExport → List ℕ × ℕ = λ e. (path_of e.file, e.number) in
-    let first = loads_rest answers now exports start loaded r.loads in
-    let lists = loads_come answers clock (names_of exports) now exports start loaded at (λ e is. contains_map name_of exports e is) r.loads (nothing_comes answers clock (names_of exports) start.lists.items r.none) in
-    let second : SlurmsKeep loaded excepted = slurms_rest answers slurms loaded excepted (inl (Ok tt, r.reads)) in
-    let third = offers_rest answers (λ t. t ≡ now) points excepted d.service.sources r.offers in
-    let none : excepted.repository ≡ no_points = second.repository ∙ first.repository ∙ r.no_points in
-    let held : PointsComeFrom answers (points_of points) excepted.repository = λ name last got. absurd (let never : None ≡ Some last = sym (get-empty (slice_cmp nat_cmp) name) ∙ sym (ap (λ z. accepted_at z name) none) ∙ got in cc) in
+-- the element at a place
+element_at : {X : Type 0} (xs : List X) (i : ℕ) → i < length xs → (x : X) × Contains xs x × (slice_get xs i ≡ Some x)
+element_at [] i less = absurd (omega (arith, less))
+element_at (x ∷ xs) zero less = (x, (0, omega arith, refl), refl)
+element_at (x ∷ xs) (suc i) less = let found = element_at xs i (omega (arith, less)) in (found.0, later x found.0 xs found.1, found.2)
+
+-- Before the first load a list is that of an export which is loaded, or there is none.
+starts_come : {W : Type 0} (answers : DiskAnswers W) (clock : ℕ → Type 0) (places : List Place) (lists : List Listed) (exports : List WatchedExport) → length lists ≡ length exports → AreNumbered exports
+    → (i : ℕ) → ComesAt answers clock places lists i ⊎ ((export : WatchedExport) × Contains exports export × (export.number ≡ i))
+starts_come answers clock places lists exports many numbered i = by (cases_lt i (length exports)) where
+  by : (i < length exports) ⊎ (length exports ≤ i) → ComesAt answers clock places lists i ⊎ ((export : WatchedExport) × Contains exports export × (export.number ≡ i))
+  by (inl less) = let found = element_at exports i less in inr (found.0, found.1, numbered i found.0 found.2)
+  by (inr most) = inl (λ l got. absurd (let less : i < length lists = slice_get_within lists i l got in omega (arith, less, most, many)))
+
+pub opened_comes : {S T W : Type 0} (answers : DiskAnswers W) (clock : ℕ → Type 0) (leaves_out : Bool) (d : Daemon S T) → clock d.started → AreNumbered d.exports.items → ReadsAll answers leaves_out d → SourcesComeFrom answers clock d
+opened_comes answers clock leaves_out d at numbered r =
+    let exports = d.exports.items in
+    let marks = marks_of exports in
+    let first = loads_rest answers d.started exports marks r.first r.loaded r.exports in
+    let lists : ExportsComeFrom answers clock (places_of exports) r.loaded.lists.items =
+    subst (λ places. ExportsComeFrom answers clock places r.loaded.lists.items) (placed_as exports exports refl)
+    (λ i. loads_come answers clock d.started [] exports marks r.first r.loaded at r.exports i (starts_come answers clock (places_of exports) r.first.lists.items exports r.none.0 numbered i)) in
+    let second : SlurmsKeep r.loaded r.excepted = slurms_rest answers d.slurms.items r.loaded r.excepted (inl (Ok tt, r.slurms)) in
+    let third = offers_rest answers (λ t. t ≡ d.started) d.points.items r.excepted d.service.sources r.points in
+    let none : r.excepted.repository ≡ no_points = second.repository ∙ first.repository ∙ r.no_points in
+    let held : PointsComeFrom answers (points_of d.points.items) r.excepted.repository = λ name last got. absurd (let never : None ≡ Some last = sym (get-empty (slice_cmp nat_cmp) name) ∙ sym (ap (λ z. accepted_at z name) none) ∙ got in cc) in
     record {
-      exports =
-          subst (λ n. ExportsComeFrom answers clock n d.service.sources.lists.items) (sym names)
-          (subst (ExportsComeFrom answers clock (names_of exports)) (sym (ap (λ l. l.items) third.lists ∙ second.lists)) lists);
-      exceptions =
-          subst (λ n. ExceptionsComeFrom answers n d.service.sources.exceptions) (sym paths)
-          (subst (ExceptionsComeFrom answers (paths_of slurms)) (sym third.exceptions) (r.reads.0, r.reads.1, r.reads.2.0));
-      points =
-          subst (λ n. PointsComeFrom answers n d.service.sources.repository) (sym point_paths)
-          (offers_come answers (λ t. t ≡ now) (points_of points) points excepted d.service.sources (λ q is. contains_map (λ w. string_bytes w.path) points q is) r.offers held);
+      exports = subst (ExportsComeFrom answers clock (places_of exports)) (sym (ap (λ l. l.items) third.lists ∙ second.lists)) lists;
+      exceptions = subst (ExceptionsComeFrom answers (paths_of d.slurms.items)) (sym third.exceptions) (r.slurms.0, r.slurms.1, r.slurms.2.0);
+      points = offers_come answers (λ t. t ≡ d.started) (points_of d.points.items) d.points.items r.excepted d.service.sources (λ q is. contains_map (λ w. string_bytes w.path) d.points.items q is) r.points held;
     }

@@ -5,9 +5,9 @@ use Rattle.std.proofs.lemmas.Bool.{cases_lt}
 use Rattle.rtr_daemon.specs.Queue.{IsFirstFrom, OtherClients, SameClients, known_at}
 use Rattle.rtr_daemon.specs.Overdue.{AnswerNoted, AnswersNoted, ClosesOverdue, LeavesNoneOverdue, OutcomeOf, answers_in, is_overdue, outstanding_after, queries_in, unless_overdue}
 use Rattle.rtr_daemon.specs.Losing.{lines_noted}
-use Rattle.rtr_daemon.specs.declared.client_table.ClientEntry.{ClientEntry}
+use Rattle.rtr_daemon.specs.declared.client_entry.ClientEntry.{ClientEntry}
 use Rattle.rtr_daemon.specs.declared.client_table.ClientTable.{ClientTable}
-use Rattle.rtr_daemon.specs.declared.client_table.TurnOutcome.{TurnOutcome}
+use Rattle.rtr_daemon.specs.declared.client_entry.TurnOutcome.{TurnOutcome}
 use Rattle.rtr_daemon.specs.declared.daemon.Plan.{Plan}
 use Rattle.rtr_ends.specs.declared.cache.Cache.{Cache}
 use Rattle.rtr_server.specs.Clients.{Serves}

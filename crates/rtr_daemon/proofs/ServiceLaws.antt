@@ -26,7 +26,8 @@ use Rattle.der_lite.specs.Moments.{CivilMoment}
 use Rattle.der_lite.specs.Seconds.{seconds_of}
 use Rattle.points.specs.InUse.{no_points}
 use Rattle.session_names.specs.Runs.{may_publish}
-use Rattle.rtr_daemon.specs.Serving.{Adds, Continues, GoesOn, IsFresh, IsLater, IsNewestAt, IsServedAt, IsOfSecond, Issues, KeepsVersions, LeadsToService, OpensNone, PublishesAt, PublishesOnce, SameExpired, SameSources, ShowsService, with_version}
+use Rattle.rtr_daemon.specs.Serving.{Adds, Continues, GoesOn, IsFresh, IsLater, IsMadeWith, IsNewestAt, IsServedAt, IsOfSecond, Issues, KeepsVersions, LeadsToService, OpensNone, PublishesAt, PublishesOnce, SameExpired, SameSources, ShowsService, with_version}
+use Rattle.rtr_daemon.specs.declared.cache_settings.CacheSettings.{CacheSettings}
 use Rattle.rtr_daemon.specs.declared.service.Service.{Service}
 use Rattle.rtr_daemon.proofs.Expiry.{served_later}
 
@@ -53,6 +54,15 @@ later_on p q r a b = record {
   first = b.first ∙ a.first;
   most = b.most ∙ a.most;
   begun = λ c h. b.begun c (opens_parts c b.more a.more h).0 ∙ a.begun c (opens_parts c b.more a.more h).1;
+}
+
+-- A later past has the same settings.
+pub made_on : (settings : CacheSettings) (session0 : ℕ) (p q : Past) → IsLater p q → IsMadeWith settings session0 p → IsMadeWith settings session0 q
+made_on settings session0 p q later h = record {
+  keep = later.keep ∙ h.keep;
+  timing = later.timing ∙ h.timing;
+  most = later.most ∙ h.most;
+  session0_is = ap (λ i. i.session0) later.first ∙ h.session0_is;
 }
 
 -- Two steps that publish nothing, one after the other
@@ -185,9 +195,9 @@ published_on holds remaining contents p set (Err e) old new h = (p, no_later p, 
 
 -- A version becomes pending.
 pub pending_on : {S T : Type 0} (holds : ℕ → Instance → S → Type 0) (remaining contents : T → Option (List ℕ)) (old new : Service S T) → new.server ≡ old.server → new.is_pending ≡ true → new.pace ≡ old.pace
-    → ((old.has_points ≡ false → old.sources.repository ≡ no_points) → new.has_points ≡ false → new.sources.repository ≡ no_points) → Continues holds remaining contents old new
-pending_on holds remaining contents old new same pending pace points p h =
-    (p, no_later p, record { server = subst (λ s. ShowsServer holds remaining contents p s) (sym same) h.server; newest = λ e. absurd (let never : true ≡ false = sym pending ∙ e in cc); points = points h.points }, refl, pace)
+    → ((old.has_points ≡ false → old.sources.repository ≡ no_points) → new.has_points ≡ false → new.sources.repository ≡ no_points) → ((p : Past) → IsMadeWith old.settings old.session0 p → IsMadeWith new.settings new.session0 p) → Continues holds remaining contents old new
+pending_on holds remaining contents old new same pending pace points made p h =
+    (p, no_later p, record { server = subst (λ s. ShowsServer holds remaining contents p s) (sym same) h.server; newest = λ e. absurd (let never : true ≡ false = sym pending ∙ e in cc); points = points h.points; made_with = made p h.made_with }, refl, pace)
 
 same_newest : (now : ℕ) (i : Instance) (a b : Sources) → SameSources a b → IsNewestAt now i a → IsNewestAt now i b
 same_newest now i a b e h = record {
@@ -199,20 +209,20 @@ same_newest now i a b e h = record {
 -- The sources are unchanged.
 pub same_on : {S T : Type 0} (holds : ℕ → Instance → S → Type 0) (remaining contents : T → Option (List ℕ)) (old : Service S T) (sources : Sources) → SameSources old.sources sources → Continues holds remaining contents old (record old { sources = sources })
 same_on holds remaining contents old sources same p h =
-    (p, no_later p, record { server = h.server; newest = λ e. same_newest old.current_at (present p).cache old.sources sources same (h.newest e); points = λ e. same.repository ∙ h.points e }, refl, refl)
+    (p, no_later p, record { server = h.server; newest = λ e. same_newest old.current_at (present p).cache old.sources sources same (h.newest e); points = λ e. same.repository ∙ h.points e; made_with = h.made_with }, refl, refl)
 
 -- The server continues, and nothing is published.
 pub server_on : {S T : Type 0} (holds : ℕ → Instance → S → Type 0) (remaining contents : T → Option (List ℕ)) (old : Service S T) (server : Server S T)
     → ((p : Past) → ShowsServer holds remaining contents p old.server → (q : Past) × IsLater p q × ShowsServer holds remaining contents q server × KeepsVersions p q) → Continues holds remaining contents old (record old { server = server })
 server_on holds remaining contents old server goes p h =
     let on = goes p h.server in
-    (on.0, on.1, record { server = on.2; newest = λ e. subst (λ i. IsNewestAt old.current_at i old.sources) (sym on.3) (h.newest e); points = h.points }, on.3, refl)
+    (on.0, on.1, record { server = on.2; newest = λ e. subst (λ i. IsNewestAt old.current_at i old.sources) (sym on.3) (h.newest e); points = h.points; made_with = made_on old.settings old.session0 p on.0 on.1 h.made_with }, on.3, refl)
 
 -- The newest version is the set of the sources at another second too.
 pub current_on : {S T : Type 0} (holds : ℕ → Instance → S → Type 0) (remaining contents : T → Option (List ℕ)) (old : Service S T) (now : ℕ) (m : CivilMoment) → seconds_of m ≡ now → old.has_points ≡ false → SameExpired old.current_at now old.sources.lists.items
     → Continues holds remaining contents old (record old { current_at = now; judged_at = now })
 current_on holds remaining contents old now m seconds none same p h =
-    (p, no_later p, record { server = h.server; newest = λ e. let was = h.newest e in record { version = was.version; is = was.is; served = served_later old.current_at now old.sources was.version.set (h.points none) m seconds same was.served }; points = h.points }, refl, refl)
+    (p, no_later p, record { server = h.server; newest = λ e. let was = h.newest e in record { version = was.version; is = was.is; served = served_later old.current_at now old.sources was.version.set (h.points none) m seconds same was.served }; points = h.points; made_with = h.made_with }, refl, refl)
 
 differs : (a b : ℕ) → ¬ (b ≡ a) → (a == b) ≡ false
 differs a b h = false_if_never (a == b) (λ e. h (sym (eq_of a b e)))
@@ -247,13 +257,13 @@ publishes_once now second (New serial) old new p q h later pace =
 publishes_once now second Unchanged old new p q h later pace = inl (h.adds.1, pace)
 
 -- What was published is of this second of the pace.
-pub issued_on : {S T : Type 0} (holds : ℕ → Instance → S → Type 0) (remaining contents : T → Option (List ℕ)) (old new : Service S T) (now second : ℕ) (x : Published) → Issues holds remaining contents now x old new → new.sources ≡ old.sources → new.current_at ≡ now → new.has_points ≡ old.has_points
+pub issued_on : {S T : Type 0} (holds : ℕ → Instance → S → Type 0) (remaining contents : T → Option (List ℕ)) (old new : Service S T) (now second : ℕ) (x : Published) → Issues holds remaining contents now x old new → new.sources ≡ old.sources → new.current_at ≡ now → new.has_points ≡ old.has_points → new.settings ≡ old.settings → new.session0 ≡ old.session0
     → may_publish old.pace second ≡ true → IsOfSecond x second old.pace new.pace → GoesOn (λ at. at ≡ now) holds remaining contents old new
-issued_on holds remaining contents old new now second x h same at points later pace p is =
+issued_on holds remaining contents old new now second x h same at points settings session0 later pace p is =
     let on = h p is.server in (
       on.0,
       on.1,
-      record { server = on.2; newest = λ e. subst (λ second. IsNewestAt second (present on.0).cache new.sources) (sym at) on.3; points = λ e. ap (λ s. s.repository) same ∙ is.points (sym points ∙ e) },
+      record { server = on.2; newest = λ e. subst (λ second. IsNewestAt second (present on.0).cache new.sources) (sym at) on.3; points = λ e. ap (λ s. s.repository) same ∙ is.points (sym points ∙ e); made_with = subst (λ s. IsMadeWith s new.session0 on.0) (sym settings) (subst (λ n. IsMadeWith old.settings n on.0) (sym session0) (made_on old.settings old.session0 p on.0 on.1 is.made_with)) },
       publishes_once now second x old new p on.0 on.4 later pace,
     )
 

@@ -9,8 +9,8 @@ with_unwell d reasons = record d { unwell = reasons }
 
 due_on : {S T : Type 0} (clock ticks : ℕ → Type 0) (held : ℕ) (a b : Daemon S T) (u : UnwellReasons) → PublishesIfDue clock ticks held a b → PublishesIfDue clock ticks held a (with_unwell b u)
 due_on clock ticks held a b u (inl done) = inl done
-due_on clock ticks held a b u (inr (inl f)) = inr (inl (record { now = f.now; answered = f.answered; failure = f.failure; kept = f.kept; reason = f.reason; held = f.held }))
-due_on clock ticks held a b u (inr (inr waits)) = inr (inr waits)
+due_on clock ticks held a b u (inr (inl f)) = inr (inl (record { now = f.now; answered = f.answered; tried = f.tried; ticked = f.ticked; since = f.since; failure = f.failure; kept = f.kept; reason = f.reason; held = f.held }))
+due_on clock ticks held a b u (inr (inr waits)) = inr (inr (record { millis = waits.millis; ticked = waits.ticked; reason = waits.reason; failing = waits.failing }))
 
 pub judged_due : {S T : Type 0} (clock ticks : ℕ → Type 0) (held : ℕ) (a b c : Daemon S T) → c ≡ with_unwell b c.unwell → PublishesIfDue clock ticks held a b → PublishesIfDue clock ticks held a c
 judged_due clock ticks held a b c same due = subst (PublishesIfDue clock ticks held a) (sym same) (due_on clock ticks held a b c.unwell due)

@@ -13,7 +13,7 @@ use Rattle.std.proofs.lemmas.List.Elements.{Contains-append_left}
 use Rattle.std.proofs.lemmas.Map.Views.{Contains-from_any}
 use Rattle.rtr_daemon.specs.Notes.{AreNoted, unqueued}
 use Rattle.rtr_daemon.specs.Queue.{IsFirstFrom, IsQueued, QueuesBehind, SameClients, client_at}
-use Rattle.rtr_daemon.specs.declared.client_table.ClientEntry.{ClientEntry}
+use Rattle.rtr_daemon.specs.declared.client_entry.ClientEntry.{ClientEntry}
 use Rattle.rtr_daemon.specs.declared.client_table.ClientTable.{ClientTable}
 
 -- a token is before the next one

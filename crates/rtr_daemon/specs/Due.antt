@@ -1,14 +1,17 @@
 -- What a turn does that is due by the clock. Times are milliseconds of the monotonic clock.
-use Rattle.std.specs.Prelude.{◌≡◌, ◌⊎◌, ◌<◌, ◌≤◌, ◌+◌, ◌-◌, ◌/◌, ℕ, max, min, true, false, [], Option, None, Some}
+use Rattle.std.specs.Prelude.{◌≡◌, ◌⊎◌, ◌<◌, ◌≤◌, ◌+◌, ◌-◌, ◌*◌, ◌/◌, ℕ, max, min, true, false, List, [], Option, None, Some, unwrap_or}
+use Rattle.vrps.specs.Instance.{Instance}
 use Rattle.session_names.specs.Runs.{may_publish}
 use Rattle.sources.specs.declared.sources.Sources.{Sources}
 use Rattle.rtr_daemon.specs.DiskAnswers.{DiskAnswers}
-use Rattle.rtr_daemon.specs.Files.{FollowsEach, FollowsSlurms, names_of, paths_of}
+use Rattle.rtr_daemon.specs.Files.{FollowsEach, FollowsSlurms, marks_of, names_of, paths_of}
 use Rattle.rtr_daemon.specs.Overdue.{LeavesNoneOverdue}
 use Rattle.rtr_daemon.specs.PointOffers.{OffersEach, points_of}
-use Rattle.rtr_daemon.specs.Queue.{AreQueued}
-use Rattle.rtr_daemon.specs.Serving.{IsFresh, IsReason}
-use Rattle.rtr_daemon.specs.Shrinking.{sinces_of}
+use Rattle.rtr_daemon.specs.Queue.{AreQueued, NoClients, QueuesBehind, ServesEach}
+use Rattle.rtr_daemon.specs.Readiness.{TakesReady}
+use Rattle.rtr_daemon.specs.Serving.{Continues, Drops, EndsEmpty, IsFresh, IsReason}
+use Rattle.rtr_daemon.specs.SocketCalls.{SocketCalls}
+use Rattle.rtr_server.specs.declared.stream.Call.{Call}
 use Rattle.vrps.specs.declared.store.Published.{Published}
 use Rattle.vrps.specs.declared.store.Published.TheVariants.{New, Unchanged}
 use Rattle.rtr_daemon.specs.declared.daemon.Daemon.{Daemon}
@@ -36,28 +39,34 @@ OnlyFiles old new =
 
 -- Only what is noted of a publication has changed.
 abbrev pub OnlyNotes : {S T : Type 0} → Daemon S T → Daemon S T → Type 0
-OnlyNotes old new = new ≡ record old { statistics = new.statistics; clients = new.clients; is_ready = new.is_ready; next_check = new.next_check; held_until = new.held_until }
+OnlyNotes old new =
+    new ≡ record old { statistics = new.statistics; clients = new.clients; is_ready = new.is_ready; next_check = new.next_check; held_until = new.held_until; failing = new.failing }
 
 -- The reason of a failure is kept.
 abbrev pub IsKept : Refusal → Option Failure → Type 0
 IsKept refusal None = ⊥
 IsKept refusal (Some failure) = failure.why ≡ refusal
 
--- A failure is kept with its reason. Publication is tried again at the next poll of the files.
-pub record FailureNoted {S T : Type 0} (refusal : Refusal) (new : Daemon S T) : Type 0 where
+-- since when publication fails, if it fails at a time: since the first failure without a success in between
+abbrev pub failing_since : ℕ → Option ℕ → ℕ
+failing_since millis failing = unwrap_or failing millis
+
+-- A failure is kept with its reason, and since when publication fails. It is tried again at the next poll of the files.
+pub record FailureNoted {S T : Type 0} (refusal : Refusal) (millis : ℕ) (old new : Daemon S T) : Type 0 where
   pub kept : IsKept refusal new.statistics.failure
   pub held : new.held_until ≡ new.next_check
+  pub since : new.failing ≡ Some (failing_since millis old.failing)
 
 -- Whether an export is old was judged.
 pub record JudgesAges {S T : Type 0} (old new : Daemon S T) : Type 0 where
   pub names : names_of new.exports.items ≡ names_of old.exports.items
-  pub sinces : sinces_of new.exports.items ≡ sinces_of old.exports.items
+  pub marks : marks_of new.exports.items ≡ marks_of old.exports.items
   pub rest : new ≡ record old { exports = new.exports; is_old = new.is_old }
 
 -- Which records have expired was judged.
 pub record JudgesExpiry {S T : Type 0} (old new : Daemon S T) : Type 0 where
   pub names : names_of new.exports.items ≡ names_of old.exports.items
-  pub sinces : sinces_of new.exports.items ≡ sinces_of old.exports.items
+  pub marks : marks_of new.exports.items ≡ marks_of old.exports.items
   pub rest :
       new
       ≡ record old {
@@ -71,7 +80,7 @@ pub record KeepsFiles {S T : Type 0} (old new : Daemon S T) : Type 0 where
   pub exports : new.exports ≡ old.exports
   pub slurms : new.slurms ≡ old.slurms
   pub points : new.points ≡ old.points
-  pub rest : (new.plan ≡ old.plan) × (new.started ≡ old.started) × (new.opened ≡ old.opened)
+  pub rest : (new.plan ≡ old.plan) × (new.started ≡ old.started) × (new.opened ≡ old.opened) × (new.service.settings ≡ old.service.settings)
 
 -- a time that is later by so much, in 64 bits
 abbrev pub later_by : ℕ → ℕ → ℕ
@@ -101,35 +110,84 @@ pub record Postpones {S T : Type 0} (ticks : ℕ → Type 0) (old new : Daemon S
 abbrev pub NextPoll : {S T : Type 0} → (ℕ → Type 0) → ℕ → Daemon S T → Daemon S T → Type 0
 NextPoll ticks time old new = ((new.service.pace ≡ old.service.pace) × (new.next_check ≡ time)) ⊎ Postpones ticks old new
 
--- This time is not after the next poll of the files. If a version is pending and is not held back, it is not after the next round.
+-- the Expire Interval of a daemon (RFC 8210 section 6), in milliseconds
+abbrev pub expire_millis : {S T : Type 0} → Daemon S T → ℕ
+expire_millis d = d.service.settings.timing.expire * 1000
+
+-- When versions are dropped at the latest if publication has failed since a time: at the end of the Expire Interval, or in the next round if that is
+-- later. A turn before that, for a client, drops them too if the interval is over.
+abbrev pub drop_time : {S T : Type 0} → ℕ → Daemon S T → ℕ
+drop_time since d = max (later_by (expire_millis d) since) d.next_round
+
+-- This time is not after the next poll of the files. If a version is pending and is not held back, it is not after the next round. If publication fails,
+-- it is not after the time at which versions are dropped.
 pub record IsInTime {S T : Type 0} (d : Daemon S T) (millis time : ℕ) : Type 0 where
   pub check : time ≤ d.next_check
   pub round : d.service.is_pending ≡ true → d.held_until ≤ millis → time ≤ d.next_round
+  pub drop : (since : ℕ) → d.failing ≡ Some since → time ≤ drop_time since d
 
 -- How long a turn waits at most: not at all if a client is queued, otherwise until something is due.
 pub record IsWait {S T : Type 0} (d : Daemon S T) (millis wait : ℕ) : Type 0 where
   pub queued : ¬ (d.clients.queue.items ≡ []) → wait ≡ 0
   pub check : wait ≤ d.next_check - millis
   pub round : d.service.is_pending ≡ true → d.held_until ≤ millis → wait ≤ d.next_round - millis
+  pub drop : (since : ℕ) → d.failing ≡ Some since → wait ≤ drop_time since d - millis
 
 -- A pending version waits: an earlier publication failed and is not tried again before this time, or the last version is of this second of the pace.
-pub record Waits {S T : Type 0} (ticks : ℕ → Type 0) (held : ℕ) (old : Daemon S T) : Type 0 where
+pub record Waits {S T : Type 0} (ticks : ℕ → Type 0) (held : ℕ) (old new : Daemon S T) : Type 0 where
   pub millis : ℕ
   pub ticked : ticks millis
   pub reason : (millis < held) ⊎ (may_publish old.service.pace (second_of_pace old.started old.opened millis) ≡ false)
+  pub failing : new.failing ≡ old.failing
 
--- Publication failed for a reason, which is kept for the status. It is tried again at the next poll of the files.
-pub record FailsToPublish {S T : Type 0} (clock : ℕ → Type 0) (new : Daemon S T) : Type 0 where
+-- Publication failed for a reason, which is kept for the status, and since when. It is tried again at the next poll of the files.
+pub record FailsToPublish {S T : Type 0} (clock ticks : ℕ → Type 0) (old new : Daemon S T) : Type 0 where
   pub now : ℕ
   pub answered : clock now
+  pub tried : ℕ
+  pub ticked : ticks tried
+  pub since : new.failing ≡ Some (failing_since tried old.failing)
   pub failure : Failure
   pub kept : new.statistics.failure ≡ Some failure
   pub reason : IsReason now new.service.sources failure.why
   pub held : new.held_until ≡ new.next_check
 
--- No version is pending; or publication failed; or the version waits.
+-- No version is pending, and publication does not fail; or it failed; or the version waits.
 abbrev pub PublishesIfDue : {S T : Type 0} → (ℕ → Type 0) → (ℕ → Type 0) → ℕ → Daemon S T → Daemon S T → Type 0
-PublishesIfDue clock ticks held old new = (new.service.is_pending ≡ false) ⊎ FailsToPublish clock new ⊎ Waits ticks held old
+PublishesIfDue clock ticks held old new =
+    ((new.service.is_pending ≡ false) × (new.failing ≡ None)) ⊎ FailsToPublish clock ticks old new ⊎ Waits ticks held old new
+
+-- Nothing is done while publication does not fail, or has failed for less than the Expire Interval. After that no version is left. If memory for an empty
+-- cache runs out, the versions stay, but all clients are closed.
+abbrev pub DropsLate : {S T : Type 0} → (ℕ → Type 0) → (ℕ → Instance → S → Type 0) → (T → Option (List ℕ)) → (T → Option (List ℕ)) → Option ℕ → Daemon S T → Daemon S T → Type 0
+DropsLate ticks holds remaining contents None old new = new ≡ old
+DropsLate ticks holds remaining contents (Some since) old new =
+    (now : ℕ) × ticks now × (now - since < expire_millis old → new ≡ old)
+    × (expire_millis old ≤ now - since → EndsEmpty holds remaining contents old.service new.service ⊎ NoClients new.clients)
+
+-- Only the server and its clients have changed, what is counted of them, and whether a version is pending. The failure of publications is kept.
+pub record OnlyServed {S T : Type 0} (old new : Daemon S T) : Type 0 where
+  pub rest :
+      new
+      ≡ record old {
+        service = record old.service { server = new.service.server; is_pending = new.service.is_pending };
+        clients = new.clients;
+        listeners = new.listeners;
+        readings = new.readings;
+        statistics = new.statistics;
+        has_parted = new.has_parted;
+      }
+  pub failure : new.statistics.failure ≡ old.statistics.failure
+  pub pending : old.service.is_pending ≡ true → new.service.is_pending ≡ true
+  pub queue : new.clients.queue ≡ old.clients.queue
+
+-- Versions that could not be replaced in time are dropped, and all clients are closed: routers would otherwise begin the Expire Interval again with data
+-- that have expired.
+pub record DropsIfLate {S T : Type 0} (ticks : ℕ → Type 0) (holds : ℕ → Instance → S → Type 0) (remaining contents : T → Option (List ℕ)) (old new : Daemon S T) : Type 0 where
+  pub goes : Continues holds remaining contents old.service new.service ⊎ Drops holds remaining contents old.service new.service
+  pub late : DropsLate ticks holds remaining contents old.failing old new
+  pub clients : (new ≡ old) ⊎ NoClients new.clients
+  pub rest : OnlyServed old new
 
 -- No version was published, or each client is in the queue then. The second of the pace changes with each version.
 abbrev pub WakesIfPublished : {S T : Type 0} → Daemon S T → Daemon S T → Type 0
@@ -139,7 +197,7 @@ WakesIfPublished old new = (new.service.pace ≡ old.service.pace) ⊎ AreQueued
 pub record PollsAll {S T W : Type 0} (answers : DiskAnswers W) (clock ticks : ℕ → Type 0) (old new : Daemon S T) : Type 0 where
   pub followed : Sources
   pub excepted : Sources
-  pub exports : FollowsEach answers clock ticks old.plan.shrink old.exports.items (sinces_of new.exports.items) old.service.sources followed
+  pub exports : FollowsEach answers clock ticks old.plan.shrink old.exports.items (marks_of new.exports.items) old.service.sources followed
   pub slurms : FollowsSlurms answers old.slurms.items followed excepted
   pub points : OffersEach answers clock old.points.items excepted new.service.sources
 
@@ -155,6 +213,8 @@ pub record IsChecked {S T : Type 0} (now : ℕ) (old new : Daemon S T) : Type 0 
   pub next_round : old.next_check ≤ now → new.next_round ≡ now
   pub held_until : old.next_check ≤ now → new.held_until ≡ now
   pub pace : new.service.pace ≡ old.service.pace
+  pub failing : new.failing ≡ old.failing
+  pub settings : new.service.settings ≡ old.service.settings
   pub rest : (new.plan ≡ old.plan) × (new.started ≡ old.started) × (new.opened ≡ old.opened)
   pub between : now < old.next_check → new ≡ old
 
@@ -186,3 +246,42 @@ pub record DoesWhatIsDue {S T W : Type 0} (answers : DiskAnswers W) (clock ticks
   pub between : now < old.next_check → IsBetween clock ticks now old new
   pub wakes : WakesIfPublished old new
   pub rest : (new.plan ≡ old.plan) × (new.started ≡ old.started) × (new.opened ≡ old.opened)
+
+-- The sockets were waited for, at most as long as `IsWait` says from a time that the clock answered. Then they were asked for all that is ready, and
+-- clients that are ready were queued.
+pub record Awakes {S T W : Type 0} (calls : SocketCalls W) (ticks : ℕ → Type 0) (old new : Daemon S T) : Type 0 where
+  pub millis : ℕ
+  pub ticked : ticks millis
+  pub wait : ℕ
+  pub is : IsWait old millis wait
+  pub before : W
+  pub woken : W
+  pub after : W
+  pub waits : calls.waits before wait woken
+  pub ready : TakesReady calls woken old.clients new.clients after
+  pub service : new.service ≡ old.service
+  pub only : OnlyClients old new
+
+-- Pending connections were accepted, and their clients are queued after those that were. There are none before the first version.
+pub record Accepts {S T : Type 0} (old new : Daemon S T) : Type 0 where
+  pub queue : QueuesBehind old.clients.queue.items new.clients
+  pub closed : old.is_ready ≡ false → new.service ≡ old.service
+  pub only : OnlyClients old new
+
+-- Each client that was in the queue had one turn, in its order.
+pub record ServesQueue {S T : Type 0} (holds : ℕ → Instance → S → Type 0) (remaining contents : T → Option (List ℕ)) (answers : T → Option (List Call)) (old new : Daemon S T) : Type 0 where
+  pub turns : ServesEach holds remaining contents answers old.clients.queue.items old.clients old.service.server new.clients new.service.server
+  pub only : OnlyClients old new
+
+-- A turn, in this order: it waits for the sockets, drops versions if that is due, accepts connections, serves clients, and does what is due by the
+-- clock.
+pub record TakesTurn {S T W : Type 0} (answers : DiskAnswers W) (calls : SocketCalls W) (clock ticks : ℕ → Type 0) (holds : ℕ → Instance → S → Type 0) (remaining contents : T → Option (List ℕ)) (stream : T → Option (List Call)) (old new : Daemon S T) : Type 0 where
+  pub awake : Daemon S T
+  pub left : Daemon S T
+  pub admitted : Daemon S T
+  pub served : Daemon S T
+  pub awakes : Awakes calls ticks old awake
+  pub drops : DropsIfLate ticks holds remaining contents awake left
+  pub accepts : Accepts left admitted
+  pub serves : ServesQueue holds remaining contents stream admitted served
+  pub due : DoesWhatIsDue answers clock ticks served new

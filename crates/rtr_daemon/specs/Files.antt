@@ -1,5 +1,5 @@
 -- What a poll of the files loads.
-use Rattle.std.specs.Prelude.{◌≡◌, ◌⊎◌, ℕ, All, Bool, Contains, false, List, [], ◌∷◌, ◌++◌, map, slice_get, ⊤, Option, None, Some, Result, Ok}
+use Rattle.std.specs.Prelude.{◌≡◌, ◌⊎◌, ℕ, All, Bool, Contains, false, List, [], ◌∷◌, ◌++◌, map, slice_get, ⊤, Option, None, Some, Result, Ok, Err}
 use Rattle.std.specs.String.{string_bytes}
 use Rattle.sources.specs.Served.{SlurmsTaken}
 use Rattle.sources.specs.Shrinking.{ExportTakenWithin}
@@ -9,7 +9,7 @@ use Rattle.slurm.specs.declared.fault.SlurmFault.TheVariants as unapplied
 use Rattle.sources.specs.declared.fault.TakeFault.{TakeFault}
 use Rattle.sources.specs.declared.fault.TakeFault.TheVariants as untaken
 use Rattle.sources.specs.declared.sources.Sources.{Sources}
-use Rattle.rtr_daemon.specs.DiskAnswers.{DiskAnswers, HadStamp, ReadsWhole}
+use Rattle.rtr_daemon.specs.DiskAnswers.{DiskAnswers, FileFails, HadStamp, ReadsWhole}
 use Rattle.rtr_daemon.specs.Shrinking.{percent_at, since_after}
 use Rattle.rtr_daemon.specs.declared.environment.Stamp.{Stamp}
 use Rattle.rtr_daemon.specs.declared.refusal.Refusal.{Refusal}
@@ -71,7 +71,7 @@ IsStateNow answers file state = (stamp : Stamp) × HadStamp answers (path_of fil
 abbrev pub ReadsAfter : {W : Type 0} → DiskAnswers W → W → Stamp → List ℕ → Look → Type 0
 ReadsAfter {W} answers at before path (Read stamp bytes) = (stamp ≡ before) × (after : W) × (last : W) × answers.reads at path bytes.items after × answers.stamps after path before last
 ReadsAfter answers at before path Unstable = (after : Stamp) × HadStamp answers path after × (¬ (after ≡ before))
-ReadsAfter answers at before path (Failed error) = answers.fails path
+ReadsAfter answers at before path (Failed error) = FileFails answers path
 ReadsAfter answers at before path look = ⊥
 
 -- What a look at a file answers. With `anew` it is read even if its stamp is that of the last load.
@@ -79,7 +79,7 @@ abbrev pub Looks : {W : Type 0} → DiskAnswers W → WatchedFile → Bool → L
 Looks answers file anew Unchanged = (stamp : Stamp) × HadStamp answers (path_of file) stamp × WasLoaded file stamp × (anew ≡ false)
 Looks answers file anew RefusedBefore = (stamp : Stamp) × HadStamp answers (path_of file) stamp × WasRefused file stamp
 Looks answers file anew Unstable = ChangesWhileRead answers (path_of file)
-Looks answers file anew (Failed error) = answers.fails (path_of file)
+Looks answers file anew (Failed error) = FileFails answers (path_of file)
 Looks answers file anew (Read stamp bytes) = ReadsWhole answers (path_of file) stamp bytes.items
 
 -- The file has the stamp with which it was loaded last, or refused last for its own bytes.
@@ -92,37 +92,62 @@ IsUnchanged answers file = (stamp : Stamp) × HadStamp answers (path_of file) st
 
 -- Why a file cannot be loaded: its own bytes were refused before, it changes while it is read, or it cannot be read.
 abbrev pub CannotLoad : {W : Type 0} → DiskAnswers W → WatchedFile → Type 0
-CannotLoad answers file = ((stamp : Stamp) × HadStamp answers (path_of file) stamp × WasRefused file stamp) ⊎ ChangesWhileRead answers (path_of file) ⊎ answers.fails (path_of file)
+CannotLoad answers file = ((stamp : Stamp) × HadStamp answers (path_of file) stamp × WasRefused file stamp) ⊎ ChangesWhileRead answers (path_of file) ⊎ FileFails answers (path_of file)
+
+-- What is noted of an export: since when its contents are refused as too short, and the stamp of the contents that were loaded last
+abbrev pub Mark : Type 0
+Mark = Option ℕ × Option Stamp
+
+abbrev pub mark_of : WatchedExport → Mark
+mark_of export = (export.short_since, export.file.loaded)
+
+abbrev pub marks_of : List WatchedExport → List Mark
+marks_of exports = map mark_of exports
+
+-- the stamp of the contents that were loaded last, after contents of a stamp were loaded or refused
+abbrev pub loaded_after : Result ℕ TakeFault → Stamp → Option Stamp → Option Stamp
+loaded_after (Ok expired) stamp before = Some stamp
+loaded_after (Err fault) stamp before = before
+
+-- what is noted of an export then, at a time of the monotonic clock
+abbrev pub mark_after : Result ℕ TakeFault → Stamp → WatchedExport → ℕ → Mark
+mark_after result stamp export millis = (since_after result export.short_since millis, loaded_after result stamp export.file.loaded)
 
 -- Nothing is loaded of an export. If it is again as it was loaded, it is no longer too short.
-abbrev pub HasNoNews : {W : Type 0} → DiskAnswers W → WatchedExport → Option ℕ → Type 0
-HasNoNews answers export since = (IsUnchanged answers export.file × (since ≡ None)) ⊎ (CannotLoad answers export.file × (since ≡ export.short_since))
+abbrev pub HasNoNews : {W : Type 0} → DiskAnswers W → WatchedExport → Mark → Type 0
+HasNoNews answers export mark = (IsUnchanged answers export.file × (mark ≡ (None, export.file.loaded))) ⊎ (CannotLoad answers export.file × (mark ≡ mark_of export))
 
--- Bytes that were read whole of the path of an export are loaded as this export, or refused. No more than this percentage of its records may be gone.
-abbrev pub Loads : {W : Type 0} → DiskAnswers W → Option ℕ → WatchedExport → ℕ → Result ℕ TakeFault → Sources → Sources → Type 0
-Loads answers percent export now result old new = (stamp : Stamp) × (bytes : List ℕ) × ReadsWhole answers (path_of export.file) stamp bytes × ExportTakenWithin percent bytes now export.number result old new
+-- Bytes that were read whole of the path of an export with this stamp are loaded as this export, or refused. No more than this percentage of its
+-- records may be gone.
+abbrev pub Loads : {W : Type 0} → DiskAnswers W → Option ℕ → WatchedExport → ℕ → Stamp → Result ℕ TakeFault → Sources → Sources → Type 0
+Loads answers percent export now stamp result old new = (bytes : List ℕ) × ReadsWhole answers (path_of export.file) stamp bytes × ExportTakenWithin percent bytes now export.number result old new
 
 -- A poll of an export at a second, and at a time of the monotonic clock: what is new of it is loaded or refused, otherwise the sources are unchanged.
--- Then its contents are refused as too short since the last of these times, if they are.
-abbrev pub Follows : {W : Type 0} → DiskAnswers W → Option ℕ → WatchedExport → ℕ → ℕ → Option ℕ → Sources → Sources → Type 0
-Follows answers percent export now millis since old new =
-    ((result : Result ℕ TakeFault) × Loads answers percent export now result old new × (since ≡ since_after result export.short_since millis)) ⊎ (HasNoNews answers export since × (new ≡ old))
+-- What is noted of it then is that.
+abbrev pub Follows : {W : Type 0} → DiskAnswers W → Option ℕ → WatchedExport → ℕ → ℕ → Mark → Sources → Sources → Type 0
+Follows answers percent export now millis mark old new =
+    ((result : Result ℕ TakeFault) × (stamp : Stamp) × Loads answers percent export now stamp result old new × (mark ≡ mark_after result stamp export millis)) ⊎ (HasNoNews answers export mark × (new ≡ old))
 
 -- A poll of an export with a guard, at times that the clocks answered
-abbrev pub FollowsOne : {W : Type 0} → DiskAnswers W → (ℕ → Type 0) → (ℕ → Type 0) → Option ShrinkGuard → WatchedExport → Option ℕ → Sources → Sources → Type 0
-FollowsOne answers clock ticks guard export since old new = (now : ℕ) × (millis : ℕ) × clock now × ticks millis × Follows answers (percent_at guard export.short_since millis) export now millis since old new
+abbrev pub FollowsOne : {W : Type 0} → DiskAnswers W → (ℕ → Type 0) → (ℕ → Type 0) → Option ShrinkGuard → WatchedExport → Mark → Sources → Sources → Type 0
+FollowsOne answers clock ticks guard export mark old new = (now : ℕ) × (millis : ℕ) × clock now × ticks millis × Follows answers (percent_at guard export.short_since millis) export now millis mark old new
 
 -- A poll of each export in its turn
-abbrev pub FollowsEach : {W : Type 0} → DiskAnswers W → (ℕ → Type 0) → (ℕ → Type 0) → Option ShrinkGuard → List WatchedExport → List (Option ℕ) → Sources → Sources → Type 0
+abbrev pub FollowsEach : {W : Type 0} → DiskAnswers W → (ℕ → Type 0) → (ℕ → Type 0) → Option ShrinkGuard → List WatchedExport → List Mark → Sources → Sources → Type 0
 FollowsEach answers clock ticks guard [] [] old new = new ≡ old
-FollowsEach answers clock ticks guard (export ∷ exports) (since ∷ sinces) old new =
-    (between : Sources) × FollowsOne answers clock ticks guard export since old between × FollowsEach answers clock ticks guard exports sinces between new
-FollowsEach answers clock ticks guard exports sinces old new = ⊥
+FollowsEach answers clock ticks guard (export ∷ exports) (mark ∷ marks) old new =
+    (between : Sources) × FollowsOne answers clock ticks guard export mark old between × FollowsEach answers clock ticks guard exports marks between new
+FollowsEach answers clock ticks guard exports marks old new = ⊥
+
+-- An export was loaded without a guard, and its stamp is noted.
+abbrev pub LoadsOne : {W : Type 0} → DiskAnswers W → WatchedExport → ℕ → ℕ → Option Stamp → Sources → Sources → Type 0
+LoadsOne answers export now expired loaded old new = (stamp : Stamp) × Loads answers None export now stamp (Ok expired) old new × (loaded ≡ Some stamp)
 
 -- Each export was loaded, at the second of the start. There is no guard then.
-abbrev pub LoadsEach : {W : Type 0} → DiskAnswers W → ℕ → List WatchedExport → Sources → Sources → Type 0
-LoadsEach answers now [] old new = new ≡ old
-LoadsEach answers now (export ∷ exports) old new = (expired : ℕ) × (between : Sources) × Loads answers None export now (Ok expired) old between × LoadsEach answers now exports between new
+abbrev pub LoadsEach : {W : Type 0} → DiskAnswers W → ℕ → List WatchedExport → List Mark → Sources → Sources → Type 0
+LoadsEach answers now [] [] old new = new ≡ old
+LoadsEach answers now (export ∷ exports) (mark ∷ marks) old new = (expired : ℕ) × (between : Sources) × LoadsOne answers export now expired mark.1 old between × LoadsEach answers now exports marks between new
+LoadsEach answers now exports marks old new = ⊥
 
 -- The path and the number of each export
 abbrev pub names_of : List WatchedExport → List (List ℕ × ℕ)
@@ -152,7 +177,7 @@ ReadsSlurms answers files old new = LoadsTogether answers files (Ok tt) old new
 
 -- Why a path was not read: it changes while it is read, it cannot be read, or memory ran out for bytes that were read whole.
 abbrev pub IsUnread : {W : Type 0} → DiskAnswers W → List ℕ → Type 0
-IsUnread answers path = ChangesWhileRead answers path ⊎ answers.fails path ⊎ ((stamp : Stamp) × (bytes : List ℕ) × ReadsWhole answers path stamp bytes)
+IsUnread answers path = ChangesWhileRead answers path ⊎ FileFails answers path ⊎ ((stamp : Stamp) × (bytes : List ℕ) × ReadsWhole answers path stamp bytes)
 
 -- One of these paths was not read.
 abbrev pub IsOneUnread : {W : Type 0} → DiskAnswers W → List (List ℕ) → Type 0

@@ -1,4 +1,5 @@
 pub mod Ages
+pub mod AnchorPeaks
 pub mod Calls
 pub mod DaemonRows
 pub mod DiskAnswers
@@ -15,8 +16,12 @@ pub mod PointOffers
 pub mod Pacing
 pub mod Parting
 pub mod Queue
+pub mod Readiness
 pub mod Running
 pub mod Serving
 pub mod Shrinking
 pub mod ShrinkingRows
+pub mod SocketCalls
+pub mod Stamps
+pub mod Starting
 pub mod Turns

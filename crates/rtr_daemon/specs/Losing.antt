@@ -6,7 +6,7 @@ use Rattle.tcp_table.specs.Loss.{is_lost, unanswered_after}
 use Rattle.tcp_table.specs.Tables.{bytes_of, unanswered}
 use Rattle.tcp_table.specs.declared.line.TcpLine.{TcpLine}
 use Rattle.rtr_daemon.specs.Queue.{known_at}
-use Rattle.rtr_daemon.specs.declared.client_table.ClientEntry.{ClientEntry}
+use Rattle.rtr_daemon.specs.declared.client_entry.ClientEntry.{ClientEntry}
 use Rattle.rtr_daemon.specs.declared.client_table.ClientTable.{ClientTable}
 
 -- what is known of a client after a reading of the system's tables: of one that was notified and has sent nothing since, which bytes are sent again

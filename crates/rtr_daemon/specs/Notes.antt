@@ -3,7 +3,7 @@ use Rattle.std.specs.Prelude.{◌≡◌, ℕ, true, List, Some, nat_eq, not}
 use Rattle.std.specs.BTreeMap.{BTreeMap, get, values}
 use Rattle.std.specs.List.{count_by, list_any}
 use Rattle.std.specs.Ordering.{nat_cmp}
-use Rattle.rtr_daemon.specs.declared.client_table.ClientEntry.{ClientEntry}
+use Rattle.rtr_daemon.specs.declared.client_entry.ClientEntry.{ClientEntry}
 
 -- The poll token of each client that is noted as queued is in the queue.
 abbrev pub AreNoted : BTreeMap ℕ ClientEntry → List ℕ → Type 0

@@ -1,22 +1,22 @@
 -- The origin of what the sources have.
-use Rattle.std.specs.Prelude.{◌≡◌, ◌⊎◌, ℕ, List, Contains, slice_get, Option, Some}
+use Rattle.std.specs.Prelude.{◌≡◌, ℕ, List, Contains, map, slice_get, Option, Some}
 use Rattle.points.specs.Accepted.{Accepted as AcceptedPoint, Holds}
 use Rattle.points.specs.InUse.{Points, accepted_at}
 use Rattle.points.specs.declared.file.FileIn.{FileIn}
 use Rattle.payload_commands.specs.Directories.{Supplies}
 use Rattle.payload_commands.specs.declared.directories.Directory.{Directory}
-use Rattle.sources.specs.Served.{AreUnited, IsNothing, IsTaken}
+use Rattle.sources.specs.Served.{AreUnited, IsTaken}
 use Rattle.sources.specs.declared.listed.Listed.{Listed}
 use Rattle.sources.specs.declared.slurms.AppliedSlurms.{AppliedSlurms}
 use Rattle.rtr_daemon.specs.DiskAnswers.{DiskAnswers, ReadsWhole}
-use Rattle.rtr_daemon.specs.Files.{AreContents, names_of, paths_of}
+use Rattle.rtr_daemon.specs.Files.{AreContents, path_of, paths_of}
 use Rattle.rtr_daemon.specs.PointOffers.{points_of}
 use Rattle.rtr_daemon.specs.declared.daemon.Daemon.{Daemon}
 use Rattle.rtr_daemon.specs.declared.environment.Stamp.{Stamp}
+use Rattle.rtr_daemon.specs.declared.watched_file.WatchedExport.{WatchedExport}
 
--- What is kept of an export is what the bytes export that were read whole of its path, at a second that the clock answered.
-pub record ExportComesFrom {W : Type 0} (answers : DiskAnswers W) (clock : ℕ → Type 0) (path : List ℕ) (l : Listed) : Type 0 where
-  pub stamp : Stamp
+-- What is kept of an export is what the bytes export that were read whole of its path with this stamp, at a second that the clock answered.
+pub record ExportComesFrom {W : Type 0} (answers : DiskAnswers W) (clock : ℕ → Type 0) (path : List ℕ) (stamp : Stamp) (l : Listed) : Type 0 where
   pub bytes : List ℕ
   pub whole : ReadsWhole answers path stamp bytes
   pub now : ℕ
@@ -24,9 +24,20 @@ pub record ExportComesFrom {W : Type 0} (answers : DiskAnswers W) (clock : ℕ �
   pub expired : ℕ
   pub taken : IsTaken bytes now expired l
 
--- What is kept under each number comes from the path of the export of that number, or nothing is kept yet.
-abbrev pub ExportsComeFrom : {W : Type 0} → DiskAnswers W → (ℕ → Type 0) → List (List ℕ × ℕ) → List Listed → Type 0
-ExportsComeFrom answers clock names lists = (i : ℕ) (l : Listed) → slice_get lists i ≡ Some l → IsNothing l ⊎ ((path : List ℕ) × Contains names (path, i) × ExportComesFrom answers clock path l)
+-- The path of an export, its number, and the stamp of its last load
+abbrev pub Place : Type 0
+Place = List ℕ × ℕ × Option Stamp
+
+abbrev pub places_of : List WatchedExport → List Place
+places_of exports = map (λ export. (path_of export.file, export.number, export.file.loaded)) exports
+
+-- What is kept under a number comes from the path of the export of that number, and was loaded with the stamp that is noted of it.
+abbrev pub ComesAt : {W : Type 0} → DiskAnswers W → (ℕ → Type 0) → List Place → List Listed → ℕ → Type 0
+ComesAt answers clock places lists i = (l : Listed) → slice_get lists i ≡ Some l → (path : List ℕ) × (stamp : Stamp) × Contains places (path, i, Some stamp) × ExportComesFrom answers clock path stamp l
+
+-- So it is under each number.
+abbrev pub ExportsComeFrom : {W : Type 0} → DiskAnswers W → (ℕ → Type 0) → List Place → List Listed → Type 0
+ExportsComeFrom answers clock places lists = (i : ℕ) → ComesAt answers clock places lists i
 
 -- The local exceptions are what the files unite to that were read whole of these paths.
 abbrev pub ExceptionsComeFrom : {W : Type 0} → DiskAnswers W → List (List ℕ) → Option AppliedSlurms → Type 0
@@ -48,6 +59,6 @@ PointsComeFrom answers paths points = (name : List ℕ) (last : AcceptedPoint) �
 
 -- All that the sources have comes from the paths that are watched.
 pub record SourcesComeFrom {S T W : Type 0} (answers : DiskAnswers W) (clock : ℕ → Type 0) (daemon : Daemon S T) : Type 0 where
-  pub exports : ExportsComeFrom answers clock (names_of daemon.exports.items) daemon.service.sources.lists.items
+  pub exports : ExportsComeFrom answers clock (places_of daemon.exports.items) daemon.service.sources.lists.items
   pub exceptions : ExceptionsComeFrom answers (paths_of daemon.slurms.items) daemon.service.sources.exceptions
   pub points : PointsComeFrom answers (points_of daemon.points.items) daemon.service.sources.repository

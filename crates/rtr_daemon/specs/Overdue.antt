@@ -1,15 +1,22 @@
 -- When a client is overdue: it is stalled, or slow. Times are milliseconds of the monotonic clock.
-use Rattle.std.specs.Prelude.{◌≡◌, ◌+◌, ◌-◌, ◌==◌, ◌||◌, ℕ, nat_le, nat_lt, Bool, false, ⊤, Option, None, Some, if◌then◌else◌}
+use Rattle.std.specs.Prelude.{◌≡◌, ◌+◌, ◌-◌, ◌==◌, ◌||◌, ℕ, nat_le, nat_lt, Bool, false, ⊤, Option, None, Some, unwrap_or, if◌then◌else◌}
 use Rattle.rtr_pdu.specs.declared.kind.Kind.TheVariants.{SerialQuery, ResetQuery, EndOfData, CacheReset, ErrorReport}
 use Rattle.rtr_server.specs.Counting.{capped, count_of}
 use Rattle.rtr_server.specs.declared.tally.PdusByKind.{PdusByKind}
 use Rattle.rtr_server.specs.declared.turn.Slot.{Slot}
+use Rattle.rtr_server.specs.declared.turn.Turn.{Turn}
+use Rattle.rtr_server.specs.declared.turn.Turn.TheVariants.{WaitsToWrite}
 use Rattle.rtr_daemon.specs.Queue.{known_at}
-use Rattle.rtr_daemon.specs.declared.client_table.ClientEntry.{ClientEntry}
+use Rattle.rtr_daemon.specs.declared.client_entry.ClientEntry.{ClientEntry}
 use Rattle.rtr_daemon.specs.declared.client_table.ClientTable.{ClientTable}
-use Rattle.rtr_daemon.specs.declared.client_table.TurnOutcome.{TurnOutcome}
+use Rattle.rtr_daemon.specs.declared.client_entry.TurnOutcome.{TurnOutcome}
 use Rattle.rtr_daemon.specs.declared.daemon.Plan.{Plan}
 use Rattle.rtr_daemon.specs.declared.outstanding.Outstanding.{Outstanding}
+
+-- since when a client is blocked on writing after a turn at a time, if it is: since the first turn that had to wait after the last byte that went out
+abbrev pub blocked_after : Option ℕ → ℕ → Turn → ℕ → ℕ → Option ℕ
+blocked_after before written WaitsToWrite now_written now = if now_written == written then Some (unwrap_or before now) else Some now
+blocked_after before written turn now_written now = None
 
 -- It has been blocked on writing for this long.
 abbrev pub is_stalled : Option ℕ → ℕ → ℕ → Bool

@@ -14,7 +14,7 @@ use Rattle.points.specs.declared.file.FileIn.{FileIn}
 use Rattle.payload_commands.specs.Directories.{Supplies}
 use Rattle.payload_commands.specs.declared.directories.Directory.{Directory}
 use Rattle.sources.specs.declared.sources.Sources.{Sources}
-use Rattle.rtr_daemon.specs.DiskAnswers.{DiskAnswers}
+use Rattle.rtr_daemon.specs.DiskAnswers.{DirectoryFails, DiskAnswers}
 use Rattle.rtr_daemon.specs.declared.point_polling.WatchedPoint.{WatchedPoint}
 use Rattle.rtr_daemon.specs.declared.refusal.Refusal.{Refusal}
 use Rattle.rtr_daemon.specs.declared.refusal.Refusal.TheVariants.{Clock, Point}
@@ -49,7 +49,7 @@ points_of points = map (λ point. string_bytes point.path) points
 
 -- The directory at a path was offered at this time, or it cannot be read, and nothing has changed.
 abbrev pub OffersPoint : {W : Type 0} → DiskAnswers W → List ℕ → ℕ → Sources → Sources → Type 0
-OffersPoint answers path now old new = (answers.fails path × (new ≡ old)) ⊎ ((directory : Directory) × answers.directories path directory × (result : Result Offered Refusal) × OffersTo directory now result old new)
+OffersPoint answers path now old new = (DirectoryFails answers path × (new ≡ old)) ⊎ ((directory : Directory) × answers.directories path directory × (result : Result Offered Refusal) × OffersTo directory now result old new)
 
 -- Each directory was offered in its turn, at a second that the clock answered.
 abbrev pub OffersEach : {W : Type 0} → DiskAnswers W → (ℕ → Type 0) → List WatchedPoint → Sources → Sources → Type 0

@@ -9,7 +9,7 @@ use Rattle.rtr_server.specs.declared.server.Client.{Client}
 use Rattle.rtr_server.specs.declared.server.Server.{Server}
 use Rattle.rtr_server.specs.declared.stream.Call.{Call}
 use Rattle.rtr_daemon.specs.Turns.{HasTurn}
-use Rattle.rtr_daemon.specs.declared.client_table.ClientEntry.{ClientEntry}
+use Rattle.rtr_daemon.specs.declared.client_entry.ClientEntry.{ClientEntry}
 use Rattle.rtr_daemon.specs.declared.client_table.ClientTable.{ClientTable}
 
 -- what is known of a client, whether it is queued or not
@@ -27,6 +27,10 @@ client_at table token = option_map (λ entry. entry.client) (known_at table toke
 -- What is known of each client is unchanged.
 abbrev pub SameClients : ClientTable → ClientTable → Type 0
 SameClients old new = (token : ℕ) → known_at new token ≡ known_at old token
+
+-- No client is left.
+abbrev pub NoClients : ClientTable → Type 0
+NoClients table = (token : ℕ) → known_at table token ≡ None
 
 -- What is known of the clients of all other tokens is unchanged.
 abbrev pub OtherClients : ℕ → ClientTable → ClientTable → Type 0

@@ -6,7 +6,7 @@ use Rattle.std.specs.declared.io.ErrorKind.{ErrorKind}
 use Rattle.std.specs.declared.io.ErrorKind.TheVariants as kinds
 use Rattle.vrps.specs.Instance.{Instance}
 use Rattle.vrps.specs.declared.set.SetFault.TheVariants.{Memory}
-use Rattle.rtr_daemon.specs.Serving.{GoesOn}
+use Rattle.rtr_daemon.specs.Serving.{Advances}
 use Rattle.rtr_daemon.specs.declared.daemon.StopReason.{StopReason}
 use Rattle.rtr_daemon.specs.declared.daemon.StopReason.TheVariants.{Once, Old, Checked}
 use Rattle.rtr_daemon.specs.declared.refusal.Refusal.{Refusal}
@@ -30,7 +30,7 @@ clients_within asked descriptors http = min asked (max 1 (descriptors - 16 - htt
 abbrev pub GoesThrough : {S T : Type 0} → (ℕ → Type 0) → (ℕ → Instance → S → Type 0) → (T → Option (List ℕ)) → (T → Option (List ℕ)) → ℕ → Service S T → Service S T → Type 0
 GoesThrough clock holds remaining contents zero old new = new ≡ old
 GoesThrough {S} {T} clock holds remaining contents (suc n) old new =
-    (now : Service S T) × GoesThrough clock holds remaining contents n old now × GoesOn clock holds remaining contents now new
+    (now : Service S T) × GoesThrough clock holds remaining contents n old now × Advances clock holds remaining contents now new
 
 -- The exit status: 0 if the run ended well, and 1 if a file is too old. If the system failed it is 3, or 4 without memory.
 abbrev pub failure_status : ErrorKind → ℕ

@@ -1,5 +1,5 @@
 -- The set that a service serves, and the steps from one service to another.
-use Rattle.std.specs.Prelude.{◌≡◌, ◌⊎◌, ◌<◌, ℕ, slice_get, false, true, List, [], ◌∷◌, ◌++◌, ⊤, length, Option, None, Some, Result, Ok, Err}
+use Rattle.std.specs.Prelude.{◌≡◌, ◌⊎◌, ◌<◌, ℕ, max, min, slice_get, false, true, List, [], ◌∷◌, ◌++◌, ⊤, length, Option, None, Some, Result, Ok, Err}
 use Rattle.der_lite.specs.Moments.{CivilMoment}
 use Rattle.der_lite.specs.Seconds.{seconds_of}
 use Rattle.event_log.specs.Clock.{last_second}
@@ -12,7 +12,7 @@ use Rattle.vrps.specs.declared.set.SetFault.TheVariants.{TooMany, Memory}
 use Rattle.vrps.specs.declared.store.Published.{Published}
 use Rattle.vrps.specs.declared.store.Published.TheVariants.{New, Unchanged}
 use Rattle.rtr_ends.specs.CacheState.{CacheCall, Open}
-use Rattle.rtr_server.specs.Clients.{Past, ShowsServer, present}
+use Rattle.rtr_server.specs.Clients.{Begun, Past, ShowsServer, present}
 use Rattle.points.specs.InUse.{no_points}
 use Rattle.sources.specs.Shrinking.{ExportTakenWithin}
 use Rattle.sources.specs.Served.{PassesLimit, ServesAt, SlurmsTaken, ends_between, expired_of}
@@ -20,10 +20,12 @@ use Rattle.sources.specs.declared.fault.SlurmSetFault.{SlurmSetFault}
 use Rattle.sources.specs.declared.fault.TakeFault.{TakeFault}
 use Rattle.sources.specs.declared.listed.Listed.{Listed}
 use Rattle.session_names.specs.Runs.{may_publish}
+use Rattle.session_names.specs.declared.names.SessionIds.{SessionIds}
 use Rattle.sources.specs.declared.sources.Sources.{Sources}
+use Rattle.rtr_daemon.specs.declared.cache_settings.CacheSettings.{CacheSettings}
 use Rattle.rtr_daemon.specs.declared.refusal.Refusal.{Refusal}
 use Rattle.rtr_daemon.specs.declared.refusal.Refusal.TheVariants as refused
-use Rattle.rtr_daemon.specs.declared.service.PublishReport.{PublishReport}
+use Rattle.rtr_daemon.specs.declared.versions.PublishReport.{PublishReport}
 use Rattle.rtr_daemon.specs.declared.service.Service.{Service}
 
 -- None of these calls opens a connection of this number.
@@ -42,6 +44,29 @@ pub record IsLater (p q : Past) : Type 0 where
   pub most : q.most ≡ p.most
   pub begun : (c : ℕ) → OpensNone c more → q.begun c ≡ p.begun c
 
+-- how many versions before the current one are kept if this many are asked for: from 1 to 65,536
+abbrev pub kept_versions : ℕ → ℕ
+kept_versions asked = max 1 (min asked 65536)
+
+-- The instance of a cache that has published nothing
+abbrev pub empty_instance : ℕ → ℕ → ℕ → Instance
+empty_instance session session0 start = record { session = session; session0 = session0; start = start; sets = [] }
+
+-- The past of a new server over a cache without versions
+abbrev pub new_past : CacheSettings → ℕ → ℕ → ℕ → (ℕ → Begun) → Past
+new_past settings session session0 start begun = record {
+  keep = kept_versions settings.keep;
+  timing = settings.timing;
+  first = empty_instance session session0 start;
+  most = settings.clients;
+  calls = [];
+  begun = begun;
+}
+
+-- the past of a new service, of these sessions
+abbrev pub past_of : CacheSettings → SessionIds → (ℕ → Begun) → Past
+past_of settings ids begun = new_past settings ids.session ids.session0 ids.serial begun
+
 -- The set of the sources at a time, in seconds since 1970
 pub record IsServedAt (now : ℕ) (s : Sources) (set : VrpSet) : Type 0 where
   pub at : CivilMoment
@@ -54,12 +79,20 @@ pub record IsNewestAt (now : ℕ) (i : Instance) (s : Sources) : Type 0 where
   pub is : newest (versions i) ≡ Some version
   pub served : IsServedAt now s version.set
 
+-- A cache was made with these settings, and has this session in version 0 of the protocol.
+pub record IsMadeWith (settings : CacheSettings) (session0 : ℕ) (p : Past) : Type 0 where
+  pub keep : p.keep ≡ kept_versions settings.keep
+  pub timing : p.timing ≡ settings.timing
+  pub most : p.most ≡ settings.clients
+  pub session0_is : p.first.session0 ≡ session0
+
 -- This past led to the server of a service. If no version is pending, the newest version is the set of the sources at the second of the service.
 -- If the service says that it has no publication points, it has none.
 pub record ShowsService {S T : Type 0} (holds : ℕ → Instance → S → Type 0) (remaining contents : T → Option (List ℕ)) (p : Past) (service : Service S T) : Type 0 where
   pub server : ShowsServer holds remaining contents p service.server
   pub newest : service.is_pending ≡ false → IsNewestAt service.current_at (present p).cache service.sources
   pub points : service.has_points ≡ false → service.sources.repository ≡ no_points
+  pub made_with : IsMadeWith service.settings service.session0 p
 
 -- A version is pending, or the newest version is the set of the sources at a second that the clock answered.
 abbrev pub IsFresh : {S T : Type 0} → (ℕ → Type 0) → Service S T → Type 0
@@ -113,10 +146,38 @@ PacesSo tried second old new = new ≡ old
 abbrev pub PublishesOnce : {S T : Type 0} → (ℕ → Type 0) → Service S T → Service S T → Past → Past → Type 0
 PublishesOnce clock old new p q = (KeepsVersions p q × (new.pace ≡ old.pace)) ⊎ AddsVersion clock old new p q
 
--- A turn of the daemon continues the past of its service, and publishes at most one version.
+-- Serving clients and what is due by the clock continue the past of a service. At most one version is published.
 abbrev pub GoesOn : {S T : Type 0} → (ℕ → Type 0) → (ℕ → Instance → S → Type 0) → (T → Option (List ℕ)) → (T → Option (List ℕ)) → Service S T → Service S T → Type 0
 GoesOn clock holds remaining contents old new =
     (p : Past) → ShowsService holds remaining contents p old → (q : Past) × IsLater p q × ShowsService holds remaining contents q new × PublishesOnce clock old new p q
+
+-- the same instance without its versions: the next one has the serial after the last one
+abbrev pub without_versions : Instance → Instance
+without_versions i = record i { start = serial_at i.start (length i.sets); sets = [] }
+
+-- The second past begins anew: all clients were closed, and all versions dropped. The sessions stay, and so does what the cache was made with.
+pub record BeginsAnew (p q : Past) : Type 0 where
+  pub calls : q.calls ≡ []
+  pub first : q.first ≡ without_versions (present p).cache
+  pub keep : q.keep ≡ p.keep
+  pub timing : q.timing ≡ p.timing
+  pub most : q.most ≡ p.most
+
+-- A service drops its versions and its clients. Under the same session it answers No Data Available (RFC 8210 section 12, code 2) until the next
+-- version, whose serial is later than all before it.
+abbrev pub Drops : {S T : Type 0} → (ℕ → Instance → S → Type 0) → (T → Option (List ℕ)) → (T → Option (List ℕ)) → Service S T → Service S T → Type 0
+Drops holds remaining contents old new =
+    (p : Past) → ShowsService holds remaining contents p old → (q : Past) × BeginsAnew p q × ShowsService holds remaining contents q new × (new.pace ≡ old.pace)
+
+-- Then the service has no version.
+abbrev pub EndsEmpty : {S T : Type 0} → (ℕ → Instance → S → Type 0) → (T → Option (List ℕ)) → (T → Option (List ℕ)) → Service S T → Service S T → Type 0
+EndsEmpty holds remaining contents old new =
+    (p : Past) → ShowsService holds remaining contents p old → (q : Past) × ShowsService holds remaining contents q new × ((present q).cache.sets ≡ [])
+
+-- A turn of the daemon: its service continues, or drops its versions. Then at most one version is published.
+abbrev pub Advances : {S T : Type 0} → (ℕ → Type 0) → (ℕ → Instance → S → Type 0) → (T → Option (List ℕ)) → (T → Option (List ℕ)) → Service S T → Service S T → Type 0
+Advances {S} {T} clock holds remaining contents old new =
+    (left : Service S T) × (Continues holds remaining contents old left ⊎ Drops holds remaining contents old left) × GoesOn clock holds remaining contents left new
 
 -- A source that is loaded makes a version pending. A refusal changes nothing of that.
 abbrev pub TakesSo : {S T A E : Type 0} → Result A E → Service S T → Service S T → Type 0

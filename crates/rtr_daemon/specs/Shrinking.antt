@@ -1,9 +1,8 @@
 -- For how long an export that is too short is refused. Times are milliseconds of the monotonic clock.
-use Rattle.std.specs.Prelude.{ℕ, ◌-◌, ◌/◌, nat_le, if◌then◌else◌, List, map, Option, None, Some, Result, Ok, Err}
+use Rattle.std.specs.Prelude.{ℕ, ◌-◌, ◌/◌, nat_le, if◌then◌else◌, Option, None, Some, Result, Ok, Err}
 use Rattle.sources.specs.declared.fault.TakeFault.{TakeFault}
 use Rattle.sources.specs.declared.fault.TakeFault.TheVariants.{Shrank}
 use Rattle.rtr_daemon.specs.declared.shrink_guard.ShrinkGuard.{ShrinkGuard}
-use Rattle.rtr_daemon.specs.declared.watched_file.WatchedExport.{WatchedExport}
 
 -- How large a part of an export may be gone, in percent. There is no limit without a guard, nor once its contents have been refused as too short
 -- for as long as the guard holds.
@@ -22,7 +21,3 @@ abbrev pub since_after : Result ℕ TakeFault → Option ℕ → ℕ → Option 
 since_after (Ok expired) since millis = None
 since_after (Err (Shrank percent had has)) since millis = first_refused since millis
 since_after (Err fault) since millis = since
-
--- Since when contents of each export are refused as too short
-abbrev pub sinces_of : List WatchedExport → List (Option ℕ)
-sinces_of exports = map (λ export. export.short_since) exports

@@ -1,5 +1,5 @@
 -- For how long an export that is too short is refused, worked out: 90 % for a day.
-use Rattle.std.specs.Prelude.{◌≡◌, ℕ, Option, None, Some, Ok, Err, refl}
+use Rattle.std.specs.Prelude.{◌≡◌, None, Some, Ok, Err, refl}
 use Rattle.exports.specs.declared.fault.ExportFault.TheVariants.{Memory}
 use Rattle.sources.specs.declared.fault.TakeFault.TheVariants.{Export, Shrank}
 use Rattle.rtr_daemon.specs.Shrinking.{percent_at, since_after}

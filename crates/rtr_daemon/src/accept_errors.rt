@@ -1,4 +1,4 @@
-//! What becomes of an accept that failed (accept(2)).
+//! How a failed accept(2) is classified.
 ghost use Rattle.std.specs.Prelude.{◌≡◌};
 ghost use Rattle.std.specs.IoError.{error_kind, raw_os_error};
 ghost use Rattle.rtr_daemon.specs.Opening.{is_of_one, is_shortage, is_shortage_code, is_shortage_number, refused_accept};
@@ -7,8 +7,9 @@ use crate::environment::AcceptResult;
 use std::io::{self, ErrorKind};
 
 impl<L> AcceptResult<L> {
-    /// What an accept came to that failed with this error: no connection is pending, one was aborted, the system lacks descriptors or memory, or
-    /// something else.
+    /// Classifies the error of a failed accept(2). `WouldBlock`: no connection is pending.
+    /// `Again`: the connection was aborted or reset, the call was interrupted, or the network or host cannot be reached.
+    /// `NoRoom`: no descriptor or memory is left. `Failed`: any other error.
     pub fn refused(error: io::Error) -> AcceptResult<L>
         ensures { result ≡ refused_accept error }
     {
@@ -24,7 +25,7 @@ impl<L> AcceptResult<L> {
     }
 }
 
-/// Whether an error is of the connection alone, as the errors of the network are.
+/// Returns whether an error concerns one connection or call only: aborted, reset, interrupted, or the network or host cannot be reached.
 fn is_of_one(kind: ErrorKind) -> bool
     ensures { result ≡ is_of_one kind }
 {
@@ -56,7 +57,7 @@ fn is_shortage_code(code: i32) -> bool
     code >= 0 && is_shortage_number(code.unsigned_abs())
 }
 
-/// Whether it is the number of one of them.
+/// Returns whether `number` is ENOMEM (12), ENFILE (23), EMFILE (24) or ENOBUFS (105).
 fn is_shortage_number(number: u32) -> bool
     ensures { result ≡ is_shortage_number number }
 {

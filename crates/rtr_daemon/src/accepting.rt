@@ -1,9 +1,11 @@
 //! Listeners, and the connections that are accepted from them.
-ghost use Rattle.std.specs.Prelude.{◌≡◌, false};
+ghost use Rattle.std.specs.Prelude.{◌≡◌, false, IfOk, replicate};
 ghost use Rattle.rtr_daemon.specs.Due.{OnlyClients};
+ghost use Rattle.rtr_daemon.specs.Queue.{QueuesBehind};
 ghost use Rattle.rtr_daemon.specs.Serving.{Continues};
+ghost use Rattle.rtr_daemon.specs.Starting.{open_listener};
 
-use crate::client_table::Ends;
+use crate::client_entry::Ends;
 use crate::daemon::Daemon;
 use crate::environment::{AcceptResult, EventLog, Sockets, Time};
 use event_log::LogEvent;
@@ -51,7 +53,9 @@ impl Listener {
 
 impl Listeners {
     /// This many listeners. A connection may be pending at each.
-    pub(crate) fn new(alloc: Global, count: usize) -> Result<Listeners, AllocError> {
+    pub(crate) fn new(alloc: Global, count: usize) -> Result<Listeners, AllocError>
+        ensures { IfOk result (λ all. all.listeners.items ≡ replicate count open_listener) }
+    {
         let mut listeners = Vec::with_capacity(alloc, count)?;
         for _listener in 0..count {
             listeners.push(Listener {
@@ -98,7 +102,7 @@ impl Listeners {
             .is_some_and(|it| it.can_accept(now))
     }
 
-    /// Marks a failure to accept as reported. It answers true if none was reported since a connection was accepted last.
+    /// Marks a failure to accept as reported. Returns true if none was reported since a connection was accepted last.
     fn mark_reported(&mut self) -> bool {
         let is_news = !self.is_reported;
         self.is_reported = true;
@@ -111,6 +115,7 @@ impl<S: VersionStore, T: Stream + Drop> Daemon<S, T> {
     pub(crate) fn accept_pending<W: Sockets<T> + Time + EventLog>(&mut self, env: &mut W)
         ensures goes { Continues S.holds T.remaining T.contents self.old.service self.new.service }
         ensures rest { OnlyClients self.old self.new }
+        ensures queue { QueuesBehind self.old.clients.queue.items self.new.clients }
         ensures before { self.old.is_ready ≡ false → self.new.service ≡ self.old.service }
     {
         if !self.is_ready {
@@ -125,6 +130,7 @@ impl<S: VersionStore, T: Stream + Drop> Daemon<S, T> {
     fn accept_from<W: Sockets<T> + Time + EventLog>(&mut self, listener: usize, env: &mut W)
         ensures goes { Continues S.holds T.remaining T.contents self.old.service self.new.service }
         ensures rest { OnlyClients self.old self.new }
+        ensures queue { QueuesBehind self.old.clients.queue.items self.new.clients }
     {
         for _connection in 0..AT_ONCE {
             if !self.listeners.can_accept(listener, env.millis()) {
@@ -138,6 +144,7 @@ impl<S: VersionStore, T: Stream + Drop> Daemon<S, T> {
     fn accept_one<W: Sockets<T> + Time + EventLog>(&mut self, listener: usize, env: &mut W)
         ensures goes { Continues S.holds T.remaining T.contents self.old.service self.new.service }
         ensures rest { OnlyClients self.old self.new }
+        ensures queue { QueuesBehind self.old.clients.queue.items self.new.clients }
     {
         match env.accept(listener) {
             AcceptResult::Connection {
@@ -160,6 +167,7 @@ impl<S: VersionStore, T: Stream + Drop> Daemon<S, T> {
     fn admit<W: Time + EventLog>(&mut self, stream: T, token: usize, ends: Ends, env: &mut W)
         ensures goes { Continues S.holds T.remaining T.contents self.old.service self.new.service }
         ensures rest { OnlyClients self.old self.new }
+        ensures queue { QueuesBehind self.old.clients.queue.items self.new.clients }
     {
         let address = ends.address;
         let clients = self.clients.of_address(address);
@@ -178,6 +186,7 @@ impl<S: VersionStore, T: Stream + Drop> Daemon<S, T> {
     fn admit_within<W: Time + EventLog>(&mut self, stream: T, token: usize, ends: Ends, env: &mut W)
         ensures goes { Continues S.holds T.remaining T.contents self.old.service self.new.service }
         ensures rest { OnlyClients self.old self.new }
+        ensures queue { QueuesBehind self.old.clients.queue.items self.new.clients }
     {
         let now = env.seconds();
         let address = ends.address;
@@ -204,6 +213,7 @@ impl<S: VersionStore, T: Stream + Drop> Daemon<S, T> {
     fn pause<W: Time + EventLog>(&mut self, listener: usize, event: &LogEvent<'_>, env: &mut W)
         ensures service { self.new.service ≡ self.old.service }
         ensures rest { OnlyClients self.old self.new }
+        ensures clients { self.new.clients ≡ self.old.clients }
     {
         self.listeners
             .pause(listener, env.millis().saturating_add(PAUSE));
@@ -222,6 +232,7 @@ impl<S: VersionStore, T: Stream + Drop> Daemon<S, T> {
     )
         ensures service { self.new.service ≡ self.old.service }
         ensures rest { OnlyClients self.old self.new }
+        ensures clients { self.new.clients ≡ self.old.clients }
     {
         match error.to_string(self.alloc) {
             Ok(reason) => self.pause(

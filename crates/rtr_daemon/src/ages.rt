@@ -2,9 +2,8 @@
 ghost use Rattle.std.specs.Prelude.{◌≡◌};
 ghost use Rattle.rtr_daemon.specs.Ages.{data_time, made_at};
 ghost use Rattle.rtr_daemon.specs.Due.{JudgesAges, JudgesExpiry, second_of_pace};
-ghost use Rattle.rtr_daemon.specs.Files.{names_of};
+ghost use Rattle.rtr_daemon.specs.Files.{mark_of, marks_of, names_of};
 ghost use Rattle.rtr_daemon.specs.Serving.{Continues, IsFresh};
-ghost use Rattle.rtr_daemon.specs.Shrinking.{sinces_of};
 
 use crate::daemon::Daemon;
 use crate::environment::{EventLog, Time};
@@ -78,7 +77,7 @@ fn note_all_expired<W: EventLog>(
     env: &mut W,
 )
     ensures names { names_of exports.new.items ≡ names_of exports.old.items }
-    ensures sinces { sinces_of exports.new.items ≡ sinces_of exports.old.items }
+    ensures marks { marks_of exports.new.items ≡ marks_of exports.old.items }
 {
     for export in exports.iter_mut() {
         note_expired(export, sources, now, env);
@@ -90,7 +89,7 @@ fn note_all_expired<W: EventLog>(
 fn note_expired<W: EventLog>(export: &mut WatchedExport, sources: &Sources, now: u64, env: &mut W)
     ensures path { export.new.file.path ≡ export.old.file.path }
     ensures number { export.new.number ≡ export.old.number }
-    ensures short { export.new.short_since ≡ export.old.short_since }
+    ensures mark { mark_of export.new ≡ mark_of export.old }
 {
     let expired = sources.expired(export.number, now);
     let before = export.expired_since;
@@ -109,7 +108,7 @@ fn is_any_old<W: EventLog>(
     env: &mut W,
 ) -> bool
     ensures names { names_of exports.new.items ≡ names_of exports.old.items }
-    ensures sinces { sinces_of exports.new.items ≡ sinces_of exports.old.items }
+    ensures marks { marks_of exports.new.items ≡ marks_of exports.old.items }
 {
     let mut is_old = false;
     for export in exports.iter_mut() {
@@ -130,7 +129,7 @@ fn judge_age<W: EventLog>(
 ) -> bool
     ensures path { export.new.file.path ≡ export.old.file.path }
     ensures number { export.new.number ≡ export.old.number }
-    ensures short { export.new.short_since ≡ export.old.short_since }
+    ensures mark { mark_of export.new ≡ mark_of export.old }
 {
     let Some(built) = built_of(export, sources, now) else {
         return false;

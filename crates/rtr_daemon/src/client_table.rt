@@ -3,57 +3,14 @@ ghost use Rattle.std.specs.Prelude.{◌≡◌, [], ◌+◌, ◌≤◌, ◌↔◌
 ghost use Rattle.std.specs.VecDeque.{deque_capacity, deque_len};
 ghost use Rattle.rtr_daemon.specs.Notes.{AreNoted, unqueued};
 
-use crate::outstanding::{Outstanding, outstanding_after};
-use rtr_server::{ByteCounts, Client, Turn};
+use crate::client_entry::{ClientEntry, Ends, TurnOutcome};
+use rtr_server::{ByteCounts, Client};
 use std::alloc::{AllocError, Global};
 use std::collections::btree_map::Values;
 use std::collections::{BTreeMap, VecDeque};
 use std::net::{IpAddr, SocketAddr};
 use std::ops::Bound;
-use tcp_table::{Endpoint, TcpLine, Unanswered, bytes_of, is_lost, unanswered_after};
-
-/// The addresses of both ends of a client's connection.
-#[derive(Clone, Copy)]
-pub(crate) struct Ends {
-    pub(crate) address: SocketAddr,
-    pub(crate) local: SocketAddr,
-}
-
-/// What a client's turn came to: its outcome, and what was counted of the client since it came.
-#[derive(Clone, Copy)]
-pub(crate) struct TurnOutcome {
-    pub(crate) turn: Turn,
-    pub(crate) carried: ByteCounts,
-    /// How many queries came whole from it.
-    pub(crate) queries: u64,
-    /// How many answers were written whole to it.
-    pub(crate) answers: u64,
-    /// How many Serial Notifies were written whole to it.
-    pub(crate) notifies: u64,
-}
-
-/// A client: its number at the server, its address, and how long its stream has been blocked.
-#[derive(Debug, Drop)]
-pub(crate) struct ClientEntry {
-    pub(crate) client: Client,
-    pub(crate) address: SocketAddr,
-    local: SocketAddr,
-    /// When it connected, in milliseconds of the monotonic clock.
-    pub(crate) came: u64,
-    /// Since when no byte could be written to it, while bytes are due.
-    blocked: Option<u64>,
-    /// The answer that has not left.
-    answering: Option<Outstanding>,
-    /// How many Serial Notifies were written to it.
-    notifies: u64,
-    /// Whether it was notified, and has sent nothing since.
-    is_notified: bool,
-    /// The bytes to it that are sent again, as of the last readings, while it is notified.
-    unanswered: Option<Unanswered>,
-    /// The bytes that were read and written when it was served last.
-    pub(crate) carried: ByteCounts,
-    is_queued: bool,
-}
+use tcp_table::{TcpLine, is_lost};
 
 /// All clients by poll token, and the queue of those to serve, in order.
 #[derive(Debug, Drop)]
@@ -77,7 +34,9 @@ impl ClientTable {
     ghost use Rattle.rtr_daemon.specs.Losing.{is_lost_client, lines_noted};
     ghost use Rattle.rtr_daemon.specs.Overdue.{AnswerNoted, is_slow_client, is_stalled_client};
 
-    pub(crate) fn new(alloc: Global) -> ClientTable {
+    pub(crate) fn new(alloc: Global) -> ClientTable
+        ensures { result.queue.items ≡ [] }
+    {
         ClientTable {
             by_token: BTreeMap::new(alloc),
             queue: VecDeque::new(alloc),
@@ -109,7 +68,9 @@ impl ClientTable {
         client: Client,
         ends: Ends,
         now: u64,
-    ) -> Result<(), AllocError> {
+    ) -> Result<(), AllocError>
+        ensures { QueuesBehind self.old.queue.items self.new }
+    {
         let Ends { address, local } = ends;
         self.queue.reserve(self.by_token.len().saturating_add(1))?;
         self.newcomers.reserve(1)?;
@@ -368,71 +329,6 @@ impl ClientTable {
     }
 }
 
-impl ClientEntry {
-    ghost use Rattle.rtr_daemon.specs.Losing.{lines_noted};
-    ghost use Rattle.rtr_daemon.specs.Overdue.{is_slow, is_stalled, outstanding_after, with_turn};
-    ghost use Rattle.tcp_table.specs.Columns.{endpoint_of};
-    ghost use Rattle.tcp_table.specs.Tables.{bytes_of};
-
-    /// Notes the outcome of a turn.
-    fn note(&mut self, outcome: TurnOutcome, now: u64)
-        ensures answering { self.new.answering ≡ outstanding_after self.old.answering outcome.queries outcome.answers now }
-        ensures rest { self.new ≡ with_turn self.old self.new }
-    {
-        let TurnOutcome {
-            turn,
-            carried,
-            queries,
-            answers,
-            notifies,
-        } = outcome;
-        self.blocked = blocked_since(self, turn, carried, now);
-        self.is_notified = is_notified_after(self, notifies, carried.read);
-        if !self.is_notified {
-            self.unanswered = None;
-        }
-        self.notifies = notifies;
-        self.carried = carried;
-        self.answering = outstanding_after(self.answering, queries, answers, now);
-    }
-
-    /// Notes what these lines of the system's tables show, if it was notified and has sent nothing since.
-    fn note_lines(&mut self, lines: &[TcpLine], now: u64)
-        ensures { self.new ≡ lines_noted lines.now now self.old }
-    {
-        if self.is_notified {
-            let bytes = self.bytes_in(lines);
-            self.unanswered = unanswered_after(self.unanswered, bytes, now);
-        }
-    }
-
-    /// How many bytes to it are sent again by these lines.
-    fn bytes_in(&self, lines: &[TcpLine]) -> Option<u32>
-        ensures { result ≡ bytes_of (endpoint_of self.now.local) (endpoint_of self.now.address) lines.now }
-    {
-        let (local, remote) = (Endpoint::of(self.local), Endpoint::of(self.address));
-        bytes_of(lines, &local, &remote)
-    }
-
-    fn is_stalled(&self, now: u64, stall: u64) -> bool
-        ensures { result ≡ is_stalled self.now.blocked now stall }
-    {
-        match self.blocked {
-            Some(since) => now.saturating_sub(since) >= stall,
-            None => false,
-        }
-    }
-
-    fn is_slow(&self, now: u64, slow: u64) -> bool
-        ensures { result ≡ is_slow self.now.answering now slow }
-    {
-        match self.answering {
-            Some(answer) => now.saturating_sub(answer.since) >= slow,
-            None => false,
-        }
-    }
-}
-
 /// A count, after one of those that it counts was or is one.
 fn counted(count: usize, was: bool, is: bool) -> usize {
     match (was, is) {
@@ -440,20 +336,4 @@ fn counted(count: usize, was: bool, is: bool) -> usize {
         (false, true) => count.saturating_add(1),
         _ => count,
     }
-}
-
-/// Since when a client is blocked on writing, after a turn.
-fn blocked_since(entry: &ClientEntry, turn: Turn, carried: ByteCounts, now: u64) -> Option<u64> {
-    match (turn, entry.blocked) {
-        (Turn::WaitsToWrite, Some(since)) if carried.written == entry.carried.written => {
-            Some(since)
-        }
-        (Turn::WaitsToWrite, _) => Some(now),
-        _ => None,
-    }
-}
-
-/// Whether a client is notified, and has sent nothing since, after a turn: a notify more was written to it, or it was so before and no byte came.
-fn is_notified_after(entry: &ClientEntry, notifies: u64, read: u64) -> bool {
-    notifies > entry.notifies || (entry.is_notified && read == entry.carried.read)
 }

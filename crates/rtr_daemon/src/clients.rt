@@ -1,14 +1,15 @@
 //! Serving clients.
-ghost use Rattle.std.specs.Prelude.{◌≡◌, ◌||◌, IfSome, None, false, is_some, true, ℕ};
+ghost use Rattle.std.specs.Prelude.{◌≡◌, [], ◌∷◌, ◌||◌, IfSome, None, false, is_some, true, ℕ};
 ghost use Rattle.rtr_daemon.specs.Due.{OnlyClients};
 ghost use Rattle.rtr_server.specs.Clients.{has_asked, slot_at};
 ghost use Rattle.rtr_daemon.specs.Parting.{agreed_version, has_agreed, is_served, refused_version};
 ghost use Rattle.rtr_daemon.specs.Queue.{OtherClients, QueuesBehind, ServesEach, ServesNext, client_at, known_at};
 ghost use Rattle.rtr_daemon.specs.Serving.{Continues};
 ghost use Rattle.rtr_daemon.specs.Overdue.{AnswersNoted, ClosesOverdue, OutcomeOf, unless_overdue};
+ghost use Rattle.rtr_daemon.specs.Readiness.{QueuesReady, TakesReady};
 ghost use Rattle.rtr_daemon.specs.Turns.{HasTurn};
 
-use crate::client_table::TurnOutcome;
+use crate::client_entry::TurnOutcome;
 use crate::daemon::Daemon;
 use crate::environment::{EventLog, Ready, Sockets, Time};
 use crate::outstanding::{answers_in, queries_in};
@@ -40,17 +41,29 @@ pub(crate) struct ClientCounters {
 }
 
 impl<S: VersionStore, T: Stream + Drop> Daemon<S, T> {
-    /// Reads which listeners and connections are ready.
+    /// Asks the sockets what is ready. Clients that are ready are queued.
     pub(crate) fn take_ready<W: Sockets<T>>(&mut self, env: &mut W)
         ensures service { self.new.service ≡ self.old.service }
         ensures rest { OnlyClients self.old self.new }
+        ensures ready { TakesReady W.calls env.old self.old.clients self.new.clients env.new }
     {
         for _ready in 0..READY {
-            match env.next() {
-                None => return,
-                Some(Ready::Listener(listener)) => self.listeners.note(listener, true),
-                Some(Ready::Connection(token)) => self.clients.wake(token),
-            }
+            let Some(ready) = env.next() else {
+                return;
+            };
+            self.note_ready(ready);
+        }
+    }
+
+    /// Notes that a listener or a connection is ready.
+    fn note_ready(&mut self, ready: Ready)
+        ensures service { self.new.service ≡ self.old.service }
+        ensures rest { OnlyClients self.old self.new }
+        ensures queues { QueuesReady (ready ∷ []) self.old.clients self.new.clients }
+    {
+        match ready {
+            Ready::Listener(listener) => self.listeners.note(listener, true),
+            Ready::Connection(token) => self.clients.wake(token),
         }
     }
 
@@ -159,6 +172,7 @@ impl<S: VersionStore, T: Stream + Drop> Daemon<S, T> {
         ensures gone { known_at self.new.clients token ≡ None }
         ensures queue { self.new.clients.queue ≡ self.old.clients.queue }
         ensures service { self.new.service ≡ self.old.service }
+        ensures failure { self.new.statistics.failure ≡ self.old.statistics.failure }
         ensures once { IfSome (known_at self.old.clients token) (λ _. self.new.has_parted ≡ (self.old.has_parted || has_agreed self.old.service.server.parted)) }
         ensures rest { OnlyClients self.old self.new }
     {
@@ -301,6 +315,7 @@ impl<S: VersionStore, T: Stream + Drop> Daemon<S, T> {
         ensures others { OtherClients token self.old.clients self.new.clients }
         ensures gone { known_at self.new.clients token ≡ None }
         ensures queue { self.new.clients.queue ≡ self.old.clients.queue }
+        ensures failure { self.new.statistics.failure ≡ self.old.statistics.failure }
     {
         let Some((client, _address)) = self.clients.at(token) else {
             return;

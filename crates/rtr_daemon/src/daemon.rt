@@ -1,9 +1,9 @@
 //! The daemon: a loop that serves what is ready, and does what is due by the clock.
 ghost use Rattle.std.specs.Prelude.{◌≡◌, ◌≤◌, ◌<◌, ℕ, IfOk};
-ghost use Rattle.rtr_daemon.specs.Due.{DoesWhatIsDue, IsChecked, IsInTime, IsWait, KeepsFiles, NextPoll, OnlyFiles, PollsAll, PublishesIfDue, SamePaths, WakesIfPublished, later_by};
+ghost use Rattle.rtr_daemon.specs.Due.{DoesWhatIsDue, IsChecked, IsInTime, IsWait, KeepsFiles, NextPoll, OnlyFiles, PollsAll, PublishesIfDue, SamePaths, TakesTurn, WakesIfPublished, later_by};
 ghost use Rattle.rtr_daemon.specs.Queue.{QueuesBehind};
 ghost use Rattle.rtr_daemon.specs.Origins.{SourcesComeFrom};
-ghost use Rattle.rtr_daemon.specs.Serving.{Continues, GoesOn, IsFresh};
+ghost use Rattle.rtr_daemon.specs.Serving.{Advances, Continues, GoesOn, IsFresh};
 ghost use Rattle.rtr_daemon.specs.Overdue.{ClosesOverdue, LeavesNoneOverdue};
 
 use crate::accepting::Listeners;
@@ -28,71 +28,69 @@ use std::io;
 /// The longest wait of a turn if something is due soon, in milliseconds.
 const SOON: u64 = 1000;
 
-/// The paths of the sources.
+/// The paths of the sources of a daemon.
 #[derive(Debug, Drop)]
 pub struct Paths {
-    /// Exports of validators.
+    /// The paths of the validator exports. Each export is loaded from one file.
     pub files: Vec<String>,
-    /// Files of local exceptions, which are applied together (RFC 8416 section 4.2).
+    /// The paths of the files of local exceptions (SLURM). They are applied together (RFC 8416 section 4.2).
     pub slurms: Vec<String>,
-    /// Directories that are publication points.
+    /// The paths of the directories that are publication points.
     pub points: Vec<String>,
 }
 
 /// The settings of a daemon.
 #[derive(Clone, Copy, Debug, PartialEq, Eq)]
 pub struct Plan {
-    /// How often files are polled, in milliseconds.
+    /// The interval between two polls of the sources, in milliseconds.
     pub check: u64,
-    /// After how long a client that is blocked on writing is closed, in milliseconds.
+    /// The write timeout, in milliseconds: a client is closed if bytes are due to it for this long and none could be written.
     pub stall: u64,
-    /// How long an answer may last until it has left, in milliseconds. Then its client is closed.
+    /// The answer timeout, in milliseconds: a client is closed if an answer to it is not written whole within this time.
     pub slow: u64,
-    /// How many clients an address may have at once, or `None`: as many as the server admits.
+    /// The largest number of clients of one address at once. `None`: only the limit for all clients applies.
     pub clients_per_address: Option<u64>,
     /// Whether records of length 0, for 0.0.0.0/0 or ::/0, are left out.
     pub leaves_out_length_0: bool,
-    /// The age above which an export is old, in seconds.
+    /// The maximum age of an export, in seconds. An export is old if its age is greater. `None`: no export is old.
     pub max_age: Option<u64>,
-    /// Whether the daemon stops if an export is old.
+    /// Whether the daemon stops if an export is older than `max_age`.
     pub stops_when_old: bool,
-    /// The guard against exports that are far shorter than before, if there is one.
+    /// The guard against exports that are far shorter than before. `None`: an export of any length is loaded.
     pub shrink: Option<ShrinkGuard>,
-    /// The limit of a file's size, in bytes.
+    /// The limit of a file's size, in bytes. The implementation of [`Disk`] enforces it. The daemon only warns of files near it.
     pub max_size: u64,
-    /// Whether it stops when the first client is closed that agreed on a version.
+    /// Whether the daemon stops after one router: if a client is closed that had agreed on a protocol version.
     pub once: bool,
-    /// How many listeners there are.
+    /// The number of listeners for routers.
     pub listeners: usize,
-    /// How many clients there may be at once.
-    pub clients: usize,
 }
 
-/// What a daemon would publish.
+/// The counts of what a daemon would publish. See [`Daemon::check_report`].
 #[derive(Clone, Copy, Debug, PartialEq, Eq)]
 pub struct CheckReport {
-    /// How many files and publication points were loaded.
+    /// The number of watched files (exports and local exceptions) and publication points.
     pub files: u64,
-    /// How many IPv4 records would be served.
+    /// The number of IPv4 records (VRPs) that would be served.
     pub ipv4: u64,
-    /// How many IPv6 records would be served.
+    /// The number of IPv6 records (VRPs) that would be served.
     pub ipv6: u64,
-    /// How many records of length 0 would be left out.
+    /// The number of records of prefix length 0 that would be left out. It is 0 unless `Plan::leaves_out_length_0` is set.
     pub left_out: u64,
 }
 
 /// Why a daemon stops.
 #[derive(Clone, Copy, Debug, PartialEq, Eq)]
 pub enum StopReason {
-    /// The one client that it served is closed.
+    /// `Plan::once` is set, and a client that had agreed on a protocol version is closed.
     Once,
-    /// An export is older than the maximum age.
+    /// `Plan::stops_when_old` is set, and an export is older than `Plan::max_age`.
     Old,
-    /// The configuration was only to be checked, and is valid.
+    /// The run only checks the configuration, and it is valid.
     Checked,
 }
 
-/// A running cache: its clients, its watched files, and what is due when.
+/// A running cache: its clients, its watched files, and its timers. Create it with [`Daemon::open`], then call [`Daemon::turn`] repeatedly.
 #[derive(Debug, Drop)]
 pub struct Daemon<S, T> {
     pub(crate) alloc: Global,
@@ -126,21 +124,27 @@ pub struct Daemon<S, T> {
     pub(crate) next_round: u64,
     /// The earliest time of the next publication, after one failed.
     pub(crate) held_until: u64,
+    /// Since when publication fails without a success in between, if it does.
+    pub(crate) failing: Option<u64>,
 }
 
 impl<S: StepStore + Drop, T: Stream + Drop> Daemon<S, T> {
-    /// One turn: it waits until something is ready or due, and handles it. It answers why the daemon stops, if it does.
+    /// Runs one turn: waits until something is ready or due, and handles it.
+    /// If publication has failed for the Expire Interval, all versions are dropped before any client is served (RFC 8210 section 6).
+    ///
+    /// `Ok(None)`: call it again. `Ok(Some)`: the reason why the daemon stops. `Err`: the wait failed, and the daemon has not changed.
     pub fn turn<W: Sockets<T> + Disk + Time + EventLog>(
         &mut self,
         env: &mut W,
     ) -> io::Result<Option<StopReason>>
-        ensures goes { GoesOn W.can_be S.holds T.remaining T.contents self.old.service self.new.service }
-        ensures due { IfOk result (λ _. DoesWhatIsDue W.answers W.can_be W.can_tick self.old self.new) }
+        ensures goes { Advances W.can_be S.holds T.remaining T.contents self.old.service self.new.service }
+        ensures turn { IfOk result (λ _. TakesTurn W.answers W.calls W.can_be W.can_tick S.holds T.remaining T.contents T.answers self.old self.new) }
         ensures comes { SourcesComeFrom W.answers W.can_be self.old → SourcesComeFrom W.answers W.can_be self.new }
     {
         let wait = self.longest_wait(env.millis());
         env.wait(wait)?;
         self.take_ready(env);
+        self.drop_if_failing(env);
         self.accept_pending(env);
         self.serve_all(env);
         self.do_what_is_due(env);
@@ -164,6 +168,9 @@ impl<S: StepStore + Drop, T: Stream + Drop> Daemon<S, T> {
         let mut next = self.next_check;
         if self.clients.has_blocked() || (self.service.is_pending() && self.held_until <= millis) {
             next = next.min(self.next_round);
+        }
+        if let Some(since) = self.failing {
+            next = next.min(self.drop_time(since));
         }
         if let Some(deadline) = self.clients.first_deadline(FIRST_QUERY) {
             next = next.min(deadline);
@@ -245,7 +252,8 @@ impl<S: StepStore + Drop, T: Stream + Drop> Daemon<S, T> {
         self.publish_and_judge(env);
     }
 
-    /// What would be published at a time in seconds since 1970, or why nothing would be.
+    /// Returns the counts of what would be published at `now`, in seconds since 1970. Nothing is published.
+    /// `Err`: why nothing would be published.
     pub fn check_report(&self, now: u64) -> Result<CheckReport, Refusal> {
         let ServedSet { set, left_out, .. } = self.service.served(now)?;
         let Families { ipv4, ipv6 } = Families::of(&set);
@@ -263,7 +271,7 @@ impl<S: StepStore + Drop, T: Stream + Drop> Daemon<S, T> {
         files.saturating_add(self.points.len()) as u64
     }
 
-    /// How a daemon ends that only checks its configuration.
+    /// Returns how a run ends that only checks its configuration: `Old` if the daemon would stop for an old export, otherwise `Checked`.
     pub fn end_of_check(&self) -> StopReason {
         self.end().unwrap_or(StopReason::Checked)
     }
@@ -279,14 +287,14 @@ impl<S: StepStore + Drop, T: Stream + Drop> Daemon<S, T> {
         None
     }
 
-    /// Whether a version was published, so that routers are admitted.
+    /// Whether a version was published since the start. Routers are admitted only from then on.
     pub fn is_ready(&self) -> bool
         ensures { result ≡ self.now.is_ready }
     {
         self.is_ready
     }
 
-    /// The server.
+    /// The RTR server: its cache and its clients.
     pub fn server(&self) -> &Server<S, T> {
         self.service.server()
     }

@@ -6,23 +6,23 @@ use payload_commands::Directory;
 use std::io;
 use std::net::SocketAddr;
 
-/// What is ready.
+/// A listener or connection that became ready.
 #[derive(Clone, Copy, Debug, PartialEq, Eq)]
 pub enum Ready {
-    /// A connection may be pending at the listener of this index.
+    /// A connection may be pending at the listener of this index, from 0.
     Listener(usize),
-    /// The connection of this poll token may be readable or writable.
+    /// The connection of this poll token may be readable or writable. [`AcceptResult::Connection`] gives the token.
     Connection(usize),
 }
 
-/// The result of an accept.
+/// The result of [`Sockets::accept`].
 #[derive(Debug, Drop)]
 pub enum AcceptResult<L> {
-    /// A connection. No other connection has had its poll token.
+    /// A connection was accepted. No earlier connection had its poll token.
     Connection {
-        /// The connection, which is non-blocking.
+        /// The stream of the connection. It is non-blocking.
         stream: L,
-        /// The poll token under which it is reported as ready.
+        /// The poll token in [`Ready::Connection`] if the connection is ready.
         token: usize,
         /// The address of the peer.
         address: SocketAddr,
@@ -31,7 +31,7 @@ pub enum AcceptResult<L> {
     },
     /// No connection is pending.
     WouldBlock,
-    /// A connection was aborted before it was accepted. Another may be pending.
+    /// No connection was accepted: one was aborted or reset, the call was interrupted, or the network failed. Another may be pending.
     Again,
     /// The accept failed: the system has no descriptor or no memory left. The connection stays pending.
     NoRoom,
@@ -39,28 +39,36 @@ pub enum AcceptResult<L> {
     Failed(io::Error),
 }
 
-/// The sockets, whose connections are streams of this type.
+/// The listeners and connections of a daemon. `L` is the type of a connection's stream.
 pub trait Sockets<L> {
     ghost use Rattle.std.specs.Prelude.{IfOk, List, ℕ};
+    ghost use Rattle.rtr_daemon.specs.SocketCalls.{SocketCalls, any_calls};
 
-    /// What the tables of connections may be. Contracts that cite it hold for each such relation, so they speak of tables that the system had.
+    /// The contents that [`Sockets::connections`] may return, for use in contracts. An implementation chooses it. The default allows all.
     ghost can_have: { List ℕ → Type 0 } = { λ table. Unit {0} };
 
-    /// Waits until something is ready, for at most this many milliseconds.
-    fn wait(&mut self, millis: u64) -> io::Result<()>;
+    /// The ways in which [`Sockets::wait`] and [`Sockets::next`] may return, for use in contracts. An implementation chooses it.
+    ghost calls: { SocketCalls Self } = { any_calls };
 
-    /// The next of what became ready.
-    fn next(&mut self) -> Option<Ready>;
+    /// Waits until a listener or connection is ready, for at most `millis` milliseconds. Then [`Sockets::next`] returns what is ready.
+    /// `Ok`: something may be ready, or the time has passed. `Err`: the wait failed.
+    fn wait(&mut self, millis: u64) -> io::Result<()>
+        ensures { IfOk result (λ _. calls.waits self.old millis self.new) };
 
-    /// Accepts a connection from the listener of this index.
+    /// Returns the next listener or connection that became ready. `None`: none is left.
+    fn next(&mut self) -> Option<Ready>
+        ensures { calls.tells self.old result self.new };
+
+    /// Accepts a pending connection from the listener of this index, from 0. It does not block.
     fn accept(&mut self, listener: usize) -> AcceptResult<L>;
 
-    /// The system's tables of TCP connections, one after the other: `/proc/self/net/tcp` and `/proc/self/net/tcp6` (proc(5)).
+    /// Returns the system's tables of TCP connections in one text: `/proc/self/net/tcp`, then `/proc/self/net/tcp6` (proc(5)).
+    /// `Err`: they cannot be read.
     fn connections(&mut self) -> io::Result<Vec<u8>>
         ensures { IfOk result (λ table. can_have table.items) };
 }
 
-/// What distinguishes one state of a file from another.
+/// The size, inode number and times of a file. If they differ from earlier ones, the file counts as changed.
 #[derive(Clone, Copy, Debug, PartialEq, Eq)]
 pub struct Stamp {
     /// Its size in bytes.
@@ -74,7 +82,7 @@ pub struct Stamp {
 }
 
 impl Stamp {
-    /// Whether it is the same as another.
+    /// Returns whether all parts of two stamps are equal.
     pub(crate) fn is(&self, other: &Stamp) -> bool
         ensures { IsTrue result ↔ (self.now ≡ other.now) }
     {
@@ -87,54 +95,54 @@ impl Stamp {
     }
 }
 
-/// The files.
+/// The files and directories of the sources.
 pub trait Disk {
     ghost use Rattle.std.specs.Prelude.{IfErr, IfOk};
     ghost use Rattle.rtr_daemon.specs.DiskAnswers.{DiskAnswers, any_answers};
 
-    /// What its calls may answer. Contracts that cite it hold for all such relations, so they speak of what the disk answered, and in which order.
+    /// The results that the calls of this trait may have, for use in contracts. An implementation chooses it. The default allows all.
     ghost answers: { DiskAnswers Self } = { any_answers };
 
-    /// The current stamp of a file.
+    /// Returns the current stamp of the file at `path`. `Err`: the system cannot give it.
     fn stamp(&mut self, path: &str) -> io::Result<Stamp>
         ensures stamps { IfOk result (λ stamp. answers.stamps self.old path.now stamp self.new) }
-        ensures fails { IfErr result (λ _. answers.fails path.now) };
+        ensures fails { IfErr result (λ _. answers.stamp_fails self.old path.now self.new) };
 
-    /// The content of a file.
+    /// Returns the content of the file at `path`. `Err`: the file cannot be read.
     fn read(&mut self, path: &str) -> io::Result<Vec<u8>>
         ensures reads { IfOk result (λ bytes. answers.reads self.old path.now bytes.items self.new) }
-        ensures fails { IfErr result (λ _. answers.fails path.now) };
+        ensures fails { IfErr result (λ _. answers.read_fails self.old path.now self.new) };
 
-    /// The content of a directory that is a publication point.
+    /// Returns the content of the directory at `path`, which is a publication point. `Err`: the directory cannot be read.
     fn directory<'a>(&mut self, path: &'a str) -> io::Result<Directory<'a>>
         ensures directories { IfOk result (λ directory. answers.directories path.now directory) }
-        ensures fails { IfErr result (λ _. answers.fails path.now) };
+        ensures fails { IfErr result (λ _. answers.directory_fails self.old path.now self.new) };
 
-    /// The duration of the longest call of the system on files since this was asked last, in milliseconds, and 0 if there was none.
+    /// Returns the duration of the longest system call on files since the last call of `slowest`, in milliseconds. It is 0 if there was none.
     fn slowest(&mut self) -> u64;
 }
 
-/// The clocks.
+/// The wall clock and the monotonic clock.
 pub trait Time {
     ghost use Rattle.std.specs.Prelude.{ℕ};
 
-    /// What the wall clock may answer. Contracts that cite it hold for each such relation, so they speak of seconds that the clock answered.
+    /// The values that [`Time::seconds`] may return, for use in contracts. An implementation chooses it. The default allows all.
     ghost can_be: { ℕ → Type 0 } = { λ second. Unit {0} };
 
-    /// What the monotonic clock may answer, likewise.
+    /// The values that [`Time::millis`] may return, for use in contracts. An implementation chooses it. The default allows all.
     ghost can_tick: { ℕ → Type 0 } = { λ millis. Unit {0} };
 
-    /// The wall clock, in seconds since 1970.
+    /// Returns the time of the wall clock, in seconds since 1970.
     fn seconds(&mut self) -> u64
         ensures { can_be result };
 
-    /// A monotonic clock, in milliseconds.
+    /// Returns the time of a monotonic clock, in milliseconds. Only differences between two of its times have a meaning.
     fn millis(&mut self) -> u64
         ensures { can_tick result };
 }
 
 /// The event log.
 pub trait EventLog {
-    /// Writes a line. An event that cannot be written is lost.
+    /// Writes the line of an event. `seconds` is the time of the event, in seconds since 1970. An event that cannot be written is lost.
     fn log(&mut self, seconds: u64, event: &LogEvent<'_>);
 }

@@ -1,9 +1,12 @@
 //! Laws of the definitions. These functions do nothing: their contracts are the laws.
-ghost use Rattle.rtr_daemon.specs.Pacing.{RestartsLater, StaysPaced};
+ghost use Rattle.rtr_daemon.specs.Pacing.{DropsLater, DropsPaced, RestartsLater, StaysPaced};
 
-/// The versions of a daemon are those of a run (`session_names`), as each turn adds at most one, in a later second of the pace. So by RFC 1982 each
-/// serial is later than each one of the daemon before. This holds within 2^31 seconds, if it started no earlier than the last version of that one.
+/// Law: each new version of a daemon is of a later second than the version before it, even if all versions were dropped in between.
+/// By RFC 1982 its serial is later than each dropped serial, and later than each serial of the daemon that ran before.
+/// This holds within 2^31 seconds, if the daemon started no earlier than the last version of the one before it.
 pub fn versions_are_paced()
     ensures stays { StaysPaced }
+    ensures drops { DropsPaced }
+    ensures dropped { DropsLater }
     ensures restarts { RestartsLater }
 {}

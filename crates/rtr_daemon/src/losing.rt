@@ -33,7 +33,7 @@ impl Readings {
         }
     }
 
-    /// Marks as reported that the tables cannot be read. It answers true if that was not reported before.
+    /// Marks as reported that the tables cannot be read. Returns true if that was not reported before.
     fn mark_reported(&mut self) -> bool {
         let is_news = !self.is_reported;
         self.is_reported = true;

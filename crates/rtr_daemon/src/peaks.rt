@@ -19,14 +19,14 @@ pub(crate) struct Peaks {
 }
 
 /// Whether a version was still served within the 24 hours before a second.
-fn is_within_a_day(now: u64, peak: &VrpPeak) -> bool
+pub(crate) fn is_within_a_day(now: u64, peak: &VrpPeak) -> bool
     ensures { result ≡ is_within_a_day now peak.now }
 {
     now.saturating_sub(peak.until) <= DAY
 }
 
 /// The greater of two.
-fn greater(most: Option<VrpPeak>, peak: VrpPeak) -> Option<VrpPeak>
+pub(crate) fn greater(most: Option<VrpPeak>, peak: VrpPeak) -> Option<VrpPeak>
     ensures { result ≡ greater most peak }
 {
     let Some(most) = most else {

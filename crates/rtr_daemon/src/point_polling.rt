@@ -72,7 +72,7 @@ impl WatchedPoint {
         self.refusals.clear()
     }
 
-    /// Notes whether the point is past its nextUpdate (RFC 9286 section 6.6), and answers whether it became so.
+    /// Notes whether the point is past its nextUpdate (RFC 9286 section 6.6), and returns whether it became so.
     fn note_expired(&mut self, now: u64) -> bool
         ensures { self.new.path ≡ self.old.path }
     {

@@ -1,9 +1,8 @@
 //! Polling the exports, and loading those that have changed.
 ghost use Rattle.std.specs.Prelude.{◌≡◌, ◌↔◌, IsTrue, true};
-ghost use Rattle.rtr_daemon.specs.Files.{Follows, FollowsEach, FollowsOne, names_of};
+ghost use Rattle.rtr_daemon.specs.Files.{Follows, FollowsEach, FollowsOne, loaded_after, mark_of, marks_of, names_of};
 ghost use Rattle.rtr_daemon.specs.Due.{OnlyFiles};
 ghost use Rattle.rtr_daemon.specs.Serving.{Continues, LoadsExport, OnlySources, TakesSo};
-ghost use Rattle.rtr_daemon.specs.Shrinking.{sinces_of};
 
 use crate::daemon::{Daemon, Plan};
 use crate::environment::{Disk, EventLog, Stamp, Time};
@@ -15,7 +14,7 @@ use crate::watched_file::{Look, WatchedExport, WatchedFile};
 use event_log::LogEvent;
 use exports::Ignored;
 use rtr_server::Stream;
-use sources::TakeFault;
+use sources::{Sources, TakeFault};
 use std::alloc::Global;
 use vrps::VersionStore;
 
@@ -50,7 +49,7 @@ pub(crate) fn take<S: VersionStore, T: Stream + Drop>(
     }
 }
 
-/// Notes whether a file was loaded or refused, and answers what is reported.
+/// Notes whether a file was loaded or refused, and returns what is reported.
 fn note(
     export: &mut WatchedExport,
     stamp: Stamp,
@@ -62,6 +61,7 @@ fn note(
     ensures path { export.new.file.path ≡ export.old.file.path }
     ensures number { export.new.number ≡ export.old.number }
     ensures short { export.new.short_since ≡ export.old.short_since }
+    ensures loaded { export.new.file.loaded ≡ loaded_after taken stamp export.old.file.loaded }
 {
     match taken {
         Ok(expired) => PollResult::Loaded {
@@ -111,7 +111,7 @@ fn follow<S: VersionStore, T: Stream + Drop, W: Disk>(
 ) -> PollResult
     ensures goes { Continues S.holds T.remaining T.contents service.old service.new }
     ensures rest { OnlySources service.old service.new }
-    ensures follows { Follows W.answers percent export.old at.seconds at.millis export.new.short_since service.old.sources service.new.sources }
+    ensures follows { Follows W.answers percent export.old at.seconds at.millis (mark_of export.new) service.old.sources service.new.sources }
     ensures path { export.new.file.path ≡ export.old.file.path }
     ensures number { export.new.number ≡ export.old.number }
 {
@@ -138,7 +138,7 @@ impl<S: VersionStore, T: Stream + Drop> Daemon<S, T> {
     pub(crate) fn follow_all<W: Disk + Time + EventLog>(&mut self, env: &mut W)
         ensures goes { Continues S.holds T.remaining T.contents self.old.service self.new.service }
         ensures rest { OnlyFiles self.old self.new }
-        ensures follows { FollowsEach W.answers W.can_be W.can_tick self.old.plan.shrink self.old.exports.items (sinces_of self.new.exports.items) self.old.service.sources self.new.service.sources }
+        ensures follows { FollowsEach W.answers W.can_be W.can_tick self.old.plan.shrink self.old.exports.items (marks_of self.new.exports.items) self.old.service.sources self.new.service.sources }
         ensures names { names_of self.new.exports.items ≡ names_of self.old.exports.items }
         ensures kept { (self.new.slurms ≡ self.old.slurms) × (self.new.points ≡ self.old.points) }
     {
@@ -164,7 +164,7 @@ fn follow_each<S: VersionStore, T: Stream + Drop, W: Disk + Time + EventLog>(
 )
     ensures goes { Continues S.holds T.remaining T.contents service.old service.new }
     ensures rest { OnlySources service.old service.new }
-    ensures follows { FollowsEach W.answers W.can_be W.can_tick plan.shrink exports.old.items (sinces_of exports.new.items) service.old.sources service.new.sources }
+    ensures follows { FollowsEach W.answers W.can_be W.can_tick plan.shrink exports.old.items (marks_of exports.new.items) service.old.sources service.new.sources }
     ensures names { names_of exports.new.items ≡ names_of exports.old.items }
 {
     for export in exports.iter_mut() {
@@ -183,7 +183,7 @@ fn follow_one<S: VersionStore, T: Stream + Drop, W: Disk + Time + EventLog>(
 )
     ensures goes { Continues S.holds T.remaining T.contents service.old service.new }
     ensures rest { OnlySources service.old service.new }
-    ensures follows { FollowsOne W.answers W.can_be W.can_tick plan.shrink export.old export.new.short_since service.old.sources service.new.sources }
+    ensures follows { FollowsOne W.answers W.can_be W.can_tick plan.shrink export.old (mark_of export.new) service.old.sources service.new.sources }
     ensures path { export.new.file.path ≡ export.old.file.path }
     ensures number { export.new.number ≡ export.old.number }
 {
@@ -200,6 +200,7 @@ fn follow_one<S: VersionStore, T: Stream + Drop, W: Disk + Time + EventLog>(
     let polled = follow(export, service, percent, alloc, at, env);
     export.file.note_slow(env.slowest(), now);
     count_poll(statistics, &polled, env.millis().saturating_sub(millis));
+    note_anchors(export, &polled, service.sources(), alloc, now, env);
     log_poll(alloc, export, polled, now, env);
     if let Some(unguarded) = unguarded {
         unguarded.log_loaded(export, service.sources(), alloc, now, env);
@@ -207,6 +208,24 @@ fn follow_one<S: VersionStore, T: Stream + Drop, W: Disk + Time + EventLog>(
     log_near_limit(&export.file, was_near, plan.max_size, alloc, now, env);
     let after = service.sources().ignored(export.number);
     log_not_served(export.path(), before, after, now, env);
+}
+
+/// Notes how many VRPs the trust anchors of an export have, if it was loaded.
+fn note_anchors<W: EventLog>(
+    export: &mut WatchedExport,
+    polled: &PollResult,
+    sources: &Sources,
+    alloc: Global,
+    now: u64,
+    env: &mut W,
+)
+    ensures { export.new ≡ record export.old { anchors = export.new.anchors } }
+{
+    if let PollResult::Loaded { .. } = polled {
+        export
+            .anchors
+            .note_load(alloc, sources, export.number, now, env);
+    }
 }
 
 /// Warns if a file is near the limit of its size, and was not before.

@@ -1,5 +1,5 @@
 //! Publishing a pending version, and what is noted of it.
-ghost use Rattle.std.specs.Prelude.{◌≡◌, IfErr, IfOk};
+ghost use Rattle.std.specs.Prelude.{◌≡◌, IfErr, IfOk, None};
 ghost use Rattle.rtr_daemon.specs.Due.{FailureNoted, KeepsFiles, NextAfter, NextPoll, OnlyNotes, PublishesIfDue, WakesIfPublished};
 ghost use Rattle.rtr_daemon.specs.Queue.{QueuesBehind, SameClients, WakesIfNew};
 ghost use Rattle.rtr_daemon.specs.Serving.{GoesOn, IsFresh};
@@ -7,9 +7,9 @@ ghost use Rattle.rtr_daemon.specs.Serving.{GoesOn, IsFresh};
 use crate::daemon::Daemon;
 use crate::environment::{EventLog, Time};
 use crate::refusal::Refusal;
-use crate::service::PublishReport;
 use crate::set_changes::StepStore;
 use crate::statistics::Families;
+use crate::versions::PublishReport;
 use event_log::{LogEvent, Publication};
 use rtr_server::Stream;
 use std::alloc::Global;
@@ -46,6 +46,7 @@ impl<S: StepStore + Drop, T: Stream + Drop> Daemon<S, T> {
     {
         let now = env.seconds();
         if !self.service.is_pending() {
+            self.failing = None;
             return;
         }
         let began = env.millis();
@@ -68,7 +69,8 @@ impl<S: StepStore + Drop, T: Stream + Drop> Daemon<S, T> {
         env: &mut W,
     )
         ensures rest { OnlyNotes self.old self.new }
-        ensures failed { IfErr tried (λ refusal. FailureNoted refusal self.new) }
+        ensures failed { IfErr tried (λ refusal. FailureNoted refusal began self.old self.new) }
+        ensures published { IfOk tried (λ _. self.new.failing ≡ None) }
         ensures later { IfOk tried (λ report. NextAfter W.can_tick began report.published self.old self.new) }
         ensures same { IfErr tried (λ _. self.new.next_check ≡ self.old.next_check) }
         ensures wakes { IfOk tried (λ report. WakesIfNew report.published self.old.clients self.new.clients) }
@@ -77,7 +79,7 @@ impl<S: StepStore + Drop, T: Stream + Drop> Daemon<S, T> {
     {
         match tried {
             Ok(report) => self.note_published(report, now, began, env),
-            Err(refusal) => self.note_failure(refusal, now, env),
+            Err(refusal) => self.note_failure(refusal, now, began, env),
         }
     }
 
@@ -91,11 +93,13 @@ impl<S: StepStore + Drop, T: Stream + Drop> Daemon<S, T> {
         env: &mut W,
     )
         ensures rest { OnlyNotes self.old self.new }
+        ensures done { self.new.failing ≡ None }
         ensures later { NextAfter W.can_tick began report.published self.old self.new }
         ensures wakes { WakesIfNew report.published self.old.clients self.new.clients }
         ensures clients { SameClients self.old.clients self.new.clients }
         ensures queue { QueuesBehind self.old.clients.queue.items self.new.clients }
     {
+        self.failing = None;
         self.statistics.end_failure();
         self.statistics.given = report.given;
         self.note_left_out(report.left_out, now, env);
@@ -157,13 +161,14 @@ impl<S: StepStore + Drop, T: Stream + Drop> Daemon<S, T> {
     }
 
     /// Reports that publication failed. It is tried again at the next poll of the files.
-    fn note_failure<W: EventLog>(&mut self, refusal: Refusal, now: u64, env: &mut W)
+    fn note_failure<W: EventLog>(&mut self, refusal: Refusal, now: u64, began: u64, env: &mut W)
         ensures rest { OnlyNotes self.old self.new }
-        ensures noted { FailureNoted refusal self.new }
+        ensures noted { FailureNoted refusal began self.old self.new }
         ensures same { self.new.next_check ≡ self.old.next_check }
         ensures clients { self.new.clients ≡ self.old.clients }
     {
         self.held_until = self.next_check;
+        self.failing = Some(self.failing.unwrap_or(began));
         log_failure(self.alloc, &refusal, now, env);
         self.statistics.note_failure(refusal, now);
     }

@@ -5,10 +5,10 @@ ghost use Rattle.rtr_daemon.specs.Opening.{judgement};
 use std::io::{self, ErrorKind};
 use thiserror::Error;
 
-/// What the system says of a file.
+/// The kind and size of a file, as the system reports them.
 #[derive(Clone, Copy, Debug, PartialEq, Eq)]
 pub struct FileForm {
-    /// Whether it is a regular file. To open another one, such as a pipe, may block.
+    /// Whether it is a regular file. Opening another file, such as a pipe, may block.
     pub is_regular: bool,
     /// Its size in bytes.
     pub size: u64,
@@ -17,10 +17,10 @@ pub struct FileForm {
 /// Why a file is not read.
 #[derive(Clone, Copy, Debug, Drop, PartialEq, Eq, Error)]
 pub enum Unreadable {
-    /// It is not regular.
+    /// The file is not a regular file.
     #[error("not a regular file")]
     NotRegular,
-    /// It is larger than the limit.
+    /// The file is larger than the limit (`--max-size`).
     #[error("larger than --max-size allows")]
     TooLarge,
 }
@@ -39,7 +39,8 @@ impl From<Unreadable> for io::Error {
 }
 
 impl FileForm {
-    /// Refuses a file that is not regular, or has more bytes than `most`.
+    /// Checks that a file may be read. `Ok`: it is regular and has at most `most` bytes.
+    /// `Err`: `NotRegular`, or `TooLarge` if it is regular.
     pub fn judge(self, most: u64) -> Result<(), Unreadable>
         ensures { result ≡ judgement most self }
     {

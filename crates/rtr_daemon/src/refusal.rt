@@ -11,12 +11,12 @@ use std::{fmt, io};
 use thiserror::Error;
 use vrps::SetFault;
 
-/// A fault of a file, and a text for it that quotes the file.
+/// A fault of a file, and a text that describes it and may quote the file. It is printed as the text, or as the fault if there is none.
 #[derive(Debug, Drop)]
 pub struct FileFault<F> {
     /// The fault.
     pub fault: F,
-    /// The text, or `None` if there was no memory for it.
+    /// The text. `None`: the fault needs no other text than its own, or memory ran out.
     pub words: Option<String>,
 }
 
@@ -32,31 +32,31 @@ impl<F: fmt::Display> fmt::Display for FileFault<F> {
 /// Why a file was refused, or no version was published.
 #[derive(Debug, Drop, Error)]
 pub enum Refusal {
-    /// It cannot be read.
+    /// The file cannot be read: the error of the system.
     #[error("cannot be read: {0}")]
     Device(io::Error),
-    /// It is not an export, or the sources have no file of this index.
+    /// The export is refused: for example, the bytes are not an export, or it has far fewer VRPs than the last one. See [`TakeFault`].
     #[error("{0}")]
     Export(FileFault<TakeFault>),
-    /// It is not a file of local exceptions.
+    /// The bytes are not a file of local exceptions (RFC 8416), or memory ran out.
     #[error("{0}")]
     Slurm(FileFault<SlurmFault>),
-    /// It overlaps with another file of local exceptions, or all of these have too many records.
+    /// The file overlaps with another file of local exceptions, all of these have too many records, or memory ran out.
     #[error("{0}")]
     SlurmUnion(FileFault<UniteFault>),
     /// Another file of local exceptions is refused, and all are loaded together.
     #[error("another file of local exceptions is refused, and all are loaded together")]
     OtherSlurm,
-    /// Its publication point refuses it.
+    /// The publication point refuses its content, or memory ran out.
     #[error("{0}")]
     Point(PointFault),
     /// All sources together have too many records, or memory ran out.
     #[error("{0}")]
     Set(SetFault),
-    /// It changed during each of several reads.
+    /// The file changed during each of several reads.
     #[error("it changes while it is read")]
     Changing,
-    /// The clock is not within the years 1970 to 9999.
+    /// The wall clock is not within the years 1970 to 9999.
     #[error("the clock is not between the years 1970 and 9999")]
     Clock,
 }
@@ -137,7 +137,7 @@ impl Refusal {
         }
     }
 
-    /// The program's exit status: 3 if a file cannot be read, 4 if memory ran out, and 1 otherwise.
+    /// The exit status of the program: 4 if memory ran out, 3 if a file cannot be read or changes while it is read, and 1 otherwise.
     pub fn status(&self) -> u8 {
         match self {
             Refusal::Device(error) if error.kind() == io::ErrorKind::OutOfMemory => 4,
@@ -194,17 +194,17 @@ fn overlap_text(alloc: Global, fault: &UniteFault, other: &str) -> Result<String
     }
 }
 
-/// Why a daemon does not start: the file, if there is one, and its refusal.
+/// Why a daemon does not start: the refused source, and the reason.
 #[derive(Debug, Drop)]
 pub struct StartFault {
-    /// The file.
+    /// The path of the refused file or directory, or the name of another source. `None`: no single source is refused, or memory ran out.
     pub path: Option<String>,
-    /// Its refusal.
+    /// Why the daemon does not start.
     pub refusal: Refusal,
 }
 
 impl StartFault {
-    /// Out of memory.
+    /// Returns the fault for out of memory. It has no path.
     pub fn memory() -> StartFault {
         StartFault {
             path: None,

@@ -20,25 +20,25 @@ const OWN_DESCRIPTORS: usize = 16;
 /// How long the clock is waited for each time, in milliseconds.
 const CLOCK_WAIT: u64 = 1000;
 
-/// What a program does after each turn of its daemon that does not stop it.
+/// What the program does between the turns of its daemon, such as serving status pages. [`run`] calls it.
 pub trait AfterTurn<S, T, W> {
-    /// Does it, with the current state of the daemon.
+    /// Called after each turn, unless the daemon stops. `daemon` is the daemon after the turn.
     fn after_turn(&mut self, daemon: &Daemon<S, T>, env: &mut W);
 }
 
-/// How long a wait may be, in milliseconds: as each of these allows.
+/// The longest waits that the other parts of the program allow, in milliseconds.
 #[derive(Clone, Copy, Debug, PartialEq, Eq)]
 pub struct WaitLimits {
-    /// The status pages.
+    /// The longest wait that the status pages allow.
     pub pages: u64,
-    /// The log, while lines are buffered.
+    /// The longest wait that the log allows while lines are buffered.
     pub log: u64,
-    /// The watchdog of the service manager.
+    /// The longest wait that the watchdog of the service manager allows.
     pub watchdog: u64,
 }
 
 impl WaitLimits {
-    /// The least of these limits and of the wait that is asked for, in milliseconds.
+    /// Returns the smallest of `asked` and the three limits, in milliseconds.
     pub fn least(self, asked: u64) -> u64
         ensures { result ≡ min asked (min self.pages (min self.log self.watchdog)) }
     {
@@ -46,8 +46,9 @@ impl WaitLimits {
     }
 }
 
-/// Waits until the clock is in the year 2020 or later, and reports that once. Otherwise serials and sessions from the time of the start would be
-/// earlier than those of the run before. An error is one of the wait.
+/// Waits until the wall clock is in the year 2020 or later. If it must wait, it logs one warning.
+/// Serials and sessions come from the time of the start: with a wrong clock they would be earlier than those of the run before.
+/// `Err`: a wait failed.
 pub fn wait_for_clock<L, W: Time + EventLog + Sockets<L>>(env: &mut W) -> io::Result<()>
     ensures { OnOk result (IsClockSet W.can_be) }
 {
@@ -67,8 +68,9 @@ pub fn wait_for_clock<L, W: Time + EventLog + Sockets<L>>(env: &mut W) -> io::Re
     Err(io::Error::from(ErrorKind::TimedOut))
 }
 
-/// How many clients there may be, at least one: as many as asked for, and as this limit of descriptors allows beside the program's own and the HTTP
-/// connections.
+/// Returns the largest number of clients at once: `asked`, or fewer if there are not enough file descriptors.
+/// `descriptors` is the limit of open descriptors. 16 of them are for the program, and `http_connections` are for HTTP.
+/// If no descriptor is left, one client is still allowed. It is 0 only if `asked` is 0.
 pub fn clients_within(asked: usize, descriptors: usize, http_connections: usize) -> usize
     ensures { result ≡ clients_within asked descriptors http_connections }
 {
@@ -79,7 +81,7 @@ pub fn clients_within(asked: usize, descriptors: usize, http_connections: usize)
     asked.min(allowed)
 }
 
-/// Reports how many clients there may be, if these are fewer than asked for.
+/// Logs the limit `clients` if it is less than `asked`. Otherwise it logs nothing. `now` is in seconds since 1970.
 pub fn report_limit<J: EventLog>(asked: usize, clients: usize, now: u64, events: &mut J) {
     if clients < asked {
         let clients = clients as u64;
@@ -87,7 +89,7 @@ pub fn report_limit<J: EventLog>(asked: usize, clients: usize, now: u64, events:
     }
 }
 
-/// Serves until the daemon stops, or a wait fails. Answers why it stops.
+/// Runs the turns of a daemon until it stops, and calls `after` between them. `Ok`: why the daemon stops. `Err`: a wait failed.
 pub fn run<
     S: StepStore + Drop,
     T: Stream + Drop,
@@ -105,7 +107,9 @@ pub fn run<
     Err(io::Error::from(ErrorKind::TimedOut))
 }
 
-/// Reports what would be served, and how the run ends that only checks its configuration. Answers the exit status, or why it cannot be served.
+/// Ends a run that only checks its configuration. It logs the counts of what would be served, and why the run ends.
+/// `Ok`: the exit status, 1 if the daemon would stop for an old export, otherwise 0.
+/// `Err`: why nothing would be served. Then nothing is logged.
 pub fn report_check<S: StepStore + Drop, T: Stream + Drop, W: Time + EventLog>(
     daemon: &Daemon<S, T>,
     env: &mut W,
@@ -142,8 +146,8 @@ fn log_check<J: EventLog>(report: CheckReport, now: u64, events: &mut J) {
     events.log(now, &event);
 }
 
-/// Reports how a run ends, and answers the exit status. It is 0 if the run ended well, and 1 if a file is too old. If a wait failed it is 3, or 4
-/// without memory.
+/// Logs why a run ends, and returns the exit status. `Ok(Once)` and `Ok(Checked)`: 0. `Ok(Old)`: 1.
+/// `Err`, a wait failed: 4 if memory ran out, otherwise 3.
 pub fn report_end<W: Time + EventLog>(end: &io::Result<StopReason>, env: &mut W) -> u8
     ensures { result ≡ exit_status end.now }
 {

@@ -1,109 +1,135 @@
-//! A server, its sources, and whether a version is pending.
-ghost use Rattle.std.specs.Prelude.{◌≡◌, false, true, IfErr, IfOk, IfSome, IsNone, Option, map};
-ghost use Rattle.session_names.specs.Runs.{may_publish};
+//! A service: a server, its sources, and whether a version is pending.
+ghost use Rattle.std.specs.Prelude.{◌≡◌, ℕ, false, true, IfErr, IfOk, Option, map};
 ghost use Rattle.der_lite.specs.Moments.{CivilMoment};
 ghost use Rattle.der_lite.specs.Seconds.{seconds_of};
 ghost use Rattle.points.specs.InUse.{no_points};
-ghost use Rattle.rtr_server.specs.Clients.{AdmitsTo, KeepsOthers, Past, Serves, ShowsServer, is_gone, slot_at};
+ghost use Rattle.rtr_server.specs.Clients.{AdmitsTo, Begun, KeepsOthers, Past, ShowsServer, is_gone, slot_at};
 ghost use Rattle.sources.specs.Served.{ExportTaken, SetDropped, SetTaken, SlurmTaken, SlurmsTaken};
 ghost use Rattle.sources.specs.Shrinking.{ExportTakenWithin};
 ghost use Rattle.rtr_daemon.specs.PointOffers.{OffersTo};
-ghost use Rattle.rtr_daemon.specs.Serving.{Continues, GoesOn, IsFresh, IsOfSecond, IsReason, IsServedAt, Issues, NoneEnds};
-ghost use Rattle.rtr_daemon.specs.Serving.{OnlyServer, OnlySources, PacesSo, SameExpired, ShowsService, StaysFresh, TakesSo};
+ghost use Rattle.rtr_daemon.specs.Serving.{Continues, IsFresh, IsReason, IsServedAt, NoneEnds};
+ghost use Rattle.rtr_daemon.specs.Serving.{OnlyServer, OnlySources, SameExpired, ShowsService, TakesSo, past_of};
+ghost use Rattle.rtr_daemon.specs.Turns.{ServesClient};
 
+use crate::cache_settings::CacheSettings;
 use crate::refusal::Refusal;
-use crate::set_changes::{ChangeCounts, StepStore};
+use crate::set_changes::StepStore;
+use crate::versions::server_of;
 use event_log::moment_at;
 use payload_commands::Directory;
 use points::{Offered, PointFault};
 use rtr_server::{AdmitFault, Client, Server, Stream, Turn};
-use session_names::Pace;
+use session_names::{Pace, SessionIds};
 use slurm::SlurmFault;
 use sources::{ServedSet, SlurmSetFault, Sources, TakeFault, TakeSetFault};
-use std::alloc::Global;
-use vrps::{Published, SetFault, VersionStore, VrpSet};
+use std::alloc::{AllocError, Global};
+use vrps::{VersionStore, VrpSet};
 
-/// A server, and the sources of what it serves.
+/// An RTR server, and the sources of the set that it serves. Load the sources, then publish their set with [`Service::publish`].
 #[derive(Debug, Drop)]
 pub struct Service<S, T> {
-    server: Server<S, T>,
+    pub(crate) server: Server<S, T>,
+    /// What its cache was made with.
+    pub(crate) settings: CacheSettings,
+    /// The session of its cache in version 0 of the protocol.
+    pub(crate) session0: u16,
     sources: Sources,
     /// Whether the sources have changed since the last publication.
-    is_pending: bool,
+    pub(crate) is_pending: bool,
     /// The pace of its versions.
-    pace: Pace,
+    pub(crate) pace: Pace,
     /// A second since 1970. If no version is pending, the newest version is what the sources have then.
-    current_at: u64,
+    pub(crate) current_at: u64,
     /// Whether there may be publication points.
     has_points: bool,
     /// The second since 1970 at which expiry was judged last.
     judged_at: u64,
 }
 
-impl<S: VersionStore, T: Stream + Drop> Service<S, T> {
-    /// A service over a server whose cache has no version.
-    pub fn new(server: Server<S, T>, sources: Sources) -> Service<S, T>
-        ensures shows { (p : Past) → ShowsServer S.holds T.remaining T.contents p server → ShowsService S.holds T.remaining T.contents p result }
-        ensures pace { result.pace ≡ Option.None }
-        ensures sources { result.sources ≡ sources }
+impl<S: StepStore, T: Stream + Drop> Service<S, T> {
+    /// Creates a service with a new cache. It has no version and no client, and its first version is pending.
+    /// `ids` has the session IDs and the serial of the first version. `Err`: out of memory.
+    pub fn new(
+        alloc: Global,
+        settings: CacheSettings,
+        ids: SessionIds,
+        sources: Sources,
+    ) -> Result<Service<S, T>, AllocError>
+        ensures shows { IfOk result (λ service. (begun : ℕ → Begun) → ShowsService S.holds T.remaining T.contents (past_of settings ids begun) service) }
+        ensures pace { IfOk result (λ service. service.pace ≡ Option.None) }
+        ensures sources { IfOk result (λ service. service.sources ≡ sources) }
+        ensures settings { IfOk result (λ service. service.settings ≡ settings) }
     {
-        Service {
-            server,
+        Ok(Service {
+            server: server_of(alloc, settings, ids)?,
+            settings,
+            session0: ids.session0,
             sources,
             is_pending: true,
             pace: Pace::new(),
             current_at: 0,
             has_points: true,
             judged_at: 0,
-        }
+        })
     }
 
-    /// The same over sources without publication points. The first version is published in a later second of the pace than this one.
-    pub(crate) fn after(start: u64, server: Server<S, T>, sources: Sources) -> Service<S, T>
-        ensures shows { sources.repository ≡ no_points → (p : Past) → ShowsServer S.holds T.remaining T.contents p server → ShowsService S.holds T.remaining T.contents p result }
-        ensures pace { result.pace ≡ Option.Some start }
-        ensures sources { result.sources ≡ sources }
+    /// Creates a service as [`Service::new`] does, for sources without publication points. The first version is published in a later second
+    /// of the pace than `start`.
+    pub(crate) fn after(
+        start: u64,
+        alloc: Global,
+        settings: CacheSettings,
+        ids: SessionIds,
+        sources: Sources,
+    ) -> Result<Service<S, T>, AllocError>
+        ensures shows { IfOk result (λ service. sources.repository ≡ no_points → (begun : ℕ → Begun) → ShowsService S.holds T.remaining T.contents (past_of settings ids begun) service) }
+        ensures pace { IfOk result (λ service. service.pace ≡ Option.Some start) }
+        ensures sources { IfOk result (λ service. service.sources ≡ sources) }
+        ensures settings { IfOk result (λ service. service.settings ≡ settings) }
     {
-        let mut service = Service::new(server, sources);
+        let mut service = Service::new(alloc, settings, ids, sources)?;
         service.pace = Pace::after(start);
         service.has_points = false;
         service.judged_at = start;
-        service
+        Ok(service)
     }
+}
 
-    /// The server.
+impl<S: VersionStore, T: Stream + Drop> Service<S, T> {
+    /// The RTR server: its cache and its clients.
     pub fn server(&self) -> &Server<S, T>
         ensures { result.now ≡ self.now.server }
     {
         &self.server
     }
 
-    /// The sources.
+    /// The sources of the served set, as they were loaded.
     pub fn sources(&self) -> &Sources
         ensures { result.now ≡ self.now.sources }
     {
         &self.sources
     }
 
-    /// Whether a version is pending: the sources have changed since the last publication.
+    /// Whether a version is pending: the sources may have changed since the last publication. [`Service::publish`] publishes it.
     pub fn is_pending(&self) -> bool
         ensures { result ≡ self.now.is_pending }
     {
         self.is_pending
     }
 
-    /// One turn of a client.
+    /// Runs one turn of a client, with at most `budget` calls of its stream, and returns how the turn ended.
+    /// `None`: there is no such client. See [`Server::serve`].
     pub fn serve(&mut self, client: Client, budget: u32) -> Option<Turn>
         ensures goes { Continues S.holds T.remaining T.contents self.old self.new }
         ensures others { KeepsOthers client.0.0 self.old.server.slots.items self.new.server.slots.items }
-        ensures serves { Serves S.holds T.remaining T.contents T.answers budget client.0.0 (slot_at self.old.server.slots.items client.0.0) self.old.server.cache result (slot_at self.new.server.slots.items client.0.0) self.new.server.cache self.new.server.parted }
+        ensures serves { ServesClient S.holds T.remaining T.contents T.answers budget client.0.0 result self.old.server self.new.server }
         ensures stays { is_gone result ≡ false → self.new.server.parted ≡ self.old.server.parted }
         ensures rest { OnlyServer self.old self.new }
     {
         self.server.serve(client, budget)
     }
 
-    /// Admits a client.
+    /// Admits a client with its stream. `Err`: too many clients, or out of memory. Then the stream is dropped.
     pub fn admit(&mut self, stream: T) -> Result<Client, AdmitFault>
         ensures goes { Continues S.holds T.remaining T.contents self.old self.new }
         ensures admits { (p : Past) → ShowsServer S.holds T.remaining T.contents p self.old.server → AdmitsTo S.holds T.remaining T.contents p stream result self.old.server self.new.server }
@@ -112,7 +138,7 @@ impl<S: VersionStore, T: Stream + Drop> Service<S, T> {
         self.server.admit(stream)
     }
 
-    /// Drops a client.
+    /// Closes a client and drops its stream with all bytes that are not written yet. If there is no such client, nothing happens.
     pub fn drop_client(&mut self, client: Client)
         ensures goes { Continues S.holds T.remaining T.contents self.old self.new }
         ensures others { KeepsOthers client.0.0 self.old.server.slots.items self.new.server.slots.items }
@@ -122,7 +148,9 @@ impl<S: VersionStore, T: Stream + Drop> Service<S, T> {
         self.server.drop_client(client)
     }
 
-    /// Loads the export of a file, and answers how many of its entries had expired.
+    /// Replaces the export of `file` (from 0) by the export in `bytes`, read at `now`, in seconds since 1970.
+    /// `Ok`: the number of entries that had expired. A version is pending.
+    /// `Err`: there is no such file, the bytes are not an export, or memory ran out. Then nothing changes.
     pub fn take_export(&mut self, file: usize, bytes: &[u8], now: u64) -> Result<u64, TakeFault>
         ensures goes { Continues S.holds T.remaining T.contents self.old self.new }
         ensures takes { TakesSo result self.old self.new }
@@ -134,8 +162,10 @@ impl<S: VersionStore, T: Stream + Drop> Service<S, T> {
         Ok(expired)
     }
 
-    /// The same, with a guard: the export is refused if more than this percentage of the records of the last load is gone, and there were 1,000 or
-    /// more. Records that have expired do not count on either side.
+    /// Loads an export as [`Service::take_export`] does, but refuses one with far fewer records than the last one.
+    /// `guard` is the largest part of the records that may be gone, in percent. `None`: there is no such limit.
+    /// `Err(Shrank)`: the last load has 1,000 or more records, and more than `guard` percent of them are gone.
+    /// Records that have expired at `now` count on neither side.
     pub fn take_export_within(
         &mut self,
         guard: Option<u8>,
@@ -153,7 +183,9 @@ impl<S: VersionStore, T: Stream + Drop> Service<S, T> {
         Ok(expired)
     }
 
-    /// Replaces the list of a number by a set of another cache, whose records count before `until`, in seconds since 1970.
+    /// Replaces the records of `list` (from 0) by a set of another cache. They count before `until`, in seconds since 1970.
+    /// `until` of `None`: they do not expire. `Ok`: a version is pending.
+    /// `Err`: there is no such list, or memory ran out. Then nothing changes.
     pub fn take_set(
         &mut self,
         list: usize,
@@ -170,7 +202,7 @@ impl<S: VersionStore, T: Stream + Drop> Service<S, T> {
         Ok(())
     }
 
-    /// Empties the list of a number, and answers whether there is one.
+    /// Empties `list` (from 0), and returns whether there is such a list. A version is pending in either case.
     pub fn drop_set(&mut self, list: usize) -> bool
         ensures goes { Continues S.holds T.remaining T.contents self.old self.new }
         ensures pending { self.new.is_pending ≡ true }
@@ -181,7 +213,8 @@ impl<S: VersionStore, T: Stream + Drop> Service<S, T> {
         self.sources.drop_set(list)
     }
 
-    /// Loads local exceptions.
+    /// Replaces the local exceptions by those of one SLURM file (RFC 8416). `Ok`: a version is pending.
+    /// `Err`: the bytes are not a SLURM file, or memory ran out. Then nothing changes.
     pub fn take_slurm(&mut self, bytes: &[u8]) -> Result<(), SlurmFault>
         ensures goes { Continues S.holds T.remaining T.contents self.old self.new }
         ensures takes { TakesSo result self.old self.new }
@@ -193,7 +226,9 @@ impl<S: VersionStore, T: Stream + Drop> Service<S, T> {
         Ok(())
     }
 
-    /// Loads the local exceptions of several files together (RFC 8416 section 4.2).
+    /// Replaces the local exceptions by those of several SLURM files together. No two files may overlap (RFC 8416 section 4.2).
+    /// If `files` is empty, there are no exceptions. `Ok`: a version is pending.
+    /// `Err(File)`: a file cannot be read. `Err(Unite)`: the files cannot be used together, or memory ran out. Then nothing changes.
     pub fn take_slurms(&mut self, files: &[Vec<u8>]) -> Result<(), SlurmSetFault>
         ensures goes { Continues S.holds T.remaining T.contents self.old self.new }
         ensures takes { TakesSo result self.old self.new }
@@ -214,9 +249,9 @@ impl<S: VersionStore, T: Stream + Drop> Service<S, T> {
         self.is_pending = true;
     }
 
-    /// Judges which records have expired by this second since 1970. A version is pending if a record of a file has expired since the newest
-    /// version, and in any case if there are publication points. It answers whether more or fewer records may have expired than at the second
-    /// that was judged before.
+    /// Judges which records have expired at `now`, in seconds since 1970. A version is pending if a record of a file has expired since the
+    /// newest version, and in any case if there are publication points. Returns whether more or fewer records may have expired than at the
+    /// second that was judged before.
     pub(crate) fn judge_expiry(&mut self, now: u64) -> bool
         ensures goes { Continues S.holds T.remaining T.contents self.old self.new }
         ensures fresh { IsFresh (λ at. at ≡ now) self.new }
@@ -244,7 +279,9 @@ impl<S: VersionStore, T: Stream + Drop> Service<S, T> {
         !self.has_points && moment_at(now).is_some()
     }
 
-    /// Offers the content of a directory to the publication point of its name, at a time in seconds since 1970.
+    /// Offers the content of a directory to the publication point of its name, at `now`, in seconds since 1970. A version is pending.
+    /// `Ok(New)`: the point holds the content now. `Ok(Same)`: the point already holds its manifest.
+    /// `Err`: the point refuses it, memory ran out, or `now` is not within the years 1970 to 9999. The sources do not change.
     pub fn offer(
         &mut self,
         directory: &Directory<'_>,
@@ -289,95 +326,6 @@ impl<S: VersionStore, T: Stream + Drop> Service<S, T> {
     }
 }
 
-impl<S: StepStore, T: Stream + Drop> Service<S, T> {
-    /// Publishes the set of the sources at a time in seconds since 1970. If that fails, the version stays pending, and the served set stays.
-    pub fn publish(&mut self, now: u64) -> Result<PublishReport, Refusal>
-        ensures issues { IfOk result (λ report. Issues S.holds T.remaining T.contents now report.published self.old self.new) }
-        ensures done { IfOk result (λ _. self.new.is_pending ≡ false) }
-        ensures undone { IfErr result (λ _. self.new.is_pending ≡ self.old.is_pending) }
-        ensures kept { IfErr result (λ _. (p : Past) → ShowsServer S.holds T.remaining T.contents p self.old.server → ShowsServer S.holds T.remaining T.contents p self.new.server) }
-        ensures fails { IfErr result (λ _. Continues S.holds T.remaining T.contents self.old self.new) }
-        ensures sources { self.new.sources ≡ self.old.sources }
-        ensures pace { self.new.pace ≡ self.old.pace }
-        ensures at { IfOk result (λ _. self.new.current_at ≡ now) }
-        ensures points { self.new.has_points ≡ self.old.has_points }
-        ensures reason { IfErr result (λ refusal. IsReason now self.old.sources refusal) }
-        ensures current { IfErr result (λ _. self.new.current_at ≡ self.old.current_at) }
-    {
-        let ServedSet {
-            set,
-            given,
-            left_out,
-        } = self.served(now)?;
-        let records = set.len() as u64;
-        match self.server.publish(set) {
-            Err(_) => Err(Refusal::Set(SetFault::Memory)),
-            Ok(published) => {
-                self.is_pending = false;
-                self.current_at = now;
-                let ChangeCounts {
-                    announced,
-                    withdrawn,
-                } = self.counts_of(&published, records);
-                Ok(PublishReport {
-                    published,
-                    announced,
-                    withdrawn,
-                    records,
-                    given,
-                    left_out,
-                })
-            }
-        }
-    }
-
-    /// What a version that was published just now announces and withdraws.
-    fn counts_of(&self, published: &Published, records: u64) -> ChangeCounts {
-        match published {
-            Published::Unchanged => ChangeCounts::none(),
-            Published::New(_) => {
-                ChangeCounts::of_version(self.server.version_store().newest_step(), records)
-            }
-        }
-    }
-
-    /// Publishes as [`Service::publish`] does, in this second of the pace. `None`: the last version is not of an earlier second, and nothing changes.
-    pub(crate) fn publish_paced(
-        &mut self,
-        now: u64,
-        second: u64,
-    ) -> Option<Result<PublishReport, Refusal>>
-        ensures goes { GoesOn (λ at. at ≡ now) S.holds T.remaining T.contents self.old self.new }
-        ensures waits { IsNone result → may_publish self.old.pace second ≡ false }
-        ensures done { IfSome result (λ tried. IfOk tried (λ _. self.new.is_pending ≡ false)) }
-        ensures fails { IfSome result (λ tried. IfErr tried (λ refusal. IsReason now self.old.sources refusal)) }
-        ensures sources { self.new.sources ≡ self.old.sources }
-        ensures fresh { StaysFresh now self.old self.new }
-        ensures pace { PacesSo result second self.old.pace self.new.pace }
-    {
-        if !self.pace.may_publish(second) {
-            return None;
-        }
-        match self.publish(now) {
-            Err(refusal) => Some(Err(refusal)),
-            Ok(report) => {
-                self.note_second(&report.published, second);
-                Some(Ok(report))
-            }
-        }
-    }
-
-    /// A new version is of this second of the pace.
-    fn note_second(&mut self, published: &Published, second: u64)
-        ensures pace { IsOfSecond published.now second self.old.pace self.new.pace }
-        ensures rest { self.new ≡ record self.old { pace = self.new.pace } }
-    {
-        if let Published::New(_serial) = published {
-            self.pace.published(second);
-        }
-    }
-}
-
 /// Whether a record of a file ends between two seconds since 1970. Each file is walked once.
 fn is_any_ended(sources: &Sources, from: u64, to: u64) -> bool
     ensures { result ≡ false → NoneEnds from to sources.now.lists.items }
@@ -388,21 +336,4 @@ fn is_any_ended(sources: &Sources, from: u64, to: u64) -> bool
         }
     }
     false
-}
-
-/// The counts of a publication.
-#[derive(Clone, Copy, Debug, PartialEq, Eq)]
-pub struct PublishReport {
-    /// The serial of the version, if it is new.
-    pub published: Published,
-    /// How many records it announces.
-    pub announced: u64,
-    /// How many records it withdraws.
-    pub withdrawn: u64,
-    /// How many records it has.
-    pub records: u64,
-    /// How many VRPs the sources give together, before local exceptions are applied.
-    pub given: u64,
-    /// How many records of length 0 are left out of it.
-    pub left_out: u64,
 }

@@ -8,12 +8,12 @@ use event_log::LogEvent;
 use sources::{Sources, is_too_short};
 use std::alloc::Global;
 
-/// A guard against exports that are far shorter than before.
+/// A guard against exports that are far shorter than before. It applies if the last load of an export has 1,000 or more records.
 #[derive(Clone, Copy, Debug, PartialEq, Eq)]
 pub struct ShrinkGuard {
-    /// How large a part of the records of an export may be gone, in percent.
+    /// The largest part of the records of the last load that may be gone, in percent. If more is gone, the export is refused.
     pub percent: u8,
-    /// For how long contents that are too short are refused, in seconds. Then they are loaded.
+    /// The time for which an export that is too short is refused, in seconds. After it, the export is loaded.
     pub hold: u64,
 }
 

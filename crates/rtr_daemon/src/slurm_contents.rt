@@ -35,7 +35,7 @@ impl Contents {
         Ok(())
     }
 
-    /// Notes that the file of this index was loaded, and answers whether a refusal was reported before.
+    /// Notes that the file of this index was loaded, and returns whether a refusal was reported before.
     pub(crate) fn note_loaded(&self, index: usize, file: &mut WatchedFile, now: u64) -> bool
         ensures { file.new.path ≡ file.old.path }
     {

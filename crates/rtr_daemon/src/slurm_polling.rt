@@ -193,7 +193,7 @@ fn is_any_new<W: Disk>(slurms: &[WatchedFile], longest: &mut LongestCall, env: &
     false
 }
 
-/// Reads and loads all files, and answers what was read.
+/// Reads and loads all files, and returns what was read.
 fn load<S: VersionStore, T: Stream + Drop, W: Disk>(
     slurms: &[WatchedFile],
     service: &mut Service<S, T>,
@@ -364,7 +364,7 @@ fn report_one_refused<W: Disk + EventLog>(
     }
 }
 
-/// Notes that a file is not loaded because of another one, if it has changed. If it is again as it was loaded, its refusal ends. It answers
+/// Notes that a file is not loaded because of another one, if it has changed. If it is again as it was loaded, its refusal ends. Returns
 /// whether a refusal is reported now.
 fn is_due_for_other<W: Disk + EventLog>(file: &mut WatchedFile, now: u64, env: &mut W) -> bool
     ensures { file.new.path ≡ file.old.path }

@@ -13,17 +13,17 @@ use std::io::{self, ErrorKind};
 use std::net::SocketAddr;
 use vrps::SetFault;
 
-/// Why a socket cannot be opened: its address, if there is one, and the error.
+/// Why a socket cannot be opened.
 #[derive(Debug, Drop)]
 pub struct SocketFault {
-    /// The address.
+    /// The address of the listener. `None`: the error concerns no address.
     pub address: Option<SocketAddr>,
-    /// The error.
+    /// The error of the system.
     pub error: io::Error,
 }
 
 impl SocketFault {
-    /// The program's exit status: 4 if memory ran out, and 3 otherwise.
+    /// The exit status of the program: 4 if memory ran out, and 3 otherwise.
     pub fn status(&self) -> u8
         ensures { result ≡ failure_status (error_kind self.now.error) }
     {
@@ -69,8 +69,8 @@ impl Display for StartFault {
 }
 
 impl StartFault {
-    /// The daemon cannot start, because no session can be chosen: memory ran out, or the system's random source failed. If memory runs out here,
-    /// the source is omitted.
+    /// Returns the fault if no session can be chosen. `error` is the error of the system's random source.
+    /// If `error` is out of memory, the refusal is `Set(Memory)`. Otherwise it is `Device(error)`, and the path names the random source.
     pub fn of_random(alloc: Global, error: io::Error) -> StartFault
         ensures { result.refusal ≡ random_refusal error }
     {
@@ -86,7 +86,8 @@ impl StartFault {
         }
     }
 
-    /// Writes it to the log: as a refused file, or as why the daemon stops.
+    /// Logs the fault at `now`, in seconds since 1970: as a refused file if it has a path, otherwise as the reason why the daemon stops.
+    /// Without memory for the text, it logs that memory ran out.
     pub fn log_to<J: EventLog>(&self, alloc: Global, now: u64, events: &mut J) {
         let Ok(reason) = self.refusal.to_string(alloc) else {
             return events.log(now, &LogEvent::Memory { what: "the start" });

@@ -2,14 +2,16 @@
 ghost use Rattle.std.specs.Prelude.{◌≡◌, ℕ, IfOk, None, Ok, false, map};
 ghost use Rattle.points.specs.InUse.{no_points};
 ghost use Rattle.sources.specs.Served.{NoneTaken};
-ghost use Rattle.rtr_server.specs.Clients.{Past, ShowsServer};
-ghost use Rattle.rtr_daemon.specs.Files.{AreNumbered, Loads, LoadsEach, names_of};
+ghost use Rattle.rtr_server.specs.Clients.{Begun};
+ghost use Rattle.rtr_daemon.specs.Files.{AreNumbered, LoadsEach, LoadsOne, marks_of, names_of};
 ghost use Rattle.rtr_daemon.specs.PointOffers.{OffersEach, OffersPoint, points_of};
 ghost use Rattle.std.specs.String.{string_bytes};
 ghost use Rattle.rtr_daemon.specs.Origins.{SourcesComeFrom};
-ghost use Rattle.rtr_daemon.specs.Serving.{Continues, LeadsToService};
+ghost use Rattle.rtr_daemon.specs.Serving.{Continues, LeadsToService, past_of};
+ghost use Rattle.rtr_daemon.specs.Starting.{Begins, ReadsAll, Watches};
 
 use crate::accepting::Listeners;
+use crate::cache_settings::CacheSettings;
 use crate::client_table::ClientTable;
 use crate::daemon::{Daemon, Paths, Plan};
 use crate::environment::{Disk, EventLog, Time};
@@ -18,31 +20,38 @@ use crate::point_polling::{WatchedPoint, offer};
 use crate::polling::{log_expired, log_near_limit, log_not_served, take};
 use crate::refusal::{Refusal, StartFault};
 use crate::service::Service;
+use crate::set_changes::StepStore;
 use crate::slurm_polling::read_slurms;
 use crate::statistics::Statistics;
 use crate::unwell::UnwellReasons;
 use crate::watched_file::{Look, WatchedExport, WatchedFile};
-use rtr_server::{Server, Stream};
+use rtr_server::Stream;
 use session_names::SessionIds;
 use sources::Sources;
 use std::alloc::{AllocError, Global};
 use vrps::VersionStore;
 
-impl<S: VersionStore + Drop, T: Stream + Drop> Daemon<S, T> {
-    /// A daemon over a server whose cache has no version. It reads all files, and answers with the first that is refused. The first version is
-    /// published in a later second than this one. No router is admitted before.
+impl<S: StepStore + Drop, T: Stream + Drop> Daemon<S, T> {
+    /// Creates a daemon with a new cache without versions, and loads all sources: exports, local exceptions, publication points.
+    /// `session_ids` has the session IDs and the serial of the first version.
+    /// A turn publishes the first version, in a later second than that of the start. No router is admitted before.
+    ///
+    /// `Err`: the first source that is refused with the reason, or memory ran out.
     pub fn open<W: Disk + Time + EventLog>(
         alloc: Global,
         plan: Plan,
+        settings: CacheSettings,
         session_ids: SessionIds,
-        server: Server<S, T>,
         sources: Paths,
         env: &mut W,
     ) -> Result<Daemon<S, T>, StartFault>
-        ensures leads { IfOk result (λ daemon. (p : Past) → ShowsServer S.holds T.remaining T.contents p server → LeadsToService W.can_be S.holds T.remaining T.contents p daemon.service) }
+        ensures begins { IfOk result (λ daemon. Begins W.can_be W.can_tick plan daemon) }
+        ensures watches { IfOk result (λ daemon. Watches sources daemon) }
+        ensures reads { IfOk result (λ daemon. ReadsAll W.answers plan.leaves_out_length_0 daemon) }
+        ensures leads { IfOk result (λ daemon. (begun : ℕ → Begun) → LeadsToService W.can_be S.holds T.remaining T.contents (past_of settings session_ids begun) daemon.service) }
         ensures comes { IfOk result (λ daemon. SourcesComeFrom W.answers W.can_be daemon) }
         ensures closed { IfOk result (λ daemon. daemon.is_ready ≡ false) }
-        ensures planned { IfOk result (λ daemon. (daemon.plan ≡ plan) × (daemon.session_ids ≡ session_ids)) }
+        ensures planned { IfOk result (λ daemon. (daemon.plan ≡ plan) × (daemon.service.settings.timing ≡ settings.timing) × (daemon.session_ids ≡ session_ids)) }
     {
         let now = env.seconds();
         let millis = env.millis();
@@ -52,7 +61,7 @@ impl<S: VersionStore + Drop, T: Stream + Drop> Daemon<S, T> {
             points,
         } = sources;
         let held = sources_of(alloc, files.len(), plan.leaves_out_length_0)?;
-        let mut service = Service::after(now, server, held);
+        let mut service = Service::after(now, alloc, settings, session_ids, held)?;
         let mut exports = watched_exports(alloc, files)?;
         let mut slurms = watched_slurms(alloc, slurms)?;
         let mut offered = watched_points(alloc, points)?;
@@ -83,6 +92,7 @@ impl<S: VersionStore + Drop, T: Stream + Drop> Daemon<S, T> {
             next_check: millis.saturating_add(plan.check),
             next_round: millis,
             held_until: millis,
+            failing: None,
         };
         daemon.judge_ages(env);
         Ok(daemon)
@@ -91,7 +101,7 @@ impl<S: VersionStore + Drop, T: Stream + Drop> Daemon<S, T> {
 
 /// Sources of this many files, of which none is loaded.
 fn sources_of(alloc: Global, files: usize, leaves_out: bool) -> Result<Sources, AllocError>
-    ensures { IfOk result (λ s. (s.repository ≡ no_points) × NoneTaken files s.lists.items) }
+    ensures { IfOk result (λ s. (s.exceptions ≡ None) × (s.repository ≡ no_points) × NoneTaken files s.lists.items × (s.leaves_out ≡ leaves_out)) }
 {
     let mut sources = Sources::new(alloc, files)?;
     if leaves_out {
@@ -107,7 +117,7 @@ fn watched_exports(alloc: Global, paths: Vec<String>) -> Result<Vec<WatchedExpor
     let mut exports = Vec::new(alloc);
     for path in paths {
         let number = exports.len();
-        exports.push(WatchedExport::new(path, number))?;
+        exports.push(WatchedExport::new(alloc, path, number))?;
     }
     Ok(exports)
 }
@@ -142,7 +152,7 @@ fn read_all<S: VersionStore, T: Stream + Drop, W: Disk + EventLog>(
     env: &mut W,
 ) -> Result<(), StartFault>
     ensures goes { Continues S.holds T.remaining T.contents service.old service.new }
-    ensures loads { IfOk result (λ _. LoadsEach W.answers now exports.old.items service.old.sources service.new.sources) }
+    ensures loads { IfOk result (λ _. LoadsEach W.answers now exports.old.items (marks_of exports.new.items) service.old.sources service.new.sources) }
     ensures names { IfOk result (λ _. names_of exports.new.items ≡ names_of exports.old.items) }
 {
     for export in exports.iter_mut() {
@@ -161,7 +171,7 @@ fn read_export<S: VersionStore, T: Stream + Drop, W: Disk + EventLog>(
     env: &mut W,
 ) -> Result<(), StartFault>
     ensures goes { Continues S.holds T.remaining T.contents service.old service.new }
-    ensures loads { IfOk result (λ _. (expired : ℕ) × Loads W.answers None export.old now (Ok expired) service.old.sources service.new.sources) }
+    ensures loads { IfOk result (λ _. (expired : ℕ) × LoadsOne W.answers export.old now expired export.new.file.loaded service.old.sources service.new.sources) }
     ensures path { export.new.file.path ≡ export.old.file.path }
     ensures number { export.new.number ≡ export.old.number }
 {
@@ -173,13 +183,17 @@ fn read_export<S: VersionStore, T: Stream + Drop, W: Disk + EventLog>(
             log_expired(export.path(), expired, now, env);
             let after = service.sources().ignored(export.number);
             log_not_served(export.path(), before, after, now, env);
+            export
+                .anchors
+                .note_load(alloc, service.sources(), export.number, now, env);
             Ok(())
         }
         Err(refusal) => Err(StartFault::of(export.path(), alloc, refusal)),
     }
 }
 
-/// Reads and loads an export, and answers how many of its entries had expired. If it changes while it is read, it is read again, up to 16 times.
+/// Reads and loads an export, and returns how many of its entries had expired. If it changes while it is read, it is read again.
+/// `Err(Changing)`: it changed during each of 16 reads.
 fn read_one<S: VersionStore, T: Stream + Drop, W: Disk>(
     export: &mut WatchedExport,
     service: &mut Service<S, T>,
@@ -188,7 +202,7 @@ fn read_one<S: VersionStore, T: Stream + Drop, W: Disk>(
     env: &mut W,
 ) -> Result<u64, Refusal>
     ensures goes { Continues S.holds T.remaining T.contents service.old service.new }
-    ensures loads { IfOk result (λ expired. Loads W.answers None export.old now (Ok expired) service.old.sources service.new.sources) }
+    ensures loads { IfOk result (λ expired. LoadsOne W.answers export.old now expired export.new.file.loaded service.old.sources service.new.sources) }
     ensures path { export.new.file.path ≡ export.old.file.path }
     ensures number { export.new.number ≡ export.old.number }
 {

@@ -7,7 +7,7 @@ ghost use Rattle.rtr_server.specs.Reports.{Said};
 
 use crate::peaks::{Peaks, turned_away_at};
 use crate::refusal::Refusal;
-use crate::service::PublishReport;
+use crate::versions::PublishReport;
 use prefixes::IpPrefix;
 use rtr_pdu::Kind;
 use rtr_server::{ByteCounts, Parted, PdusByKind, Report};
@@ -259,7 +259,7 @@ impl Statistics {
         self.clients = self.clients.saturating_add(1);
     }
 
-    /// This many records are left out. It answers whether the number has changed.
+    /// Notes how many records are left out. Returns whether the number has changed.
     pub(crate) fn set_left_out(&mut self, records: u64) -> bool {
         let is_news = self.left_out != records;
         self.left_out = records;
@@ -278,11 +278,22 @@ impl Statistics {
     }
 
     /// The served version was served until now. If memory runs out, it is left out of the peaks.
-    fn end_version(&mut self, until: u64) -> Result<(), AllocError> {
+    fn end_version(&mut self, until: u64) -> Result<(), AllocError>
+        ensures { self.new ≡ record self.old { peaks = self.new.peaks } }
+    {
         if self.changes.is_empty() {
             return Ok(());
         }
         self.peaks.add(self.families.total(), until)
+    }
+
+    /// All versions were dropped. It fails if memory runs out for the peaks.
+    pub(crate) fn drop_versions(&mut self, until: u64) -> Result<(), AllocError>
+        ensures { self.new ≡ record self.old { families = self.new.families; peaks = self.new.peaks } }
+    {
+        let ended = self.end_version(until);
+        self.families = Families { ipv4: 0, ipv6: 0 };
+        ended
     }
 
     /// A version was published, with these counts. Only the last versions are kept. It fails if memory runs out for the peaks.

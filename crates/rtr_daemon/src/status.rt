@@ -1,11 +1,11 @@
 //! The status of a daemon.
-ghost use Rattle.std.specs.Prelude.{◌≡◌, IfOk, option_map, slice_get};
-ghost use Rattle.sources.specs.Served.{ignored_at, ignored_exceptions};
+ghost use Rattle.std.specs.Prelude.{◌≡◌, IfOk, option_map};
+ghost use Rattle.sources.specs.Served.{ignored_exceptions};
 ghost use Rattle.rtr_daemon.specs.Calls.{near_limit};
-ghost use Rattle.rtr_daemon.specs.NotServed.{entries_of, exceptions_of};
+ghost use Rattle.rtr_daemon.specs.NotServed.{entries_at, entries_of, exceptions_of};
 
 use crate::ages::built_of;
-use crate::client_table::ClientEntry;
+use crate::client_entry::ClientEntry;
 use crate::clients::{ClientCounters, number_of};
 use crate::daemon::Daemon;
 use crate::point_polling::WatchedPoint;
@@ -22,8 +22,9 @@ use std::alloc::{AllocError, Global};
 use vrps::{Serial, VersionStore};
 
 impl<S: VersionStore, T: Stream + Drop> Daemon<S, T> {
-    /// The status of the daemon at a time: in seconds since 1970, and in milliseconds of the monotonic clock. The version is the program's. The host, the
-    /// addresses and the lines that the log lacks are the caller's to fill in.
+    /// Returns the status of the daemon for the status pages. `version` is the version of the program.
+    /// `now` is in seconds since 1970, `millis` in milliseconds of the monotonic clock. `Err`: out of memory.
+    /// The caller fills in `host`, `addresses` and `log_lines_lost`: they are `None`, empty and 0.
     pub fn status(
         &self,
         version: &'static str,
@@ -62,7 +63,7 @@ impl<S: VersionStore, T: Stream + Drop> Daemon<S, T> {
             files: self.file_statuses(now)?,
             max_age: self.plan.max_age,
             clients: Vec::new(self.alloc),
-            client_limit: self.plan.clients as u64,
+            client_limit: self.service.settings.clients as u64,
             clients_ever: self.statistics.clients,
             clients_refused: self.statistics.clients_refused,
             turned_away: self.statistics.turned_away,
@@ -118,13 +119,16 @@ impl<S: VersionStore, T: Stream + Drop> Daemon<S, T> {
     fn export_status(&self, export: &WatchedExport, now: u64) -> Result<FileStatus, AllocError>
         ensures slow { IfOk result (λ status. status.slow ≡ export.now.file.slow) }
         ensures near { IfOk result (λ status. status.near_limit ≡ near_limit self.now.plan.max_size export.now.file.loaded) }
-        ensures ignored { IfOk result (λ status. status.ignored ≡ option_map (λ _. entries_of (ignored_at (slice_get self.now.service.sources.lists.items export.now.number))) export.now.file.loaded_at) }
+        ensures ignored { IfOk result (λ status. status.ignored ≡ option_map (λ _. entries_at self.now.service.sources export.now.number) export.now.file.loaded_at) }
     {
         let mut status = file_status(self.alloc, &export.file, self.plan.max_size)?;
         status.built = built_of(export, self.service.sources(), now);
         status.is_old = export.is_old;
         status.expired = export.all_expired();
         status.vrps = self.vrps_of(export);
+        status.anchors = export
+            .anchors
+            .shown(self.alloc, self.service.sources(), export.number, now)?;
         let ignored = self.service.sources().ignored(export.number);
         status.ignored = if_loaded(&export.file, entries_of(ignored));
         Ok(status)
@@ -237,6 +241,7 @@ fn file_status(alloc: Global, file: &WatchedFile, max_size: u64) -> Result<FileS
         ignored: None,
         slow: file.slow,
         near_limit: file.near_limit(max_size),
+        anchors: Vec::new(alloc),
     })
 }
 
@@ -269,6 +274,7 @@ fn point_status(alloc: Global, point: &WatchedPoint) -> Result<FileStatus, Alloc
         ignored: None,
         slow: point.slow,
         near_limit: None,
+        anchors: Vec::new(alloc),
     })
 }
 

@@ -5,7 +5,7 @@ use crate::daemon::Daemon;
 use crate::environment::{EventLog, Time};
 use event_log::LogEvent;
 use rtr_server::Stream;
-use status_pages::{FileStatus, REASONS, Reason, Status, has_reason, is_blamed};
+use status_pages::{FileStatus, REASONS, Status, holds_for_all, is_blamed};
 use std::alloc::{AllocError, Global};
 use vrps::VersionStore;
 
@@ -69,17 +69,9 @@ impl UnwellReasons {
     }
 }
 
-/// Whether a reason is of a source.
-fn is_of_source(reason: Reason) -> bool {
-    matches!(
-        reason,
-        Reason::Old | Reason::RefusedLong | Reason::Refused | Reason::SlowPoll
-    )
-}
-
 /// The reasons of the daemon as a whole.
 fn held_by_all(status: &Status) -> Held {
-    REASONS.map(|reason| !is_of_source(reason) && has_reason(status, reason))
+    REASONS.map(|reason| holds_for_all(status, reason))
 }
 
 /// The reasons of a source.

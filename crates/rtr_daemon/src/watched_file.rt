@@ -3,15 +3,17 @@ ghost use Rattle.std.specs.Prelude.{◌≡◌, ◌⊎◌, ◌↔◌, None, true,
 ghost use Rattle.rtr_daemon.specs.Ages.{file_time, modified_by};
 ghost use Rattle.rtr_daemon.specs.Calls.{near_limit, slow_after};
 ghost use Rattle.rtr_daemon.specs.Shrinking.{since_after};
-ghost use Rattle.rtr_daemon.specs.DiskAnswers.{HadStamp, ReadsWhole};
+ghost use Rattle.rtr_daemon.specs.DiskAnswers.{FileFails, HadStamp, ReadsWhole};
 ghost use Rattle.rtr_daemon.specs.Files.{ChangesWhileRead, IsKnown, IsStateNow, IsStateOf, Looks, ReadsAfter, WasLoaded, path_of};
 
+use crate::anchor_peaks::AnchorPeaks;
 use crate::environment::{Disk, Stamp};
 use crate::refusal::Refusal;
 use crate::refusals::Refusals;
 use slurm::Ignored;
 use sources::TakeFault;
 use status_pages::SlowCall;
+use std::alloc::Global;
 use std::io;
 
 /// A call of the system that lasts longer than this is slow, in milliseconds.
@@ -94,7 +96,7 @@ impl WatchedFile {
         }
     }
 
-    /// Notes how many of its entries are not applied, and answers whether that is another number than before.
+    /// Notes how many of its entries are not applied, and returns whether that is another number than before.
     pub(crate) fn set_not_applied(&mut self, count: Ignored) -> bool
         ensures noted { self.new ≡ record self.old { not_applied = count } }
         ensures news { IsTrue result ↔ (¬ (self.old.not_applied ≡ count)) }
@@ -140,7 +142,7 @@ impl WatchedFile {
     /// Reads the file, even if it has not changed.
     pub(crate) fn content<W: Disk>(&self, env: &mut W) -> Result<(Stamp, Vec<u8>), Refusal>
         ensures reads { IfOk result (λ read. ReadsWhole W.answers (path_of self.now) read.0 read.1.items) }
-        ensures fails { IfErr result (λ _. ChangesWhileRead W.answers (path_of self.now) ⊎ W.answers.fails (path_of self.now)) }
+        ensures fails { IfErr result (λ _. ChangesWhileRead W.answers (path_of self.now) ⊎ FileFails W.answers (path_of self.now)) }
     {
         let before = match env.stamp(self.path.as_str()) {
             Ok(stamp) => stamp,
@@ -197,7 +199,7 @@ impl WatchedFile {
         }
     }
 
-    /// It was loaded with this stamp. It answers whether a refusal was reported before.
+    /// It was loaded with this stamp. Returns whether a refusal was reported before.
     pub(crate) fn set_loaded(&mut self, stamp: Stamp, now: u64) -> bool
         ensures loaded { WasLoaded self.new stamp }
         ensures path { self.new.path ≡ self.old.path }
@@ -262,10 +264,12 @@ pub(crate) struct WatchedExport {
     pub(crate) is_old: bool,
     /// Since when its contents are refused as too short, in milliseconds of the monotonic clock, if they are.
     pub(crate) short_since: Option<u64>,
+    /// How many VRPs its trust anchors had.
+    pub(crate) anchors: AnchorPeaks,
 }
 
 impl WatchedExport {
-    pub(crate) fn new(path: String, number: usize) -> WatchedExport
+    pub(crate) fn new(alloc: Global, path: String, number: usize) -> WatchedExport
         ensures number { result.number ≡ number }
         ensures path { result.file.path ≡ path }
     {
@@ -276,6 +280,7 @@ impl WatchedExport {
             expired_since: 0,
             is_old: false,
             short_since: None,
+            anchors: AnchorPeaks::new(alloc),
         }
     }
 
@@ -284,7 +289,7 @@ impl WatchedExport {
         self.file.path.as_str()
     }
 
-    /// It was loaded with this stamp, and this many of its entries had expired. It answers whether a refusal was reported before.
+    /// It was loaded with this stamp, and this many of its entries had expired. Returns whether a refusal was reported before.
     pub(crate) fn set_loaded(&mut self, stamp: Stamp, now: u64, expired: u64) -> bool
         ensures loaded { WasLoaded self.new.file stamp }
         ensures path { self.new.file.path ≡ self.old.file.path }
@@ -307,7 +312,7 @@ impl WatchedExport {
         };
     }
 
-    /// It is as it was loaded. It answers whether a refusal was reported before.
+    /// It is as it was loaded. Returns whether a refusal was reported before.
     pub(crate) fn set_unchanged(&mut self) -> bool
         ensures loaded { self.new.file.loaded ≡ self.old.file.loaded }
         ensures path { self.new.file.path ≡ self.old.file.path }
@@ -323,7 +328,7 @@ impl WatchedExport {
         self.expired.saturating_add(self.expired_since)
     }
 
-    /// Notes whether its data are old, and answers whether that has changed.
+    /// Notes whether its data are old, and returns whether that has changed.
     pub(crate) fn set_old(&mut self, is_old: bool) -> bool
         ensures { self.new ≡ record self.old { is_old = is_old } }
     {

@@ -1,11 +1,10 @@
--- The paths and numbers are as they were, and since when contents are refused as too short.
+-- The paths and numbers are as they were, and what is noted.
 use Rattle.std.proofs.Common.{◌≡◌}
-use Rattle.rtr_daemon.specs.Files.{names_of}
-use Rattle.rtr_daemon.specs.Shrinking.{sinces_of}
+use Rattle.rtr_daemon.specs.Files.{marks_of, names_of}
 use Rattle.rtr_daemon.proofs.ages.is_any_old.Given as goal
 
 abbrev pub invariant-loop-export : goal.invariant-loop-export
 invariant-loop-export g l = record {
   names : names_of l.export-items ≡ names_of l.initial.export-items;
-  sinces : sinces_of l.export-items ≡ sinces_of l.initial.export-items;
+  marks : marks_of l.export-items ≡ marks_of l.initial.export-items;
 }

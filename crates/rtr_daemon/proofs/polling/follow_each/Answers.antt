@@ -1,6 +1,5 @@
 use Rattle.std.proofs.Common.{◌≡◌, ◌+◌, ◌∙◌, suc, arith, get_or, length, length-set, set, subst, take, ◌<◌}
-use Rattle.rtr_daemon.specs.Files.{FollowsEach, FollowsOne}
-use Rattle.rtr_daemon.specs.Shrinking.{sinces_of}
+use Rattle.rtr_daemon.specs.Files.{FollowsEach, FollowsOne, mark_of, marks_of}
 use Rattle.rtr_daemon.proofs.ContentLaws.{follows_more, left_more, names_kept}
 use Rattle.rtr_daemon.proofs.DueLaws.{sources_on}
 use Rattle.rtr_daemon.proofs.ServiceLaws.{then_on}
@@ -22,12 +21,12 @@ loop-export-preserved g c =
       rest = sources_on c.args.service.now c.loop-export.service c.follow_one.new.service before.rest one.rest;
       follows =
           subst
-          (λ n. FollowsEach g.W.Disk.answers g.W.Time.can_be g.W.Time.can_tick c.args.plan.shrink (take n initial) (take n (sinces_of (set c.loop-export.export-items i c.follow_one.new.export))) c.args.service.now.sources
+          (λ n. FollowsEach g.W.Disk.answers g.W.Time.can_be g.W.Time.can_tick c.args.plan.shrink (take n initial) (take n (marks_of (set c.loop-export.export-items i c.follow_one.new.export))) c.args.service.now.sources
           c.follow_one.new.service.sources)
           more
           (follows_more g.W.Disk.answers g.W.Time.can_be g.W.Time.can_tick c.args.plan.shrink initial c.loop-export.export-items i item c.follow_one.new.export c.args.service.now.sources c.loop-export.service.sources
           c.follow_one.new.service.sources less within before.follows
-          (subst (λ e. FollowsOne g.W.Disk.answers g.W.Time.can_be g.W.Time.can_tick c.args.plan.shrink e c.follow_one.new.export.short_since c.loop-export.service.sources c.follow_one.new.service.sources) here one.follows));
+          (subst (λ e. FollowsOne g.W.Disk.answers g.W.Time.can_be g.W.Time.can_tick c.args.plan.shrink e (mark_of c.follow_one.new.export) c.loop-export.service.sources c.follow_one.new.service.sources) here one.follows));
       count = length-set c.loop-export.export-items i c.follow_one.new.export ∙ before.count;
       names = names_kept c.loop-export.export-items i item c.follow_one.new.export one.path one.number ∙ before.names;
       left = left_more c.loop-export.export-items initial i c.follow_one.new.export before.left;

@@ -1,8 +1,7 @@
 -- So far the service went on, and the exports before this one were polled.
 use Rattle.std.proofs.Common.{◌≡◌, ℕ, ◌≤◌, get_or, length, take}
-use Rattle.rtr_daemon.specs.Files.{FollowsEach, names_of}
+use Rattle.rtr_daemon.specs.Files.{FollowsEach, marks_of, names_of}
 use Rattle.rtr_daemon.specs.Serving.{Continues, OnlySources}
-use Rattle.rtr_daemon.specs.Shrinking.{sinces_of}
 use Rattle.rtr_daemon.specs.declared.watched_file.WatchedExport.{WatchedExport}
 use Rattle.rtr_daemon.proofs.polling.follow_each.Given as goal
 
@@ -10,7 +9,7 @@ abbrev pub invariant-loop-export : goal.invariant-loop-export
 invariant-loop-export g l = record {
   goes : Continues g.S.VersionStore.holds g.T.Stream.remaining g.T.Stream.contents l.initial.service l.service;
   rest : OnlySources l.initial.service l.service;
-  follows : FollowsEach g.W.Disk.answers g.W.Time.can_be g.W.Time.can_tick l.plan.shrink (take l.export-index l.initial.export-items) (take l.export-index (sinces_of l.export-items)) l.initial.service.sources l.service.sources;
+  follows : FollowsEach g.W.Disk.answers g.W.Time.can_be g.W.Time.can_tick l.plan.shrink (take l.export-index l.initial.export-items) (take l.export-index (marks_of l.export-items)) l.initial.service.sources l.service.sources;
   count : length l.export-items ≡ length l.initial.export-items;
   names : names_of l.export-items ≡ names_of l.initial.export-items;
   left : (k : ℕ) (d : WatchedExport) → l.export-index ≤ k → get_or l.export-items k d ≡ get_or l.initial.export-items k d;

@@ -1,15 +1,22 @@
-use Rattle.std.proofs.Common.{subst}
-use Rattle.rtr_daemon.specs.Files.{Follows}
+use Rattle.std.proofs.Common.{ap, refl, subst, sym, ◌∙◌}
+use Rattle.rtr_daemon.specs.Files.{Follows, mark_of}
+use Rattle.rtr_daemon.specs.Shrinking.{percent_at}
+use Rattle.rtr_daemon.proofs.ContentLaws.{mark_is}
 use Rattle.rtr_daemon.proofs.polling.follow_one.Goals as goal
 
 pub returns-clause-follows : goal.returns-clause-follows
-returns-clause-follows g c = (
-  c.seconds-now.result,
-  c.millis-millis.result,
-  c.seconds-now.ensures,
-  c.millis-millis.ensures,
-  subst
-      (λ percent. Follows g.W.Disk.answers percent c.args.export.now c.seconds-now.result c.millis-millis.result c.follow-polled.new.export.short_since c.args.service.now.sources c.follow-polled.new.service.sources)
-      c.percent_at-percent.ensures
-      c.follow-polled.ensures.follows,
-)
+returns-clause-follows g c =
+    let before = c.args.export.now in
+    let seconds = c.seconds-now.result in
+    let millis = c.millis-millis.result in
+    let old = c.args.service.now.sources in
+    let since = c.follow-polled.new.export.short_since in
+    let new = c.follow-polled.new.service.sources in (
+      seconds,
+      millis,
+      c.seconds-now.ensures,
+      c.millis-millis.ensures,
+      subst (λ mark. Follows g.W.Disk.answers (percent_at c.args.plan.shrink before.short_since millis) before seconds millis mark old new)
+          (sym (ap mark_of c.note_anchors.ensures ∙ mark_is since since c.note_slow.new.self.loaded c.follow-polled.new.export.file.loaded refl (ap (λ f. f.loaded) c.note_slow.ensures)))
+          (subst (λ percent. Follows g.W.Disk.answers percent before seconds millis (mark_of c.follow-polled.new.export) old new) c.percent_at-percent.ensures c.follow-polled.ensures.follows),
+    )

@@ -18,7 +18,7 @@ pub returns-clause-due : goal.returns-clause-due
 returns-clause-due g c = λ due.
     let only = c.drop_overdue.ensures.rest in
     let served = record c.drop_overdue.new.self { clients = c.wake_blocked.new.self } in
-    publishes_from g.W.Time.can_be g.W.Time.can_tick c.args.self.now.held_until c.args.self.now served c.publish_and_judge.new.self (ap (λ d. d.service.pace) only) (ap (λ d. d.started) only) (ap (λ d. d.opened) only)
+    publishes_from g.W.Time.can_be g.W.Time.can_tick c.args.self.now.held_until c.args.self.now served c.publish_and_judge.new.self (ap (λ d. d.service.pace) only) (ap (λ d. d.started) only) (ap (λ d. d.opened) only) (ap (λ d. d.failing) only)
     (subst (λ held. PublishesIfDue g.W.Time.can_be g.W.Time.can_tick held served c.publish_and_judge.new.self) (ap (λ d. d.held_until) only) c.publish_and_judge.ensures.due)
 
 pub returns-clause-kept : goal.returns-clause-kept

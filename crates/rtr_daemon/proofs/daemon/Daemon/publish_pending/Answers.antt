@@ -14,13 +14,14 @@ returns-in-Some-clause-goes g c =
 
 pub returns-in-Some-clause-due : goal.returns-in-Some-clause-due
 returns-in-Some-clause-due g c =
-    tried_due g.W.Time.can_be g.W.Time.can_tick c.args.self.now.held_until c.args.self.now c.note_tried.new.self c.publish_paced.new.self c.seconds-now.result c.in-Some.tried c.seconds-now.ensures c.publish_paced.ensures.sources c.in-Some.ensures.done c.in-Some.ensures.fails c.note_tried.ensures.rest c.note_tried.ensures.failed
+    tried_due g.W.Time.can_be g.W.Time.can_tick c.args.self.now.held_until c.args.self.now c.note_tried.new.self c.publish_paced.new.self c.seconds-now.result c.millis-began.result c.in-Some.tried c.seconds-now.ensures c.millis-began.ensures c.publish_paced.ensures.sources c.in-Some.ensures.done c.in-Some.ensures.fails c.note_tried.ensures.rest c.note_tried.ensures.failed
+    c.note_tried.ensures.published
 
 pub returns-in-Some-clause-fresh : goal.returns-in-Some-clause-fresh
 returns-in-Some-clause-fresh g c = λ fresh. published_fresh g.W.Time.can_be c.args.self.now c.note_tried.new.self c.publish_paced.new.self c.seconds-now.result c.seconds-now.ensures c.publish_paced.ensures.fresh c.note_tried.ensures.rest fresh
 
 pub returns-in-Some-clause-kept : goal.returns-in-Some-clause-kept
-returns-in-Some-clause-kept g c = published_kept c.args.self.now c.note_tried.new.self c.publish_paced.new.self c.publish_paced.ensures.sources c.note_tried.ensures.rest
+returns-in-Some-clause-kept g c = published_kept c.args.self.now c.note_tried.new.self c.publish_paced.new.self c.publish_paced.ensures.sources c.publish_paced.ensures.settings c.note_tried.ensures.rest
 
 pub returns-in-Some-clause-wakes : goal.returns-in-Some-clause-wakes
 returns-in-Some-clause-wakes g c =
