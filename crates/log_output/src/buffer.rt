@@ -11,14 +11,14 @@ use std::alloc::{AllocError, Global};
 use std::fmt::{self, Debug};
 use std::marker::Model;
 
-/// The most bytes of lines that wait.
+/// The size of the buffer for pending lines, in bytes.
 pub const BUFFER_BYTES: usize = 65_536;
 
 /// The most bytes of one write.
 pub const CHUNK_BYTES: usize = 4096;
 
-/// Lines that wait to be written, in order, and counts of those that were lost. A line ends in a newline, so its newlines are its lines. The rest
-/// of a line whose head was written waits in front. The memory is allocated once.
+/// Pending log lines, in order, and counts of lost lines. Each line ends in a newline. If a line was written in part, its rest is in front. All
+/// memory is allocated at the start.
 #[derive(Drop)]
 pub struct LogBuffer {
     ring: HeapCircularBuffer<u8>,
@@ -65,7 +65,7 @@ fn first_chunk(bytes: &[u8], most: usize) -> &[u8]
 }
 
 impl LogBuffer {
-    /// The empty buffer, with room for [`BUFFER_BYTES`].
+    /// Creates an empty buffer with room for [`BUFFER_BYTES`] bytes. `Err`: out of memory.
     pub fn new(alloc: Global) -> Result<LogBuffer, AllocError>
         ensures { IfOk result (λ b. b ≡ no_lines) }
     {
@@ -79,35 +79,35 @@ impl LogBuffer {
         })
     }
 
-    /// How many bytes wait.
+    /// The number of pending bytes.
     pub fn len(&self) -> usize
         ensures { result ≡ length self.now.bytes }
     {
         self.ring.len()
     }
 
-    /// Whether no byte waits.
+    /// Returns whether no byte is pending.
     pub fn is_empty(&self) -> bool
         ensures { result ≡ (length self.now.bytes == 0) }
     {
         self.ring.is_empty()
     }
 
-    /// How many lines were lost since the start. It stays at the largest number.
+    /// The number of lines that were lost since the start. It saturates at `u64::MAX`.
     pub fn lost(&self) -> u64
         ensures { result ≡ self.now.lost }
     {
         self.lost
     }
 
-    /// How many lines were lost since the last report that was written whole.
+    /// The number of lines that were lost since the last report of dropped lines was written in full.
     pub fn dropped(&self) -> u64
         ensures { result ≡ self.now.dropped }
     {
         self.dropped
     }
 
-    /// Whether dropped lines are not yet reported, and no report waits.
+    /// Returns whether lost lines are not yet reported and no report is pending.
     pub fn is_report_due(&self) -> bool
         ensures { result ≡ is_report_due self.now }
     {
@@ -129,8 +129,9 @@ impl LogBuffer {
         self.dropped = self.dropped.saturating_add(lines);
     }
 
-    /// Adds a line if it fits and the report that waits reports each line that is missing before it. If not, the line is lost whole. Answers
-    /// whether it was added.
+    /// Adds a line, which ends in a newline. It returns whether the line was added. If not, the line is counted as lost.
+    ///
+    /// The line is added if it fits, and if a pending report covers all lost lines before it or there are none.
     pub fn add_line(&mut self, line: &[u8]) -> bool
         ensures added { result ≡ is_accepted line.now self.old }
         ensures line { self.new ≡ after_line line.now self.old }
@@ -143,8 +144,10 @@ impl LogBuffer {
         true
     }
 
-    /// Adds the line that reports the dropped lines, in their place, if no other report waits and it fits. If not, the buffer stays as it is.
-    /// The lines count as reported when the last byte of the report was written. Answers whether it was added.
+    /// Adds a report of the lost lines, which is a line. It returns whether the report was added. It is refused if another report is pending or
+    /// it does not fit. Then nothing changes.
+    ///
+    /// The lines count as reported once the last byte of the report is written.
     pub fn add_report(&mut self, line: &[u8]) -> bool
         ensures added { result ≡ takes_report line.now self.old }
         ensures line { self.new ≡ after_report line.now self.old }
@@ -160,14 +163,14 @@ impl LogBuffer {
         true
     }
 
-    /// Counts a line that could not be formatted as lost.
+    /// Counts one line as lost: one that could not be formatted.
     pub fn lose_line(&mut self)
         ensures { self.new ≡ and_lost 1 self.old }
     {
         self.lose(1);
     }
 
-    /// The first bytes, at most this number: at least one if any waits and one is allowed.
+    /// Returns the first pending bytes, at most `most` of them. If bytes are pending and `most` is not 0, it returns at least one.
     pub fn chunk(&self, most: usize) -> &[u8]
         ensures { IsChunk most self.now.bytes result.now }
     {
@@ -199,7 +202,8 @@ impl LogBuffer {
         !self.is_newline(count - 1)
     }
 
-    /// The first bytes were written. If a report ends with them, its lines are reported.
+    /// Removes the first `count` bytes, which were written. `count` is at most the number of pending bytes. If a report ends within them, its
+    /// lines are reported.
     pub fn consume(&mut self, count: usize)
         requires { count ≤ length self.old.bytes }
         ensures { self.new ≡ after_written count self.old }
@@ -252,8 +256,8 @@ impl LogBuffer {
         self.ring.truncate_back(count);
     }
 
-    /// Gives up the lines that wait, and counts them as lost. The rest of a line whose head was written is kept. A report that is given up is no
-    /// lost line, and what it reports is not yet reported.
+    /// Removes the pending lines and counts them as lost. The rest of a line that was written in part is kept. A pending report is removed
+    /// without being lost. What it reported is due again.
     pub fn give_up(&mut self)
         ensures { self.new ≡ after_loss self.old }
     {

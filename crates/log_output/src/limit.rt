@@ -4,14 +4,16 @@ ghost use Rattle.log_output.specs.Limits.{after_client_line, after_take, is_let_
 
 use std::marker::Model;
 
-/// The most lines about clients in one window.
+/// The most lines about clients that one window lets through.
 pub const LIMIT_LINES: u64 = 1000;
 
 /// The length of a window in milliseconds.
 pub const LIMIT_MILLIS: u64 = 10_000;
 
-/// The limit of lines about clients: at most [`LIMIT_LINES`] in a window of [`LIMIT_MILLIS`]. A window begins at the first line about a client
-/// after the last window ended. Times are milliseconds of a clock that is never set.
+/// A rate limit for lines about clients: at most [`LIMIT_LINES`] in a window of [`LIMIT_MILLIS`]. A window begins at the first line about a
+/// client after the last window ended.
+///
+/// Times are in milliseconds of a monotonic clock.
 #[derive(Debug, Drop)]
 pub struct ClientLineLimit {
     began: Option<u64>,
@@ -28,7 +30,7 @@ impl Model for ClientLineLimit {
 }
 
 impl ClientLineLimit {
-    /// No line has come.
+    /// Creates a limit with no line counted.
     pub fn new() -> ClientLineLimit
         ensures { result ≡ limited None 0 0 }
     {
@@ -39,7 +41,7 @@ impl ClientLineLimit {
         }
     }
 
-    /// Whether a window is open.
+    /// Returns whether a window is open at `millis`.
     pub fn is_open(&self, millis: u64) -> bool
         ensures { result ≡ is_open self.now millis }
     {
@@ -49,7 +51,7 @@ impl ClientLineLimit {
         }
     }
 
-    /// A line about a client comes. Answers whether it is let through. If not, it is counted as suppressed.
+    /// Counts a line about a client at `millis`. It returns whether the line is let through. If not, the line is counted as suppressed.
     pub fn admit(&mut self, millis: u64) -> bool
         ensures passes { result ≡ is_let_through self.old millis }
         ensures counts { self.new ≡ after_client_line self.old millis }
@@ -67,14 +69,15 @@ impl ClientLineLimit {
         false
     }
 
-    /// How many lines were suppressed since the last report.
+    /// The number of lines that were suppressed since the last report.
     pub fn suppressed(&self) -> u64
         ensures { result ≡ self.now.suppressed }
     {
         self.suppressed
     }
 
-    /// The count of suppressed lines for a report, which is then 0, if their window has ended. As long as a window is open, the count is 0.
+    /// Returns the number of suppressed lines to report at `millis`, and sets the count to 0. While a window is open, it returns 0 and changes
+    /// nothing.
     pub fn take_suppressed(&mut self, millis: u64) -> u64
         ensures lines { result ≡ lines_to_report self.old millis }
         ensures takes { self.new ≡ after_take self.old millis }

@@ -18,8 +18,8 @@ use std::marker::Model;
 /// The initial capacity for one line, in bytes. A longer line needs more.
 const LINE_BYTES: usize = 4096;
 
-/// A log of events. What is less severe than its level is left out, lines about clients are limited, and the other lines wait until they are
-/// written.
+/// A log of events. It leaves out events that are less severe than its level. It limits the lines about clients. The other lines are pending
+/// until they are written.
 #[derive(Drop)]
 pub struct Log {
     format: LogFormat,
@@ -48,7 +48,7 @@ fn format_line(line: &mut Vec<u8>, format: LogFormat, seconds: u64, event: &LogE
 }
 
 impl Log {
-    /// A log in this format, of the events that are at least as severe as the level.
+    /// Creates a log in this format. It has the events that are at least as severe as `level`. `Err`: out of memory.
     pub fn new(alloc: Global, format: LogFormat, level: LogLevel) -> Result<Log, AllocError>
         ensures empty { IfOk result (λ l. l ≡ log_state format level (limited None 0 0) no_lines 0 0) }
         ensures whole { IfOk result (λ l. IsWhole format [] l.buffer) }
@@ -107,7 +107,8 @@ impl Log {
         }
     }
 
-    /// Makes the reports that are due: of dropped lines, if there is room, and of suppressed lines, if their window has ended.
+    /// Adds the reports that are due: of dropped lines if there is room, and of suppressed lines if their window has ended. `seconds` is since
+    /// 1970. `millis` is of a monotonic clock.
     pub fn tick(&mut self, seconds: u64, millis: u64)
         ensures reports { ReportsDue self.old self.new seconds millis }
         ensures counts { CountsLines 0 self.old self.new }
@@ -127,9 +128,11 @@ impl Log {
         }
     }
 
-    /// Adds the line of an event at these seconds since 1970. `millis` is the time of a clock that is never set. An event that is less severe
-    /// than the level changes nothing. For another, the reports that are due come first. Then its line is added, if the limit of lines about
-    /// clients lets it through and it fits.
+    /// Adds an event. `seconds` is its time since 1970. `millis` is the time of a monotonic clock, in milliseconds. An event that is less severe
+    /// than the level changes nothing.
+    ///
+    /// Otherwise the reports that are due come first. Then the event's line is added if the limit of lines about clients lets it through and it
+    /// fits.
     pub fn add(&mut self, seconds: u64, millis: u64, event: &LogEvent<'_>)
         ensures below { severity self.old.level < severity (level_of event.now) → self.new ≡ self.old }
         ensures adds { severity (level_of event.now) ≤ severity self.old.level → AddsEvent self.old self.new seconds millis event.now }
@@ -144,9 +147,10 @@ impl Log {
         self.add_own(seconds, millis, event);
     }
 
-    /// Writes the lines that wait, as long as the sink has room: as many bytes a write as it has room for, and at most 4,096 writes. A write that
-    /// would block or is interrupted, or that accepts nothing, ends the call, and the bytes still wait. If a write fails otherwise, the lines that
-    /// wait are given up and counted as lost. The rest of a line whose head was written still waits, so no line is torn.
+    /// Writes the pending lines while the sink has room. It makes at most 4,096 writes.
+    /// - A write that would block, is interrupted or accepts nothing ends the call. The bytes stay pending.
+    /// - If a write fails otherwise, the pending lines are given up and counted as lost.
+    /// - The rest of a line that was written in part stays pending, so no line is torn.
     pub fn write_to<S: LogSink>(&mut self, sink: &mut S)
         ensures writes { WritesOut 4096 self.old.buffer self.new.buffer (S.contents sink.old) (S.contents sink.new) (S.last_answer sink.new) }
         ensures keeps { self.new ≡ with_buffer self.new.buffer self.old }
@@ -155,21 +159,21 @@ impl Log {
         self.buffer.write_to(sink);
     }
 
-    /// Whether no line waits to be written. Lines that were dropped or suppressed may still have to be reported.
+    /// Returns whether no line is pending. Lines that were dropped or suppressed may still have to be reported.
     pub fn is_written(&self) -> bool
         ensures { result ≡ (length self.now.buffer.bytes == 0) }
     {
         self.buffer.is_empty()
     }
 
-    /// Whether nothing waits to be written, and no report is missing.
+    /// Returns whether no line is pending and no report is missing.
     pub fn is_empty(&self) -> bool
         ensures { result ≡ is_empty self.now }
     {
         self.is_written() && self.buffer.dropped() == 0 && self.limit.suppressed() == 0
     }
 
-    /// How long a wait may be, in milliseconds, until the log is written again: a second while something waits.
+    /// How long the caller may wait before the next write, in milliseconds: 1,000, or `u64::MAX` if the log is empty.
     pub fn wait_limit(&self) -> u64
         ensures { result ≡ if is_empty self.now then 18446744073709551615 else 1000 }
     {
@@ -179,14 +183,14 @@ impl Log {
         1000
     }
 
-    /// How many lines were lost since the start: each line that came and is neither written nor waits. It stays at the largest number.
+    /// The number of lines that were lost since the start: neither written nor pending. It saturates at `u64::MAX`.
     pub fn dropped_lines(&self) -> u64
         ensures { result ≡ self.now.buffer.lost }
     {
         self.buffer.lost()
     }
 
-    /// How many lines about clients were suppressed since the start. It stays at the largest number.
+    /// The number of lines about clients that the rate limit suppressed since the start. It saturates at `u64::MAX`.
     pub fn suppressed_lines(&self) -> u64
         ensures { result ≡ saturated (self.now.reported_suppressed + self.now.limit.suppressed) }
     {
@@ -194,7 +198,7 @@ impl Log {
             .saturating_add(self.limit.suppressed())
     }
 
-    /// How often there was no memory for a line. An event's line is then dropped. A report of dropped lines is made later.
+    /// The number of times that there was no memory for a line. The line of an event is then dropped. A report of dropped lines is made later.
     pub fn memory_failures(&self) -> u64
         ensures { result ≡ self.now.memory_failures }
     {

@@ -2,12 +2,12 @@
 ghost use Rattle.std.specs.Prelude.{◌≡◌};
 ghost use Rattle.log_output.specs.Buffers.{lines_reported, report_behind, report_within, reported_within, reports_behind};
 
-/// A report of dropped lines that waits to be written.
+/// A pending report of dropped lines.
 #[derive(Clone, Copy, Debug, PartialEq, Eq)]
 pub struct WaitingReport {
-    /// How many dropped lines it reports.
+    /// The number of dropped lines that it reports.
     pub lines: u64,
-    /// The place of its last byte among those that wait, from 0.
+    /// The position of its last byte among the pending bytes, from 0.
     pub last: usize,
 }
 

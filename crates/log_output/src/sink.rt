@@ -12,8 +12,8 @@ use std::io::{self, ErrorKind};
 /// The most writes of one call. A sink that accepts single bytes is so given as many as one write may have.
 const MAX_WRITES: u32 = 4096;
 
-/// What a log is written to, such as standard error. Before each write the sink is asked how many bytes that may have. A sink that answers rightly
-/// never blocks the log.
+/// What a log is written to, such as standard error. Before each write the log asks how many bytes it may have. If the sink is right about that,
+/// it never blocks the log.
 pub trait LogSink {
     /// What it accepted, if that is known.
     ghost contents: { Self → Option (List ℕ) };
@@ -24,14 +24,17 @@ pub trait LogSink {
     /// How many bytes a write may have.
     ghost allowed: { Self → ℕ };
 
-    /// How many bytes a write may have now, so that it does not block: at most [`CHUNK_BYTES`](crate::CHUNK_BYTES), and 0 if the sink has no room.
+    /// Returns how many bytes a write may have now without blocking: at most [`CHUNK_BYTES`](crate::CHUNK_BYTES). 0: the sink has no room.
     fn room(&mut self) -> usize
         ensures short { result ≤ chunk_bytes }
         ensures allows { result ≤ allowed self.new }
         ensures keeps { Keeps (contents self.old) (contents self.new) }
         ensures answers { Answered (last_answer self.new) (answer_of_room result) };
 
-    /// Writes from the front of the bytes, as many as it answers.
+    /// Writes bytes from the front of `bytes`. It returns how many it wrote. `bytes` is not empty and has at most as many bytes as `room`
+    /// returned.
+    ///
+    /// On an `Err` of kind `WouldBlock` or `Interrupted` the log tries again later. On another `Err` it gives up its pending lines.
     fn write(&mut self, bytes: &[u8]) -> io::Result<usize>
         requires allowed { length bytes.now ≤ allowed self.old }
         requires some { 0 < length bytes.now }
@@ -78,9 +81,10 @@ fn write_chunk<S: LogSink>(buffer: &mut LogBuffer, sink: &mut S) -> bool
 }
 
 impl LogBuffer {
-    /// Writes what waits, as long as the sink has room: as many bytes a write as it has room for, and at most 4,096 writes. A write that would
-    /// block or is interrupted, or that accepts nothing, ends the call, and the bytes still wait. If a write fails otherwise, the lines that wait
-    /// are given up and counted as lost. The rest of a line whose head was written still waits.
+    /// Writes the pending bytes while the sink has room. It makes at most 4,096 writes.
+    /// - A write that would block, is interrupted or accepts nothing ends the call. The bytes stay pending.
+    /// - If a write fails otherwise, the pending lines are given up and counted as lost.
+    /// - The rest of a line that was written in part stays pending.
     pub fn write_to<S: LogSink>(&mut self, sink: &mut S)
         ensures { WritesOut 4096 self.old self.new (S.contents sink.old) (S.contents sink.new) (S.last_answer sink.new) }
     {

@@ -1,8 +1,8 @@
 //! Made-up caches: a function makes what it is given, a cache without a version, into another one.
 
 use status_pages::{
-    ChangeStatus, ClientStatus, ClientTraffic, ErrorReports, FileStatus, IgnoredEntries, LostLines,
-    PdusByType, PublicationFailure, ReportsByCode, Status, TotalTraffic,
+    AnchorStatus, ChangeStatus, ClientStatus, ClientTraffic, ErrorReports, FileStatus,
+    IgnoredEntries, LostLines, PdusByType, PublicationFailure, ReportsByCode, Status, TotalTraffic,
 };
 use std::alloc::{AllocError, Global};
 use std::net::{IpAddr, Ipv4Addr, Ipv6Addr, SocketAddr};
@@ -108,6 +108,23 @@ fn change(serial: u32, at: u64, announced: u64, withdrawn: u64, records: u64) ->
     }
 }
 
+/// A trust anchor, with how many VRPs it has.
+fn anchor(alloc: Global, name: &str, vrps: u64) -> Result<AnchorStatus, AllocError> {
+    Ok(AnchorStatus {
+        name: String::from_str(alloc, name)?,
+        vrps,
+        peak: None,
+    })
+}
+
+/// Two trust anchors, one of whose names is special in HTML, in labels and in JSON.
+fn anchors(alloc: Global) -> Result<Vec<AnchorStatus>, AllocError> {
+    let mut found = Vec::new(alloc);
+    found.push(anchor(alloc, "ripe", 500_000)?)?;
+    found.push(anchor(alloc, "<a>\"b\\c\n", 23_000)?)?;
+    Ok(found)
+}
+
 /// A file that is loaded.
 fn taken_file(alloc: Global) -> Result<FileStatus, AllocError> {
     Ok(FileStatus {
@@ -119,6 +136,7 @@ fn taken_file(alloc: Global) -> Result<FileStatus, AllocError> {
         is_old: false,
         expired: 12,
         vrps: Some(523_456),
+        anchors: anchors(alloc)?,
         ignored: Some(IgnoredEntries::Export {
             aspas: 1,
             router_keys: 1200,
@@ -130,7 +148,7 @@ fn taken_file(alloc: Global) -> Result<FileStatus, AllocError> {
 
 /// A reason that is special in HTML.
 fn refusal(alloc: Global) -> Result<Option<String>, AllocError> {
-    let text = "entry 3 of roas cannot be read: <prefix> is no prefix (fault 3)";
+    let text = "entry 3 of roas cannot be read: <prefix> is not a prefix (fault 3)";
     Ok(Some(String::from_str(alloc, text)?))
 }
 
@@ -146,6 +164,7 @@ fn refused_file(alloc: Global) -> Result<FileStatus, AllocError> {
         is_old: false,
         expired: 0,
         vrps: None,
+        anchors: Vec::new(alloc),
         ignored: None,
         slow: None,
         near_limit: None,

@@ -59,11 +59,28 @@ fn put_file_change(alloc: Global, what: &str, value: u64, status: &mut Status) -
         "vrps" => file.vrps = Some(value),
         "never-loaded" => file.taken = None,
         "refused" => put_refusal(alloc, value, file)?,
+        "anchor" | "anchor-peak" => put_anchor_change(what, value, file)?,
         "slow" => file.slow = Some(slow_call(5001, value)),
         "slow-for" => file.slow = Some(slow_call(value, 0)),
         "near-limit" => file.near_limit = Some(value),
         _ => bail!("there is no such change"),
     }
+    Ok(())
+}
+
+/// Makes one change of the first trust anchor of a file: how many VRPs it has, or the most that it had.
+fn put_anchor_change(what: &str, value: u64, file: &mut FileStatus) -> Result<()> {
+    let Some(anchor) = file.anchors.first_mut() else {
+        bail!("there is no trust anchor");
+    };
+    if what == "anchor" {
+        anchor.vrps = value;
+        return Ok(());
+    }
+    anchor.peak = Some(VrpPeak {
+        vrps: value,
+        until: NOW - 60,
+    });
     Ok(())
 }
 

@@ -30,7 +30,7 @@ use std::io::Write;
 
 /// The first words.
 const FORMS: &str = "\
-page\nmetrics\nhealth\nreasons\nroute\nroute-page\ncsv\nroutinator-csv\nroas\nexport\nroutinator-export\n\
+page\nmetrics\nhealth\nreasons\napi-status\nroute\nroute-page\ncsv\nroutinator-csv\nroas\nexport\nroutinator-export\n\
 http\nlog\ntimes\nsettings\nfaults\nvalues\n";
 
 fn main(rt: HostRuntime) -> Result<()> {
@@ -45,7 +45,9 @@ fn main(rt: HostRuntime) -> Result<()> {
 /// Prints what these words say.
 fn print<W: Write>(alloc: Global, form: &str, words: &[String], out: &mut W) -> Result<()> {
     match form {
-        "page" | "metrics" | "health" | "reasons" => statuses::print(alloc, form, words, out),
+        "page" | "metrics" | "health" | "reasons" | "api-status" => statuses::print(
+            alloc, form, words, out,
+        ),
         "route"
         | "route-page"
         | "csv"

@@ -7,8 +7,8 @@ use crate::caches::{
 use crate::changes::put_changes;
 use anyhow::{Result, bail};
 use status_pages::{
-    REASONS, Status, has_reason, is_healthy, is_ready, is_well, write_health, write_metrics,
-    write_page,
+    REASONS, Status, has_reason, is_healthy, is_ready, is_well, write_api_status, write_health,
+    write_metrics, write_page,
 };
 use std::alloc::Global;
 use std::io::{self, Write};
@@ -74,6 +74,7 @@ fn write<W: Write>(form: &str, status: &Status, out: &mut W) -> io::Result<()> {
         "page" => write_page(out, status),
         "metrics" => write_metrics(out, status),
         "reasons" => write_reasons(status, out),
+        "api-status" => write_api_status(out, status, status.serial.unwrap_or_default()),
         _ => write_judged(status, out),
     }
 }

@@ -6,3 +6,5 @@ pub mod Queries
 pub mod TextRows
 pub mod ReasonRows
 pub mod ListRows
+pub mod TalTexts
+pub mod AnchorRows

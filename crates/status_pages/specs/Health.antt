@@ -6,8 +6,9 @@ use Rattle.std.specs.List.{concat, flat_map}
 use Rattle.std.specs.Str.{chars}
 use Rattle.event_log.specs.Clock.{IsTimeOf}
 use Rattle.status_pages.specs.Escapes.{label_char}
-use Rattle.status_pages.specs.Reasons.{has_all_expired, has_reason, is_healthy, is_recent, is_shrunk, served_vrps}
+use Rattle.status_pages.specs.Reasons.{has_all_expired, has_shrunk, holds_for_all, is_healthy, is_recent, is_shrunk, served_vrps}
 use Rattle.status_pages.specs.declared.reasons.Reason.TheVariants as reason
+use Rattle.status_pages.specs.declared.status.AnchorStatus.{AnchorStatus}
 use Rattle.status_pages.specs.declared.status.ClientLimit.{ClientLimit}
 use Rattle.status_pages.specs.declared.status.ClientLimit.TheVariants as limit
 use Rattle.status_pages.specs.declared.status.FileStatus.{FileStatus}
@@ -23,6 +24,11 @@ label_text text = flat_map label_char (chars text)
 -- one text after another
 abbrev pub Both : (List ℕ → Type 0) → (List ℕ → Type 0) → List ℕ → Type 0
 Both P Q text = (one : List ℕ) × (rest : List ℕ) × P one × Q rest × (text ≡ one ++ rest)
+
+-- a text of each element, one after the other
+abbrev pub InTurn : {A : Type 0} → (A → List ℕ → Type 0) → List A → List ℕ → Type 0
+InTurn P [] text = text ≡ []
+InTurn P (a ∷ rest) text = Both (P a) (InTurn P rest) text
 
 -- ---- the table and its publication
 
@@ -76,16 +82,34 @@ IsRefusalOf path loaded None refusal text = text ≡ []
 abbrev pub IsRefusalText : FileStatus → List ℕ → Type 0
 IsRefusalText f = IsRefusalOf (string_bytes f.path) f.taken f.refused_at (option_map string_bytes f.refusal)
 
+-- that a trust anchor of a source shrank, and since when
+unfoldable pub anchor_line : List ℕ → List ℕ → ℕ → ℕ → List ℕ → List ℕ
+anchor_line path name from to time =
+    label_text path ++ codes ": " ++ label_text name ++ concat (codes " shrank: " ∷ decimal from ∷ codes " to " ∷ decimal to ∷ codes " VRPs at " ∷ []) ++ time
+    ++ codes "\n"
+
+abbrev pub TellsAnchor : List ℕ → List ℕ → Bool → ℕ → Option VrpPeak → List ℕ → Type 0
+TellsAnchor path name false vrps peak text = text ≡ []
+TellsAnchor path name true vrps None text = text ≡ []
+TellsAnchor path name true vrps (Some peak) text = (time : List ℕ) × IsTimeOf peak.until time × (text ≡ anchor_line path name peak.vrps vrps time)
+
+abbrev pub IsAnchorText : List ℕ → AnchorStatus → List ℕ → Type 0
+IsAnchorText path a = TellsAnchor path (string_bytes a.name) (has_shrunk a) a.vrps a.peak
+
+abbrev pub AreAnchorTexts : List ℕ → List AnchorStatus → List ℕ → Type 0
+AreAnchorTexts path anchors = InTurn (IsAnchorText path) anchors
+
 -- what is written of a source
 pub record IsSourceText (f : FileStatus) (text : List ℕ) : Type 0 where
   pub refusal : List ℕ
   pub is_refusal : IsRefusalText f refusal
-  pub is_text : text ≡ age_text f ++ refusal
+  pub anchors : List ℕ
+  pub are_anchors : AreAnchorTexts (string_bytes f.path) f.anchors.items anchors
+  pub is_text : text ≡ age_text f ++ refusal ++ anchors
 
 -- of one source after the other
 abbrev pub AreSourceTexts : List FileStatus → List ℕ → Type 0
-AreSourceTexts [] text = text ≡ []
-AreSourceTexts (f ∷ files) text = Both (IsSourceText f) (AreSourceTexts files) text
+AreSourceTexts files = InTurn IsSourceText files
 
 -- ---- the size of the table, and routers
 
@@ -121,7 +145,7 @@ IsAwayText s = TellsAway (is_recent s.now s.turned_away) s.turned_away
 -- ---- all
 
 abbrev pub IsTableText : Status → List ℕ → Type 0
-IsTableText s = Both (λ t. t ≡ none_text (has_reason s reason.NoVrps)) (IsFailureText s.publication_failure)
+IsTableText s = Both (λ t. t ≡ none_text (holds_for_all s reason.NoVrps)) (IsFailureText s.publication_failure)
 
 abbrev pub IsRestText : Status → List ℕ → Type 0
 IsRestText s = Both (λ t. t ≡ version_text s.serial) (Both (IsPeakText s) (IsAwayText s))

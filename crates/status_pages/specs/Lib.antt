@@ -10,3 +10,5 @@ pub mod Reasons
 pub mod Health
 pub mod Made
 pub mod Ignored
+pub mod Anchors
+pub mod ApiStatus

@@ -1,8 +1,9 @@
 -- Why a cache is not well. One list decides what its page, its health, its metrics and its log say.
-use Rattle.std.specs.Prelude.{ℕ, ◌+◌, ◌-◌, ◌/◌, min, Bool, true, false, not, ◌&&◌, ◌||◌, ◌==◌, nat_le, nat_lt, List, [], ◌∷◌, codes, Option, None, Some}
+use Rattle.std.specs.Prelude.{ℕ, ◌+◌, ◌-◌, ◌*◌, ◌/◌, min, Bool, true, false, not, ◌&&◌, ◌||◌, ◌==◌, nat_le, nat_lt, List, [], ◌∷◌, codes, Option, None, Some}
 use Rattle.std.specs.List.{list_any}
 use Rattle.status_pages.specs.declared.reasons.Reason.{Reason}
 use Rattle.status_pages.specs.declared.reasons.Reason.TheVariants as reason
+use Rattle.status_pages.specs.declared.status.AnchorStatus.{AnchorStatus}
 use Rattle.status_pages.specs.declared.status.FileStatus.{FileStatus}
 use Rattle.status_pages.specs.declared.status.SlowCall.{SlowCall}
 use Rattle.status_pages.specs.declared.status.Status.{Status}
@@ -37,11 +38,20 @@ abbrev pub is_slow : ℕ → Option SlowCall → Bool
 is_slow now None = false
 is_slow now (Some call) = nat_lt 5000 call.milliseconds && nat_le (now - call.at) 3600
 
--- A source is the reason, with this maximum age: its data are too old, or it is refused, or a call on it was slow.
+-- A trust anchor has fewer than half of the most VRPs within the last 24 hours, from 1,000 on.
+abbrev pub is_under_half : ℕ → Option VrpPeak → Bool
+is_under_half vrps None = false
+is_under_half vrps (Some peak) = nat_le 1000 peak.vrps && nat_lt (2 * vrps) peak.vrps
+
+abbrev pub has_shrunk : AnchorStatus → Bool
+has_shrunk a = is_under_half a.vrps a.peak
+
+-- A source is the reason, with this maximum age: its data are too old, or it is refused, or one of its trust anchors shrank, or a call on it was slow.
 abbrev pub is_blamed : ℕ → Option ℕ → Reason → FileStatus → Bool
 is_blamed now max_age reason.Old f = f.is_old || has_all_expired f
 is_blamed now max_age reason.RefusedLong f = is_long_refused now (refusal_limit max_age) f.refused_at
 is_blamed now max_age reason.Refused f = is_some f.refusal
+is_blamed now max_age reason.Shrank f = list_any has_shrunk f.anchors.items
 is_blamed now max_age reason.SlowPoll f = is_slow now f.slow
 is_blamed now max_age other f = false
 
@@ -59,15 +69,19 @@ is_recent now (Some away) = nat_le (now - away.last) 600
 abbrev pub served_vrps : Status → ℕ
 served_vrps s = min (s.ipv4 + s.ipv6) 18446744073709551615
 
--- A reason holds. Before the first version it is no reason that no VRP is served.
+-- A reason holds of the cache as a whole, sources aside. Before the first version it is no reason that no VRP is served.
+abbrev pub holds_for_all : Status → Reason → Bool
+holds_for_all s reason.NoVrps = is_some s.serial && (s.given == 0 || served_vrps s == 0)
+holds_for_all s reason.Publication = is_some s.publication_failure
+holds_for_all s reason.NoVersion = not (is_some s.serial)
+holds_for_all s reason.Shrank = is_shrunk (served_vrps s) s.peak
+holds_for_all s reason.TurnedAway = is_recent s.now s.turned_away
+holds_for_all s reason.Clock = nat_lt 0 s.clock_behind
+holds_for_all s other = false
+
+-- A reason holds: of the cache as a whole, or of a source.
 abbrev pub has_reason : Status → Reason → Bool
-has_reason s reason.NoVrps = is_some s.serial && (s.given == 0 || served_vrps s == 0)
-has_reason s reason.Publication = is_some s.publication_failure
-has_reason s reason.NoVersion = not (is_some s.serial)
-has_reason s reason.Shrank = is_shrunk (served_vrps s) s.peak
-has_reason s reason.TurnedAway = is_recent s.now s.turned_away
-has_reason s reason.Clock = nat_lt 0 s.clock_behind
-has_reason s other = list_any (is_blamed s.now s.max_age other) s.files.items
+has_reason s r = holds_for_all s r || list_any (is_blamed s.now s.max_age r) s.files.items
 
 -- all reasons, in the order in which they are listed
 abbrev pub all_reasons : List Reason

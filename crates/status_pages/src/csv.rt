@@ -26,7 +26,8 @@ fn write_csv_lines<W: Write>(out: &mut W, records: &[Vrp], end: &str) -> io::Res
     Ok(())
 }
 
-/// Writes records as CSV of three columns: a line of heads, and a line for each record.
+/// Writes VRPs as CSV: the header line `ASN,IP Prefix,Max Length`, then one line for each VRP, such as `AS64496,192.0.2.0/24,26`. `Err`: the
+/// writer failed.
 pub fn write_csv<W: Write>(out: &mut W, records: &[Vrp]) -> io::Result<()>
     ensures { OnOk result (Appends (W.contents out.old) (W.contents out.new) (csv_text records.now)) }
 {
@@ -34,7 +35,8 @@ pub fn write_csv<W: Write>(out: &mut W, records: &[Vrp]) -> io::Result<()>
     write_csv_lines(out, records, "\n")
 }
 
-/// Writes records as CSV with the columns of Routinator. A cache does not know the trust anchor of a record, so that column is empty.
+/// Writes VRPs as CSV with the columns of Routinator: those of [`write_csv`] and `Trust Anchor`. That column is empty, as a cache does not know
+/// the trust anchor. `Err`: the writer failed.
 pub fn write_routinator_csv<W: Write>(out: &mut W, records: &[Vrp]) -> io::Result<()>
     ensures { OnOk result (Appends (W.contents out.old) (W.contents out.new) (routinator_csv_text records.now)) }
 {

@@ -16,8 +16,10 @@ fn write_export_head_at<W: Write>(out: &mut W, time: &[u8], made: u64, vrps: u64
     write!(out, "\",\"generated\":{made},\"vrps\":{vrps}}},\"roas\":")
 }
 
-/// Writes the start of an export in the format of rpki-client and StayRTR: its metadata, and the key of its records. The records, as a payload list, and `}`
-/// follow. `made` is when the records were made, in seconds since 1970, and `vrps` is their number.
+/// Writes the start of a JSON export in the format of rpki-client and StayRTR: the metadata and the key `roas`. The caller writes the VRPs after
+/// it, as a payload list, and then `}`.
+///
+/// `made` is when the VRPs were made, in seconds since 1970. `vrps` is their number. `Err`: the writer failed.
 pub fn write_export_head<W: Write>(out: &mut W, made: u64, vrps: u64) -> io::Result<()>
     ensures { OnOk result (BeginsExport (W.contents out.old) (W.contents out.new) made vrps) }
 {
@@ -37,8 +39,10 @@ fn write_routinator_head_at<W: Write>(out: &mut W, time: &[u8], made: u64) -> io
     out.write_all(b"\"},\"roas\":")
 }
 
-/// Writes the start of an export in the format of Routinator: its metadata, and the key of its records. The records, as Routinator writes them, and
-/// `}` follow. `made` is when the records were made, in seconds since 1970.
+/// Writes the start of a JSON export in the format of Routinator: the metadata and the key `roas`. The caller writes the VRPs after it, with
+/// [`write_roas`](crate::write_roas), and then `}`.
+///
+/// `made` is when the VRPs were made, in seconds since 1970. `Err`: the writer failed.
 pub fn write_routinator_head<W: Write>(out: &mut W, made: u64) -> io::Result<()>
     ensures { OnOk result (BeginsRoutinator (W.contents out.old) (W.contents out.new) made) }
 {

@@ -1,5 +1,6 @@
 //! The metrics of files and publication points.
 
+use crate::anchor_metrics::write_source_vrps;
 use crate::ignored::write_ignored;
 use crate::metrics::{write_head, write_one, write_value};
 use crate::status::{FileStatus, Status};
@@ -15,17 +16,6 @@ enum FileMetric {
     Old,
     NearLimit,
     Expired,
-    Vrps,
-}
-
-impl FileMetric {
-    /// The label of the path.
-    fn label(self) -> &'static str {
-        match self {
-            FileMetric::Vrps => "source",
-            _ => "file",
-        }
-    }
 }
 
 /// The value of a metric of a file, if it has one.
@@ -37,19 +27,12 @@ fn file_metric(file: &FileStatus, now: u64, what: FileMetric) -> Option<u64> {
         FileMetric::Old => Some(u64::from(file.is_old)),
         FileMetric::NearLimit => Some(u64::from(file.near_limit.is_some())),
         FileMetric::Expired => Some(file.expired),
-        FileMetric::Vrps => file.vrps,
     }
 }
 
-/// Writes the value of a metric for a file, whose path is under this label.
-fn write_of_file<W: Write>(
-    out: &mut W,
-    name: &str,
-    label: &str,
-    path: &str,
-    value: u64,
-) -> io::Result<()> {
-    write_texts(out, &[name, "{", label, "=\""])?;
+/// Writes the value of a metric for a file.
+fn write_of_file<W: Write>(out: &mut W, name: &str, path: &str, value: u64) -> io::Result<()> {
+    write_texts(out, &[name, "{file=\""])?;
     write_label(out, path)?;
     out.write_all(b"\"} ")?;
     write_value(out, value)
@@ -66,7 +49,7 @@ fn write_of_files<W: Write>(
     write_head(out, name, "gauge", help)?;
     for file in &status.files {
         if let Some(value) = file_metric(file, status.now, what) {
-            write_of_file(out, name, what.label(), &file.path, value)?;
+            write_of_file(out, name, &file.path, value)?;
         }
     }
     Ok(())
@@ -78,42 +61,42 @@ pub(crate) fn write_files<W: Write>(out: &mut W, status: &Status) -> io::Result<
         out,
         status,
         "rpkirtrd_export_age_seconds",
-        "How long ago what was taken last of a file was made.",
+        "Age of the data of the last load of a file.",
         FileMetric::Age,
     )?;
     write_of_files(
         out,
         status,
         "rpkirtrd_file_taken_timestamp_seconds",
-        "When a file was taken last, in seconds since 1970.",
+        "Time of the last load of a file, in seconds since 1970.",
         FileMetric::Taken,
     )?;
     write_of_files(
         out,
         status,
         "rpkirtrd_file_refused",
-        "Whether a file is refused, 1, or not, 0.",
+        "1 if a file is refused, otherwise 0.",
         FileMetric::Refused,
     )?;
     write_of_files(
         out,
         status,
         "rpkirtrd_file_old",
-        "Whether what a file has is older than it may be, 1, or not, 0.",
+        "1 if the data of a file are older than --max-age, otherwise 0.",
         FileMetric::Old,
     )?;
     write_of_files(
         out,
         status,
         "rpkirtrd_file_near_limit",
-        "Whether a file has more than three quarters of the bytes that it may have, 1, or not, 0.",
+        "1 if the last load of a file had more than three quarters of --max-size, otherwise 0.",
         FileMetric::NearLimit,
     )?;
     write_of_files(
         out,
         status,
         "rpkirtrd_file_expired_entries",
-        "Entries of a file that have expired.",
+        "Expired entries of a file.",
         FileMetric::Expired,
     )?;
     write_head(
@@ -127,13 +110,13 @@ pub(crate) fn write_files<W: Write>(out: &mut W, status: &Status) -> io::Result<
 
 /// How many VRPs the sources give, each and together.
 pub(crate) fn write_given<W: Write>(out: &mut W, status: &Status) -> io::Result<()> {
-    write_of_files(
+    write_head(
         out,
-        status,
         "rpkirtrd_source_vrps",
-        "VRPs that a source gives, before local exceptions are applied.",
-        FileMetric::Vrps,
+        "gauge",
+        "VRPs of a source, by trust anchor, before local exceptions.",
     )?;
+    write_source_vrps(out, &status.files)?;
     if status.serial.is_none() {
         return Ok(());
     }
@@ -141,7 +124,7 @@ pub(crate) fn write_given<W: Write>(out: &mut W, status: &Status) -> io::Result<
         out,
         "rpkirtrd_given_vrps",
         "gauge",
-        "VRPs that all sources give together, before local exceptions are applied.",
+        "VRPs of all sources together, before local exceptions.",
         status.given,
     )
 }

@@ -114,8 +114,12 @@ fn write_fault<W: Write>(out: &mut W, alloc: Global, fault: QueryFault) -> io::R
     out.write_all(b".</p>\n")
 }
 
-/// Writes the page of the form. Without a query it is empty. Otherwise it has what was typed, why that is no route, and the route that was probably
-/// meant. `now` is the time that is written, in seconds since 1970. The page does not refresh, so what is typed stays.
+/// Writes the HTML page with the form that asks for a route. `query` is the part of the URL after `?`. `now` is the time on the page, in seconds
+/// since 1970.
+/// - If `query` is empty, the form is empty.
+/// - Otherwise the form has what was typed. The page says why that is not a route (`fault`), and links to the route that was probably meant.
+///
+/// The page does not refresh, so the typed text stays. `Err`: the writer failed, or memory ran out.
 pub fn write_form_page<W: Write>(
     out: &mut W,
     alloc: Global,

@@ -1,12 +1,15 @@
 //! The health of a cache as a text.
 ghost use Rattle.std.specs.Prelude.{◌≡◌, OnOk};
 ghost use Rattle.std.specs.Io.KnownBytes.{Appends};
-ghost use Rattle.status_pages.specs.Health.{AppendsSome, AreSourceTexts, Both, IsAwayText, IsFailureText, IsHealthText, IsPeakText};
-ghost use Rattle.status_pages.specs.Health.{IsRefusalText, IsRestText, IsSourceText, IsTableText, TellsAway, TellsPeak};
-ghost use Rattle.status_pages.specs.Health.{age_text, away_line, expired_line, failure_line, limit_text, none_text, old_line, refused_line, shrunk_line, still_served, version_text};
+ghost use Rattle.status_pages.specs.Health.{AppendsSome, AreAnchorTexts, AreSourceTexts, Both, IsAnchorText, IsAwayText, IsFailureText, IsHealthText, IsPeakText};
+ghost use Rattle.status_pages.specs.Health.{IsRefusalText, IsRestText, IsSourceText, IsTableText, TellsAnchor, TellsAway, TellsPeak};
+ghost use Rattle.status_pages.specs.Health.{age_text, anchor_line, away_line, expired_line, failure_line, limit_text, none_text, old_line, refused_line, shrunk_line};
+ghost use Rattle.status_pages.specs.Health.{still_served, version_text};
 
-use crate::reasons::{Reason, has_all_expired, has_reason, is_healthy, served_vrps};
-use crate::status::{ClientLimit, FileStatus, PublicationFailure, Status, TurnedAway, VrpPeak};
+use crate::reasons::{Reason, has_all_expired, has_shrunk, holds_for_all, is_healthy, served_vrps};
+use crate::status::{
+    AnchorStatus, ClientLimit, FileStatus, PublicationFailure, Status, TurnedAway, VrpPeak,
+};
 use crate::text::write_label;
 use event_log::time_at;
 use std::io::{self, Write};
@@ -50,7 +53,7 @@ fn write_failure<W: Write>(out: &mut W, failure: &Option<PublicationFailure>) ->
 fn write_table<W: Write>(out: &mut W, status: &Status) -> io::Result<()>
     ensures { OnOk result (AppendsSome (W.contents out.old) (W.contents out.new) (IsTableText status.entry.now)) }
 {
-    write_none(out, has_reason(status, Reason::NoVrps))?;
+    write_none(out, holds_for_all(status, Reason::NoVrps))?;
     write_failure(out, &status.publication_failure)
 }
 
@@ -126,12 +129,74 @@ fn write_refusal<W: Write>(out: &mut W, file: &FileStatus) -> io::Result<()>
     write_refused_at(out, &file.path, &time, reason, file.taken)
 }
 
+/// Writes from how many VRPs to how many a trust anchor of a source shrank, and since when, with that time as a text.
+#[tactic(auto, unfolding(crate::specs::Health::anchor_line))]
+fn write_anchor_at<W: Write>(
+    out: &mut W,
+    path: &str,
+    name: &str,
+    from: u64,
+    to: u64,
+    time: &[u8],
+) -> io::Result<()>
+    ensures { OnOk result (Appends (W.contents out.old) (W.contents out.new) (anchor_line path.now name.now from to time.now)) }
+{
+    write_label(out, path)?;
+    out.write_all(b": ")?;
+    write_label(out, name)?;
+    write!(out, " shrank: {from} to {to} VRPs at ")?;
+    out.write_all(time)?;
+    out.write_all(b"\n")
+}
+
+/// Writes that a trust anchor of a source shrank, if so.
+fn write_anchor_peak<W: Write>(
+    out: &mut W,
+    path: &str,
+    name: &str,
+    is_shrunk: bool,
+    vrps: u64,
+    peak: Option<VrpPeak>,
+) -> io::Result<()>
+    ensures { OnOk result (AppendsSome (W.contents out.old) (W.contents out.new) (TellsAnchor path.now name.now is_shrunk vrps peak)) }
+{
+    if !is_shrunk {
+        return Ok(());
+    }
+    match peak {
+        None => Ok(()),
+        Some(peak) => {
+            let time = time_at(peak.until);
+            write_anchor_at(out, path, name, peak.vrps, vrps, &time)
+        }
+    }
+}
+
+/// Writes that a trust anchor of a source shrank, if so.
+fn write_anchor<W: Write>(out: &mut W, path: &str, anchor: &AnchorStatus) -> io::Result<()>
+    ensures { OnOk result (AppendsSome (W.contents out.old) (W.contents out.new) (IsAnchorText path.now anchor.now)) }
+{
+    let is_shrunk = has_shrunk(anchor);
+    write_anchor_peak(out, path, &anchor.name, is_shrunk, anchor.vrps, anchor.peak)
+}
+
+/// Writes which trust anchors of a source shrank.
+fn write_anchors<W: Write>(out: &mut W, path: &str, anchors: &[AnchorStatus]) -> io::Result<()>
+    ensures { OnOk result (AppendsSome (W.contents out.old) (W.contents out.new) (AreAnchorTexts path.now anchors.now)) }
+{
+    for anchor in anchors {
+        write_anchor(out, path, anchor)?;
+    }
+    Ok(())
+}
+
 /// Writes why a source is a reason, if it is.
 fn write_source<W: Write>(out: &mut W, file: &FileStatus) -> io::Result<()>
     ensures { OnOk result (AppendsSome (W.contents out.old) (W.contents out.new) (IsSourceText file.now)) }
 {
     write_age(out, file)?;
-    write_refusal(out, file)
+    write_refusal(out, file)?;
+    write_anchors(out, &file.path, &file.anchors)
 }
 
 /// Writes why sources are reasons.
@@ -232,9 +297,9 @@ fn write_away<W: Write>(out: &mut W, is_recent: bool, away: Option<TurnedAway>) 
 fn write_counts<W: Write>(out: &mut W, status: &Status) -> io::Result<()>
     ensures { OnOk result (AppendsSome (W.contents out.old) (W.contents out.new) (Both (IsPeakText status.entry.now) (IsAwayText status.entry.now))) }
 {
-    let shrank = has_reason(status, Reason::Shrank);
+    let shrank = holds_for_all(status, Reason::Shrank);
     write_peak(out, shrank, served_vrps(status), status.peak)?;
-    let is_recent = has_reason(status, Reason::TurnedAway);
+    let is_recent = holds_for_all(status, Reason::TurnedAway);
     write_away(out, is_recent, status.turned_away)
 }
 
@@ -254,8 +319,10 @@ fn write_after_table<W: Write>(out: &mut W, status: &Status) -> io::Result<()>
     write_rest(out, status)
 }
 
-/// Writes the health of a cache as plain text: `ok`, or a line for each reason why it is not well. In paths and reasons a backslash, a quote and
-/// a newline are escaped by a backslash.
+/// Writes the health as plain text. It is `ok` if [`is_healthy`] is true. Otherwise it has lines that say why the cache is not well. The reasons
+/// `SlowPoll` and `Clock` have no line.
+///
+/// In paths and reasons, a backslash, a quote and a newline are escaped by a backslash. `Err`: the writer failed.
 pub fn write_health<W: Write>(out: &mut W, status: &Status) -> io::Result<()>
     ensures { OnOk result (AppendsSome (W.contents out.old) (W.contents out.new) (IsHealthText status.entry.now)) }
 {

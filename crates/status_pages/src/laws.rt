@@ -1,15 +1,18 @@
 //! Laws of the definitions. These functions do nothing: their contracts are the laws.
 ghost use Rattle.status_pages.specs.Kinds.{ListsCover, OneKindEach, OriginIsTooShort};
 
-/// A record that covers a route either matches it, or has too small a maximum length, or is of another AS (RFC 6811 section 2). Exactly one of
-/// the three holds. So the three lists of a route together have as many records as cover it.
+/// Law: a VRP that covers a route is of exactly one of three kinds (RFC 6811 section 2). It matches the route, its maximum length is too small,
+/// or it has another AS.
+///
+/// So the three lists of a route together have as many VRPs as cover it.
 pub fn covering_is_parted()
     ensures one_kind { OneKindEach }
     ensures lists { ListsCover }
 {}
 
-/// The reason of an invalid route is `length` if and only if a record that covers it is of its origin. Otherwise it is `as`. Such a record is in
-/// the list of those whose maximum length is too small.
+/// Law: let a route be Invalid. If a covering VRP has the route's origin AS, the reason is `length`. Otherwise it is `as`.
+///
+/// If the reason is `length`, such a VRP is in the list of those whose maximum length is too small.
 pub fn reason_is_by_origin()
     ensures { OriginIsTooShort }
 {}

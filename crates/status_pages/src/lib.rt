@@ -18,6 +18,8 @@
 //! ```
 #![tactic(auto)]
 
+mod anchor_metrics;
+mod api_status;
 mod csv;
 mod export;
 mod file_metrics;
@@ -42,11 +44,13 @@ mod report_metrics;
 mod roas;
 mod router_metrics;
 mod status;
+mod tals;
 mod text;
 mod validity;
 mod validity_page;
 mod validity_text;
 
+pub use api_status::write_api_status;
 pub use csv::{write_csv, write_routinator_csv};
 pub use export::{write_export_head, write_routinator_head};
 pub use form::write_form_page;
@@ -57,11 +61,12 @@ pub use page::write_page;
 pub use query::{read_path, read_query};
 pub use query_fault::QueryFault;
 pub use reasons::{
-    REASONS, Reason, has_reason, is_blamed, is_healthy, is_ready, is_well, served_vrps,
+    REASONS, Reason, has_reason, holds_for_all, is_blamed, is_healthy, is_ready, is_well,
+    served_vrps,
 };
 pub use roas::write_roas;
 pub use status::{
-    ChangeStatus, ClientLimit, ClientStatus, ClientTraffic, ErrorReports, FileStatus,
+    AnchorStatus, ChangeStatus, ClientLimit, ClientStatus, ClientTraffic, ErrorReports, FileStatus,
     IgnoredEntries, LostLines, PdusByType, PublicationFailure, ReportsByCode, SlowCall, Status,
     TotalTraffic, TurnedAway, VrpPeak,
 };

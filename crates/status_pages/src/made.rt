@@ -15,7 +15,7 @@ fn earlier(one: Option<u64>, other: Option<u64>) -> Option<u64>
     }
 }
 
-/// The earliest time at which the data of one of these sources were made, in seconds since 1970.
+/// The earliest `built` time of the sources, in seconds since 1970. `None`: no source has one.
 pub fn oldest_built(files: &[FileStatus]) -> Option<u64>
     ensures { result ≡ oldest files.now }
 {

@@ -86,7 +86,7 @@ fn write_program<W: Write>(out: &mut W, status: &Status) -> io::Result<()> {
         out,
         "rpkirtrd_build_info",
         "gauge",
-        "The version of the program; the value is 1.",
+        "Version of the program, as a label; the value is 1.",
     )?;
     out.write_all(b"rpkirtrd_build_info{version=\"")?;
     write_label(out, status.version)?;
@@ -95,14 +95,14 @@ fn write_program<W: Write>(out: &mut W, status: &Status) -> io::Result<()> {
         out,
         "rpkirtrd_start_time_seconds",
         "gauge",
-        "When the program started, in seconds since 1970.",
+        "Start time of the program, in seconds since 1970.",
         status.started,
     )?;
     write_one(
         out,
         "rpkirtrd_clock_behind_seconds",
         "gauge",
-        "How far the clock was set back since the start.",
+        "Seconds by which the clock was set back since the start.",
         status.clock_behind,
     )
 }
@@ -112,7 +112,12 @@ fn write_records<W: Write>(out: &mut W, status: &Status) -> io::Result<()> {
     if status.serial.is_none() {
         return Ok(());
     }
-    write_head(out, "rpkirtrd_vrps", "gauge", "Records that are served.")?;
+    write_head(
+        out,
+        "rpkirtrd_vrps",
+        "gauge",
+        "VRPs that are served, by address family.",
+    )?;
     write_two(
         out,
         "rpkirtrd_vrps",
@@ -124,7 +129,7 @@ fn write_records<W: Write>(out: &mut W, status: &Status) -> io::Result<()> {
         out,
         "rpkirtrd_left_out_vrps",
         "gauge",
-        "Records of length 0 that are left out.",
+        "VRPs of prefix length 0 that --leave-out-length-0 leaves out.",
         status.left_out,
     )
 }
@@ -135,14 +140,14 @@ fn write_served<W: Write>(out: &mut W, status: &Status) -> io::Result<()> {
     write_any(
         out,
         "rpkirtrd_serial",
-        "The serial of the version that is served.",
+        "Serial of the served version.",
         status.serial.map(u64::from),
     )?;
     write_head(
         out,
         "rpkirtrd_session",
         "gauge",
-        "The session, by the version of the protocol.",
+        "Session ID, by protocol version.",
     )?;
     write_two(
         out,
@@ -154,7 +159,7 @@ fn write_served<W: Write>(out: &mut W, status: &Status) -> io::Result<()> {
     write_any(
         out,
         "rpkirtrd_last_change_timestamp_seconds",
-        "When the version that is served was published, in seconds since 1970.",
+        "Time at which the served version was published, in seconds since 1970.",
         status.changes.last().map(|change| change.at),
     )
 }
@@ -165,7 +170,7 @@ fn write_reloads<W: Write>(out: &mut W, status: &Status) -> io::Result<()> {
         out,
         "rpkirtrd_reloads_total",
         "counter",
-        "Files that were taken, and refusals of files that were reported.",
+        "Loads and reported refusals of files.",
     )?;
     write_two(
         out,
@@ -181,7 +186,7 @@ fn write_reloads<W: Write>(out: &mut W, status: &Status) -> io::Result<()> {
         out,
         "rpkirtrd_reload_seconds",
         "gauge",
-        "How long it took to take what came last.",
+        "Duration of the last load.",
     )?;
     out.write_all(b"rpkirtrd_reload_seconds ")?;
     write_seconds(out, milliseconds)
@@ -199,7 +204,7 @@ fn write_unwell<W: Write>(out: &mut W, status: &Status) -> io::Result<()> {
         out,
         "rpkirtrd_unwell",
         "gauge",
-        "Whether a reason holds why the cache is not well, 1, or not, 0.",
+        "1 if the cache is not well for this reason, otherwise 0.",
     )?;
     for reason in REASONS {
         let value = u64::from(has_reason(status, reason));
@@ -214,14 +219,14 @@ fn write_failures<W: Write>(out: &mut W, status: &Status) -> io::Result<()> {
         out,
         "rpkirtrd_publications_failed_total",
         "counter",
-        "Publications of a version that failed since the start.",
+        "Failed publications of a version since the start.",
         status.publications_failed,
     )?;
     write_one(
         out,
         "rpkirtrd_publication_failing",
         "gauge",
-        "Whether the last publication failed, 1, or not, 0.",
+        "1 if the last publication failed, otherwise 0.",
         u64::from(status.publication_failure.is_some()),
     )
 }
@@ -232,7 +237,7 @@ fn write_log<W: Write>(out: &mut W, status: &Status) -> io::Result<()> {
         out,
         "rpkirtrd_log_lines_lost_total",
         "counter",
-        "Log lines that were not written since the start, by reason.",
+        "Log lines lost since the start, by reason.",
     )?;
     write_two(
         out,
@@ -249,14 +254,14 @@ fn write_disconnected<W: Write>(out: &mut W, status: &Status) -> io::Result<()> 
         out,
         "rpkirtrd_connections_refused_total",
         "counter",
-        "Routers that were disconnected on arrival at a limit since the start.",
+        "Connections closed on arrival since the start, by --clients or --clients-per-address.",
         status.clients_refused,
     )?;
     write_one(
         out,
         "rpkirtrd_connections_stalled_total",
         "counter",
-        "Routers that were disconnected since the start, as they accepted no byte.",
+        "Connections closed since the start because the router accepted no byte for --stall seconds.",
         status.clients_stalled,
     )
 }
@@ -267,21 +272,21 @@ fn write_clients<W: Write>(out: &mut W, status: &Status) -> io::Result<()> {
         out,
         "rpkirtrd_clients",
         "gauge",
-        "Routers that are connected.",
+        "Connected routers.",
         status.clients.len() as u64,
     )?;
     write_one(
         out,
         "rpkirtrd_clients_max",
         "gauge",
-        "Routers that may be connected at once.",
+        "Maximum number of connected routers.",
         status.client_limit,
     )?;
     write_one(
         out,
         "rpkirtrd_connections_total",
         "counter",
-        "Routers that were taken in since the start.",
+        "Connections accepted since the start.",
         status.clients_ever,
     )
 }
@@ -334,7 +339,7 @@ fn write_traffic<W: Write>(out: &mut W, status: &Status) -> io::Result<()> {
         out,
         "rpkirtrd_pdus_total",
         "counter",
-        "PDUs of all routers since the start, by type and direction.",
+        "PDUs received and sent since the start, by type and direction.",
     )?;
     write_pdus(out, "received", &status.received)?;
     write_pdus(out, "sent", &status.sent)?;
@@ -342,7 +347,7 @@ fn write_traffic<W: Write>(out: &mut W, status: &Status) -> io::Result<()> {
         out,
         "rpkirtrd_bytes_total",
         "counter",
-        "Bytes of all routers since the start, by direction.",
+        "Bytes received and sent since the start, by direction.",
     )?;
     write_two(
         out,
@@ -353,7 +358,7 @@ fn write_traffic<W: Write>(out: &mut W, status: &Status) -> io::Result<()> {
     )
 }
 
-/// Writes the status of a cache in the text format of Prometheus, version 0.0.4.
+/// Writes the status as metrics in the text format of Prometheus, version 0.0.4. `Err`: the writer failed.
 pub fn write_metrics<W: Write>(out: &mut W, status: &Status) -> io::Result<()> {
     write_program(out, status)?;
     write_unwell(out, status)?;

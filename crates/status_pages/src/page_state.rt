@@ -2,9 +2,10 @@
 
 use crate::page_routers::behind_count;
 use crate::reasons::{
-    REASONS, Reason, has_all_expired, has_reason, is_blamed, is_well, served_vrps,
+    REASONS, Reason, has_all_expired, has_reason, has_shrunk, holds_for_all, is_blamed, is_well,
+    served_vrps,
 };
-use crate::status::{ClientLimit, FileStatus, Status};
+use crate::status::{AnchorStatus, ClientLimit, FileStatus, Status};
 use crate::text::{write_grouped, write_html, write_span, write_texts, write_time};
 use std::io::{self, Write};
 
@@ -19,8 +20,17 @@ pub(crate) fn old_count(status: &Status) -> u64 {
     status.files.iter().filter(|file| file.is_old).count() as u64
 }
 
+/// What shrank in a few words: the table, or only a trust anchor.
+fn shrunk_sentence(status: &Status) -> &'static str {
+    if holds_for_all(status, Reason::Shrank) {
+        "The table shrank. "
+    } else {
+        "A trust anchor shrank. "
+    }
+}
+
 /// A reason in a few words, for the title. A source that has been refused for long is refused, which is a reason of its own.
-fn sentence(reason: Reason) -> &'static str {
+fn sentence(status: &Status, reason: Reason) -> &'static str {
     match reason {
         Reason::NoVrps => "No VRPs are served. ",
         Reason::Publication => "Publication fails. ",
@@ -28,7 +38,7 @@ fn sentence(reason: Reason) -> &'static str {
         Reason::RefusedLong => "",
         Reason::NoVersion => "No version is published yet. ",
         Reason::Refused => "A source is refused. ",
-        Reason::Shrank => "The table shrank. ",
+        Reason::Shrank => shrunk_sentence(status),
         Reason::TurnedAway => "Routers were turned away. ",
         Reason::SlowPoll => "A call on a file was slow. ",
         Reason::Clock => "The clock was set back. ",
@@ -42,7 +52,7 @@ pub(crate) fn write_title<W: Write>(out: &mut W, status: &Status) -> io::Result<
     }
     for reason in REASONS {
         if has_reason(status, reason) {
-            out.write_all(sentence(reason).as_bytes())?;
+            out.write_all(sentence(status, reason).as_bytes())?;
         }
     }
     Ok(())
@@ -114,6 +124,44 @@ fn write_peak<W: Write>(out: &mut W, status: &Status) -> io::Result<()> {
     out.write_all(b". ")
 }
 
+/// Writes from how many VRPs a trust anchor of a source shrank.
+fn write_anchor<W: Write>(out: &mut W, path: &str, anchor: &AnchorStatus) -> io::Result<()> {
+    let Some(peak) = anchor.peak else {
+        return Ok(());
+    };
+    write_html(out, path)?;
+    out.write_all(b": ")?;
+    write_html(out, &anchor.name)?;
+    out.write_all(b" shrank from ")?;
+    write_grouped(out, peak.vrps)?;
+    out.write_all(b" to ")?;
+    write_grouped(out, anchor.vrps)?;
+    out.write_all(b" VRPs at ")?;
+    write_time(out, peak.until)?;
+    out.write_all(b". ")
+}
+
+/// Writes which trust anchors of a source shrank.
+fn write_anchors<W: Write>(out: &mut W, file: &FileStatus) -> io::Result<()> {
+    for anchor in &file.anchors {
+        if has_shrunk(anchor) {
+            write_anchor(out, &file.path, anchor)?;
+        }
+    }
+    Ok(())
+}
+
+/// Writes that the table shrank, if so, and which trust anchors of sources shrank.
+fn write_shrunk<W: Write>(out: &mut W, status: &Status) -> io::Result<()> {
+    if holds_for_all(status, Reason::Shrank) {
+        write_peak(out, status)?;
+    }
+    for file in &status.files {
+        write_anchors(out, file)?;
+    }
+    Ok(())
+}
+
 /// Writes how many routers were turned away, and by which limit.
 fn write_away<W: Write>(out: &mut W, status: &Status) -> io::Result<()> {
     let Some(away) = status.turned_away else {
@@ -165,12 +213,12 @@ fn write_clock<W: Write>(out: &mut W, status: &Status) -> io::Result<()> {
 fn write_reason<W: Write>(out: &mut W, status: &Status, reason: Reason) -> io::Result<()> {
     match reason {
         Reason::Publication => write_failure(out, status),
-        Reason::Shrank => write_peak(out, status),
+        Reason::Shrank => write_shrunk(out, status),
         Reason::TurnedAway => write_away(out, status),
         Reason::SlowPoll => write_slow(out, status),
         Reason::Clock => write_clock(out, status),
         Reason::Old | Reason::RefusedLong | Reason::Refused => Ok(()),
-        Reason::NoVrps | Reason::NoVersion => out.write_all(sentence(reason).as_bytes()),
+        Reason::NoVrps | Reason::NoVersion => out.write_all(sentence(status, reason).as_bytes()),
     }
 }
 

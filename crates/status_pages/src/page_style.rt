@@ -56,6 +56,6 @@ figcaption{margin-top:.3rem}
 @media (max-width:40rem){.wide{display:none}th,td{padding:.35rem .5rem}\
 .warn{white-space:normal}.files tr{display:block;border-top:1px solid var(--line);padding:.4rem 0}.files thead{display:none}\
 .files td,.files th{display:block;border:0;white-space:normal;text-align:left;padding:.05rem .7rem}\
-.files td:nth-child(3)::before{content:'data made '}.files td:nth-child(4)::before{content:'taken '}\
+.files td:nth-child(3)::before{content:'data made '}.files td:nth-child(4)::before{content:'loaded '}\
 .files td:nth-child(5)::before{content:'expired entries: '}}
 ";

@@ -1,7 +1,7 @@
 //! The tables of the page.
 
 use crate::ignored::write_not_served;
-use crate::status::{ChangeStatus, FileStatus, Status};
+use crate::status::{AnchorStatus, ChangeStatus, FileStatus, Status};
 use crate::text::{write_decimal, write_grouped, write_html, write_since, write_texts, write_time};
 use std::io::{self, Write};
 
@@ -75,7 +75,7 @@ fn write_refusal<W: Write>(out: &mut W, since: Option<u64>, reason: &str) -> io:
     write_html(out, reason)
 }
 
-/// Writes the state of a file: refused and why, too old, or taken.
+/// Writes the state of a file: refused and why, too old, or loaded.
 fn write_how<W: Write>(out: &mut W, file: &FileStatus) -> io::Result<()> {
     if file.is_old {
         out.write_all(b"<span class=\"warn\">too old</span>, ")?;
@@ -84,9 +84,9 @@ fn write_how<W: Write>(out: &mut W, file: &FileStatus) -> io::Result<()> {
         return write_refusal(out, file.refused_at, reason);
     }
     if file.taken.is_some() {
-        return out.write_all(b"<span class=\"ok\">taken</span>");
+        return out.write_all(b"<span class=\"ok\">loaded</span>");
     }
-    out.write_all(b"<span class=\"warn\">not taken yet</span>")
+    out.write_all(b"<span class=\"warn\">not loaded yet</span>")
 }
 
 /// Writes the size of a file, if it is near the maximum.
@@ -99,6 +99,23 @@ fn write_size<W: Write>(out: &mut W, near_limit: Option<u64>) -> io::Result<()> 
     out.write_all(b" bytes, near --max-size</span>")
 }
 
+/// Writes how many VRPs of a file have a trust anchor.
+fn write_anchor<W: Write>(out: &mut W, anchor: &AnchorStatus) -> io::Result<()> {
+    write_html(out, &anchor.name)?;
+    out.write_all(b" ")?;
+    write_grouped(out, anchor.vrps)
+}
+
+/// Writes the trust anchors of a file, if it has any.
+fn write_anchors<W: Write>(out: &mut W, anchors: &[AnchorStatus]) -> io::Result<()> {
+    for (index, anchor) in anchors.iter().enumerate() {
+        let before = if index == 0 { "<br>" } else { ", " };
+        out.write_all(before.as_bytes())?;
+        write_anchor(out, anchor)?;
+    }
+    Ok(())
+}
+
 /// Writes the row of a file.
 fn write_file<W: Write>(out: &mut W, now: u64, file: &FileStatus) -> io::Result<()> {
     out.write_all(b"<tr><th scope=\"row\" class=\"name\">")?;
@@ -107,6 +124,7 @@ fn write_file<W: Write>(out: &mut W, now: u64, file: &FileStatus) -> io::Result<
     write_how(out, file)?;
     write_not_served(out, file)?;
     write_size(out, file.near_limit)?;
+    write_anchors(out, &file.anchors)?;
     out.write_all(b"</td>")?;
     write_ago_cell(out, now, file.built)?;
     write_ago_cell(out, now, file.taken)?;
@@ -117,10 +135,10 @@ fn write_file<W: Write>(out: &mut W, now: u64, file: &FileStatus) -> io::Result<
 /// Writes the table of the files.
 pub(crate) fn write_files<W: Write>(out: &mut W, status: &Status) -> io::Result<()> {
     if status.files.is_empty() {
-        return out.write_all(b"<p>No file is followed.</p>\n");
+        return out.write_all(b"<p>No file is watched.</p>\n");
     }
     out.write_all(b"<div class=\"files\">\n")?;
-    let heads = ["File", "State", "Data made", "Taken", "+Expired entries"];
+    let heads = ["File", "State", "Data made", "Loaded", "+Expired entries"];
     write_heads(out, "Files", &heads)?;
     for file in &status.files {
         write_file(out, status.now, file)?;

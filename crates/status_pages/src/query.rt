@@ -79,9 +79,11 @@ fn route_of_pairs(one: &DecodedPair<'_>, other: &DecodedPair<'_>) -> Result<Rout
     }
 }
 
-/// The route of a query: `asn=NUMBER&prefix=PREFIX`, each of the two keys once, in either order, and no other key. The AS number is in decimal,
-/// with or without `AS` before it. Names and values are decoded as those of web forms (the URL Standard, section 5.1), so `%2F` is `/` and `%3A`
-/// is `:`. The first fault is given: `Keys` for other keys, then `Asn` for a bad AS number, then `Prefix` for a bad prefix. `Memory` is out of
+/// Reads the route from the query of a URL: `asn=NUMBER&prefix=PREFIX`. Each key must occur once, in either order, and no other key may occur.
+/// - The AS number is decimal, with or without `AS` before it.
+/// - Keys and values are decoded as those of web forms (the URL Standard, section 5.1). So `%2F` is `/`, and `%3A` is `:`.
+///
+/// `Err` is the first fault, in this order: `Keys` for wrong keys, `Asn` for a bad AS number, `Prefix` for a bad prefix. `Memory`: out of
 /// memory.
 pub fn read_query(alloc: Global, query: &str) -> Result<Route, QueryFault>
     ensures { Finds query.now result }
@@ -107,9 +109,11 @@ fn path_parts(path: &str) -> Option<RawPair<'_>>
     })
 }
 
-/// The route of the end of a path: `NUMBER/PREFIX`. The AS number is in decimal, with or without `AS` before it. Both are decoded as those of web
-/// forms, so the slash of the prefix may be `%2F`. The first fault is given: `Path` if there is no slash, then `Asn` for a bad AS number, then
-/// `Prefix` for a bad prefix. `Memory` is out of memory.
+/// Reads the route from the end of a path: `NUMBER/PREFIX`. The AS number is decimal, with or without `AS` before it. Both parts are decoded as
+/// in [`read_query`], so the slash in the prefix may be `%2F`.
+///
+/// `Err` is the first fault, in this order: `Path` if there is no slash, `Asn` for a bad AS number, `Prefix` for a bad prefix. `Memory`: out of
+/// memory.
 pub fn read_path(alloc: Global, path: &str) -> Result<Route, QueryFault>
     ensures { FindsInPath path.now result }
 {

@@ -5,20 +5,20 @@ use prefixes::PrefixFault;
 use std::alloc::AllocError;
 use thiserror::Error;
 
-/// Why a query has no route. The text says what to write.
+/// Why a query or path names no route. The message says what is wrong, or how to ask.
 #[derive(Clone, Copy, Debug, Drop, PartialEq, Eq, Error)]
 pub enum QueryFault {
-    /// The keys are not `asn` and `prefix`, each once.
-    #[error("write ?asn=NUMBER&prefix=PREFIX, each of the two keys once and no other, as in ?asn=64496&prefix=192.0.2.0/24")]
+    /// The query does not have exactly the keys `asn` and `prefix`, each once.
+    #[error("usage: ?asn=NUMBER&prefix=PREFIX, each key once and no other, as in ?asn=64496&prefix=192.0.2.0/24")]
     Keys,
-    /// The value of `asn` is not an AS number.
-    #[error("write the AS number under asn in decimal digits, from 0 to 4294967295, with AS before it or without")]
+    /// The AS number is not a number from 0 to 4294967295.
+    #[error("the AS number is not a decimal number from 0 to 4294967295, with AS before it or without")]
     Asn,
-    /// The value of `prefix` is not a prefix.
-    #[error("write an IPv4 or IPv6 prefix under prefix, as 192.0.2.0/24 or 2001:db8::/32: {0}")]
+    /// The prefix is not an IPv4 or IPv6 prefix.
+    #[error("the prefix is not an IPv4 or IPv6 prefix, as 192.0.2.0/24 or 2001:db8::/32: {0}")]
     Prefix(PrefixFault),
     /// The path has no slash between the AS number and the prefix.
-    #[error("write /api/v1/validity/NUMBER/PREFIX, as in /api/v1/validity/AS64496/192.0.2.0/24")]
+    #[error("usage: /api/v1/validity/NUMBER/PREFIX, as in /api/v1/validity/AS64496/192.0.2.0/24")]
     Path,
     /// Out of memory.
     #[error("out of memory: try again later")]

@@ -1,15 +1,16 @@
 //! Why a cache is not well. One list decides what its page, its health, its metrics and its log say.
 ghost use Rattle.std.specs.Prelude.{◌≡◌};
 ghost use Rattle.std.specs.List.{list_any};
-ghost use Rattle.status_pages.specs.Reasons.{gives_none, has_all_expired, has_any, has_reason, is_blamed, is_healthy, is_long_refused, is_ready, is_recent, is_shrunk, is_slow, is_well};
+ghost use Rattle.status_pages.specs.Reasons.{gives_none, has_all_expired, has_any, has_reason, has_shrunk, holds_for_all, is_blamed, is_healthy};
+ghost use Rattle.status_pages.specs.Reasons.{is_long_refused, is_ready, is_recent, is_shrunk, is_slow, is_under_half, is_well};
 ghost use Rattle.status_pages.specs.Reasons.{reason_word, refusal_limit, served_vrps};
 
-use crate::status::{FileStatus, SlowCall, Status, TurnedAway, VrpPeak};
+use crate::status::{AnchorStatus, FileStatus, SlowCall, Status, TurnedAway, VrpPeak};
 
 /// The longest time for which a source may be refused, in seconds.
 const REFUSAL_SECONDS: u64 = 3600;
 
-/// From how many VRPs on a shrunken table is reported.
+/// From how many VRPs on a table or a trust anchor that shrank is reported.
 const LEAST_PEAK: u64 = 1000;
 
 /// For how long it is reported that routers were turned away, in seconds.
@@ -21,32 +22,33 @@ const SLOW_MILLISECONDS: u64 = 5000;
 /// For how long it is reported that a call on a file was slow, in seconds.
 const SLOW_RECENT: u64 = 3600;
 
-/// A reason why a cache is not well.
+/// A reason why a cache is not well. The status page, the health, the metrics and the log all use this list.
 #[derive(Clone, Copy, Debug, PartialEq, Eq)]
 pub enum Reason {
-    /// The sources give no VRP, apart from local exceptions, or none is served. Before the first version this is no reason.
+    /// The sources give no VRP, apart from local exceptions, or no VRP is served. This is no reason before the first version is published.
     NoVrps,
     /// A pending version could not be published.
     Publication,
-    /// The data of a source are older than the maximum age, or all its entries have expired.
+    /// The data of a source are older than the maximum age. Or a source has expired entries and gives no VRP.
     Old,
-    /// A source has been refused for longer than an hour, or than the maximum age if that is less.
+    /// A source has been refused for longer than an hour. If the maximum age is less than an hour, that is the limit.
     RefusedLong,
     /// No version has been published yet.
     NoVersion,
-    /// A source is refused.
+    /// A source is refused at present.
     Refused,
-    /// Fewer VRPs are served than four fifths of the most within the last 24 hours, which were at least 1,000.
+    /// The VRPs have shrunk within the last 24 hours, from at least 1,000. Either fewer than four fifths of the most are served. Or a trust
+    /// anchor of a source has fewer than half of its most.
     Shrank,
     /// Routers were turned away within the last ten minutes.
     TurnedAway,
     /// A single stat, open or read of a file lasted longer than five seconds, within the last hour.
     SlowPoll,
-    /// The clock was set back.
+    /// The system clock was set back since the start.
     Clock,
 }
 
-/// All reasons, in the order in which they are listed.
+/// All reasons, in the order in which they are listed to operators.
 pub const REASONS: [Reason; 10] = [
     Reason::NoVrps,
     Reason::Publication,
@@ -73,7 +75,7 @@ const GRAVE: [Reason; 5] = [
 const UNREADY: [Reason; 3] = [Reason::NoVrps, Reason::Publication, Reason::NoVersion];
 
 impl Reason {
-    /// Its word in metrics and in the log.
+    /// The name of the reason in metrics and in the log, such as `no_vrps`.
     pub fn word(self) -> &'static str
         ensures { result.now ≡ reason_word self }
     {
@@ -141,7 +143,34 @@ fn is_slow(now: u64, call: Option<SlowCall>) -> bool
     }
 }
 
-/// Whether a source is a reason at a time, in seconds since 1970, with this maximum age in seconds. Only sources can be old, refused or slow.
+/// Whether a number of VRPs of a trust anchor is less than half of the most within the last 24 hours, which were at least 1,000.
+fn is_under_half(vrps: u64, peak: Option<VrpPeak>) -> bool
+    ensures { result ≡ is_under_half vrps peak }
+{
+    match peak {
+        None => false,
+        Some(peak) => LEAST_PEAK <= peak.vrps && 2 * u128::from(vrps) < u128::from(peak.vrps),
+    }
+}
+
+/// Whether a trust anchor of a source has fewer than half of the most VRPs that it had within the last 24 hours, which were at least 1,000.
+pub(crate) fn has_shrunk(anchor: &AnchorStatus) -> bool
+    ensures { result ≡ has_shrunk anchor.now }
+{
+    is_under_half(anchor.vrps, anchor.peak)
+}
+
+/// Whether one of some trust anchors has shrunk.
+fn have_shrunk(anchors: &[AnchorStatus]) -> bool
+    ensures { result ≡ list_any has_shrunk anchors.now }
+{
+    anchors.iter().any(|anchor| has_shrunk(anchor))
+}
+
+/// Returns whether a reason holds for a source. `now` is in seconds since 1970. `max_age` is the maximum age in seconds, and `None` for no
+/// limit.
+///
+/// It can be true only for `Old`, `RefusedLong`, `Refused`, `Shrank` (of a trust anchor) and `SlowPoll`.
 pub fn is_blamed(now: u64, max_age: Option<u64>, reason: Reason, file: &FileStatus) -> bool
     ensures { result ≡ is_blamed now max_age reason file.now }
 {
@@ -149,6 +178,7 @@ pub fn is_blamed(now: u64, max_age: Option<u64>, reason: Reason, file: &FileStat
         Reason::Old => file.is_old || has_all_expired(file),
         Reason::RefusedLong => is_long_refused(now, refusal_limit(max_age), file.refused_at),
         Reason::Refused => file.refusal.is_some(),
+        Reason::Shrank => have_shrunk(&file.anchors),
         Reason::SlowPoll => is_slow(now, file.slow),
         _ => false,
     }
@@ -183,7 +213,7 @@ fn is_recent(now: u64, away: Option<TurnedAway>) -> bool
     }
 }
 
-/// How many VRPs are served, at most 2^64 - 1.
+/// The number of VRPs that are served. It saturates at `u64::MAX`.
 pub fn served_vrps(status: &Status) -> u64
     ensures { result ≡ served_vrps status.entry.now }
 {
@@ -192,14 +222,15 @@ pub fn served_vrps(status: &Status) -> u64
 
 /// Whether no VRP is served, or the sources give none.
 fn serves_none(status: &Status) -> bool
-    ensures { result ≡ has_reason status.entry.now Reason.NoVrps }
+    ensures { result ≡ holds_for_all status.entry.now Reason.NoVrps }
 {
     status.serial.is_some() && (status.given == 0 || served_vrps(status) == 0)
 }
 
-/// Whether a reason holds.
-pub fn has_reason(status: &Status, reason: Reason) -> bool
-    ensures { result ≡ has_reason status.entry.now reason }
+/// Returns whether a reason holds for the cache as a whole. It looks at no source. It is false for `Old`, `RefusedLong`, `Refused` and
+/// `SlowPoll`.
+pub fn holds_for_all(status: &Status, reason: Reason) -> bool
+    ensures { result ≡ holds_for_all status.entry.now reason }
 {
     match reason {
         Reason::NoVrps => serves_none(status),
@@ -208,10 +239,15 @@ pub fn has_reason(status: &Status, reason: Reason) -> bool
         Reason::Shrank => is_shrunk(served_vrps(status), status.peak),
         Reason::TurnedAway => is_recent(status.now, status.turned_away),
         Reason::Clock => 0 < status.clock_behind,
-        Reason::Old | Reason::RefusedLong | Reason::Refused | Reason::SlowPoll => {
-            blames_any(status.now, status.max_age, reason, &status.files)
-        }
+        Reason::Old | Reason::RefusedLong | Reason::Refused | Reason::SlowPoll => false,
     }
+}
+
+/// Returns whether a reason holds, for the cache as a whole or for a source.
+pub fn has_reason(status: &Status, reason: Reason) -> bool
+    ensures { result ≡ has_reason status.entry.now reason }
+{
+    holds_for_all(status, reason) || blames_any(status.now, status.max_age, reason, &status.files)
 }
 
 /// Whether one of some reasons holds.
@@ -221,21 +257,22 @@ fn has_any(status: &Status, reasons: &[Reason]) -> bool
     reasons.iter().any(|reason| has_reason(status, *reason))
 }
 
-/// Whether a cache is well: no reason holds.
+/// Returns whether no reason holds.
 pub fn is_well(status: &Status) -> bool
     ensures { result ≡ is_well status.entry.now }
 {
     !has_any(status, &REASONS)
 }
 
-/// Whether a cache is healthy: it serves VRPs and publishes, no source's data are too old, and none has been refused for too long.
+/// Returns whether none of the reasons holds that should wake an operator: `NoVrps`, `Publication`, `Old`, `RefusedLong` and `NoVersion`.
 pub fn is_healthy(status: &Status) -> bool
     ensures { result ≡ is_healthy status.entry.now }
 {
     !has_any(status, &GRAVE)
 }
 
-/// Whether routers can be sent to a cache: it serves VRPs, and publishes. Data that are old but good keep it in.
+/// Returns whether routers can be sent to the cache: `NoVrps`, `Publication` and `NoVersion` do not hold. A cache with old but good data is
+/// ready.
 pub fn is_ready(status: &Status) -> bool
     ensures { result ≡ is_ready status.entry.now }
 {

@@ -39,7 +39,7 @@ pub(crate) fn write_reports<W: Write>(out: &mut W, reports: &ErrorReports) -> io
         out,
         "rpkirtrd_error_reports_total",
         "counter",
-        "Last Error Reports of closed routers since the start, by direction and code.",
+        "Last Error Report of each connection closed since the start, by direction and code.",
     )?;
     write_direction(out, "received", &reports.received)?;
     write_direction(out, "sent", &reports.sent)

@@ -48,7 +48,8 @@ fn write_joined<W: Write>(out: &mut W, records: &[Vrp]) -> io::Result<()>
     write_more(out, others)
 }
 
-/// Writes records as an array of objects, as Routinator and StayRTR do. A cache does not know the trust anchor of a record, so that text is empty.
+/// Writes VRPs as a JSON array of objects, as Routinator and StayRTR do. The member `ta` is empty, as a cache does not know the trust anchor.
+/// `Err`: the writer failed.
 #[tactic(auto, unfolding(crate::specs::Roas::roas_text))]
 pub fn write_roas<W: Write>(out: &mut W, records: &[Vrp]) -> io::Result<()>
     ensures { OnOk result (Appends (W.contents out.old) (W.contents out.new) (roas_text records.now)) }

@@ -66,21 +66,21 @@ pub(crate) fn write_router_metrics<W: Write>(out: &mut W, status: &Status) -> io
         out,
         status,
         "rpkirtrd_router_serial",
-        "The serial of the last End of Data that was sent to a router.",
+        "Serial of the last End of Data sent to a router.",
         RouterMetric::Serial,
     )?;
     write_of_routers(
         out,
         status,
         "rpkirtrd_router_behind_seconds",
-        "For how long a router has lacked a version, 0 if it has the one that is served.",
+        "Seconds for which a router has been behind; 0 if it has the served version.",
         RouterMetric::Behind,
     )?;
     write_one(
         out,
         "rpkirtrd_routers_without_metrics",
         "gauge",
-        "Connected routers beyond the 256 that have metrics of their own.",
+        "Connected routers without metrics of their own: those beyond 256.",
         (status.clients.len() as u64).saturating_sub(ROUTERS as u64),
     )
 }

@@ -2,184 +2,197 @@
 
 use std::net::SocketAddr;
 
-/// The status of a cache at a time. Times are in seconds since 1970.
+/// The status of a cache at a time. All times are in seconds since 1970.
 #[derive(Debug, Drop)]
 pub struct Status {
     /// The program's version, as `--version` prints it.
     pub version: &'static str,
-    /// The name of the host, or `None` if it is not known.
+    /// The name of the host. `None`: it is not known.
     pub host: Option<String>,
-    /// The addresses at which routers connect.
+    /// The addresses and ports at which routers connect.
     pub addresses: Vec<SocketAddr>,
     /// The time of the status.
     pub now: u64,
     /// When the program started.
     pub started: u64,
-    /// How many seconds the clock was set back since the start.
+    /// The number of seconds by which the system clock was set back since the start.
     pub clock_behind: u64,
     /// The session in protocol version 1 (RFC 8210 section 5.1).
     pub session: u16,
     /// The session in protocol version 0 (RFC 6810 section 5.1).
     pub session0: u16,
-    /// The serial of the served version, or `None` before the first version.
+    /// The serial of the served version. `None`: no version is published yet.
     pub serial: Option<u32>,
-    /// How many IPv4 records are served.
+    /// The number of IPv4 VRPs that are served.
     pub ipv4: u64,
-    /// How many IPv6 records are served.
+    /// The number of IPv6 VRPs that are served.
     pub ipv6: u64,
-    /// How many VRPs the sources give together, before local exceptions are applied, as of the served version.
+    /// The number of VRPs that the sources of the served version give together, before local exceptions are applied.
     pub given: u64,
-    /// How many records of length 0 are left out.
+    /// The number of VRPs of length 0 (for `0.0.0.0/0` or `::/0`) that are left out.
     pub left_out: u64,
-    /// The most VRPs that were served within the last 24 hours.
+    /// The most VRPs that were served at once within the last 24 hours. `None`: nothing is recorded for that time.
     pub peak: Option<VrpPeak>,
     /// The last 64 versions, the oldest first.
     pub changes: Vec<ChangeStatus>,
     /// The watched files and publication points.
     pub files: Vec<FileStatus>,
-    /// The age above which data are old, in seconds, or `None` if they never are.
+    /// The maximum age of data, in seconds. Older data count as old. `None`: data never count as old.
     pub max_age: Option<u64>,
     /// The connected clients.
     pub clients: Vec<ClientStatus>,
-    /// How many clients there may be at once.
+    /// The most clients that may be connected at once.
     pub client_limit: u64,
-    /// How many clients were admitted since the start, open and closed.
+    /// The number of clients admitted since the start, whether open or closed.
     pub clients_ever: u64,
-    /// How many clients were disconnected on arrival since the start, as a limit was reached.
+    /// The number of clients that were disconnected on arrival since the start, because a limit was reached.
     pub clients_refused: u64,
-    /// The clients that were disconnected on arrival last.
+    /// The last clients that were disconnected on arrival. `None`: there were none.
     pub turned_away: Option<TurnedAway>,
-    /// How many clients were disconnected since the start, as they accepted no byte for too long.
+    /// The number of clients that were disconnected since the start, because they accepted no byte for too long.
     pub clients_stalled: u64,
     /// The traffic from all clients since the start.
     pub received: TotalTraffic,
     /// The traffic to all clients since the start.
     pub sent: TotalTraffic,
-    /// The Error Reports of closed clients since the start.
+    /// The Error Report PDUs of closed clients since the start.
     pub error_reports: ErrorReports,
-    /// How many times a file was loaded since the start.
+    /// The number of times that a file was loaded since the start.
     pub reloads_taken: u64,
-    /// How many times a file was refused since the start.
+    /// The number of times that a file was refused since the start.
     pub reloads_refused: u64,
-    /// How many milliseconds the last load took, or `None` before the first.
+    /// The duration of the last load, in milliseconds. `None`: there was no load yet.
     pub reload_milliseconds: Option<u64>,
-    /// How many times the publication of a version failed since the start.
+    /// The number of times that the publication of a version failed since the start.
     pub publications_failed: u64,
-    /// Why the last publication failed, if no version was published since.
+    /// Why the last publication failed. `None`: no publication has failed since the last version was published.
     pub publication_failure: Option<PublicationFailure>,
-    /// The lines that the log lacks.
+    /// The numbers of log lines that were lost.
     pub log_lines_lost: LostLines,
 }
 
-/// The most VRPs that were served at once within a time.
+/// The most VRPs that there were at once within some time.
 #[derive(Clone, Copy, Debug, PartialEq, Eq)]
 pub struct VrpPeak {
-    /// How many.
+    /// The number of VRPs.
     pub vrps: u64,
-    /// Until when they were served.
+    /// The last time at which there were as many, in seconds since 1970.
     pub until: u64,
 }
 
-/// What limits how many clients there may be.
+/// The limit of the number of clients that was reached.
 #[derive(Clone, Copy, Debug, PartialEq, Eq)]
 pub enum ClientLimit {
-    /// The limit of all clients.
+    /// The limit of all clients together.
     All,
-    /// The limit of the clients of one address.
+    /// The limit of the clients of one IP address.
     OfAddress,
 }
 
-/// Clients that were disconnected on arrival, with less than ten minutes between them.
+/// Clients that were disconnected on arrival. Less than ten minutes lie between one and the next.
 #[derive(Clone, Copy, Debug, PartialEq, Eq)]
 pub struct TurnedAway {
-    /// How many.
+    /// The number of these clients.
     pub routers: u64,
-    /// When the last one came.
+    /// When the last of them came, in seconds since 1970.
     pub last: u64,
-    /// The limit that the last one met.
+    /// The limit that the last of them met.
     pub limit: ClientLimit,
 }
 
-/// A publication that failed.
+/// Publications of a version that fail.
 #[derive(Debug, Drop)]
 pub struct PublicationFailure {
-    /// Since when publications fail.
+    /// Since when publications fail, in seconds since 1970.
     pub since: u64,
-    /// Why the last one failed.
+    /// Why the last publication failed.
     pub reason: String,
 }
 
-/// How many lines the log lacks since the start.
+/// The numbers of lines that the log lost since the start.
 #[derive(Clone, Copy, Debug, PartialEq, Eq)]
 pub struct LostLines {
-    /// Lines for which standard error had no room.
+    /// The number of lines for which standard error had no room.
     pub dropped: u64,
-    /// Lines about clients beyond the limit of their rate.
+    /// The number of lines about clients that the rate limit suppressed.
     pub suppressed: u64,
 }
 
 /// A published version.
 #[derive(Clone, Copy, Debug, PartialEq, Eq)]
 pub struct ChangeStatus {
-    /// Its serial.
+    /// The serial of the version.
     pub serial: u32,
-    /// When it was published.
+    /// When it was published, in seconds since 1970.
     pub at: u64,
-    /// How many records it announced.
+    /// The number of VRPs that the version announced.
     pub announced: u64,
-    /// How many records it withdrew.
+    /// The number of VRPs that the version withdrew.
     pub withdrawn: u64,
-    /// How many records it has.
+    /// The number of VRPs of the version.
     pub records: u64,
 }
 
-/// A watched file or publication point.
+/// The status of a watched file or publication point. All times are in seconds since 1970.
 #[derive(Debug, Drop)]
 pub struct FileStatus {
     /// Its path.
     pub path: String,
-    /// When the loaded data were made: by their own time, or else by the file's modification time.
+    /// When the loaded data were made. This is the time that the data state, or else the modification time of the file. `None`: not known.
     pub built: Option<u64>,
-    /// When it was last loaded, or `None` if never.
+    /// When it was last loaded. `None`: never.
     pub taken: Option<u64>,
-    /// Why it was refused last, if it was not loaded since.
+    /// Why it was refused last. `None`: it was not refused, or was loaded since.
     pub refusal: Option<String>,
-    /// Since when it is refused, if it is.
+    /// Since when it is refused. `None`: it is not refused.
     pub refused_at: Option<u64>,
     /// Whether the loaded data are older than the maximum age.
     pub is_old: bool,
-    /// How many of its entries have expired.
+    /// The number of its entries that have expired.
     pub expired: u64,
-    /// How many VRPs it gives now, if that is known.
+    /// The number of VRPs that it gives now. `None`: not known.
     pub vrps: Option<u64>,
-    /// How much of it is not served, if it was loaded. A publication point has none.
+    /// The trust anchors of its VRPs, each once. Those of the last 24 hours that have vanished are in it too. At most 32 are in it now.
+    pub anchors: Vec<AnchorStatus>,
+    /// The numbers of its entries that are not served. `None`: it is a publication point, or was not loaded.
     pub ignored: Option<IgnoredEntries>,
-    /// The last call on it that lasted longer than five seconds.
+    /// The last call on the file that lasted longer than five seconds. `None`: there was none.
     pub slow: Option<SlowCall>,
-    /// Its size in bytes when it was loaded last, if that is more than three quarters of the maximum size.
+    /// The size of the file in bytes when it was loaded last. `None`: it is at most three quarters of the maximum size, or was not loaded.
     pub near_limit: Option<u64>,
 }
 
-/// A single stat, open or read of a file that was slow.
+/// A trust anchor of a file: the value of `ta` of its VRPs.
+#[derive(Debug, Drop)]
+pub struct AnchorStatus {
+    /// The name of the trust anchor, such as `ripe`. It is not empty.
+    pub name: String,
+    /// The number of VRPs of the file that have it now. A trust anchor that has vanished has 0.
+    pub vrps: u64,
+    /// The most VRPs that had it in an earlier load of the file within the last 24 hours. `None`: no such load.
+    pub peak: Option<VrpPeak>,
+}
+
+/// A slow call on a file: a single stat, open or read.
 #[derive(Clone, Copy, Debug, PartialEq, Eq)]
 pub struct SlowCall {
-    /// How long it lasted.
+    /// The duration of the call, in milliseconds.
     pub milliseconds: u64,
-    /// When it ended.
+    /// When the call ended, in seconds since 1970.
     pub at: u64,
 }
 
-/// How many entries of a file are not served. Only payloads of ROAs are.
+/// The numbers of entries of a file that are not served. Only the VRPs of ROAs are served.
 #[derive(Clone, Copy, Debug, PartialEq, Eq)]
 pub enum IgnoredEntries {
-    /// Of an export.
+    /// The entries of an export.
     Export {
         /// ASPAs.
         aspas: u64,
         /// Router keys (RFC 8635).
         router_keys: u64,
     },
-    /// Of a file of local exceptions.
+    /// The entries of a SLURM file.
     Slurm {
         /// Filters on BGPsec (RFC 8416 section 3.3.2).
         bgpsec_filters: u64,
@@ -193,11 +206,11 @@ pub enum IgnoredEntries {
 pub struct ClientStatus {
     /// Its address and port.
     pub address: SocketAddr,
-    /// Its protocol version, 0 or 1, or `None` before its first PDU.
+    /// Its protocol version, 0 or 1. `None`: it has sent no PDU yet.
     pub version: Option<u8>,
-    /// The serial of the last End of Data that was sent to it, if there was one.
+    /// The serial of the last End of Data that was sent to it. `None`: none was sent.
     pub serial: Option<u32>,
-    /// When it connected.
+    /// When it connected, in seconds since 1970.
     pub since: u64,
     /// The traffic from it.
     pub received: ClientTraffic,
@@ -205,12 +218,12 @@ pub struct ClientStatus {
     pub sent: ClientTraffic,
 }
 
-/// The last Error Report of each closed client in each direction, by error code.
+/// The numbers of Error Report PDUs by error code: the last one of each closed client in each direction.
 #[derive(Clone, Copy, Debug, PartialEq, Eq)]
 pub struct ErrorReports {
-    /// Those that came from clients.
+    /// The Error Reports that clients sent.
     pub received: ReportsByCode,
-    /// Those that were sent to clients.
+    /// The Error Reports that were sent to clients.
     pub sent: ReportsByCode,
 }
 
@@ -222,12 +235,12 @@ impl ErrorReports {
     };
 }
 
-/// How many Error Reports of each code there were (RFC 8210 section 12).
+/// The numbers of Error Reports by error code (RFC 8210 section 12).
 #[derive(Clone, Copy, Debug, PartialEq, Eq)]
 pub struct ReportsByCode {
-    /// Of the codes from 0 to 8.
+    /// The numbers for the codes from 0 to 8, by code.
     pub known: [u64; 9],
-    /// Of all other codes.
+    /// The number for all other codes.
     pub others: u64,
 }
 

@@ -1,9 +1,10 @@
 //! Escaped texts, numbers and times.
-ghost use Rattle.std.specs.Prelude.{◌≡◌, OnOk};
+ghost use Rattle.std.specs.Prelude.{◌≡◌, ◌<◌, OnOk, if◌then◌else◌, nat_lt, encode_utf8};
+ghost use Rattle.std.specs.Char.{digit_char};
 ghost use Rattle.std.specs.Io.KnownBytes.{Appends};
 ghost use Rattle.std.specs.List.{flat_map};
 ghost use Rattle.std.specs.Str.{chars};
-ghost use Rattle.status_pages.specs.Escapes.{html_char, label_char};
+ghost use Rattle.status_pages.specs.Escapes.{control_escape, html_char, json_char, label_char};
 
 use event_log::time_at;
 use std::io::{self, Write};
@@ -52,6 +53,60 @@ pub(crate) fn write_label<W: Write>(out: &mut W, text: &str) -> io::Result<()>
 {
     for character in text.chars() {
         write_label_char(out, character)?;
+    }
+    Ok(())
+}
+
+/// The hexadecimal digit of a number below 16.
+fn hex_digit(number: u32) -> u8
+    requires { number < 16 }
+    ensures { result ≡ digit_char number }
+{
+    if number < 10 {
+        b'0' + number as u8
+    } else {
+        b'a' + (number - 10) as u8
+    }
+}
+
+/// Writes a control character of a JSON text as an escape of its number.
+fn write_control<W: Write>(out: &mut W, code: u32) -> io::Result<()>
+    requires { code < 32 }
+    ensures { OnOk result (Appends (W.contents out.old) (W.contents out.new) (control_escape code)) }
+{
+    let digits = [hex_digit(code / 16), hex_digit(code % 16)];
+    out.write_all(b"\\u00")?;
+    out.write_all(&digits)
+}
+
+/// Writes a character of a JSON text that is neither a quote nor a backslash.
+fn write_unquoted<W: Write>(out: &mut W, character: char) -> io::Result<()>
+    ensures { OnOk result (Appends (W.contents out.old) (W.contents out.new) (if nat_lt character 32 then control_escape character else encode_utf8 character)) }
+{
+    let code = character as u32;
+    if code < 32 {
+        return write_control(out, code);
+    }
+    write!(out, "{character}")
+}
+
+/// Writes a character of a JSON text.
+#[tactic(auto, unfolding(crate::specs::Escapes::json_char))]
+fn write_json_char<W: Write>(out: &mut W, character: char) -> io::Result<()>
+    ensures { OnOk result (Appends (W.contents out.old) (W.contents out.new) (json_char character)) }
+{
+    match character {
+        '"' | '\\' => write!(out, "\\{character}"),
+        _ => write_unquoted(out, character),
+    }
+}
+
+/// Writes a text as a JSON string, without its quotes.
+pub(crate) fn write_json<W: Write>(out: &mut W, text: &str) -> io::Result<()>
+    ensures { OnOk result (Appends (W.contents out.old) (W.contents out.new) (flat_map json_char (chars text.now))) }
+{
+    for character in text.chars() {
+        write_json_char(out, character)?;
     }
     Ok(())
 }

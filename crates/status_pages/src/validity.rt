@@ -7,23 +7,24 @@ use prefixes::{Asn, Route, Vrp};
 use std::alloc::{AllocError, Global};
 use vrps::{OriginIndex, OriginState};
 
-/// The state of a route under a set (RFC 6811 section 2), and the records that cover it in three lists, each in ascending order.
+/// The validation state of a route under a set (RFC 6811 section 2), and the VRPs that cover it. The VRPs are in three lists, each in ascending
+/// order.
 #[derive(Debug, Drop)]
 pub struct Validity {
     /// The state.
     pub state: OriginState,
-    /// The records that match the route.
+    /// The VRPs that match the route.
     pub matched: Vec<Vrp>,
-    /// The records whose maximum length is below the route's length, of any AS.
+    /// The VRPs that cover the route and whose maximum length is below the route's length, of any AS.
     pub unmatched_length: Vec<Vrp>,
-    /// The other records: their AS is not the route's origin, or it is 0, which is no route's origin (RFC 6483 section 4).
+    /// The other VRPs that cover the route. Their AS is not the route's origin. An AS of 0 is no route's origin (RFC 6483 section 4).
     pub unmatched_as: Vec<Vrp>,
 }
 
 impl Validity {
     ghost use Rattle.status_pages.specs.Validity.{IsValidity};
 
-    /// The validity of a route under the index's set.
+    /// Computes the validity of a route under the VRPs of `index`. `Err`: out of memory.
     pub fn of_route(
         alloc: Global,
         index: &OriginIndex,

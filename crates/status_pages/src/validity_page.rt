@@ -90,7 +90,7 @@ fn write_lists<W: Write>(out: &mut W, validity: &Validity) -> io::Result<()> {
     write_records(out, "VRPs of another AS", &validity.unmatched_as)
 }
 
-/// Writes the validity of a route as one page of HTML. `now` is the time that is written, in seconds since 1970.
+/// Writes the validity of a route as one HTML page. `now` is the time on the page, in seconds since 1970. `Err`: the writer failed.
 pub fn write_validity_page<W: Write>(
     out: &mut W,
     route: &Route,

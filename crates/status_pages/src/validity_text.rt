@@ -252,8 +252,8 @@ fn write_validity_at<W: Write>(
     write_ending(out, time)
 }
 
-/// Writes the validity of a route in the format of Routinator's `/api/v1/validity`, compact and without a newline. `now` is the time that is
-/// written, in seconds since 1970.
+/// Writes the validity of a route as JSON in the format of Routinator's `/api/v1/validity`, compact and without a newline. `now` is the time
+/// that the JSON states, in seconds since 1970. `Err`: the writer failed.
 pub fn write_validity<W: Write>(
     out: &mut W,
     route: &Route,

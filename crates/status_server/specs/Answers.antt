@@ -9,6 +9,7 @@ use Rattle.http_server.specs.Response.{IsBlank, IsResponse}
 use Rattle.http_server.specs.declared.response.Response.{Response}
 use Rattle.http_uri.specs.Uri.{uri_path, uri_query}
 use Rattle.prefixes.specs.declared.route.Route.{Route}
+use Rattle.status_pages.specs.ApiStatus.{IsApiText}
 use Rattle.status_pages.specs.Export.{export_head, routinator_head}
 use Rattle.status_pages.specs.Health.{IsHealthText}
 use Rattle.status_pages.specs.Made.{oldest}
@@ -125,6 +126,14 @@ abbrev pub SendsReady : Status → Response → Response → Type 0
 SendsReady s old new =
     (text : List ℕ) × IsReadyText (is_ready s) s text × SendsText (if is_ready s then old.status else 503) text old new
 
+-- The status as JSON. Before the first version there is none.
+abbrev pub SendsApiOf : Option ℕ → Status → Response → Response → Type 0
+SendsApiOf None s old new = SendsEarly old new
+SendsApiOf (Some serial) s old new = (text : List ℕ) × IsApiText s serial text × Sends old.status (body_headers json_kind) text old new
+
+abbrev pub SendsApi : Status → Response → Response → Type 0
+SendsApi s = SendsApiOf s.serial s
+
 -- The validity of a route as JSON, with the current time
 abbrev pub SendsValidityText : Route → Validity → Response → Response → Type 0
 SendsValidityText route v old new =
@@ -142,6 +151,9 @@ SendsKnownHealth shown old new = (s : Status) × IsShown shown.status s × Sends
 
 abbrev pub SendsKnownReady : Shown → Response → Response → Type 0
 SendsKnownReady shown old new = (s : Status) × IsShown shown.status s × SendsReady s old new
+
+abbrev pub SendsKnownApi : Shown → Response → Response → Type 0
+SendsKnownApi shown old new = (s : Status) × IsShown shown.status s × SendsApi s old new
 
 abbrev pub SendsKnownExport : Shown → ExportForm → Entries FieldValue → Response → Response → Type 0
 SendsKnownExport shown f headers old new =
@@ -191,6 +203,7 @@ CarriesOut shown p (plans.Resource resources.Metrics) old new = (text : List ℕ
 CarriesOut shown p (plans.Resource resources.Health) old new = SendsKnownHealth shown old new
 CarriesOut shown p (plans.Resource resources.Ready) old new = SendsKnownReady shown old new
 CarriesOut shown p (plans.Resource resources.Live) old new = SendsText old.status (codes "ok\n") old new
+CarriesOut shown p (plans.Resource resources.ApiStatus) old new = SendsKnownApi shown old new
 CarriesOut shown p (plans.Resource resources.Export) old new = SendsKnownExport shown export.RpkiClient p.headers old new
 CarriesOut shown p (plans.Resource resources.StayRtrExport) old new = SendsKnownExport shown export.RpkiClient p.headers old new
 CarriesOut shown p (plans.Resource resources.RoutinatorExport) old new = SendsKnownExport shown export.Routinator p.headers old new

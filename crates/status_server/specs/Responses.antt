@@ -84,11 +84,11 @@ IsDated seconds old new =
 
 -- the paths, for those who ask for another
 abbrev pub paths_text : List ℕ
-paths_text = codes "there are /, /metrics, /health, /ready, /live, /vrps.json, /rpki.json, /json, /list.json, /vrps.csv, /csv, /validity and /api/v1/validity/NUMBER/PREFIX\n"
+paths_text = codes "not found; resources: /, /metrics, /health, /ready, /live, /vrps.json, /rpki.json, /json, /list.json, /vrps.csv, /csv, /validity, /api/v1/status and /api/v1/validity/NUMBER/PREFIX\n"
 
 -- what a plan refuses
 abbrev pub Refuses : Plan → Response → Response → Type 0
-Refuses plans.InvalidHost = SendsText 400 (codes "a request has one Host\n")
+Refuses plans.InvalidHost = SendsText 400 (codes "a request must have exactly one Host header\n")
 Refuses plans.NotServed = SendsText 421 (codes "this name is not served here: use an address, or start rpkirtrd with --status-name NAME\n")
 Refuses plans.NotFound = SendsText 404 paths_text
 Refuses plans.NotAllowed = Sends 405 ((codes "allow", codes "GET, HEAD") ∷ body_headers text_kind) (codes "only GET and HEAD are answered\n")

@@ -2,7 +2,7 @@
 ghost use Rattle.std.specs.Prelude.{◌≡◌, ℕ, List, OnOk, option_copied};
 ghost use Rattle.http.specs.Request.{head_of};
 ghost use Rattle.http_server.specs.Response.{IsBlank};
-ghost use Rattle.status_server.specs.Answers.{AnswersOn, AnswersSo, CarriesOut, IsPlanned, SendsJudged, SendsKnownExport};
+ghost use Rattle.status_server.specs.Answers.{AnswersOn, AnswersSo, CarriesOut, IsPlanned, SendsJudged, SendsKnownApi, SendsKnownExport};
 ghost use Rattle.status_server.specs.Answers.{SendsKnownHealth, SendsKnownList, SendsKnownReady, SendsKnownValidity, SendsQuery, SendsRoute};
 ghost use Rattle.status_server.specs.Responses.{Sends, body_headers, metrics_kind, page_headers};
 
@@ -10,8 +10,8 @@ use crate::conditions::prefers_html;
 use crate::list_forms::{ExportForm, ListForm};
 use crate::plan::{Plan, plan_of};
 use crate::representations::{
-    send_export, send_form_page, send_health, send_list, send_ok, send_ready, send_validity,
-    send_validity_page, shared,
+    send_api_status, send_export, send_form_page, send_health, send_list, send_ok, send_ready,
+    send_validity, send_validity_page, shared,
 };
 use crate::resources::{Resource, route_in};
 use crate::responses::{
@@ -157,6 +157,18 @@ impl<'a, S: StatusSource> Answers<'a, S> {
         send_ready(self.alloc, status, response)
     }
 
+    /// The status as JSON.
+    fn api_status(&mut self, response: &mut Response) -> Result<(), AllocError>
+        ensures sends { OnOk result (SendsKnownApi (S.shows self.old.source) response.old response.new) }
+        ensures keeps { AnswersOn S.shows self.old self.new }
+    {
+        self.load_status()?;
+        let Some(status) = &self.status else {
+            return Err(AllocError);
+        };
+        send_api_status(self.alloc, status, response)
+    }
+
     /// An export: the records of the source in an object with metadata.
     fn export(
         &mut self,
@@ -276,6 +288,7 @@ impl<'a, S: StatusSource> Answers<'a, S> {
             Resource::Health => self.health(response),
             Resource::Ready => self.ready(response),
             Resource::Live => send_ok(response),
+            Resource::ApiStatus => self.api_status(response),
             Resource::Export => self.export(ExportForm::RpkiClient, request.headers(), response),
             Resource::StayRtrExport => {
                 self.export(ExportForm::RpkiClient, request.headers(), response)

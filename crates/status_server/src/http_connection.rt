@@ -11,26 +11,26 @@ use std::alloc::Global;
 use std::hash::RandomState;
 use std::io::{self, ErrorKind, Read, Write};
 
-/// What a connection can do next.
+/// What a connection does next.
 #[derive(Clone, Copy, Debug, PartialEq, Eq)]
 pub enum HttpProgress {
-    /// The stream would block.
+    /// The stream would block. The connection waits until it is ready.
     WouldBlock,
-    /// All calls of the budget were made, or the stream became ready. It is served in the next turn.
+    /// The connection used up its calls for this turn, or its stream became ready. It is served in the next turn.
     Busy,
-    /// The connection was finished, or its stream failed. It is removed.
+    /// The connection is finished, or its stream failed. Remove it.
     Closed,
 }
 
 impl HttpProgress {
-    /// Whether the connection is busy.
+    /// Returns whether the connection is busy.
     pub fn is_busy(self) -> bool
         ensures { result ≡ is_busy self }
     {
         matches!(self, HttpProgress::Busy)
     }
 
-    /// Whether the connection is closed.
+    /// Returns whether the connection is closed.
     pub fn is_closed(self) -> bool
         ensures { result ≡ is_closed self }
     {

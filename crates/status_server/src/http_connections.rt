@@ -15,16 +15,16 @@ use std::io::{Read, Write};
 use std::marker::Model;
 use thiserror::Error;
 
-/// How many connections there may be at once.
+/// The most connections that may be open at once.
 pub const MAX_CONNECTIONS: usize = 64;
 
-/// How long a connection stays open while no byte is sent on it, in milliseconds. So long a visitor has for each request.
+/// The timeout of a connection on which no byte is sent, in milliseconds. A client has this long for each request.
 pub const IDLE_MILLIS: u64 = 30_000;
 
-/// How long a connection stays open, in milliseconds.
+/// The longest time that a connection may be open, in milliseconds.
 pub const CONNECTION_MILLIS: u64 = 600_000;
 
-/// Why a connection is not admitted. Its stream was dropped.
+/// Why a connection is refused. Its stream was dropped.
 #[derive(Clone, Copy, Debug, Drop, PartialEq, Eq, Error)]
 pub enum HttpAdmitFault {
     /// The limit of connections is reached.
@@ -46,7 +46,7 @@ struct Entry<T> {
     connection: HttpConnection<T>,
 }
 
-/// The HTTP connections, each by its poll token. Times are in milliseconds of a monotonic clock.
+/// The open HTTP connections, each with a poll token. Times are in milliseconds of a monotonic clock.
 #[derive(Drop)]
 pub struct HttpConnections<T> {
     alloc: Global,
@@ -173,7 +173,7 @@ fn serve_in<T: Read + Write, S: StatusSource>(
 }
 
 impl<T: Read + Write + Drop> HttpConnections<T> {
-    /// No connections. Clients choose the names of headers, so the keys must be random.
+    /// Creates an empty list of connections. Clients choose the names of headers, so `keys` must be random.
     pub fn new(alloc: Global, keys: RandomState) -> HttpConnections<T>
         ensures { result ≡ [] }
     {
@@ -184,7 +184,7 @@ impl<T: Read + Write + Drop> HttpConnections<T> {
         }
     }
 
-    /// How many there are.
+    /// The number of open connections.
     pub fn len(&self) -> usize
         ensures value { result ≡ length self.now }
         ensures bound { result ≤ 64 }
@@ -192,14 +192,14 @@ impl<T: Read + Write + Drop> HttpConnections<T> {
         self.entries.len()
     }
 
-    /// Whether there are none.
+    /// Returns whether no connection is open.
     pub fn is_empty(&self) -> bool
         ensures { result ≡ (length self.now == 0) }
     {
         self.entries.is_empty()
     }
 
-    /// Admits a connection with this poll token, which is busy: it is served next. On an error all others are unchanged.
+    /// Adds a connection with this poll token, at `now`. It is busy, so it is served next. `Err`: it is refused, and the others do not change.
     pub fn admit(&mut self, token: usize, stream: T, now: u64) -> Result<(), HttpAdmitFault>
         ensures ok { OnOk result (Admits token now stream self.old self.new) }
         ensures full { result ≡ Err HttpAdmitFault.TooManyConnections ↔ (64 ≤ length self.old) }
@@ -221,15 +221,17 @@ impl<T: Read + Write + Drop> HttpConnections<T> {
         Ok(())
     }
 
-    /// Whether there are as many as there may be.
+    /// Returns whether [`MAX_CONNECTIONS`] connections are open.
     pub fn is_full(&self) -> bool
         ensures { IsTrue result ↔ (64 ≤ length self.now) }
     {
         self.len() >= MAX_CONNECTIONS
     }
 
-    /// Makes room for one more connection, if there is none: the one goes that has waited longest for its request. It returns that one's stream. If
-    /// requests are answered on all of them, none goes.
+    /// Removes one connection if [`MAX_CONNECTIONS`] are open, and returns its stream. It is the connection that has waited longest for its
+    /// request.
+    ///
+    /// `None`: there is room, or all connections are being answered. Then nothing changes.
     pub fn make_room(&mut self) -> Option<T>
         ensures { MakesRoom result self.old self.new }
     {
@@ -241,21 +243,22 @@ impl<T: Read + Write + Drop> HttpConnections<T> {
         Some(connection.into_stream())
     }
 
-    /// Whether a connection has the token.
+    /// Returns whether a connection has the poll token.
     pub fn has(&self, token: usize) -> bool
         ensures { result ≡ has_token token self.now }
     {
         any_at(&self.entries, token)
     }
 
-    /// Whether a connection is busy.
+    /// Returns whether a connection is busy: the next turn serves it without waiting for its stream. It is `false` if none is open.
+    /// `admit` and `wake` make a connection busy. It stays busy if it uses up its calls in a turn.
     pub fn has_busy(&self) -> bool
         ensures { result ≡ has_busy self.now }
     {
         any_busy(&self.entries)
     }
 
-    /// Makes the connection of a token busy. A token that no connection has changes nothing.
+    /// Makes the connection with the poll token busy. If there is none, nothing changes.
     pub fn wake(&mut self, token: usize)
         ensures { self.new ≡ wake token self.old }
     {
@@ -283,8 +286,11 @@ impl<T: Read + Write + Drop> HttpConnections<T> {
         self.entries.retain(|entry| !entry.progress.is_closed());
     }
 
-    /// Serves each busy connection at this time, until its stream would block, or until this many calls were made. Those that are closed then
-    /// are removed. Requests are served that name an address, `localhost`, or this name (`is_served_host`).
+    /// Serves each busy connection at `now`, until its stream would block or `budget` calls of the stream were made. Closed connections are
+    /// removed.
+    ///
+    /// It refuses a request if [`is_served_host`](crate::is_served_host) is false for the host that it names. `name` is the configured host
+    /// name. `None`: only IP addresses and `localhost` are served.
     pub fn serve<S: StatusSource>(
         &mut self,
         now: u64,
@@ -298,7 +304,8 @@ impl<T: Read + Write + Drop> HttpConnections<T> {
         self.remove_closed();
     }
 
-    /// Drops the connections on which no byte was sent for `IDLE_MILLIS`, and those that were admitted `CONNECTION_MILLIS` ago or earlier.
+    /// Removes the connections that timed out at `now`. No byte was sent on them for [`IDLE_MILLIS`], or they were admitted
+    /// [`CONNECTION_MILLIS`] ago or earlier.
     pub fn expire(&mut self, now: u64)
         ensures { self.new ≡ in_time now self.old }
     {

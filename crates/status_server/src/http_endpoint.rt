@@ -25,7 +25,7 @@ const AT_ONCE: usize = 64;
 /// The longest wait while connections are open or pending, in milliseconds.
 const SOON: u64 = 1000;
 
-/// The HTTP connections, and whether one may be pending at the listener. Times are in milliseconds of a monotonic clock.
+/// The HTTP connections, and whether a connection may be pending at the listener. Times are in milliseconds of a monotonic clock.
 #[derive(Drop)]
 pub struct HttpEndpoint<T> {
     connections: HttpConnections<T>,
@@ -49,7 +49,7 @@ impl<T> Debug for HttpEndpoint<T> {
 }
 
 impl<T: Read + Write + Drop> HttpEndpoint<T> {
-    /// An endpoint without connections. One may be pending. Clients choose the names of headers, so the keys must be random.
+    /// Creates an endpoint without connections. One may be pending. Clients choose the names of headers, so `keys` must be random.
     pub fn new(alloc: Global, keys: RandomState) -> HttpEndpoint<T>
         ensures { result ≡ ([], true) }
     {
@@ -66,8 +66,11 @@ impl<T: Read + Write + Drop> HttpEndpoint<T> {
         &self.connections
     }
 
-    /// One turn at this time: it accepts connections, serves those that are busy or ready, and removes those that are closed or timed out.
-    /// Requests are served that name an address, `localhost`, or this name (`is_served_host`).
+    /// Runs one turn at `now`, in milliseconds of a monotonic clock. It accepts connections and serves those that are busy or ready.
+    ///
+    /// It removes connections that are closed or timed out. It refuses a request if `is_served_host` is false for the host that it names.
+    ///
+    /// `name` is the configured host name. `None`: only IP addresses and `localhost` are served.
     pub fn turn<N: HttpSockets<T>, S: StatusSource>(
         &mut self,
         now: u64,
@@ -82,7 +85,8 @@ impl<T: Read + Write + Drop> HttpEndpoint<T> {
         self.serve(now, source, name);
     }
 
-    /// How long the next turn may wait, in milliseconds: 0 if a connection is busy, a second if one is open or pending.
+    /// How long the next turn may wait, in milliseconds. It is 0 if a connection is busy, and 1,000 if one is open or pending. Otherwise it is
+    /// `u64::MAX`.
     pub fn wait_limit(&self) -> u64
         ensures { result ≡ wait_of self.now.0 self.now.1 }
     {

@@ -1,40 +1,41 @@
 //! The sockets of the endpoint.
 
-/// What is ready.
+/// What became ready.
 #[derive(Clone, Copy, Debug, PartialEq, Eq)]
 pub enum HttpReady {
-    /// A connection may be pending at the listener.
+    /// The listener: a connection may be pending.
     Listener,
-    /// The connection of this poll token may be readable or writable.
+    /// The connection with this poll token: it may be readable or writable.
     Connection(usize),
 }
 
 /// The result of an accept.
 #[derive(Debug, Drop)]
 pub enum HttpAccept<T> {
-    /// A connection. No other connection has had its poll token.
+    /// A new connection. Its poll token has never been used for another one.
     Connection {
-        /// The connection, which is non-blocking.
+        /// The stream of the connection. It is non-blocking.
         stream: T,
-        /// The poll token under which it is reported as ready.
+        /// The poll token under which the connection is reported as ready.
         token: usize,
     },
     /// No connection is pending.
     WouldBlock,
-    /// A connection was aborted, or could not be registered. Another may be pending.
+    /// A connection was aborted, or could not be registered. Another connection may be pending.
     Again,
     /// The accept failed. The connection stays pending.
     Failed,
 }
 
-/// The listener, and the poll tokens of the connections, which are streams of this type.
+/// The sockets of an endpoint: the listener, and the connections, which are streams `T` with poll tokens.
 pub trait HttpSockets<T> {
-    /// The next of what became ready.
+    /// Returns what became ready next. `None`: nothing more is ready.
     fn next(&mut self) -> Option<HttpReady>;
 
-    /// Reports that a connection is closed at once, or for a newer one, as there are as many as there may be. It drops its stream.
+    /// Reports that `stream` is closed because `connections` connections are open. It was refused, or was closed for a newer one. It drops the
+    /// stream.
     fn turn_away(&mut self, stream: T, connections: u64);
 
-    /// Accepts a connection, and registers it.
+    /// Accepts a pending connection and registers it. [`HttpAccept`] lists the results.
     fn accept(&mut self) -> HttpAccept<T>;
 }

@@ -15,16 +15,16 @@ use status_pages::{write_csv, write_roas, write_routinator_csv};
 use std::alloc::{AllocError, Global};
 use vrps::VrpSet;
 
-/// A form in which records are written.
+/// A format in which VRPs are written.
 #[derive(Clone, Copy, Debug, PartialEq, Eq)]
 pub enum ListForm {
-    /// The payload list.
+    /// A payload list as JSON.
     Payloads,
-    /// The array of objects of Routinator's JSON.
+    /// The array of objects in Routinator's JSON.
     Roas,
-    /// CSV of three columns.
+    /// CSV with three columns.
     Csv,
-    /// The CSV of Routinator, of four columns.
+    /// CSV of Routinator, with four columns.
     RoutinatorCsv,
 }
 

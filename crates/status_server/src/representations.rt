@@ -2,7 +2,7 @@
 ghost use Rattle.std.specs.Prelude.{◌≡◌, ℕ, List, IsTrue, IfOk, OnOk, codes, true};
 ghost use Rattle.status_pages.specs.Health.{IsHealthText};
 ghost use Rattle.http_header.specs.FieldValue.{is_visible_text};
-ghost use Rattle.status_server.specs.Answers.{BeginsAs, IsExportHead, SendsExport, SendsFault, SendsHealth, SendsList, SendsReady, SendsValidityText, made_at};
+ghost use Rattle.status_server.specs.Answers.{BeginsAs, IsExportHead, SendsApi, SendsExport, SendsFault, SendsHealth, SendsList, SendsReady, SendsValidityText, made_at};
 ghost use Rattle.status_server.specs.Responses.{Sends, SendsText, page_headers};
 
 use crate::list_forms::ExportForm;
@@ -13,8 +13,8 @@ use http_server::Response;
 use prefixes::Route;
 use status_pages::{
     QueryFault, Status, Validity, is_healthy, is_ready, oldest_built, served_vrps,
-    write_export_head, write_form_page, write_health, write_routinator_head, write_validity,
-    write_validity_page,
+    write_api_status, write_export_head, write_form_page, write_health, write_routinator_head,
+    write_validity, write_validity_page,
 };
 use std::alloc::{AllocError, Global};
 use std::io::{self, Write};
@@ -78,6 +78,24 @@ pub(crate) fn send_ready(
     }
     let text = health_text(alloc, status)?;
     send_text(response, StatusCode::SERVICE_UNAVAILABLE, &text)
+}
+
+/// Sends the status of a cache as JSON.
+pub(crate) fn send_api_status(
+    alloc: Global,
+    status: &Status,
+    response: &mut Response,
+) -> Result<(), AllocError>
+    ensures { OnOk result (SendsApi status.entry.now response.old response.new) }
+{
+    let Some(serial) = status.serial else {
+        return refuse_early(response);
+    };
+    let mut text = Vec::new(alloc);
+    if write_api_status(&mut text, status, serial).is_err() {
+        return Err(AllocError);
+    }
+    send(response, JSON, &text)
 }
 
 /// When the served data were made: at the earliest time of a source, or when the version was published if no source has a time.

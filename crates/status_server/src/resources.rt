@@ -15,6 +15,8 @@ pub(crate) enum Resource {
     Ready,
     /// Whether the daemon's loop turns.
     Live,
+    /// The status as JSON, under the path of Routinator.
+    ApiStatus,
     /// The export.
     Export,
     /// The export under the path of StayRTR.
@@ -33,7 +35,7 @@ pub(crate) enum Resource {
 
 /// The paths, for those who ask for another.
 pub(crate) const PATHS: &str =
-    "there are /, /metrics, /health, /ready, /live, /vrps.json, /rpki.json, /json, /list.json, /vrps.csv, /csv, /validity and /api/v1/validity/NUMBER/PREFIX\n";
+    "not found; resources: /, /metrics, /health, /ready, /live, /vrps.json, /rpki.json, /json, /list.json, /vrps.csv, /csv, /validity, /api/v1/status and /api/v1/validity/NUMBER/PREFIX\n";
 
 /// The resource of a path.
 pub(crate) fn resource_at(path: &str) -> Option<Resource>
@@ -46,6 +48,7 @@ pub(crate) fn resource_at(path: &str) -> Option<Resource>
         "/health" => Some(Resource::Health),
         "/ready" => Some(Resource::Ready),
         "/live" => Some(Resource::Live),
+        "/api/v1/status" => Some(Resource::ApiStatus),
         "/vrps.json" => Some(Resource::Export),
         "/rpki.json" => Some(Resource::StayRtrExport),
         "/json" => Some(Resource::RoutinatorExport),

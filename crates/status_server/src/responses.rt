@@ -112,7 +112,7 @@ pub(crate) fn send_text(
 pub(crate) fn refuse_host(response: &mut Response) -> Result<(), AllocError>
     ensures { OnOk result (Refuses Plan.InvalidHost response.old response.new) }
 {
-    let text = b"a request has one Host\n";
+    let text = b"a request must have exactly one Host header\n";
     send_text(response, StatusCode::BAD_REQUEST, text)
 }
 

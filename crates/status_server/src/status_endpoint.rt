@@ -20,26 +20,26 @@ use std::io::{Read, Write};
 use std::net::SocketAddr;
 use vrps::{Serial, VrpSet};
 
-/// A cache as its pages show it.
+/// What the endpoint reads of a cache.
 pub trait CacheView {
     /// What its current version may be. Contracts that cite it hold for each such relation.
     ghost versions: { Self → Option NumberedSet → Type 0 } = { λ view version. Unit {0} };
 
-    /// Its status at a time, in seconds since 1970 and in milliseconds of a monotonic clock. The host, the addresses and the lines that the log
-    /// lacks are filled in by the endpoint. An error is for memory alone.
+    /// Returns the status at `now`, in seconds since 1970. `millis` is the time in milliseconds of a monotonic clock. The endpoint fills in the
+    /// host, the addresses and the lost log lines. `Err`: out of memory.
     fn status(&self, now: u64, millis: u64) -> Result<Status, AllocError>;
 
-    /// Its current version, if there is one: the serial, and the set.
+    /// Returns the serial and the set of the current version. `None`: no version is published yet.
     fn current(&self) -> Option<(Serial, &VrpSet)>
         ensures { versions self.now (version_of result) };
 }
 
-/// The place of a cache, as its page shows it.
+/// The host and the addresses of a cache, as its status page shows them.
 #[derive(Debug, Drop)]
 pub struct CachePlace {
-    /// The name of the host, if it is known.
+    /// The name of the host. `None`: it is not known.
     pub host: Option<String>,
-    /// The addresses at which routers connect.
+    /// The addresses and ports at which routers connect.
     pub addresses: Vec<SocketAddr>,
 }
 
@@ -120,8 +120,10 @@ fn text_of(name: &Option<String>) -> Option<&str>
 }
 
 impl<T: Read + Write + Drop> StatusEndpoint<T> {
-    /// An endpoint without connections, of a cache at this place. Clients call it by an address, or by this name. They choose the names of headers,
-    /// so the keys must be random.
+    /// Creates an endpoint without connections. `place` is shown on the page. `name` is the configured host name that requests may name, besides
+    /// IP addresses and `localhost`. `None`: there is no such name.
+    ///
+    /// Clients choose the names of headers, so `keys` must be random.
     pub fn new(
         alloc: Global,
         keys: RandomState,
@@ -141,8 +143,8 @@ impl<T: Read + Write + Drop> StatusEndpoint<T> {
         }
     }
 
-    /// One turn, in which the pages show this view. The time is in seconds since 1970, and in milliseconds of a monotonic clock. The log lacks this
-    /// many lines.
+    /// Runs one turn of the endpoint. The pages show `view`. `now` is in seconds since 1970, and `millis` in milliseconds of a monotonic clock.
+    /// `lost` is the number of lines that the log lost.
     pub fn turn<N: HttpSockets<T>, V: CacheView>(
         &mut self,
         now: u64,
@@ -169,7 +171,8 @@ impl<T: Read + Write + Drop> StatusEndpoint<T> {
         self.http.turn(millis, sockets, &mut snapshot, name);
     }
 
-    /// How long the next turn may wait, in milliseconds: 0 if a connection is busy, a second if one is open or pending.
+    /// How long the next turn may wait, in milliseconds. It is 0 if a connection is busy, and 1,000 if one is open or pending. Otherwise it is
+    /// `u64::MAX`.
     pub fn wait_limit(&self) -> u64
         ensures { result ≡ wait_of self.now.http.0 self.now.http.1 }
     {

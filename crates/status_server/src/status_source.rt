@@ -8,26 +8,27 @@ use prefixes::Route;
 use status_pages::{Status, Validity};
 use std::alloc::AllocError;
 
-/// What the pages ask of a cache. An error is for memory alone.
+/// What the pages read of a cache. `Err` always means out of memory.
 pub trait StatusSource {
     /// What it answers, if that is known.
     ghost shows: { Self → Shown } = { λ _. nothing_shown };
 
-    /// The current time, in seconds since 1970.
+    /// Returns the current time, in seconds since 1970.
     fn now(&mut self) -> u64
         ensures { shows self.new ≡ shows self.old };
 
-    /// The current status of the cache.
+    /// Returns the current status of the cache.
     fn status(&mut self) -> Result<Status, AllocError>
         ensures shown { IfOk result (λ status. IsShown (shows self.old).status status) }
         ensures keeps { shows self.new ≡ shows self.old };
 
-    /// The records of the served set in a form, or `None` before the first version is published. All requests for one version share it.
+    /// Returns the VRPs of the served set, written in a format. `None`: no version is published yet. All requests for one version share the
+    /// bytes.
     fn list(&mut self, form: ListForm) -> Result<Option<Bytes>, AllocError>
         ensures shown { IfOk result (λ list. IsShown (shown_list form (shows self.old)) list) }
         ensures keeps { shows self.new ≡ shows self.old };
 
-    /// The validity of a route under the served set, or `None` before the first version is published.
+    /// Returns the validity of a route under the served set. `None`: no version is published yet.
     fn validity(&mut self, route: &Route) -> Result<Option<Validity>, AllocError>
         ensures shown { IfOk result (λ validity. IsShownValidity (shows self.old).set route.now validity) }
         ensures keeps { shows self.new ≡ shows self.old };

@@ -14,9 +14,11 @@ use std::alloc::{AllocError, Global};
 use std::fmt::{self, Debug};
 use vrps::{OriginIndex, Serial, VrpSet};
 
-/// The records of a version in each form, and its route index, each made at the first request. Each call is given the current version,
-/// if there is one: its serial, and its set. What was made of a version of another serial is dropped first. An error is for memory alone, and leaves
-/// what later calls answer.
+/// What is made of the current version: its VRPs in each format, and its route index. Each is made at the first request and shared by later
+/// ones.
+///
+/// Each call gets the current version: its serial and its set, or `None`. What was made of a version with another serial is dropped first. `Err`
+/// always means out of memory. It does not change what later calls return.
 #[derive(Drop)]
 pub struct VersionCache {
     alloc: Global,
@@ -34,7 +36,7 @@ impl Debug for VersionCache {
 }
 
 impl VersionCache {
-    /// An empty cache.
+    /// Creates an empty cache.
     pub fn new(alloc: Global) -> VersionCache
         ensures { IsUnused result }
     {
@@ -46,7 +48,7 @@ impl VersionCache {
         }
     }
 
-    /// Drops what was made of an older version.
+    /// Drops what was made of a version with another serial than `version`.
     pub fn drop_old(&mut self, version: Option<(Serial, &VrpSet)>)
         ensures { self.new ≡ kept_for (version_of version.entry) self.old }
     {
@@ -61,7 +63,7 @@ impl VersionCache {
         }
     }
 
-    /// The records of the version in a form, if there is a version.
+    /// Returns the VRPs of `version` in a format. `Ok(None)`: `version` is `None`. `Err`: out of memory.
     pub fn list(
         &mut self,
         version: Option<(Serial, &VrpSet)>,
@@ -91,7 +93,7 @@ impl VersionCache {
         Ok(text)
     }
 
-    /// The validity of a route under the version, if there is one.
+    /// Returns the validity of a route under `version`. `Ok(None)`: `version` is `None`. `Err`: out of memory.
     pub fn validity(
         &mut self,
         version: Option<(Serial, &VrpSet)>,

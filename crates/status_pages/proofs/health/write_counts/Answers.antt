@@ -12,5 +12,5 @@ returns g c =
     let z = g.W.Write.contents c.write_away.new.out in
     both c.write_away.result x y z (IsPeakText s) (IsAwayText s)
     (subst (λ (n : ℕ). AppendsSome x y (TellsPeak (is_shrunk (served_vrps s) s.peak) n s.peak)) c.served_vrps.ensures
-    (subst (λ (b : Bool). AppendsSome x y (TellsPeak b c.served_vrps.result s.peak)) c.has_reason-shrank.ensures c.in_ok-write_peak.ensures))
-    (subst (λ (b : Bool). OnOk c.write_away.result (AppendsSome y z (TellsAway b s.turned_away))) c.has_reason-is_recent.ensures c.write_away.ensures)
+    (subst (λ (b : Bool). AppendsSome x y (TellsPeak b c.served_vrps.result s.peak)) c.holds_for_all-shrank.ensures c.in_ok-write_peak.ensures))
+    (subst (λ (b : Bool). OnOk c.write_away.result (AppendsSome y z (TellsAway b s.turned_away))) c.holds_for_all-is_recent.ensures c.write_away.ensures)
