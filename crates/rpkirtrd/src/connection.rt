@@ -14,7 +14,7 @@ use std::os::fd::AsRawFd;
 /// The size of the send buffer that is asked of the system, in bytes.
 const SEND_ROOM: i32 = 262_144;
 
-/// A connection, which is non-blocking.
+/// An accepted, non-blocking TCP connection of a router.
 #[derive(Drop)]
 pub struct Connection {
     stream: TcpStream,
@@ -28,8 +28,8 @@ impl Debug for Connection {
 }
 
 impl Connection {
-    /// The connection of an accepted socket: without Nagle's algorithm, with a bounded send buffer, and with TCP keepalive. `None` if the socket
-    /// cannot be set up.
+    /// Sets up an accepted socket: no Nagle's algorithm, a bounded send buffer and TCP keepalive.
+    /// `None`: an option could not be set. The socket is then closed.
     pub fn of(stream: TcpStream) -> Option<Connection> {
         if stream.set_nodelay(true).is_err() || !is_bounded(&stream) || !is_kept_alive(&stream) {
             return None;
@@ -43,13 +43,13 @@ impl Connection {
     }
 }
 
-/// Bounds the send buffer of a socket, and answers whether that succeeded.
+/// Bounds the send buffer of a socket to 256 KiB. Returns whether that succeeded.
 pub fn is_bounded(stream: &TcpStream) -> bool {
     takes_option(stream, SOL_SOCKET, SO_SNDBUF, SEND_ROOM)
 }
 
-/// Sets TCP keepalive, and answers whether that succeeded: six probes, 20 seconds apart, after a minute of silence. So a host that has vanished
-/// is noticed within three minutes.
+/// Sets TCP keepalive, and returns whether that succeeded: six probes, 20 seconds apart, after a minute of silence.
+/// So a host that has vanished is noticed within three minutes.
 fn is_kept_alive(stream: &TcpStream) -> bool {
     takes_option(stream, SOL_SOCKET, SO_KEEPALIVE, 1)
         && takes_option(stream, IPPROTO_TCP, TCP_KEEPIDLE, 60)
@@ -57,7 +57,7 @@ fn is_kept_alive(stream: &TcpStream) -> bool {
         && takes_option(stream, IPPROTO_TCP, TCP_KEEPCNT, 6)
 }
 
-/// Sets an option of a socket, and answers whether that succeeded.
+/// Sets an option of a socket, and returns whether that succeeded.
 fn takes_option(stream: &TcpStream, level: i32, name: i32, value: i32) -> bool
     requires { SockOption level name }
 {

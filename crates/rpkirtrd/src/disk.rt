@@ -1,7 +1,8 @@
 //! The files.
 use crate::system::System;
+use event_log::LogEvent;
 use payload_commands::{Directory, read_directories};
-use rtr_daemon::{Disk, FileForm, Stamp, Time};
+use rtr_daemon::{Disk, EventLog, FileForm, Stamp, Time};
 use std::alloc::Global;
 use std::fs::{self, Metadata, OpenFile};
 use std::io::{self, ErrorKind, Read, Write};
@@ -26,6 +27,16 @@ fn form_of(found: &Metadata) -> FileForm {
     FileForm {
         is_regular: found.is_file(),
         size: found.len(),
+    }
+}
+
+/// What distinguishes the state of a file from another.
+fn stamp_of(found: &Metadata) -> Stamp {
+    Stamp {
+        len: found.len(),
+        inode: found.ino(),
+        modified: (found.mtime(), found.mtime_nsec()),
+        changed: (found.ctime(), found.ctime_nsec()),
     }
 }
 
@@ -83,6 +94,17 @@ impl<'a, R: Files + Clock + AllocGlobal, E: Write> System<'a, R, E> {
         Ok(())
     }
 
+    /// Warns that the inode number of a file is not stable.
+    fn log_unstable_inode(&mut self, path: &str) -> io::Result<()> {
+        let text = format!(in self.rt.alloc();
+            "{path}: its inode number changes from one stat to the next, so it is not used to detect changes"
+        )?;
+        let reason = text.as_str();
+        let now = self.seconds();
+        self.log(now, &LogEvent::Warning { reason });
+        Ok(())
+    }
+
     /// Fails if a directory lacks this, and names it.
     fn find(&mut self, directory: &str, name: &str) -> io::Result<()> {
         let path = format!(in self.rt.alloc(); "{directory}/{name}")?;
@@ -98,14 +120,16 @@ impl<'a, R: Files + Clock + AllocGlobal, E: Write> System<'a, R, E> {
 
 /// Each call of the system is timed: a stat, an opening, the reading of a part of a file or of a directory.
 impl<'a, R: Files + Clock + AllocGlobal + Clone + Drop, E: Write> Disk for System<'a, R, E> {
+    /// Two stats, with nothing between them.
     fn stamp(&mut self, path: &str) -> io::Result<Stamp> {
-        let found = self.metadata(path)?;
-        Ok(Stamp {
-            len: found.len(),
-            inode: found.ino(),
-            modified: (found.mtime(), found.mtime_nsec()),
-            changed: (found.ctime(), found.ctime_nsec()),
-        })
+        let first = stamp_of(&self.metadata(path)?);
+        let second = stamp_of(&self.metadata(path)?);
+        let alloc = self.rt.alloc();
+        let judged = self.inodes.judge(alloc, path, first, second)?;
+        if judged.is_news {
+            self.log_unstable_inode(path)?;
+        }
+        Ok(judged.stamp)
     }
 
     /// Only a regular file is opened, as to open a pipe may block.

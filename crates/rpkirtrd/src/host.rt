@@ -11,9 +11,10 @@ const MACHINE_ID: &str = "/etc/machine-id";
 /// The file of the host name.
 const HOST_NAME: &str = "/proc/sys/kernel/hostname";
 
-/// The host of this runtime.
+/// The facts of this host from which sessions are chosen: its machine id, its name and a random session.
 #[derive(Debug, Drop)]
 pub struct SystemHost<'a, R> {
+    /// The runtime, by which system files and random bytes are read.
     pub rt: &'a R,
 }
 
@@ -33,7 +34,7 @@ impl<R: Files + RandomSource + AllocGlobal> HostFacts for SystemHost<'_, R> {
     }
 }
 
-/// The name of the host. `None` if it is not known, or no text.
+/// The host name of the system. `Ok(None)`: it cannot be read, is empty, or is not UTF-8. `Err`: memory ran out.
 pub fn host_name<R: Files + AllocGlobal>(rt: &R) -> io::Result<Option<String>> {
     let bytes = content_of(rt, HOST_NAME)?;
     match str::from_utf8(bytes.as_slice()) {

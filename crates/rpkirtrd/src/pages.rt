@@ -16,14 +16,15 @@ use std::rt::Files;
 use std::time::Clock;
 use vrps::{Serial, VersionLog, VrpSet};
 
-/// The pages, if an address is given for them.
+/// The status pages of the daemon. Without a configured address they do nothing.
 #[derive(Debug, Drop)]
 pub struct Pages {
     endpoint: Option<StatusEndpoint<TcpStream>>,
 }
 
 impl Pages {
-    /// The pages of these settings, whose listener is opened.
+    /// Opens the listener of the status pages if the settings have an address for them. Otherwise the pages do nothing.
+    /// `Err` with an address: the listener could not be opened. `Err` without one: the random source failed, or memory ran out.
     pub fn open<R: Files + Net + Clock + RandomSource + AllocGlobal, E: Write>(
         rt: &R,
         settings: &Settings,

@@ -41,7 +41,7 @@ impl OpenNotifySocket for ManagerSocket {
         part.copy_from_slice(address);
         let socket = unsafe { socket(AF_UNIX, SOCK_DGRAM | SOCK_CLOEXEC | SOCK_NONBLOCK, 0) };
         if socket < 0 {
-            return Err(io::Error::other("no socket can be had"));
+            return Err(io::Error::other("cannot create a socket"));
         }
         Ok(ManagerSocket {
             socket,

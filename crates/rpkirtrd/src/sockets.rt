@@ -102,7 +102,7 @@ impl<'a, R: Clock + AllocGlobal, E: Write> HttpSockets<TcpStream> for System<'a,
 }
 
 impl<'a, R, E> System<'a, R, E> {
-    /// Limits the next waits to this many milliseconds.
+    /// Limits each later wait for events to `millis` milliseconds, until the next call.
     pub fn wait_at_most(&mut self, millis: u64) {
         self.wait_limit = millis;
     }

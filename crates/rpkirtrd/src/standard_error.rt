@@ -13,8 +13,8 @@ const DESCRIPTOR: i32 = 2;
 /// The path by which the file of that descriptor is opened again.
 const PATH: &[u8] = b"/proc/self/fd/2";
 
-/// Standard error. A pipe that is ready has room for 4,096 bytes (pipe(7)), and a file needs no reader. A terminal is ready
-/// if it has room for one byte.
+/// Standard error, as the output of the log.
+/// A pipe that is ready has room for 4,096 bytes (pipe(7)), and a file is always ready. A terminal is ready if it has room for one byte.
 #[derive(Debug, Drop)]
 pub struct StandardError {
     descriptor: i32,
@@ -23,8 +23,8 @@ pub struct StandardError {
 }
 
 impl StandardError {
-    /// Opens a terminal anew for writes that do not block. Descriptor 2 stays as it is, since other processes share its file. A terminal that
-    /// cannot be opened anew is written byte by byte.
+    /// Opens standard error. If it is a terminal, that is opened a second time for non-blocking writes.
+    /// Descriptor 2 stays as it is, since other processes share it. A terminal that cannot be opened a second time is written byte by byte.
     pub fn open() -> StandardError {
         if libc::isatty(DESCRIPTOR) != 1 {
             return StandardError::of(DESCRIPTOR, false);
@@ -43,7 +43,7 @@ impl StandardError {
         }
     }
 
-    /// Waits until there is room, or a write fails, for at most this many milliseconds. Answers whether it is so.
+    /// Waits at most `millis` milliseconds until a write does not block, because there is room or it would fail. Returns whether that is so.
     pub fn is_ready(&self, millis: i32) -> bool {
         let mut asked = [pollfd {
             fd: self.descriptor,

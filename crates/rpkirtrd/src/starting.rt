@@ -15,14 +15,14 @@ use std::random::RandomSource;
 use std::rt::Files;
 use std::time::{Clock, SystemTime, UNIX_EPOCH};
 
-/// Reports that memory ran out, and answers the exit status.
+/// Writes to standard error that memory ran out, and returns exit status 4. A failed write is ignored.
 pub fn out_of_memory<E: Write>(err: &mut E) -> u8 {
     let _ = writeln!(err, "rpkirtrd: out of memory");
     4
 }
 
-/// Runs a command line, and answers the exit status. It is 0 if all is done, 1 for refused input, and 2 if the words do not parse. It is 3 if a
-/// file, a socket or an output failed, and 4 if memory ran out.
+/// Runs the daemon for these command-line arguments, without the program name, and returns its exit status.
+/// 0: done. 1: an input is refused. 2: the arguments do not parse. 3: a file, a socket or an output failed. 4: memory ran out.
 pub fn run_words<
     R: Files + Env + Net + Clock + RandomSource + AllocGlobal + Clone + Drop,
     O: Write,

@@ -9,7 +9,7 @@ use rpkirtrd_cli::Settings;
 use rpkirtrd_start::Addresses;
 use rtr_daemon::{
     EventLog, FIRST_CONNECTION, FIRST_STATUS_CONNECTION, Ready, STATUS_TOKEN, SocketFault,
-    StartFault, Time,
+    StartFault, Time, UnstableInodes,
 };
 use sd_notify::{Notifier, service_manager};
 use status_pages::LostLines;
@@ -31,7 +31,7 @@ const LAST_TRIES: u32 = 10;
 
 const LAST_WAIT: i32 = 100;
 
-/// The system.
+/// The daemon's environment: its sockets, clocks, log and service manager.
 #[derive(Drop)]
 pub struct System<'a, R, E> {
     pub(crate) rt: &'a R,
@@ -45,6 +45,8 @@ pub struct System<'a, R, E> {
     pub(crate) max_size: u64,
     /// The longest call of the system on files since this was asked last, in milliseconds.
     pub(crate) slowest_call: u64,
+    /// The files whose inode numbers are not stable.
+    pub(crate) inodes: UnstableInodes,
     pub(crate) poll: Poll,
     pub(crate) events: Events,
     pub(crate) ready: VecDeque<Ready>,
@@ -72,7 +74,8 @@ impl<R, E> Debug for System<'_, R, E> {
 }
 
 impl<'a, R: Files + Net + Clock + AllocGlobal, E: Write> System<'a, R, E> {
-    /// The system of these settings, without a listener.
+    /// Opens the poll, the log and standard error, and starts the monotonic clock. No listener is open yet.
+    /// `Err`: the poll or the clock failed, or memory ran out. The fault has no address.
     pub fn open(
         rt: &'a R,
         err: &'a mut E,
@@ -89,6 +92,7 @@ impl<'a, R: Files + Net + Clock + AllocGlobal, E: Write> System<'a, R, E> {
             manager: None,
             max_size: settings.max_size,
             slowest_call: 0,
+            inodes: UnstableInodes::new(rt.alloc()),
             poll,
             events: Events::with_capacity(rt.alloc(), EVENTS)?,
             ready: VecDeque::with_capacity(rt.alloc(), EVENTS)?,
@@ -105,7 +109,8 @@ impl<'a, R: Files + Net + Clock + AllocGlobal, E: Write> System<'a, R, E> {
         })
     }
 
-    /// Opens a listener for routers at each of these addresses.
+    /// Opens a listener for routers at each of these addresses. The log reports them when the files are loaded.
+    /// `Err`: the first address that failed, and why. The listeners before it stay open.
     pub fn listen(&mut self, addresses: &[SocketAddr]) -> Result<(), SocketFault> {
         for address in addresses {
             if let Err(error) = self.listen_at(*address) {
@@ -124,7 +129,8 @@ impl<'a, R: Files + Net + Clock + AllocGlobal, E: Write> System<'a, R, E> {
         Ok(())
     }
 
-    /// Opens the listener of the status pages. Its address is reported when the files are read.
+    /// Opens the listener of the status pages. The log reports its address when the files are loaded. `Err`: the listener could not be opened,
+    /// or memory ran out.
     pub fn listen_for_http(&mut self, address: SocketAddr) -> io::Result<()> {
         let (listener, address) = self.bind(address, Token(STATUS_TOKEN))?;
         self.http_listener = Some(listener);
@@ -179,7 +185,7 @@ impl<'a, R: Clock + AllocGlobal, E: Write> Addresses for System<'a, R, E> {
 }
 
 impl<'a, R: Clock + AllocGlobal, E: Write> System<'a, R, E> {
-    /// Ends a run without one of its sockets, and answers the exit status.
+    /// Ends a run because a socket could not be opened: reports the fault, flushes the log, and returns the exit status.
     pub fn end_without_socket(&mut self, fault: &SocketFault) -> u8 {
         if self.format == LogFormat::Text {
             let _ = writeln!(self.err, "rpkirtrd: {fault}");
@@ -190,7 +196,8 @@ impl<'a, R: Clock + AllocGlobal, E: Write> System<'a, R, E> {
         self.end(Ok(fault.status()))
     }
 
-    /// Ends a run with its exit status, or with why the daemon did not start. The service manager is notified, and the log is written.
+    /// Ends a run: notifies the service manager, flushes the log, and returns the exit status.
+    /// `ended` is the exit status of a run, or why the daemon did not start, which is reported.
     pub fn end(&mut self, ended: Result<u8, StartFault>) -> u8 {
         let status = match ended {
             Ok(status) => status,
@@ -239,7 +246,7 @@ impl<'a, R: Clock + AllocGlobal, E: Write> System<'a, R, E> {
         self.log.wait_limit()
     }
 
-    /// How many lines the log lacks since the start.
+    /// The numbers of log lines since the start that were dropped and that were suppressed.
     pub fn lost_lines(&self) -> LostLines {
         LostLines {
             dropped: self.log.dropped_lines(),
@@ -247,7 +254,8 @@ impl<'a, R: Clock + AllocGlobal, E: Write> System<'a, R, E> {
         }
     }
 
-    /// Finds the service manager that started the daemon. If it cannot be notified, that is reported when the files are read.
+    /// Connects to the service manager that started the daemon, if there is one.
+    /// If it cannot be notified, the log reports that when the files are loaded.
     pub fn find_manager(&mut self)
     where
         R: Env,
@@ -272,7 +280,7 @@ impl<'a, R: Clock + AllocGlobal, E: Write> System<'a, R, E> {
         manager.wait_limit(millis)
     }
 
-    /// Reports to the service manager that the daemon serves.
+    /// Notifies the service manager that the daemon is ready, once it serves. A failure is logged. Without a service manager it does nothing.
     pub fn report_ready(&mut self) {
         let Some(manager) = &mut self.manager else {
             return;
@@ -285,7 +293,8 @@ impl<'a, R: Clock + AllocGlobal, E: Write> System<'a, R, E> {
     }
 }
 
-/// Writes to the log which socket cannot be opened.
+/// Logs that a socket could not be opened. `now` is the time in seconds since 1970.
+/// If memory runs out for the reason, the log reports that instead.
 pub fn log_socket_fault<J: EventLog>(alloc: Global, fault: &SocketFault, now: u64, events: &mut J) {
     let Ok(reason) = fault.to_string(alloc) else {
         return events.log(now, &LogEvent::Memory { what: "the start" });

@@ -1,4 +1,4 @@
-//! What follows from settings.
+//! Values that are derived from the settings.
 ghost use Rattle.std.specs.Prelude.{◌≡◌, ◌++◌, IfOk, OnOk, option_copied};
 ghost use Rattle.std.specs.List.{flat_map};
 ghost use Rattle.std.specs.String.{string_bytes};
@@ -11,7 +11,7 @@ use std::net::SocketAddr;
 /// The least number of seconds between two notifies (RFC 8210 section 8.2).
 const NOTIFY_SECONDS: u32 = 60;
 
-/// The warning that the session is random at each start, if it is.
+/// The warning that the session is random at each start. `None` if `is_random` is false.
 pub fn session_warning(is_random: bool) -> Option<&'static str>
     ensures { option_copied result ≡ session_warning is_random }
 {
@@ -31,21 +31,21 @@ impl Settings {
         u64::from(self.check) * 1000
     }
 
-    /// After how long a client that is blocked on writing is closed, in milliseconds.
+    /// After how many milliseconds without progress a client that is blocked on writing is closed.
     pub fn stall_millis(&self) -> u64
         ensures { result ≡ millis_of self.now.stall }
     {
         u64::from(self.stall) * 1000
     }
 
-    /// How long an answer may last until it has left, in milliseconds.
+    /// After how many milliseconds a client is closed that has not accepted the whole answer to a query.
     pub fn slow_millis(&self) -> u64
         ensures { result ≡ millis_of self.now.slow }
     {
         u64::from(self.slow) * 1000
     }
 
-    /// The warning that routers may be notified too often, if they may.
+    /// The warning that routers may be notified more than once a minute (RFC 8210 section 8.2). `None` if `check` is 60 seconds or more.
     pub fn notify_warning(&self) -> Option<&'static str>
         ensures { option_copied result ≡ notify_warning self.now.check }
     {
@@ -57,7 +57,7 @@ impl Settings {
         )
     }
 
-    /// The listening addresses for routers, one on a line.
+    /// The listening addresses for routers as text, one a line. `Err`: memory ran out.
     pub fn listen_text(&self, alloc: Global) -> Result<String, AllocError>
         ensures { IfOk result (λ text. string_bytes text ≡ flat_map address_line self.now.listen.items) }
     {
@@ -66,7 +66,7 @@ impl Settings {
         Ok(text)
     }
 
-    /// The options of all sources, each with its path on a line.
+    /// All sources as text, one a line: the option, a space and the path. `Err`: memory ran out.
     pub fn sources_text(&self, alloc: Global) -> Result<String, AllocError>
         ensures { IfOk result (λ text. string_bytes text ≡ sources_text self.now) }
     {

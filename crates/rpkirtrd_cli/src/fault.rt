@@ -22,7 +22,7 @@ pub enum Wanted {
     /// The path of a file or of a directory, which is not empty.
     #[error("a path")]
     Path,
-    /// The same in place of a URL, which is not fetched.
+    /// The path of a file or of a directory. The value given is a URL, which is not fetched.
     #[error("a path, not a URL (see \"A list from another machine, over HTTPS\" in OPERATING.md),")]
     PathNotUrl,
     /// A format of the log.
@@ -62,16 +62,16 @@ pub enum OptionFault {
         /// The retry interval in seconds.
         retry: u32,
     },
-    /// There is neither `--vrps` nor `--points`.
+    /// Neither `--vrps` nor `--points` is given.
     #[error("nothing to serve: give --vrps or --points")]
     NoSource,
-    /// There is `--stop-when-old` without `--max-age`.
+    /// `--stop-when-old` is given without `--max-age`.
     #[error("--stop-when-old needs --max-age")]
     NoAge,
-    /// There is `--shrink-hold` beside `--max-shrink none`.
+    /// `--shrink-hold` is given with `--max-shrink none`.
     #[error("--shrink-hold needs a --max-shrink other than none")]
     NoShrink,
-    /// There is `--status-name` without `--status`.
+    /// `--status-name` is given without `--status`.
     #[error("--status-name needs --status")]
     NoStatus,
     /// Out of memory.

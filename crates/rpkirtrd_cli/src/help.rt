@@ -30,10 +30,15 @@ A cache for the routers of a network, on the host of rpki-client:
 /// The program's version.
 pub const VERSION: &str = "1.1.0";
 
-/// What `--version` prints: the name of the program and its version.
+/// The kit that the program is proved with, as `rt version` prints it.
+const KIT: &str = "rattle-kit-13f logic dac8208d650f15bf";
+
+/// What `--version` prints: the name of the program and its version, and the kit that it is proved with.
 pub(crate) fn version(alloc: Global) -> Result<String, AllocError> {
     let mut text = String::from_str(alloc, "rpkirtrd ")?;
     text.push_str(VERSION)?;
+    text.push_str("\nproved with ")?;
+    text.push_str(KIT)?;
     Ok(text)
 }
 

@@ -1,5 +1,5 @@
 //! The command line of the daemon `rpkirtrd`. [`read_words`] parses it to a [`Command`]: a run with its [`Settings`], or a text to print.
-//! Otherwise it answers an [`OptionFault`].
+//! If it does not parse, it returns an [`OptionFault`].
 //!
 //! For example, where `rt` is the runtime that `main` is handed:
 //!

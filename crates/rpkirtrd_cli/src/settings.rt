@@ -6,60 +6,60 @@ use event_log::{LogFormat, LogLevel};
 use rtr_ends::Timing;
 use std::net::SocketAddr;
 
-/// The settings of a run of the daemon.
+/// The settings of a run of the daemon. At least one of `vrps` and `points` is not empty.
 #[derive(Debug, Drop)]
 pub struct Settings {
-    /// The exports of validators.
+    /// The paths of the exports of validators, and of payload lists.
     pub vrps: Vec<String>,
-    /// The directories that are publication points.
+    /// The paths of the directories that are publication points.
     pub points: Vec<String>,
-    /// The files of local exceptions (RFC 8416), which are applied together.
+    /// The paths of the files with local exceptions (SLURM, RFC 8416). They are applied together.
     pub slurm: Vec<String>,
     /// The listening addresses for routers, at least one.
     pub listen: Vec<SocketAddr>,
-    /// The session in protocol version 1, or `None` for the daemon's own.
+    /// The session in protocol version 1. `None`: the daemon chooses it at the start.
     pub session: Option<u16>,
-    /// The session in protocol version 0, or `None` for the daemon's own.
+    /// The session in protocol version 0. `None`: the daemon chooses it at the start.
     pub session0: Option<u16>,
-    /// The serial of the first version, or `None` for the daemon's own.
+    /// The serial of the first version. `None`: the daemon chooses it at the start.
     pub start: Option<u32>,
-    /// How many versions are kept.
+    /// How many versions before the current one are kept, 1 to 65,536. A router that has one of them is sent only the changes.
     pub keep: u32,
-    /// The intervals that are sent to routers.
+    /// The refresh, retry and expire intervals that are sent to routers (RFC 8210 section 6).
     pub timing: Timing,
     /// The seconds between two polls of the files.
     pub check: u32,
-    /// The maximum age of an export in seconds, or `None` for any age.
+    /// The maximum age of an export in seconds. An older one is reported. `None`: no export is too old.
     pub max_age: Option<u64>,
-    /// Whether the daemon stops if an export is older.
+    /// Whether the daemon stops as soon as an export is older than `max_age`.
     pub stop_when_old: bool,
-    /// The largest file size in bytes.
+    /// The largest size in bytes of a file that is read. A larger one is refused.
     pub max_size: u64,
-    /// How large a part of an export's records may be gone at a change, in percent, or `None` for all of them.
+    /// How many percent of its records a changed export may lose, 1 to 99. If it lost more, it is refused. `None`: no limit.
     pub max_shrink: Option<u8>,
-    /// For how many seconds an export is refused that lacks more.
+    /// For how many seconds an export is refused that lost more than `max_shrink`. Then it is loaded.
     pub shrink_hold: u32,
-    /// Whether records of length 0, for 0.0.0.0/0 or ::/0, are left out.
+    /// Whether records for 0.0.0.0/0 and ::/0 are left out.
     pub leave_out_length_0: bool,
-    /// How many clients there may be at once.
+    /// How many routers may be connected at once. The process's descriptor limit may allow fewer.
     pub clients: usize,
-    /// How many clients an address may have at once, or `None` for as many as there may be.
+    /// How many routers may be connected at once from one address. `None`: no such limit.
     pub clients_per_address: Option<u64>,
-    /// After how many seconds a client that is blocked on writing is closed.
+    /// After how many seconds without progress a client that is blocked on writing is closed.
     pub stall: u32,
-    /// After how many seconds a client is closed whose answer has not left.
+    /// After how many seconds a client is closed that has not accepted the whole answer to a query, 60 to 86,400.
     pub slow: u32,
-    /// The address of the status pages, if there are any.
+    /// The address of the status pages. `None`: there are no status pages.
     pub status: Option<SocketAddr>,
-    /// The name by which clients call the status pages, if they may call them by one.
+    /// The host name by which clients may call the status pages, besides addresses and localhost. `None`: no such name.
     pub status_name: Option<String>,
     /// The format of the log.
     pub log: LogFormat,
-    /// The least severe level of the events that are logged.
+    /// The least severe level that is logged.
     pub log_level: LogLevel,
     /// Whether the daemon stops when the first client is closed.
     pub once: bool,
-    /// Whether the configuration is only checked: then nothing is served.
+    /// Whether the configuration is only checked. Then nothing is served.
     pub check_config: bool,
 
     // Every run has at least one source and at least one address, and its numbers are in range.

@@ -21,13 +21,13 @@ use std::net::{IpAddr, Ipv4Addr, SocketAddr};
 pub enum Command {
     /// A run with these settings.
     Serve(Settings),
-    /// The help.
+    /// The help text, to print.
     Help(String),
-    /// The program's name and version.
+    /// The program's name and version as text, to print.
     Version(String),
 }
 
-/// The default port: rpki-rtr is 323 (RFC 8210 section 13), and this one needs no privilege.
+/// The default port: rpki-rtr is 323 (RFC 8210 section 9), and this one needs no privilege.
 const PORT: u16 = 3323;
 
 /// The default of the largest file size, in bytes.
@@ -227,7 +227,8 @@ fn settings(alloc: Global, found: &ArgMatches<'_>) -> Result<Settings, OptionFau
     })
 }
 
-/// The parsed command line of these words, without the program's name. `--help` and `--version` go before all other options that parse.
+/// Parses the command line, without the program name. `--help` and then `--version` win over other options that parse.
+/// `Err`: the command line does not parse, its settings contradict each other, or memory ran out.
 pub fn read_words(alloc: Global, words: &[String]) -> Result<Command, OptionFault> {
     let command = command_line(alloc)?;
     let found = match command.try_get_matches_from(words) {

@@ -3,31 +3,32 @@ ghost use Rattle.std.specs.Prelude.{◌≡◌, false, IfOk, Ok, Result};
 ghost use Rattle.std.specs.declared.io.Error.{Error};
 ghost use Rattle.rtr_daemon.specs.Origins.{SourcesComeFrom};
 ghost use Rattle.rtr_daemon.specs.Running.{clients_within, exit_status};
+ghost use Rattle.rtr_daemon.specs.Starting.{Begins, ReadsAll};
 ghost use Rattle.rtr_daemon.specs.declared.daemon.StopReason.{StopReason};
-ghost use Rattle.rpkirtrd_start.specs.Plans.{plan_of, shrink_of};
+ghost use Rattle.rpkirtrd_start.specs.Plans.{IsMadeAs, cache_of, plan_of, shrink_of};
 
 use crate::paths::paths_of;
 use event_log::LogEvent;
 use rpkirtrd_cli::{Settings, session_warning};
 use rtr_daemon::{
-    AfterTurn, Daemon, Disk, EventLog, Plan, ShrinkGuard, Sockets, StartFault, Time,
+    AfterTurn, CacheSettings, Daemon, Disk, EventLog, Plan, ShrinkGuard, Sockets, StartFault, Time,
     clients_within, report_check, report_end, report_limit, run, wait_for_clock,
 };
-use rtr_ends::Cache;
-use rtr_server::{Server, Stream};
+use rtr_server::Stream;
 use session_names::{GivenIds, HostFacts, SessionChoice, SessionIds, choose_session};
-use std::alloc::{AllocError, Global};
+use std::alloc::Global;
 use std::io;
 use vrps::VersionLog;
 
-/// The addresses at which a program listens.
+/// The addresses at which the program listens, as log events.
 pub trait Addresses {
-    /// Writes them to the log. It is called once, when the files of a start are read.
+    /// Writes the addresses to the log. `seconds` is the time, in seconds since 1970. It is called once, after the files are loaded.
     fn log_addresses(&mut self, seconds: u64);
 }
 
-/// The daemon of these settings, with its files loaded. Of a start that fails the log says nothing but why. `descriptors` is the limit of
-/// descriptors of the process, and `http` how many of them the status pages may need.
+/// Loads all files and returns the daemon for these settings, ready to run. `Err`: why it does not start.
+/// `descriptors` is the process's descriptor limit. `http` is how many of them the status pages may need.
+/// If the start fails, the log gets nothing but the reason.
 pub fn start<T: Stream + Drop, H: HostFacts, W: Disk + Time + EventLog + Addresses>(
     alloc: Global,
     settings: Settings,
@@ -36,9 +37,12 @@ pub fn start<T: Stream + Drop, H: HostFacts, W: Disk + Time + EventLog + Address
     host: &mut H,
     env: &mut W,
 ) -> Result<Daemon<VersionLog, T>, StartFault>
+    ensures begins { IfOk result (λ daemon. Begins W.can_be W.can_tick (plan_of settings) daemon) }
+    ensures reads { IfOk result (λ daemon. ReadsAll W.answers settings.leave_out_length_0 daemon) }
     ensures comes { IfOk result (λ daemon. SourcesComeFrom W.answers W.can_be daemon) }
     ensures closed { IfOk result (λ daemon. daemon.is_ready ≡ false) }
-    ensures planned { IfOk result (λ daemon. daemon.plan ≡ plan_of settings (clients_within settings.clients descriptors http)) }
+    ensures planned { IfOk result (λ daemon. daemon.plan ≡ plan_of settings) }
+    ensures cache { IfOk result (λ daemon. IsMadeAs daemon.service.settings (cache_of settings (clients_within settings.clients descriptors http))) }
 {
     let begun = env.seconds();
     let SessionChoice { ids, is_random } = match choice(alloc, &settings, begun, host) {
@@ -48,12 +52,10 @@ pub fn start<T: Stream + Drop, H: HostFacts, W: Disk + Time + EventLog + Address
     let asked = settings.clients;
     let notify_warning = settings.notify_warning();
     let clients = clients_within(asked, descriptors, http);
-    let plan = plan_of(&settings, clients);
-    let Ok(server) = server_of(alloc, &settings, ids, clients) else {
-        return Err(StartFault::memory());
-    };
+    let plan = plan_of(&settings);
+    let cache = cache_of(&settings, clients);
     let paths = paths_of(alloc, settings, begun, env)?;
-    let daemon = Daemon::open(alloc, plan, ids, server, paths, env)?;
+    let daemon = Daemon::open(alloc, plan, cache, ids, paths, env)?;
     env.log_addresses(begun);
     report_limit(asked, clients, begun, env);
     env.log(begun, &LogEvent::Started(ids));
@@ -86,16 +88,15 @@ fn warn<J: EventLog>(warning: Option<&'static str>, now: u64, events: &mut J) {
     }
 }
 
-/// A server over a new cache.
-fn server_of<T: Stream + Drop>(
-    alloc: Global,
-    settings: &Settings,
-    ids: SessionIds,
-    clients: usize,
-) -> Result<Server<VersionLog, T>, AllocError> {
-    let store = VersionLog::new(alloc, ids.session, ids.serial, settings.keep)?;
-    let cache = Cache::new_both(alloc, store, ids.session0, settings.timing);
-    Ok(Server::new(alloc, cache, clients))
+/// What the cache of these settings is made with, for at most this many clients.
+fn cache_of(settings: &Settings, clients: usize) -> CacheSettings
+    ensures { result ≡ cache_of settings.now clients }
+{
+    CacheSettings {
+        keep: settings.keep,
+        timing: settings.timing,
+        clients,
+    }
 }
 
 /// The guard of these settings against exports that shrink, if there is one.
@@ -107,9 +108,9 @@ fn shrink_of(settings: &Settings) -> Option<ShrinkGuard>
     Some(ShrinkGuard { percent, hold })
 }
 
-/// The plan of these settings, for at most this many clients.
-fn plan_of(settings: &Settings, clients: usize) -> Plan
-    ensures { result ≡ plan_of settings.now clients }
+/// The plan of these settings.
+fn plan_of(settings: &Settings) -> Plan
+    ensures { result ≡ plan_of settings.now }
 {
     Plan {
         check: settings.check_millis(),
@@ -123,11 +124,12 @@ fn plan_of(settings: &Settings, clients: usize) -> Plan
         max_size: settings.max_size,
         once: settings.once,
         listeners: settings.listen.len(),
-        clients,
     }
 }
 
-/// Reads all files as at a start, and reports what would be served. Answers the exit status, or why the daemon would not start.
+/// Checks the configuration: loads all files as `start` does, and logs what would be served. Nothing is served.
+/// `descriptors` is the process's descriptor limit. `http` is how many of them the status pages may need.
+/// `Ok`: the exit status, 1 if the daemon would stop because an export is too old, otherwise 0. `Err`: why it would not start.
 pub fn check<T: Stream + Drop, H: HostFacts, W: Disk + Time + EventLog + Addresses>(
     alloc: Global,
     settings: Settings,
@@ -142,8 +144,11 @@ pub fn check<T: Stream + Drop, H: HostFacts, W: Disk + Time + EventLog + Address
     report_check(&daemon, env)
 }
 
-/// Waits until the clock is set, reads all files, and serves until the daemon stops or a wait fails. Answers the exit status, or why the daemon
-/// does not start.
+/// Waits until the clock is set (2020 or later), loads all files, and serves until the daemon stops or a wait for events fails.
+/// `descriptors` is the process's descriptor limit. `http` is how many of them the status pages may need. `after` runs after each turn of the
+/// loop.
+/// `Ok`: the exit status. 0: the daemon stopped as configured. 1: an export is too old. 3: a wait failed. 4: memory ran out at a wait.
+/// `Err`: why the daemon does not start.
 pub fn serve<
     T: Stream + Drop,
     H: HostFacts,
