@@ -76,7 +76,7 @@ start 0 "$said" "${route[@]}"
 start 0 '' "${route[@]}"
 [ ! -s errors ] || fail 'the second start says something'
 start 0 "rpkirtrd $version: delivered program" repo/rpkirtrd --version
-[ "$(cat printed)" = "rpkirtrd $version" ] || fail 'rpkirtrd --version prints another version'
+[ "$(head -n 1 printed)" = "rpkirtrd $version" ] || fail 'rpkirtrd --version prints another version'
 start 0 '' repo/rpkirtrd --help
 touch repo/crates/prefixes/src/lib.rt
 start 0 '' "${route[@]}"
@@ -99,7 +99,7 @@ start 3 'the sources here are not those' "${route[@]}"
 rm repo/crates/prefixes/src/more.rt
 start 0 '' "${route[@]}"
 # A crate that no program is built from is none of its sources.
-echo '// changed' >>repo/crates/rtr_examples/src/lib.rt
+echo '// changed' >>repo/crates/rtr_tests/src/lib.rt
 start 0 '' "${route[@]}"
 
 # An unpacked program with one byte changed is refused, and unpacked anew once it is removed.
@@ -193,7 +193,7 @@ if [ "$compared" = 'the same bytes as built here' ] && same_linkers; then
         mkdir -p "${path%/*}" && if [ -f "$built" ]; then cp -p "$built" "$path"; else gzip -dc "$delivery/$name.gz" >"$path"; fi || exit 1
     done
     cp -rp "$top/include" repo && mkdir -p repo/tools/librpkirtr && cp -p "$top"/tools/librpkirtr/* repo/tools/librpkirtr || exit 1
-    cp -p "$top/crates/rtr_examples/src/lib.rt" repo/crates/rtr_examples/src
+    cp -p "$top/crates/rtr_tests/src/lib.rt" repo/crates/rtr_tests/src
     in_git init
     in_git add -A
     in_git commit -m all

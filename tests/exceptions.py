@@ -3,7 +3,7 @@
 
 usage: tests/exceptions.py TESTS [--seed N] [--seconds S]
 
-TESTS is the program of crates/export_examples, whose test `slurm_cases::outcomes` tells what comes of each SLURM file in a file of cases
+TESTS is the program of crates/export_tests, whose test `slurm_cases::outcomes` tells what comes of each SLURM file in a file of cases
 and of the payload list beside it. Prefixes are drawn from a small tree, so that filters cover records, one another, and nothing. It exits
 with 1 where an outcome is another, and tells the texts; the seed makes them again."""
 import argparse

@@ -3,7 +3,7 @@
 
 usage: tests/exports.py TESTS [--seed N] [--seconds S]
 
-TESTS is the program of crates/export_examples, whose test `export_cases::outcomes` tells what comes of each text in a file. The texts have
+TESTS is the program of crates/export_tests, whose test `export_cases::outcomes` tells what comes of each text in a file. The texts have
 the shapes that validators write, with members in any order, doubled, missing, deeper, and of other kinds; numbers on both sides of each
 limit; spoiled prefixes, times and bytes. What must come of a text is worked out here, with Python's json, from the rules of
 docs/FORMATS.md. It exits with 1 where an outcome is another, and tells the text; the seed makes it again."""

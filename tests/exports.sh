@@ -8,10 +8,10 @@ failed=0
 
 # Runs a driver on the tests of the crate.
 drive() { # drive DRIVER WORD..
-    python3 "$top/tests/$1" "$top/crates/export_examples/out/export_examples_tests" "${@:2}" || failed=1
+    python3 "$top/tests/$1" "$top/crates/export_tests/out/export_tests_tests" "${@:2}" || failed=1
 }
 
-built export_examples export_examples_tests rt test || exit
+built export_tests export_tests_tests rt test || exit
 drive file_rows.py
 drive exports.py --seconds 8
 drive exceptions.py --seconds 8

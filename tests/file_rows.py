@@ -3,7 +3,7 @@
 
 usage: tests/file_rows.py TESTS
 
-TESTS is the program of crates/export_examples, whose tests `export_cases::outcomes` and `slurm_cases::outcomes` print the result of each
+TESTS is the program of crates/export_tests, whose tests `export_cases::outcomes` and `slurm_cases::outcomes` print the result of each
 case in a file. tests/exports.py and tests/exceptions.py make such cases at random. It exits with 1 if a result differs, and prints the
 case."""
 import json

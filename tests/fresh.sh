@@ -13,5 +13,4 @@ git clone -q --bare "$top" "$folder/root/origin.git" || exit 1
     echo 'router id 192.0.2.2;'
     awk '/^##/ { inside = $0 == "### BIRD 2 and 3" } inside && $0 == "```" { fence++; next } inside && fence == 1' "$top/docs/ROUTERS.md" | sed 's/192\.0\.2\.1/127.0.0.1/'
 } >"$folder/root/etc/bird/bird.conf"
-cp "$top/tests/inside/fresh.bash" "$folder/root/inside.sh" || exit 1
-timeout 300 systemd-nspawn --quiet --register=no --keep-unit --private-network --console=pipe --directory="$folder/root" /bin/bash /inside.sh </dev/null
+run_inside 300

@@ -10,5 +10,4 @@ top=$(cd "$(dirname "${BASH_SOURCE[0]}")/.." && pwd) || exit 1
 # (what the page has installed by apt-get, and git, the pages of the manual, and the wheels that an isolated build of Python's module takes)
 clean_debian fresh_library gcc,libc6-dev,pkg-config,python3,python3-venv,python3-setuptools,python3-wheel,cargo,librtr-dev,git,man-db,python3-wheel-whl "$@"
 git clone -q --bare "$top" "$folder/root/origin.git" || exit 1
-cp "$top/tests/inside/fresh_library.bash" "$folder/root/inside.sh" || exit 1
-timeout 900 systemd-nspawn --quiet --register=no --keep-unit --private-network --console=pipe --directory="$folder/root" /bin/bash /inside.sh </dev/null
+run_inside 900

@@ -16,12 +16,12 @@ test=install
 
 # The programs below a folder start, and print what they are.
 run_all() { # run_all FOLDER
-    [ "$("$1/rpkirtrd" --version)" = "rpkirtrd $version" ] || fail "$1/rpkirtrd --version prints something else"
+    [ "$("$1/rpkirtrd" --version | head -n 1)" = "rpkirtrd $version" ] || fail "$1/rpkirtrd --version prints something else"
     "$1/rpkirtr" 2>errors
     [ $? -eq 2 ] && [ "$(cat errors)" = 'rpkirtr: bad words' ] || fail "$1/rpkirtr does not refuse to do nothing"
     "$1/rpkirtrd-fetch" '' list 2>errors
     [ $? -eq 2 ] && grep -q '^rpkirtrd-fetch: there is no URL: set URL in /.*etc/default/rpkirtrd-fetch$' errors || fail "$1/rpkirtrd-fetch does not refuse to fetch nothing"
-    "$1/rpkiobject" "$top/crates/rpkiobject/data/a.roa" | grep -q '^digest and signature hold' || fail "$1/rpkiobject does not print an object"
+    "$1/rpkiobject" "$top/crates/rpkiobject/data/a.roa" | grep -q '^digest and signature are valid' || fail "$1/rpkiobject does not print an object"
 }
 
 install_it() { # install_it STATUS WORD..

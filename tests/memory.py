@@ -1,5 +1,5 @@
 #!/usr/bin/env python3
-"""Requests for memory refused in turn: the runs of crates/memory_examples, and the commands of the program.
+"""Requests for memory refused in turn: the runs of crates/memory_tests, and the commands of the program.
 
 usage: tests/memory.py PROGRAM SHIM [TESTS]
 
@@ -192,7 +192,7 @@ class Watch:
 
 
 def examples(watch, tests):
-    """The runs of crates/memory_examples."""
+    """The runs of crates/memory_tests."""
     requests = 0
     for name, (answer, others) in RUNS.items():
         allowed = {False: [answer], True: [answer, *others]}

@@ -14,8 +14,8 @@ fi
 cc -O2 -Wall -Wextra -Werror -shared -fPIC -o "$folder/refusing.so" "$top/tests/lib/refusing.c" -ldl || exit 1
 rpkirtr=$(bash "$top/tools/start.sh" --path rpkirtr) || exit 1
 . "$top/tests/lib/built.bash"
-runs=$top/crates/memory_examples/out/memory_examples_tests
-why=$(built memory_examples memory_examples_tests rt test)
+runs=$top/crates/memory_tests/out/memory_tests_tests
+why=$(built memory_tests memory_tests_tests rt test)
 case $? in
 0) python3 "$top/tests/memory.py" "$rpkirtr" "$folder/refusing.so" "$runs" ;;
 77)

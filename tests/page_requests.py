@@ -66,6 +66,11 @@ ROUTINATOR = (
     '{"metadata":{"generated":1795652820,"generatedTime":"2026-11-26T00:27:00Z"},'
     '"roas":[{"asn":"AS64496","prefix":"192.0.2.0/24","maxLength":24,"ta":""}]}'
 )
+API_STATUS = (
+    '{"version":"rpkirtrd/0.1.0","serial":1795653120,"now":"2026-11-26T00:37:00Z","lastUpdateDone":"2026-11-26T00:32:00Z",'
+    '"lastUpdateDuration":1.045,"tals":{"ripe":{"vrpsTotal":500000},"<a>\\"b\\\\c\\u000a":{"vrpsTotal":23000}},'
+    '"rtr":{"currentConnections":3,"bytesRead":300,"bytesWritten":1000000}}'
+)
 OF_LIST = 'etag: "4660-1795653120"'
 OF_EXPORT = 'etag: "4660-1795653120-1795652820"'
 EITHER = (4096, 1)
@@ -82,7 +87,7 @@ expect(asked("GET /ready"), EARLY, cache="empty")
 expect(asked("GET /live"), told("200 OK", PLAIN, *ALWAYS, body="ok\n"), cache="empty")
 AGED = "/var/db/rpki-client/json: its data are older than the maximum age\n"
 REFUSED = (
-    '/srv/<b>\\"a\\\\b\\"&c\\n.json: refused since 2026-11-26T00:33:40Z: entry 3 of roas cannot be read: <prefix> is no prefix (fault 3); '
+    '/srv/<b>\\"a\\\\b\\"&c\\n.json: refused since 2026-11-26T00:33:40Z: entry 3 of roas cannot be read: <prefix> is not a prefix (fault 3); '
     "none of its data were loaded yet\n"
 )
 expect(asked("GET /health"), told("503 Service Unavailable", PLAIN, *ALWAYS, body=AGED + REFUSED), cache="old")
@@ -90,6 +95,7 @@ expect(asked("GET /ready"), told("200 OK", PLAIN, *ALWAYS, body="ok\n"), cache="
 expect(asked("GET /vrps.json"), told("200 OK", OF_EXPORT, JSON, *ALWAYS, body=EXPORT), pieces=EITHER)
 expect(asked("GET /rpki.json"), told("200 OK", OF_EXPORT, JSON, *ALWAYS, body=EXPORT))
 expect(asked("GET /json"), told("200 OK", OF_EXPORT, JSON, *ALWAYS, body=ROUTINATOR), pieces=EITHER)
+expect(asked("GET /api/v1/status"), told("200 OK", JSON, *ALWAYS, body=API_STATUS), pieces=EITHER)
 expect(asked("GET /list.json"), told("200 OK", OF_LIST, JSON, *ALWAYS, body=LIST))
 expect(asked("HEAD /list.json"), told("200 OK", OF_LIST, JSON, *ALWAYS, length=54), pieces=EITHER)
 expect(
@@ -101,13 +107,13 @@ expect(
     asked("GET /api/v1/validity/AS64497/192.0.2.0/24", "Accept: text/html"),
     told("200 OK", JSON, *ALWAYS, body=route("AS64497", "192.0.2.0/24", "invalid", "as", unmatched_as=[RECORD])),
 )
-HOW = "write ?asn=NUMBER&prefix=PREFIX, each of the two keys once and no other, as in ?asn=64496&prefix=192.0.2.0/24\n"
+HOW = "usage: ?asn=NUMBER&prefix=PREFIX, each key once and no other, as in ?asn=64496&prefix=192.0.2.0/24\n"
 expect(asked("GET /validity"), told("400 Bad Request", "vary: Accept", PLAIN, *ALWAYS, body=HOW), pieces=EITHER)
-PATH = "write /api/v1/validity/NUMBER/PREFIX, as in /api/v1/validity/AS64496/192.0.2.0/24\n"
+PATH = "usage: /api/v1/validity/NUMBER/PREFIX, as in /api/v1/validity/AS64496/192.0.2.0/24\n"
 expect(asked("GET /api/v1/validity/64496"), told("400 Bad Request", PLAIN, *ALWAYS, body=PATH))
 WHERE = (
-    "there are /, /metrics, /health, /ready, /live, /vrps.json, /rpki.json, /json, /list.json, /vrps.csv, /csv, /validity and "
-    "/api/v1/validity/NUMBER/PREFIX\n"
+    "not found; resources: /, /metrics, /health, /ready, /live, /vrps.json, /rpki.json, /json, /list.json, /vrps.csv, /csv, /validity, "
+    "/api/v1/status and /api/v1/validity/NUMBER/PREFIX\n"
 )
 expect(asked("GET /status"), told("404 Not Found", PLAIN, *ALWAYS, body=WHERE), pieces=EITHER)
 expect(
@@ -144,13 +150,13 @@ for accepted, kind in [
 # What a browser gets if a query names no route: the form with what was typed, why it is no route, and the route that was probably meant.
 for query, status, parts in [
     ("", "200 OK", ['<label>AS <input name="asn"', "<h2>Route</h2>"]),
-    ("?asn=%2064496+&prefix=192.0.2.0/24", "400 Bad Request", ['value=" 64496 "', 'value="192.0.2.0/24"', '<p class="state bad">write the AS number', '"/validity?asn=AS64496&amp;prefix=192.0.2.0/24">192.0.2.0/24 of AS64496</a>?']),
+    ("?asn=%2064496+&prefix=192.0.2.0/24", "400 Bad Request", ['value=" 64496 "', 'value="192.0.2.0/24"', '<p class="state bad">the AS number is not', '"/validity?asn=AS64496&amp;prefix=192.0.2.0/24">192.0.2.0/24 of AS64496</a>?']),
     ("?asn=as64496&prefix=192.0.2.7", "400 Bad Request", ['value="as64496"', '"/validity?asn=AS64496&amp;prefix=192.0.2.7/32">']),
     ("?asn=64496&prefix=192.0.2.7/24", "400 Bad Request", ["(fault 2)", 'value="192.0.2.7/24"', '"/validity?asn=AS64496&amp;prefix=192.0.2.0/24">']),
     ("?asn=64496&prefix=2001:db8::1", "400 Bad Request", ['"/validity?asn=AS64496&amp;prefix=2001:db8::1/128">']),
     ("?asn=64496&prefix=2001:db8::1+/+32", "400 Bad Request", ['"/validity?asn=AS64496&amp;prefix=2001:db8::/32">']),
     ("?asn=64496&prefix=192.0.2.0/33", "400 Bad Request", ["(fault 1)", 'value="192.0.2.0/33"']),
-    ("?prefix=%22%3E%3Cb%3E", "400 Bad Request", ['value="&quot;&gt;&lt;b&gt;"', "write ?asn=NUMBER&amp;prefix=PREFIX"]),
+    ("?prefix=%22%3E%3Cb%3E", "400 Bad Request", ['value="&quot;&gt;&lt;b&gt;"', "usage: ?asn=NUMBER&amp;prefix=PREFIX"]),
     ("?asn=64496&prefix=0.0.0.1/0", "400 Bad Request", ['"/validity?asn=AS64496&amp;prefix=0.0.0.0/0">']),
 ]:
     begin = told(status, "vary: Accept", "content-type: text/html; charset=utf-8")[:-2]
@@ -161,6 +167,7 @@ for line in (
     "GET /vrps.json",
     "GET /rpki.json",
     "GET /json",
+    "GET /api/v1/status",
     "GET /list.json",
     "GET /vrps.csv",
     "GET /csv",

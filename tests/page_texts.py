@@ -46,11 +46,13 @@ SHORT = {
     "roas small":
         '[{"asn":"AS64496","prefix":"192.0.2.0/24","maxLength":25,"ta":""},{"asn":"AS4294967295","prefix":"2001:db8::/32","maxLength":48,"ta":""}]',
     "routinator-export": '{"metadata":{"generated":1795653420,"generatedTime":"2026-11-26T00:37:00Z"},"roas":',
+    "api-status empty": '{"version":"rpkirtrd/0.1.0","serial":0,"now":"2026-11-26T00:37:00Z","tals":{},'
+        '"rtr":{"currentConnections":0,"bytesRead":0,"bytesWritten":0}}',
     "export": '{"metadata":{"buildtime":"2026-11-26T00:37:00Z","generated":1795653420,"vrps":523456},"roas":',
 }
 
 REFUSED = (
-    '/srv/<b>\\"a\\\\b\\"&c\\n.json: refused since 2026-11-26T00:33:40Z: entry 3 of roas cannot be read: <prefix> is no prefix (fault 3); '
+    '/srv/<b>\\"a\\\\b\\"&c\\n.json: refused since 2026-11-26T00:33:40Z: entry 3 of roas cannot be read: <prefix> is not a prefix (fault 3); '
     "none of its data were loaded yet\n"
 )
 OLD = "/var/db/rpki-client/json: its data are older than the maximum age\n"
@@ -77,6 +79,9 @@ HEALTH = {
     "with old 1 peak 700000 ipv4 3 ipv6 0 away 5":
         f"ill\n{OLD}the table shrank: 700000 to 3 VRPs at 2026-11-26T00:36:00Z\n"
         "routers were turned away by --clients: 3, the last at 2026-11-26T00:36:55Z\n",
+    "with anchor 3 anchor-peak 12000": "healthy\nok\n",
+    "with old 1 anchor 3 anchor-peak 12000":
+        f"ill\n{OLD}/var/db/rpki-client/json: ripe shrank: 12000 to 3 VRPs at 2026-11-26T00:36:00Z\n",
     "with given 0 away-of-address 0":
         "ill\nno VRPs are served\nrouters were turned away by --clients-per-address: 3, the last at 2026-11-26T00:37:00Z\n",
 }
@@ -107,6 +112,13 @@ REASONS = {
     "with peak 1001 ipv4 801 ipv6 0": "well healthy ready\n",
     "with peak 1001 ipv4 800 ipv6 0": "shrank unwell healthy ready\n",
     "with peak 999 ipv4 1 ipv6 0": "well healthy ready\n",
+    "with anchor 500 anchor-peak 1000": "well healthy ready\n",
+    "with anchor 499 anchor-peak 1000": "shrank unwell healthy ready\n",
+    "with anchor 501 anchor-peak 1001": "well healthy ready\n",
+    "with anchor 500 anchor-peak 1001": "shrank unwell healthy ready\n",
+    "with anchor 0 anchor-peak 1000": "shrank unwell healthy ready\n",
+    "with anchor 0 anchor-peak 999": "well healthy ready\n",
+    "with anchor 0": "well healthy ready\n",
     "with away 600": "turned_away unwell healthy ready\n",
     "with away 601": "well healthy ready\n",
     "with slow 3600": "slow_poll unwell healthy ready\n",
@@ -197,8 +209,15 @@ def compare_status(texts):
         texts.check(f"page {words}", ("1 of 1 router is behind. " in page) == ("warn" in state), "what is told of routers that are behind")
     page = texts.run(["page", "with", "slow-for", "7000", "near-limit", "900000000"])[0]
     slow = "A call on /var/db/rpki-client/json took 7\u202fs at <time "
-    near = ', <span class="warn">900\u202f000\u202f000 bytes, near --max-size</span></td>'
+    near = ', <span class="warn">900\u202f000\u202f000 bytes, near --max-size</span>'
     texts.check("page with slow-for", slow in page and near in page, "no call that took long, or no size near the maximum")
+    page = texts.run(["page", "with", "anchor", "3", "anchor-peak", "12000"])[0]
+    shrank = "/var/db/rpki-client/json: ripe shrank from 12\u202f000 to 3 VRPs at <time "
+    texts.check("page with anchor", "<title>A trust anchor shrank. rpkirtrd</title>" in page and shrank in page, "no trust anchor that shrank")
+    for anchor, series in ("523457", []), ("523456", []), ("500456", []), ("500455", ["1"]):
+        metrics = texts.run(["metrics", "with", "anchor", anchor])[0]
+        found = re.findall(r'\nrpkirtrd_source_vrps{source="/var/db/rpki-client/json",ta=""} (.*)', metrics)
+        texts.check(f"metrics with anchor {anchor}", found == series, found)
     page = texts.run(["page", "empty"])[0]
     texts.check("page empty", "<script" not in page and "http:" not in page, "it asks for something else")
     metrics = texts.run(["metrics", "crowded"])[0]

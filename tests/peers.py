@@ -26,36 +26,13 @@ sys.path.insert(0, f"{os.path.dirname(os.path.abspath(__file__))}/lib")
 import log
 import repository
 from common import free_port, put, write
+from peer import records_in, running, said
 
 FIRST = [("192.0.2.0/24", 24, 64496), ("198.51.100.0/24", 26, 64497), ("203.0.113.0/25", 25, 0), ("2001:db8::/32", 48, 64498)]
 SECOND = [("192.0.2.0/24", 25, 64496), ("198.51.100.0/24", 26, 64499), ("2001:db8::/32", 48, 64498), ("2001:db8:1::/48", 48, 4200000000)]
 
 # How long a peer may take until its table is the one that is served, in seconds.
 PATIENCE = 45
-
-
-def said(*words, seconds=10):
-    """What a command prints, or nothing where it failed or took too long."""
-    try:
-        return subprocess.run(words, stdin=subprocess.DEVNULL, stdout=subprocess.PIPE, stderr=subprocess.STDOUT, text=True, timeout=seconds).stdout
-    except subprocess.TimeoutExpired:
-        return ""
-
-
-@contextlib.contextmanager
-def running(*words):
-    """A program in the background, which is ended behind the block. Its output goes to a file of its name."""
-    with open(f"{os.path.basename(words[0])}.log", "a") as log:
-        it = subprocess.Popen(words, stdin=subprocess.DEVNULL, stdout=log, stderr=log)
-        try:
-            yield it
-        finally:
-            it.terminate()
-            try:
-                it.wait(5)
-            except subprocess.TimeoutExpired:
-                it.kill()
-                it.wait()
 
 
 class Ours:
@@ -85,12 +62,6 @@ def awaited(view, records):
         if shown == sorted(records) or time.time() > end:
             return shown == sorted(records), shown
         time.sleep(0.3)
-
-
-def records_in(pattern, text):
-    """The records of a text: prefix, longest length, AS."""
-    # (rtrclient prints an AS above 2147483647 as a negative number)
-    return sorted((f"{prefix}/{length}", int(longest), int(asn) % 2**32) for prefix, length, longest, asn in re.findall(pattern, text))
 
 
 # ---- routers

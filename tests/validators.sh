@@ -107,6 +107,7 @@ END
 rpkirtrd=$(bash "$top/tools/start.sh" --path rpkirtrd) || exit 1
 for file in written/*.json; do
     pages=$(free_port)
+    : >daemon.log # (the lines of the daemon before would count)
     timeout 60 "$rpkirtrd" --vrps "$file" --listen 127.0.0.1:0 --status "127.0.0.1:$pages" 2>daemon.log &
     daemon=$!
     for _ in $(seq 100); do

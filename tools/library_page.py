@@ -46,16 +46,14 @@ until no byte is left, and send what it gives.
 Do so after each call of connect, receive, tick and ask: each may have
 something to send.
 .It
-When bytes have come, hand them over by
+When bytes have come, pass them to
 .Fn rpkirtr_router_receive .
-If fewer are taken than were given, pull and send, and then hand over the
-rest.
+If it consumes fewer than all, pull and send, and then pass the rest.
 .It
 Call
 .Fn rpkirtr_router_tick
-with the current moment: each second, or when the moment of
-.Fn rpkirtr_router_wake_at
-has come.
+with the current time: each second, or at the time of
+.Fn rpkirtr_router_wake_at .
 .It
 Look at
 .Fn rpkirtr_router_link
@@ -64,7 +62,7 @@ If it is RPKIRTR_ENDED, send what is left and close the socket.
 .It
 Whoever closed the socket, call
 .Fn rpkirtr_router_connection_closed ,
-and connect again at the moment of
+and connect again at the time of
 .Fn rpkirtr_router_next_query_at .
 The committed records stay in use until they expire.
 .It
@@ -97,12 +95,12 @@ When a router has connected, call
 .Fn rpkirtr_cache_open ,
 and keep the number beside the socket.
 .It
-When bytes have come, hand them over by
+When bytes have come, pass them to
 .Fn rpkirtr_cache_receive .
 Then call
 .Fn rpkirtr_cache_pull
 until no byte is left, and send what it gives.
-If fewer bytes were taken than were given, hand over the rest after that.
+If it consumed fewer bytes than all, pass the rest after that.
 .It
 When the records have changed, publish them, call
 .Fn rpkirtr_cache_notify
@@ -158,8 +156,8 @@ the payload of a ROA
 """
 
 
-RESULTS = """Each call answers a status.
-Its description ends with those that it may answer, without RPKIRTR_ before
+RESULTS = """Each call returns a status.
+Its description ends with those that it can return, without RPKIRTR_ before
 them:"""
 
 

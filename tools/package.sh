@@ -12,7 +12,7 @@ chmod 755 "$tree" || fail "$tree could not be made a folder for all"
 
 bash "$top/tools/install.sh" --prefix /usr --destdir "$tree" >/dev/null || exit
 rm "$tree/usr/share/doc/rpkirtr/installed" || fail 'the list of the files could not be removed'
-printed=$("$tree/usr/bin/rpkirtrd" --version)
+read -r printed < <("$tree/usr/bin/rpkirtrd" --version)
 version=${printed#rpkirtrd }
 [[ $version =~ ^[0-9][0-9.]*$ ]] || fail "rpkirtrd --version prints no version: $printed"
 

@@ -3,8 +3,8 @@
 
 usage: tools/pages.py [--check | --calls [CRATE] | definitions]
 
-Without an argument the pages are written. With --check they are compared with what would be written, and the words of four pages are counted:
-the status is 1 if one differs, or if they are too long together, and each finding is printed. With --calls nothing is written: each public call
+Without an argument the pages are written. With --check they are compared with what would be written, the layers of TOUR.md with those of
+crates.txt, and the words of four pages are counted: the status is 1 if one differs, or if they are too long together, and each finding is printed. With --calls nothing is written: each public call
 with a contract is printed, of all crates or of one, with the definitions that its clauses name, and how many definitions and lines they rest
 on in all. The word `definitions` writes out/DEFINITIONS.md, which is not kept: each definition with its comment, the laws, and the files of
 worked rows."""
@@ -37,7 +37,7 @@ PROMISES = [
     ("Restarts", ["session_names::laws::restart_is_later"]),
     ("Lost routers", ["tcp_table::unanswered", "tcp_table::unanswered_after", "tcp_table::is_lost"]),
     ("The log", ["event_log::write_event", "log_output::Log::add", "log_output::Log::write_to", "log_output::laws::each_is_one_line"]),
-    ("The service manager", ["sd_notify::socket_address", "sd_notify::Notifier::signal", "sd_notify::Watchdog::is_signalled"]),
+    ("The service manager", ["sd_notify::socket_address", "sd_notify::Notifier::signal", "sd_notify::Watchdog::take_signal"]),
     ("Status pages and metrics", ["status_server::StatusEndpoint::turn", "status_pages::Validity::of_route", "status_pages::write_validity", "status_pages::is_healthy", "status_pages::write_csv"]),
     ("DER and moments", ["der_lite::laws::reads_exactly", "der_lite::laws::one_spelling", "der_lite::laws::reads_times_exactly"]),
     ("Signatures", ["rsa_sha256::PublicKey::new", "rsa_sha256::PublicKey::verify"]),
@@ -314,6 +314,9 @@ def print_calls(house, crate):
 # What a comment cites: sections of a standard, or of the one that its file is about, or a standard alone.
 SECTIONS = re.compile(r"(RFC \d+|X\.690)(?:,? sections?)?,? (\d[\d., andto]*)|\bsections? (\d[\d., andto]*)|(RFC \d+|X\.690)|^(\d+\.\d+[\d., andto]*):")
 
+# An item of a section, which is no section: 1.c of "section 3, 1.c".
+ITEM = re.compile(r", \d+\.[a-z]\b")
+
 
 def between(first, last):
     """The sections from one to another of the same depth, as 5.2 to 5.11."""
@@ -324,7 +327,7 @@ def between(first, last):
 def cited(text, standard):
     """The sections that a text cites, as pairs of a standard and a section, '' for the whole of it."""
     found = set()
-    for one, of, alone, whole, first in SECTIONS.findall(text):
+    for one, of, alone, whole, first in SECTIONS.findall(ITEM.sub("", text)):
         standard = one or whole or standard
         if whole or not standard:
             found |= {(whole, "")} if whole else set()
@@ -417,11 +420,30 @@ def write(path, text):
         it.write(text)
 
 
+def toured():
+    """The crates of each layer in the table of TOUR.md. A row without a layer belongs to the one above it."""
+    found, names = {}, []
+    for layer, cell in re.findall(r"(?m)^\| ?([\w ]*?) ?\| ((?:`\w+`(?:, )?)+) \|", read(f"{TOP}/docs/TOUR.md").split("\n## ")[1]):
+        names = found.setdefault(layer, []) if layer else names
+        names += re.findall(r"\w+", cell)
+    return found
+
+
+def layer_findings():
+    """What is wrong with the layers of crates.txt, and where TOUR.md has others."""
+    wanted, found = crates_txt.layers(), toured()
+    differ = [it for it in {**wanted, **found} if wanted.get(it) != found.get(it)]
+    texts = [f"docs/TOUR.md: layer {it} has {', '.join(found.get(it, []))}, and crates.txt {', '.join(wanted.get(it, []))}" for it in differ]
+    if not differ and list(wanted) != list(found):
+        texts = ["docs/TOUR.md: the layers are in another order than in crates.txt"]
+    return crates_txt.misplaced() + texts
+
+
 def findings(pages):
     """What is wrong with the pages that are kept: they are not those of the sources, or too long."""
     found = [f"docs/{name} differs from the sources: tools/pages.py makes it anew" for name, text in pages.items() if not os.path.exists(f"{TOP}/docs/{name}") or read(f"{TOP}/docs/{name}") != text]
     count = sum(len(read(f"{TOP}/docs/{name}").split()) for name in READ_THROUGH)
-    return found + ([f"{', '.join(READ_THROUGH)} have {count} words together, and at most {MOST_WORDS} are allowed"] if count > MOST_WORDS else [])
+    return found + layer_findings() + ([f"{', '.join(READ_THROUGH)} have {count} words together, and at most {MOST_WORDS} are allowed"] if count > MOST_WORDS else [])
 
 
 def main(words):

@@ -122,9 +122,9 @@ def ignored(port, path):
 
 
 def state_shown(port, path):
-    """The state of a file on the page, without marks."""
+    """The state of a file on the page, without marks. Its trust anchors are in a line of their own."""
     row = got(port, "/")[2].partition(f'class="name">{path}</th><td class="long">')[2].partition("</td>")[0]
-    return re.sub("<[^>]*>", "", row)
+    return re.sub("<[^>]*>", "", re.sub("<(?:br|div|p)[^>]*>", "; ", row))
 
 
 @part
@@ -152,7 +152,7 @@ def not_served(given):
         expect("the metric of a list", ignored(port, "list.json"), {"aspa": 0, "router_key": 0})
         expect("the metric of exceptions", (ignored(port, "slurm.json"), ignored(port, "other.json")), ({"bgpsec_filter": 1, "bgpsec_assertion": 0}, {"bgpsec_filter": 0, "bgpsec_assertion": 0}))
         shown = [state_shown(port, it) for it in ("export.json", "list.json", "slurm.json", "other.json")]
-        expect("the page", shown, ["taken, not served: 1 ASPA, 3 router keys", "taken", "taken, not served: 1 BGPsec filter", "taken"])
+        expect("the page", shown, ["loaded, not served: 1 ASPA, 3 router keys; x 3", "loaded", "loaded, not served: 1 BGPsec filter", "loaded"])
         put("export.json", export(SECOND, 1, 1, 2))
         daemon.wait("published")
         put("slurm.json", slurm(1, 0) + " ")
@@ -163,7 +163,7 @@ def not_served(given):
         daemon.wait("not-served", file="export.json", aspas=2, **{"router-keys": 0})
         put("slurm.json", slurm(0, 2))
         daemon.wait("not-served", file="slurm.json", **{"bgpsec-filters": 0, "bgpsec-assertions": 2})
-        expect("the page afterwards", [state_shown(port, it) for it in ("export.json", "slurm.json")], ["taken, not served: 2 ASPAs", "taken, not served: 2 BGPsec assertions"])
+        expect("the page afterwards", [state_shown(port, it) for it in ("export.json", "slurm.json")], ["loaded, not served: 2 ASPAs; x 3", "loaded, not served: 2 BGPsec assertions"])
         put("export.json", text_of(FIRST))
         daemon.wait("not-served", file="export.json", aspas=0, **{"router-keys": 0})
         expect("how many lines there are", (daemon.count("not-served"), ignored(port, "export.json")), (5, {"aspa": 0, "router_key": 0}))

@@ -22,7 +22,7 @@ def words_and_starts(given):
     status, out, err = ran("--help")
     expect("--help", (status, err, "Usage: rpkirtrd" in out, "--vrps FILE" in out), (0, "", True, True))
     status, out, err = ran("--version")
-    expect("--version", (status, bool(re.fullmatch(r"rpkirtrd \d+\.\d+\.\d+\n", out)), err), (0, True, ""))
+    expect("--version", (status, bool(re.fullmatch(r"rpkirtrd \d+\.\d+\.\d+\nproved with .*\n", out)), err), (0, True, ""))
     for words in ["", "--vrps list.json --check 0", "--vrps list.json --keep 65537", "--vrps list.json --once --once", "--vrps list.json --listen 127.0.0.1", "list.json"]:
         status, out, err = ran(*words.split())
         expect(words, (status, out, err.startswith("rpkirtrd: ")), (2, "", True))

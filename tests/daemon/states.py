@@ -47,7 +47,7 @@ def an_empty_table(given):
             expect("the text of /ready", got(port, "/ready")[2], "no VRPs are served\n")
             expect("its banner", banner(port), 'bad">No VRPs are served. ')
             metrics = metrics_of(port)
-            expect("what is given", (metrics["rpkirtrd_given_vrps"], metrics['rpkirtrd_source_vrps{source="list.json"}']), (0, 0))
+            expect("what is given", (metrics["rpkirtrd_given_vrps"], metrics['rpkirtrd_source_vrps{source="list.json",ta=""}']), (0, 0))
             expect("what is served", Router(at).catch_up(), {("10.0.0.0/8", 8, 64501)})
             put("list.json", text_of(FIRST))
             daemon.wait("well", reason="no_vrps")
@@ -65,7 +65,7 @@ def all_entries_expired(given):
         daemon.wait("unwell", reason="old", file="export.json")
         expect("a file whose entries have expired", told(port), ([503, 200, 200], ["old"]))
         expect("the text of its health", got(port, "/health")[2], "export.json: all its entries have expired\n")
-        expect("the VRPs of sources", [metrics_of(port)[f'rpkirtrd_source_vrps{{source="{it}"}}'] for it in ("list.json", "export.json")], [3, 0])
+        expect("the VRPs of sources", [metrics_of(port)[f'rpkirtrd_source_vrps{{source="{name}",ta="{ta}"}}'] for name, ta in (("list.json", ""), ("export.json", "x"))], [3, 0])
         put("export.json", json.dumps({"roas": [entry_of("203.0.113.0/24", 24, 64500, expires=until + 3600)]}))
         daemon.wait("well", reason="old", file="export.json")
         is_well("entries that have not expired", port)
@@ -95,6 +95,42 @@ def a_refused_source(given):
 
 def records(count):
     return [(f"10.{it >> 8}.{it & 255}.0/24", 24, 64496) for it in range(count)]
+
+
+def of_anchors(ripe, others=4000):
+    """An export with this many records of ripe, and of arin."""
+    listed = [(f"10.{it >> 8}.{it & 255}.0/24", "ripe") for it in range(ripe)] + [(f"11.{it >> 8}.{it & 255}.0/24", "arin") for it in range(others)]
+    return json.dumps({"roas": [entry_of(prefix, 24, 64496, ta=anchor) for prefix, anchor in listed] + [entry_of("12.0.0.0/24", 24, 64496, ta=None)]})
+
+
+def by_anchor(port):
+    """The VRPs of the export by trust anchor."""
+    metrics = metrics_of(port)
+    return {ta: metrics.get(f'rpkirtrd_source_vrps{{source="export.json",ta="{ta}"}}') for ta in ("ripe", "arin", "")}
+
+
+@part
+def a_shrunken_anchor(given):
+    """A trust anchor of an export keeps half of its records, loses one more, and then all. The table hardly shrinks."""
+    put("export.json", of_anchors(1000))
+    with running(given.program, "--vrps", "export.json", "--max-shrink", "none", "--listen", "127.0.0.1:0", "--status", "127.0.0.1:0", "--check", "1") as daemon:
+        _, port = daemon.serves()
+        expect("two trust anchors", by_anchor(port), {"ripe": 1000, "arin": 4000, "": 1})
+        put("export.json", of_anchors(500))
+        daemon.wait("published", records=4501)
+        is_well("half of them", port)
+        put("export.json", of_anchors(499))
+        daemon.wait("unwell", reason="shrank", file="export.json")
+        expect("one less than half", told(port), ([200, 200, 200], ["shrank"]))
+        expect("its banner", "export.json: ripe shrank from 1" in banner(port), True)
+        put("export.json", of_anchors(0))
+        daemon.wait("published", records=4001)
+        expect("a trust anchor that vanished", by_anchor(port), {"ripe": 0, "arin": 4000, "": 1})
+        status = json.loads(got(port, "/api/v1/status")[2])
+        expect("the status in Routinator's form", (status["tals"]["arin"]["vrpsTotal"], status["version"].startswith("rpkirtrd/")), (4000, True))
+        put("export.json", of_anchors(1000))
+        daemon.wait("well", reason="shrank", file="export.json")
+        is_well("all of them again", port)
 
 
 @part

@@ -53,6 +53,7 @@ REPLACED = {
         "Listed": "ExportEntry", "see": "read_value", "seen": "scalar",
     },
     "slurm": {"EntryFault": "SlurmEntryFault"},
+    "rpkirtr_c": {"Service": "ServedCache", "Status": "CallStatus"},
     "rpkirtr_cli": {"Order": "Command", "WordsFault": "CommandFault", "NoOrder": "Invalid", "Form": "CommandSpec"},
 }
 
@@ -60,8 +61,6 @@ REPLACED = {
 SHARED = {
     "Command": "the parsed command line of each program",
     "Ignored": "how much of an export, and of a file of local exceptions, is not served",
-    "Service": "the daemon's service, and the cache behind a handle of the library for C, which no crate here uses",
-    "Status": "the state that pages show, and the result of a call of the library for C, which no crate here uses",
 }
 
 # Comments, texts in quotes, and characters in quotes.

@@ -7,19 +7,24 @@ usage: tests/gate/prose.py [--list [PAGE]]
 The pages are README.md, SECURITY.md, CHANGELOG.md, those of examples/, samples/ and tests/, docs/*.md, and the manual pages. That of the
 library for C is made of the header. The comments are those of crates/*/src and crates/*/specs. Code, examples and output do not count. The
 status is 1 if a count over all pages, over all comments, or over the header is above its bound. With --list each place is printed: of all
-pages and comments, of one page, or of the comments of one file or crate."""
+pages and comments, of one page, or of the comments of one file or crate. The status is also 1 if a text in quotes in the sources of a crate,
+tests and examples aside, says "is no NOUN". Each such text is printed."""
 import glob
 import os
 import re
 import sys
 
 TOP = os.path.realpath(f"{os.path.dirname(os.path.abspath(__file__))}/../..")
+sys.path.insert(0, f"{TOP}/tools")
+
+import crates_txt  # noqa: E402
+
 LONGEST = 30
 
 # Each turn, its pattern, and how often it may occur in all pages and in all comments: some are right now and then. The bounds of comments are
 # the counts that were reached; whoever lowers a count lowers its bound.
 TURNS = [
-    ("where (for a condition, mostly)", r"\bwhere\b", 6, 57),
+    ("where (for a condition, mostly)", r"\bwhere\b", 6, 59),
     ("take, taken", r"\b(?:take|takes|taken|taking|took)\b", 3, 5),
     ("stand, stands", r"\b(?:stand|stands|stood|standing)\b", 0, 1),
     ("told, tells", r"\b(?:tell|tells|told|telling)\b", 3, 0),
@@ -37,8 +42,19 @@ TURNS = [
 ]
 SENTENCES, LONG_IN_COMMENTS = 6, 16
 
-# How often a turn is in the header for C. Whoever changes the header, which is a source of the delivered library, lowers these.
-IN_HEADER = {"told, tells": 44, "take, taken": 9, "is to be": 6}
+# The turns that the header for C may not have beside those. It has none of either.
+HEADER_TURNS = [
+    ("answers, for returns", r"\banswers? (?:a|the|its) status\b|\bmay answer\b"),
+    ("else, ending a clause", r"\belse(?=[.,;:]|$)"),
+    ("room, for a buffer", r"\brooms?\b"),
+    ("moment, for a time", r"\bmoments?\b"),
+    ("hands over", r"\bhand(?:s|ed)? (?:\w+ )?over\b"),
+    ("the first such, is told", r"\bsuch is\b"),
+]
+
+# A comment, a text in quotes, or a character in quotes; and what no text may say.
+QUOTED = re.compile(r"""//[^\n]*|"((?:[^"\\]|\\.)*)"|b?'(?:[^'\\\n]|\\.)'""", re.S)
+IS_NO_NOUN = re.compile(r"(?<!\bthere )\b(?:is|are) no (?!more |longer )[A-Za-z]")
 
 # A comment that has its line for itself: its indent with its mark, and its words.
 COMMENT = re.compile(r"( *(?://[/!]?|--))(?: +(.*)|)$")
@@ -145,11 +161,12 @@ def parts_of(path):
 
 def found_in(path):
     """What is counted in a page or in a file: the name of a turn, or None for a long sentence, and the text around it."""
+    turns = TURNS + (HEADER_TURNS if path.endswith(".h") else [])
     for part in parts_of(path):
         for sentence in sentences(part):
             if words(sentence) > LONGEST:
                 yield None, f"{words(sentence)} words: {sentence}"
-            for name, pattern, *_bounds in TURNS:
+            for name, pattern, *_bounds in turns:
                 for hit in re.finditer(pattern, sentence, re.I):
                     yield name, sentence[max(0, hit.start() - 50) : hit.end() + 50]
 
@@ -174,13 +191,25 @@ def is_over(what, paths, bounds, listed, only):
     return bool(over)
 
 
+def texts_with_is_no():
+    """The texts of programs that say "is no NOUN", each after its file."""
+    for crate in crates_txt.libraries():
+        for path in sorted(glob.glob(f"{TOP}/crates/{crate}/src/**/*.rt", recursive=True)):
+            for quoted in QUOTED.findall(read(path)):
+                text = " ".join(re.sub(r"\\n|\\\n", " ", quoted).split())
+                if IS_NO_NOUN.search(text):
+                    yield f"{os.path.relpath(path, TOP)}: {text}"
+
+
 def main(listed, only):
     in_pages = {name: bound for name, _pattern, bound, _comments in TURNS} | {None: SENTENCES}
     in_comments = {name: bound for name, _pattern, _pages, bound in TURNS} | {None: LONG_IN_COMMENTS}
-    in_header = {name: IN_HEADER.get(name, 0) for name in in_pages}
+    in_header = dict.fromkeys([*in_pages, *(name for name, _pattern in HEADER_TURNS)], 0)
     over = [is_over("pages", pages(), in_pages, listed, only), is_over("comments", commented(), in_comments, listed, only)]
     over.append(is_over("include/rpkirtr.h", [f"{TOP}/include/rpkirtr.h"], in_header, listed, only))
-    return 1 if any(over) else 0
+    said = list(texts_with_is_no())
+    print("".join(f"{it}\n" for it in said), end="", file=sys.stderr)
+    return 1 if any(over) or said else 0
 
 
 if __name__ == "__main__":

@@ -14,8 +14,8 @@ it, and what is not refused so is tried alone over the whole crate. An edit of a
 must refuse it, and goes alone. One that no longer compiles must say so in a line 'by: compiler: MESSAGE', with a part of what the compiler
 says of it. The last line is 'N passed, M failed'.
 
---after-gate takes the libraries that a run of the gate has just built in this tree. After N minutes no other is begun: what was not tried is
-told, and does not fail."""
+--after-gate takes the libraries that a run of the gate has just built in this tree. After N minutes no other check is begun: what was not tried
+is told, and does not fail."""
 import copy
 import os
 import re
@@ -246,10 +246,11 @@ def shared(own, edit):
     return by, sorted(name for name in own if not any(belongs(name, it) for it in edit.reach))
 
 
-def judged(crate, edits, kept):
-    """Tries a pack of edits in one check, what waits there for a refused callee in the next, and alone what no check of several refused as it must be."""
+def judged(crate, edits, kept, end):
+    """Tries a pack of edits in one check, what waits there for a refused callee in the next, and alone what no check of several refused as it must be.
+    After the end no other check is begun."""
     found, left = [], edits
-    while left and not left[0].message and None not in left[0].places:
+    while left and not left[0].message and None not in left[0].places and time.time() < end:
         places = {place for edit in left for place in edit.places}
         own, _ = refused_in(crate, texts_of(crate, left), places, kept)
         if own is None or set.intersection(*(set(shared(own, edit)[1]) for edit in left)):
@@ -260,7 +261,7 @@ def judged(crate, edits, kept):
             break
         found += [(edit, True, f"refused by {', '.join(by[edit.name])}") for edit in well]
         left = [edit for edit in left if not by[edit.name]]
-    return found + [(edit, *judged_alone(crate, edit, kept)) for edit in left]
+    return found + [(edit, *judged_alone(crate, edit, kept)) for edit in left if time.time() < end]
 
 
 class Refused:
@@ -284,7 +285,7 @@ def tried(crate, edits, known, end):
     with tempfile.TemporaryDirectory(prefix="wrong-bodies-") as kept:
         for pack in packs:
             if time.time() < end:
-                some = judged(crate, pack, kept)
+                some = judged(crate, pack, kept, end)
                 known.note(some)
                 found += some
     print(f"wrong bodies of {crate.name}: {len(found)} of {len(edits)} in {len(packs)} packs, {time.time() - began:.0f} s", flush=True)

@@ -51,6 +51,6 @@ wait
 began=$(date +%s%3N)
 package=$(tools/package.sh /tmp) && dpkg -i "$package" >/dev/null || fail 'no package can be made and installed'
 within 'tools/package.sh and dpkg -i' "$(since "$began")" 20000
-[ "$(rpkirtrd --version)" = "rpkirtrd $(sed -n 's/^rpkirtrd \([^ ]*\) .*/\1/p' dist/x86_64-linux/SOURCES)" ] || fail 'another version was installed'
+[ "$(rpkirtrd --version | head -n 1)" = "rpkirtrd $(sed -n 's/^rpkirtrd \([^ ]*\) .*/\1/p' dist/x86_64-linux/SOURCES)" ] || fail 'another version was installed'
 [ -z "$(git status --porcelain)" ] || fail "the clone is changed: $(git status --porcelain)"
 echo 'all as it should be'
