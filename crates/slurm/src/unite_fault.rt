@@ -6,7 +6,7 @@ use std::alloc::AllocError;
 use std::fmt::{self, Display};
 use thiserror::Error;
 
-/// Where two SLURM files overlap.
+/// The place at which two SLURM files overlap.
 #[derive(Clone, Copy, Debug, PartialEq, Eq)]
 pub enum Overlap {
     /// A prefix of the first file and a prefix of the second share an address: they are equal, or one covers the other.
@@ -35,7 +35,7 @@ pub enum UniteFault {
         first: usize,
         /// The index of the later file. It is larger than `first`.
         second: usize,
-        /// Where they overlap.
+        /// The place at which they overlap.
         what: Overlap,
     },
     /// The files together assert over 16,777,215 different VRPs.
