@@ -51,7 +51,8 @@ pub(crate) fn ia5_text(content: &[u8]) -> Option<&str>
     }
 }
 
-/// Returns the number of an INTEGER's content (X.690 section 8.3.3). `None`: the number is negative, or 2^32 or above.
+/// Returns the number of an INTEGER's content (X.690 section 8.3.3). [`is_integer`] must hold for `content`. `None`: the number is negative, or
+/// 2^32 or above.
 pub fn unsigned(content: &[u8]) -> Option<u32>
     requires { IsTrue (is_integer_of content.now) }
     ensures { result ≡ (if is_negative content.now || nat_lt 4294967295 (number_of content.now) then None else Some (number_of content.now)) }

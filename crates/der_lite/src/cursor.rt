@@ -79,7 +79,8 @@ impl<'a> Cursor<'a> {
         }
     }
 
-    /// Reads the SEQUENCE (tag 48) at the cursor (X.690 section 8.9). Returns a cursor over its members.
+    /// Reads the SEQUENCE (tag 48) at the cursor (X.690 section 8.9). Returns a cursor over its members, which are not checked.
+    /// The faults are `Truncated`, `WrongTag` and `BadLength`, in this order. On a fault the cursor does not move.
     pub fn sequence(&mut self) -> Result<Cursor<'a>, DerFault>
         ensures { GivesElement (λ c. c) result self.old self.new (element_at SEQUENCE self.old) }
     {
@@ -89,7 +90,8 @@ impl<'a> Cursor<'a> {
     }
 
     /// Reads the INTEGER (tag 2) at the cursor (X.690 section 8.3). Returns its content in two's complement, most significant byte first.
-    /// `BadContent`: the content is empty or not in the fewest bytes.
+    /// `BadContent`: the content is empty or not in the fewest bytes. The faults before it are `Truncated`, `WrongTag` and `BadLength`. On a
+    /// fault the cursor does not move.
     #[tactic(auto, unfolding(crate::specs::DerReading::content_at))]
     pub fn integer(&mut self) -> Result<&'a [u8], DerFault>
         ensures exact { GivesElement (λ content. content.now) result self.old self.new (integer_at self.old) }
@@ -105,6 +107,7 @@ impl<'a> Cursor<'a> {
 
     /// Reads the BIT STRING (tag 3) at the cursor (X.690 sections 8.6 and 11.2). Returns its bits.
     /// `BadContent`: the count of unused bits is missing, above 7, or not 0 although no bytes follow. Also if an unused bit is set.
+    /// The faults before it are `Truncated`, `WrongTag` and `BadLength`. On a fault the cursor does not move.
     #[tactic(auto, unfolding(crate::specs::DerReading::content_at))]
     pub fn bits(&mut self) -> Result<Bits<'a>, DerFault>
         ensures exact { GivesElement bits_content result self.old self.new (bits_at self.old) }
@@ -123,7 +126,8 @@ impl<'a> Cursor<'a> {
         Err(self.bad_content())
     }
 
-    /// Reads the OCTET STRING (tag 4) at the cursor (X.690 section 8.7). Returns its content.
+    /// Reads the OCTET STRING (tag 4) at the cursor (X.690 section 8.7). Returns its content, which may be empty.
+    /// The faults are `Truncated`, `WrongTag` and `BadLength`, in this order. On a fault the cursor does not move.
     #[tactic(auto, unfolding(crate::specs::DerReading::content_at))]
     pub fn octets(&mut self) -> Result<&'a [u8], DerFault>
         ensures { GivesElement (λ content. content.now) result self.old self.new (octets_at self.old) }
@@ -134,7 +138,8 @@ impl<'a> Cursor<'a> {
     }
 
     /// Reads the OBJECT IDENTIFIER (tag 6) at the cursor (X.690 section 8.19). Returns its content.
-    /// The content is not checked: compare it with the bytes that you expect.
+    /// The content is not checked: compare it with the bytes that you expect. The faults are `Truncated`, `WrongTag` and `BadLength`, in this
+    /// order. On a fault the cursor does not move.
     #[tactic(auto, unfolding(crate::specs::DerReading::content_at))]
     pub fn oid(&mut self) -> Result<&'a [u8], DerFault>
         ensures { GivesElement (λ content. content.now) result self.old self.new (oid_at self.old) }
@@ -145,6 +150,7 @@ impl<'a> Cursor<'a> {
     }
 
     /// Reads the IA5String (tag 22) at the cursor (X.690 section 8.23). Returns its text. `BadContent`: a byte is 128 or above.
+    /// The faults before it are `Truncated`, `WrongTag` and `BadLength`. On a fault the cursor does not move.
     #[tactic(auto, unfolding(crate::specs::DerReading::content_at))]
     pub fn ia5(&mut self) -> Result<&'a str, DerFault>
         ensures exact { GivesElement (λ text. text.now) result self.old self.new (ia5_at self.old) }
@@ -160,9 +166,11 @@ impl<'a> Cursor<'a> {
         }
     }
 
-    /// Reads the GeneralizedTime (tag 24) at the cursor (X.690 sections 8.25 and 11.7; RFC 5280 section 4.1.2.5.2). Returns its date and
-    /// time.
-    /// `BadContent`: the content does not have the form `YYYYMMDDHHMMSSZ`, or is no real date and time of the years 1970 to 9999.
+    /// Reads the GeneralizedTime (tag 24) at the cursor (X.690 sections 8.25 and 11.7; RFC 5280 section 4.1.2.5.2). Returns its date and time,
+    /// in UTC.
+    /// `BadContent`: the content does not have the form `YYYYMMDDHHMMSSZ`, or is not a real date and time of the years 1970 to 9999. A second of
+    /// 60 is refused, too.
+    /// The faults before it are `Truncated`, `WrongTag` and `BadLength`. On a fault the cursor does not move.
     #[tactic(auto, unfolding(crate::specs::DerReading::time_at, crate::specs::DerReading::content_at, crate::specs::Moments::moment_in))]
     pub fn time(&mut self) -> Result<Moment, DerFault>
         ensures exact { GivesElement (λ moment. moment) result self.old self.new (time_at self.old) }
@@ -179,6 +187,7 @@ impl<'a> Cursor<'a> {
     /// Reads the element with tag `tag` at the cursor. Returns a cursor over its content, which is not checked.
     /// If the element is constructed, the content is its members (X.690 section 8.1). [`remaining`](Cursor::remaining) gives the content's
     /// bytes.
+    /// The faults are `Truncated`, `WrongTag` and `BadLength`, in this order. On a fault the cursor does not move.
     pub fn tagged(&mut self, tag: u8) -> Result<Cursor<'a>, DerFault>
         ensures { GivesElement (λ c. c) result self.old self.new (element_at tag self.old) }
     {

@@ -49,15 +49,15 @@ impl Model for Moment {
 }
 
 impl Moment {
-    /// Reads a date and time in the form `YYYYMMDDHHMMSSZ` (X.690 section 11.7; RFC 5280 section 4.1.2.5.2).
-    /// `None`: the text has another form, or is no real date and time of the years 1970 to 9999.
+    /// Reads a date and time in the form `YYYYMMDDHHMMSSZ`, in UTC (X.690 section 11.7; RFC 5280 section 4.1.2.5.2).
+    /// `None`: the text has another form, or is not a real date and time of the years 1970 to 9999. A second of 60 is refused, too.
     pub fn parse(text: &str) -> Option<Moment>
         ensures { IsMomentOf text.now result }
     {
         Moment::from_text(text.as_bytes())
     }
 
-    /// Reads a date and time from the bytes of its text, by the rules of [`parse`](Moment::parse). `None`: the bytes are no such text.
+    /// Reads a date and time from the bytes of its text, by the rules of [`parse`](Moment::parse). `None`: `parse` would refuse these bytes.
     pub fn from_text(text: &[u8]) -> Option<Moment>
         ensures says { IsMomentOf text.now result }
         ensures value { result ≡ moment_in text.now }

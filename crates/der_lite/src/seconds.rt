@@ -21,7 +21,8 @@ pub fn days_of_year(year: u16) -> u64
     if is_leap(year) { 366 } else { 365 }
 }
 
-/// Returns the number of days of a month, 28 to 31. `month` is a number from 1 to 12.
+/// Returns the number of days of a month in the Gregorian calendar, 28 to 31. `month` is a number from 1 to 12. For any other number the result
+/// is 31.
 pub fn days_of_month(year: u16, month: u16) -> u64
     ensures value { result ≡ days_of_month year month }
     ensures small { result ≤ 31 }

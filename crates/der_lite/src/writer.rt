@@ -66,7 +66,7 @@ impl Model for DerWriter {
 }
 
 impl DerWriter {
-    /// Returns an empty writer.
+    /// Returns an empty writer. It allocates no memory. `alloc` provides the memory of later writes.
     pub fn new(alloc: Global) -> DerWriter
         ensures { result ≡ [] }
     {
@@ -89,7 +89,8 @@ impl DerWriter {
         added
     }
 
-    /// Writes a SEQUENCE (tag 48). `members` are its encoded members, one behind the other.
+    /// Writes a SEQUENCE (tag 48). `members` are its encoded members, one after the other, of less than 2^32 bytes together. `AllocError`: out
+    /// of memory, and nothing is written.
     pub fn sequence(&mut self, members: &[u8]) -> Result<(), AllocError>
         requires { length members.now < 2 ^ 32 }
         ensures { Adds result SEQUENCE members.now self.old self.new }
@@ -97,7 +98,8 @@ impl DerWriter {
         self.element(tag::SEQUENCE, &[], members)
     }
 
-    /// Writes an INTEGER (tag 2). `content` is its number in two's complement, in the fewest bytes, most significant byte first.
+    /// Writes an INTEGER (tag 2). `content` is its number in two's complement, in the fewest bytes, most significant byte first. `AllocError`:
+    /// out of memory, and nothing is written.
     pub fn integer(&mut self, content: &[u8]) -> Result<(), AllocError>
         requires { length content.now < 2 ^ 32 }
         ensures { Adds result INTEGER content.now self.old self.new }
@@ -105,7 +107,7 @@ impl DerWriter {
         self.element(tag::INTEGER, &[], content)
     }
 
-    /// Writes an INTEGER (tag 2) of the value `number`, in the fewest bytes.
+    /// Writes an INTEGER (tag 2) of the value `number`, in the fewest bytes. `AllocError`: out of memory, and nothing is written.
     #[tactic(auto, unfolding(crate::specs::Values::unsigned_bytes))]
     pub fn unsigned(&mut self, number: u32) -> Result<(), AllocError>
         ensures { Adds result INTEGER (unsigned_bytes number) self.old self.new }
@@ -127,7 +129,8 @@ impl DerWriter {
         }
     }
 
-    /// Writes a BIT STRING (tag 3). The unused bits of `bits` must be zero.
+    /// Writes a BIT STRING (tag 3). `bits` must keep the rules of [`Bits`], which is not checked. It must have less than 2^32 - 1 bytes.
+    /// `AllocError`: out of memory, and nothing is written.
     pub fn bits(&mut self, bits: Bits) -> Result<(), AllocError>
         requires { length (bits_content bits) < 2 ^ 32 }
         ensures { Adds result BIT_STRING (bits_content bits.entry) self.old self.new }
@@ -135,7 +138,7 @@ impl DerWriter {
         self.element(tag::BIT_STRING, &[bits.unused], bits.bytes)
     }
 
-    /// Writes an OCTET STRING (tag 4) with this content.
+    /// Writes an OCTET STRING (tag 4) with this content. `AllocError`: out of memory, and nothing is written.
     pub fn octets(&mut self, content: &[u8]) -> Result<(), AllocError>
         requires { length content.now < 2 ^ 32 }
         ensures { Adds result OCTET_STRING content.now self.old self.new }
@@ -143,7 +146,8 @@ impl DerWriter {
         self.element(tag::OCTET_STRING, &[], content)
     }
 
-    /// Writes an OBJECT IDENTIFIER (tag 6). `content` is its encoded content.
+    /// Writes an OBJECT IDENTIFIER (tag 6). `content` is its encoded content, which is not checked. `AllocError`: out of memory, and nothing is
+    /// written.
     pub fn oid(&mut self, content: &[u8]) -> Result<(), AllocError>
         requires { length content.now < 2 ^ 32 }
         ensures { Adds result OBJECT_IDENTIFIER content.now self.old self.new }
@@ -151,7 +155,7 @@ impl DerWriter {
         self.element(tag::OBJECT_IDENTIFIER, &[], content)
     }
 
-    /// Writes an IA5String (tag 22). `text` must be ASCII.
+    /// Writes an IA5String (tag 22). `text` must be ASCII, which is not checked. `AllocError`: out of memory, and nothing is written.
     pub fn ia5(&mut self, text: &str) -> Result<(), AllocError>
         requires { length text.now < 2 ^ 32 }
         ensures { Adds result IA5_STRING text.now self.old self.new }
@@ -159,7 +163,7 @@ impl DerWriter {
         self.element(tag::IA5_STRING, &[], text.as_bytes())
     }
 
-    /// Writes a GeneralizedTime (tag 24) in the form `YYYYMMDDHHMMSSZ`.
+    /// Writes a GeneralizedTime (tag 24) in the form `YYYYMMDDHHMMSSZ`. `AllocError`: out of memory, and nothing is written.
     pub fn time(&mut self, moment: &Moment) -> Result<(), AllocError>
         ensures added { Adds result GENERALIZED_TIME (moment_text moment.now) self.old self.new }
         ensures real { IsTrue (is_moment moment.now) }
@@ -167,7 +171,7 @@ impl DerWriter {
         self.element(tag::GENERALIZED_TIME, &moment.text(), &[])
     }
 
-    /// Writes an element with any one-byte tag (X.690 section 8.1.2.2) and this content.
+    /// Writes an element with any one-byte tag (X.690 section 8.1.2.2) and this content. `AllocError`: out of memory, and nothing is written.
     pub fn tagged(&mut self, tag: u8, content: &[u8]) -> Result<(), AllocError>
         requires { length content.now < 2 ^ 32 }
         ensures { Adds result tag content.now self.old self.new }

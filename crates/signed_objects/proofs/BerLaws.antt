@@ -6,7 +6,7 @@ use Rattle.der_lite.specs.Fields.{last_at}
 use Rattle.der_lite.proofs.GrammarLaws as laws
 use Rattle.signed_objects.specs.declared.form.Form.TheVariants.{Member}
 use Rattle.signed_objects.specs.declared.fault.CmsFault.{CmsFault}
-use Rattle.signed_objects.specs.Combinators.{fault_at}
+use Rattle.der_forms.specs.Combinators.{fault_at}
 use Rattle.signed_objects.specs.Faults.{kind_number, cms_fault_of}
 use Rattle.signed_objects.specs.BerReading.{element_in, all_in}
 use Rattle.signed_objects.specs.Objects.{ObjectValue, IsDerObject, DerFaultAt}

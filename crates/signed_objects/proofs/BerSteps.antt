@@ -12,7 +12,7 @@ use Rattle.signed_objects.specs.declared.form.Form.TheVariants.{Member}
 use Rattle.signed_objects.specs.declared.fault.ObjectFault.{ObjectFault}
 use Rattle.signed_objects.specs.declared.fault.ObjectFault.TheVariants.{At, Memory}
 use Rattle.signed_objects.specs.declared.fault.CmsFault.{CmsFault}
-use Rattle.signed_objects.specs.Combinators.{fault_at}
+use Rattle.der_forms.specs.Combinators.{fault_at}
 use Rattle.signed_objects.specs.Faults.{kind_number, cms_fault_of}
 use Rattle.signed_objects.specs.Parts.{is_empty, is_closed}
 use Rattle.signed_objects.specs.PartReading.{octets_at, up_to}

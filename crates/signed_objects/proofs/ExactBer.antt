@@ -10,7 +10,7 @@ use Rattle.der_lite.proofs.Exact.{ExactElement, ExactMembers}
 use Rattle.der_lite.proofs.FieldLaws.{exact_last_at}
 use Rattle.signed_objects.specs.declared.form.Form.{Form}
 use Rattle.signed_objects.specs.declared.form.Form.TheVariants.{Member, Piece, Der}
-use Rattle.signed_objects.specs.Combinators.{fault_at}
+use Rattle.der_forms.specs.Combinators.{fault_at}
 use Rattle.signed_objects.specs.Parts.{Part, octet, octets, gives, ruled, followed, with_own}
 use Rattle.signed_objects.specs.PartReading.{ReadPart, octet_at, octets_at, gives_at, ruled_at, followed_at, with_own_at}
 use Rattle.signed_objects.specs.Ber.{PIECES, is_piece, tag_rules, long_length, length_by, length_from, length_octets, length_rules, head, is_taken, contents, form_inside, der_tag, written, element}

@@ -15,15 +15,15 @@ use Rattle.der_lite.proofs.ContentReads.{exact_plain}
 use Rattle.der_lite.proofs.FieldLaws.{exact_field, exact_last_at}
 use Rattle.signed_objects.specs.declared.attribute.AttributeType.{AttributeType}
 use Rattle.signed_objects.specs.declared.attribute.AttributeType.TheVariants.{ContentType, MessageDigest, SigningTime, BinarySigningTime}
-use Rattle.signed_objects.specs.Combinators.{no_rules, needed, barred, nothing, told, told_content, first_part, holding_one, with_octets, spelling}
-use Rattle.signed_objects.specs.CombinatorReading.{nothing_at, told_at, told_content_at, with_octets_at, one_of, read_value}
+use Rattle.der_forms.specs.Combinators.{needed_octets, FixedSpells, fixed_rules, fixed, no_rules, needed, barred, nothing, told, told_content, first_part, holding_one, with_octets, spelling}
+use Rattle.der_forms.specs.CombinatorReading.{octets_of, needed_octets_at, nothing_at, told_at, told_content_at, with_octets_at, one_of, read_value}
 use Rattle.signed_objects.specs.Oids.{oid_rules, object_identifier}
-use Rattle.signed_objects.specs.Attributes.{SET, UTC_TIME, GENERAL_TIME, Attribute, oid_of, type_in, is_among, type_rules, TypeSpells, attribute_type, needed_octets, signing_time, integer_rules, attribute_value, attribute_values, attribute_members, attribute, attribute_rules, said_by, attributes_content}
+use Rattle.signed_objects.specs.Attributes.{SET, UTC_TIME, GENERAL_TIME, Attribute, oid_of, type_in, is_among, type_rules, TypeSpells, attribute_type, signing_time, integer_rules, attribute_value, attribute_values, attribute_members, attribute, attribute_rules, said_by, attributes_content}
 use Rattle.signed_objects.specs.Certificates as c
 use Rattle.signed_objects.specs.Cms as cms
 use Rattle.signed_objects.specs.Reading as r
 use Rattle.signed_objects.specs.Reading.{Found, found_in, is_found, found_rules, found_type, type_of, attribute_type_at, signing_time_at, attribute_value_at, attribute_values_at, attribute_from, attribute_at, attributes_at}
-use Rattle.signed_objects.proofs.ExactCombinators.{exact_behind, exact_opened, exact_needed_octets, exact_fixed_content, exact_fixed, exact_nothing, exact_told, exact_told_content, exact_one, exact_anything, exact_octets, exact_standing, exact_either, exact_spelling, needed_follow, barred_follow}
+use Rattle.der_forms.proofs.ExactCombinators.{exact_behind, exact_opened, exact_needed_octets, exact_fixed_content, exact_fixed, exact_nothing, exact_told, exact_told_content, exact_one, exact_anything, exact_octets, exact_standing, exact_either, exact_spelling, needed_follow, barred_follow}
 
 -- ---- identifiers
 
@@ -83,7 +83,7 @@ exact_type before =
 
 exact_time : ExactElement signing_time signing_time_at
 unfolding signing_time signing_time_at
-exact_time = exact_either UTC_TIME (plain UTC_TIME no_rules) (needed_octets 26 GENERAL_TIME) (r.octets_of UTC_TIME) (r.needed_octets_at 26 GENERAL_TIME) (exact_plain UTC_TIME no_rules) (exact_needed_octets 26 GENERAL_TIME)
+exact_time = exact_either UTC_TIME (plain UTC_TIME no_rules) (needed_octets 26 GENERAL_TIME) (octets_of UTC_TIME) (needed_octets_at 26 GENERAL_TIME) (exact_plain UTC_TIME no_rules) (exact_needed_octets 26 GENERAL_TIME)
 
 exact_value : (type : AttributeType) → ExactElement (attribute_value type) (attribute_value_at type)
 unfolding attribute_value attribute_value_at
@@ -232,7 +232,7 @@ exact_extensions =
 exact_certificate_version : ExactElement c.certificate_version r.certificate_version_at
 unfolding c.certificate_version r.certificate_version_at
 exact_certificate_version =
-    exact_behind (needed 12 160) 160 (primitive (c.FixedSpells c.version_3) (c.fixed_rules 12 c.version_3)) (read_primitive (c.fixed_rules 12 c.version_3) (λ content. tt)) (needed_follow 12 160)
+    exact_behind (needed 12 160) 160 (primitive (FixedSpells c.version_3) (fixed_rules 12 c.version_3)) (read_primitive (fixed_rules 12 c.version_3) (λ content. tt)) (needed_follow 12 160)
     (exact_fixed_content 12 c.version_3)
 
 exact_passed : ExactElement c.passed r.passed_at
@@ -273,12 +273,12 @@ unfolding r.certificate_content_at
 exact_certificate_content =
     let bits = plain 3 no_rules in
     let members = member c.tbs_certificate (λ _. member c.passed (λ _. last bits)) in
-    let read = read_member r.tbs_certificate_at (λ _. read_member r.passed_at (λ _. last_at (r.octets_of 3))) in
+    let read = read_member r.tbs_certificate_at (λ _. read_member r.passed_at (λ _. last_at (octets_of 3))) in
     exact_opened 48 (constructed no_rules c.certificate_members no_rules) (read_constructed no_rules (told_at first_part read) no_rules)
     (exact_constructed no_rules c.certificate_members (told_at first_part read) no_rules
     (exact_told {A = certificate_parts} first_part members read
-    (exact_member c.tbs_certificate r.tbs_certificate_at exact_tbs (λ _. member c.passed (λ _. last bits)) (λ _. read_member r.passed_at (λ _. last_at (r.octets_of 3)))
-    (λ _. exact_member c.passed r.passed_at exact_passed (λ _. last bits) (λ _. last_at (r.octets_of 3)) (λ _. exact_last_at bits (r.octets_of 3) (exact_plain 3 no_rules))))))
+    (exact_member c.tbs_certificate r.tbs_certificate_at exact_tbs (λ _. member c.passed (λ _. last bits)) (λ _. read_member r.passed_at (λ _. last_at (octets_of 3)))
+    (λ _. exact_member c.passed r.passed_at exact_passed (λ _. last bits) (λ _. last_at (octets_of 3)) (λ _. exact_last_at bits (octets_of 3) (exact_plain 3 no_rules))))))
 
 exact_certificate : ExactElement c.certificate r.certificate_at
 unfolding c.certificate r.certificate_at
@@ -317,13 +317,13 @@ exact_signed_members =
     (exact_member cms.digest_algorithm r.digest_algorithm_at exact_digest_algorithm (λ _. member cms.signed_attributes (λ _. cms.signature_members)) (λ _. read_member r.signed_attributes_at (λ _. r.signature_members_at))
     (λ _. exact_member cms.signed_attributes r.signed_attributes_at exact_signed_attributes (λ _. cms.signature_members) (λ _. r.signature_members_at) (λ _. exact_signature_members)))
 
-exact_version : (number : ℕ) → ExactElement (c.fixed number 2 (3 ∷ [])) (r.version_at number)
+exact_version : (number : ℕ) → ExactElement (fixed number 2 (3 ∷ [])) (r.version_at number)
 exact_version number = exact_fixed number 2 (3 ∷ [])
 
 exact_signer : ExactElement cms.signer_info r.signer_info_at
 unfolding cms.signer_info r.signer_info_at
 exact_signer =
-    let version = c.fixed 20 2 (3 ∷ []) in
+    let version = fixed 20 2 (3 ∷ []) in
     let members = member version (λ _. member cms.signer_identifier (λ _. cms.signed_members)) in
     let read = read_member (r.version_at 20) (λ _. read_member r.signer_identifier_at (λ _. r.signed_members_at)) in
     exact_opened 48 (constructed no_rules cms.signer_members no_rules) (read_constructed no_rules (told_at cms.signer_of read) no_rules)
@@ -369,7 +369,7 @@ exact_signed_by = exact_member cms.certificates r.certificates_at exact_certific
 exact_signed_data : ExactElement cms.signed_data r.signed_data_at
 unfolding cms.signed_data r.signed_data_at
 exact_signed_data =
-    let version = c.fixed 7 2 (3 ∷ []) in
+    let version = fixed 7 2 (3 ∷ []) in
     let members = member version (λ _. member cms.digest_algorithms (λ _. member cms.encapsulated (λ _. cms.signed_by))) in
     let read = read_member (r.version_at 7) (λ _. read_member r.digest_algorithms_at (λ _. read_member r.encapsulated_at (λ _. r.signed_by_at))) in
     exact_opened 48 (constructed no_rules cms.signed_data_members no_rules) (read_constructed no_rules (told_at cms.object_of read) no_rules)
@@ -385,14 +385,14 @@ exact_wrapped =
     exact_opened 160 (constructed no_rules (last cms.signed_data) no_rules) (read_constructed no_rules (last_at r.signed_data_at) no_rules)
     (exact_constructed no_rules (last cms.signed_data) (last_at r.signed_data_at) no_rules (exact_last_at cms.signed_data r.signed_data_at exact_signed_data))
 
-exact_content_type : ExactElement (c.fixed 6 6 cms.id_signed_data) r.content_type_at
+exact_content_type : ExactElement (fixed 6 6 cms.id_signed_data) r.content_type_at
 unfolding r.content_type_at
 exact_content_type = exact_fixed 6 6 cms.id_signed_data
 
 exact_content_info : ExactElement cms.content_info r.content_info_at
 unfolding cms.content_info r.content_info_at
 exact_content_info =
-    let type = c.fixed 6 6 cms.id_signed_data in
+    let type = fixed 6 6 cms.id_signed_data in
     let members = member type (λ _. last cms.wrapped_data) in
     let read = read_member r.content_type_at (λ _. last_at r.wrapped_data_at) in
     exact_opened 48 (constructed no_rules (told cms.second_of members) no_rules) (read_constructed no_rules (told_at cms.second_of read) no_rules)

@@ -10,7 +10,7 @@ use Rattle.der_lite.specs.Decoding.{Read}
 use Rattle.der_lite.proofs.Rules.{judged-kept, judged_ok, judged_err, judged_breaks, bind_ok, bind_err, ok, ok_is, err_is}
 use Rattle.der_lite.proofs.Elements.{behind}
 use Rattle.der_lite.proofs.Exact.{next_is, mapped_err}
-use Rattle.signed_objects.specs.Combinators.{fault_at}
+use Rattle.der_forms.specs.Combinators.{fault_at}
 use Rattle.signed_objects.specs.Parts.{Part, octet, octets, gives, ruled, followed, with_own, InTurn, joined, FaultAmong, is_empty, is_closed, filling, closed}
 use Rattle.signed_objects.specs.PartReading.{ReadPart, after, octet_here, octet_at, octets_at, gives_at, ruled_at, followed_at, with_own_at, until, up_to, filling_at, closed_at}
 

@@ -1,5 +1,4 @@
 pub mod Loops
-pub mod ExactCombinators
 pub mod ExactObjects
 pub mod ShortAttributes
 pub mod DerObjects

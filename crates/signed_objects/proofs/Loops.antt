@@ -10,11 +10,12 @@ use Rattle.der_lite.proofs.Loops.{Goes, goes_begin, goes_on, goes_wrong, goes_ou
 use Rattle.der_lite.proofs.Rules.{bind_ok, ok_is}
 use Rattle.signed_objects.specs.declared.attribute.AttributeType.{AttributeType}
 use Rattle.signed_objects.specs.declared.attribute.AttributeType.TheVariants.{ContentType, MessageDigest, SigningTime, BinarySigningTime}
-use Rattle.signed_objects.specs.Combinators.{no_rules, first_part}
-use Rattle.signed_objects.specs.CombinatorReading.{opened_at, told_at}
+use Rattle.der_forms.specs.Combinators.{no_rules, first_part}
+use Rattle.der_forms.specs.CombinatorReading.{opened_at, told_at}
 use Rattle.signed_objects.specs.Attributes.{Attribute, own_value, value_of}
 use Rattle.signed_objects.specs.Certificates.{Key, Extension, names_key, own_identifier, identifier_in, has_identifier}
-use Rattle.signed_objects.specs.Reading.{Found, found_in, put_in, attribute_type_at, attribute_values_at, attribute_from, attribute_at, extension_id_at, extension_value_at, extension_from, extension_at, tbs_certificate_at, passed_at, octets_of, certificate_content_at}
+use Rattle.signed_objects.specs.Reading.{Found, found_in, put_in, attribute_type_at, attribute_values_at, attribute_from, attribute_at, extension_id_at, extension_value_at, extension_from, extension_at, tbs_certificate_at, passed_at, certificate_content_at}
+use Rattle.der_forms.specs.CombinatorReading.{octets_of}
 
 -- behind an element less remains
 opened_shorter : {V : Type 0} (tag : ℕ) (p : Place) (content : ReadContent V) (v : V) (q : Place) → opened_at (element_at tag p) p.at content ≡ Ok (v, q) → length q.rest < length p.rest

@@ -3,7 +3,7 @@ use Rattle.std.proofs.Common.{◌≡◌, ℕ, List, sym, ap, subst, ◌∙◌, i
 use Rattle.der_lite.specs.Place.{Fault, place_of}
 use Rattle.der_lite.specs.Fields.{last_at}
 use Rattle.der_lite.proofs.GrammarLaws as laws
-use Rattle.signed_objects.specs.Combinators.{fault_at}
+use Rattle.der_forms.specs.Combinators.{fault_at}
 use Rattle.signed_objects.specs.Cms.{ObjectParts, object}
 use Rattle.signed_objects.specs.Reading.{content_info_at}
 use Rattle.signed_objects.specs.Objects.{HasSigner, HasType, HasDigest, Holds, Disagrees, Fails, ObjectValue, value_of_parts, IsDerObject, DerFaultAt}

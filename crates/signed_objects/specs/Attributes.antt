@@ -5,7 +5,7 @@ use Rattle.der_lite.specs.Der.{INTEGER, OBJECT_IDENTIFIER, OCTET_STRING, SEQUENC
 use Rattle.der_lite.specs.Grammar.{Element, Members, Content, element, primitive, constructed, plain, last, member, each}
 use Rattle.signed_objects.specs.declared.attribute.AttributeType.{AttributeType}
 use Rattle.signed_objects.specs.declared.attribute.AttributeType.TheVariants.{ContentType, MessageDigest, SigningTime, BinarySigningTime}
-use Rattle.signed_objects.specs.Combinators.{no_rules, needed, element_behind, told_content, or_empty, holding_one, either}
+use Rattle.der_forms.specs.Combinators.{no_rules, told_content, or_empty, holding_one, either, needed_octets}
 use Rattle.signed_objects.specs.Oids.{object_identifier}
 
 -- X.690 section 8.1.2: the tags of SET and UTCTime, and of a GeneralizedTime
@@ -74,10 +74,6 @@ TypeSpells type content = content ≡ oid_of type
 -- attrType, after the attributes before it
 unfoldable pub attribute_type : List Attribute → Element AttributeType
 attribute_type before = element OBJECT_IDENTIFIER (head_rules OBJECT_IDENTIFIER) (primitive TypeSpells (type_rules before))
-
--- an element with its content unchanged, or none of its tag is here
-abbrev pub needed_octets : ℕ → ℕ → Element (List ℕ)
-needed_octets number tag = element_behind (needed number tag) tag (primitive (λ v inner. inner ≡ v) no_rules)
 
 -- Time: a UTCTime or a GeneralizedTime. It is not judged which moment it is.
 unfoldable pub signing_time : Element (List ℕ)

@@ -5,7 +5,7 @@ use Rattle.der_lite.specs.Der.{OCTET_STRING, EXPLICIT_0, number, tlv}
 use Rattle.der_lite.specs.Grammar.{Element}
 use Rattle.signed_objects.specs.declared.form.Form.{Form}
 use Rattle.signed_objects.specs.declared.form.Form.TheVariants.{Member, Piece, Der}
-use Rattle.signed_objects.specs.Combinators.{fault_at}
+use Rattle.der_forms.specs.Combinators.{fault_at}
 use Rattle.signed_objects.specs.Parts.{Part, octet, octets, gives, ruled, followed, with_own, whole, filling, closed}
 
 -- X.690 section 8.7.3: the tag of an OCTET STRING in pieces

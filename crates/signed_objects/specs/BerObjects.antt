@@ -5,7 +5,7 @@ use Rattle.der_lite.specs.Grammar.{Members, last}
 use Rattle.signed_objects.specs.declared.form.Form.TheVariants.{Member}
 use Rattle.signed_objects.specs.declared.fault.ObjectFault.{ObjectFault}
 use Rattle.signed_objects.specs.declared.fault.ObjectFault.TheVariants.{At, Memory}
-use Rattle.signed_objects.specs.Combinators.{fault_at}
+use Rattle.der_forms.specs.Combinators.{fault_at}
 use Rattle.signed_objects.specs.Ber.{element}
 use Rattle.signed_objects.specs.Faults.{kind_number}
 use Rattle.signed_objects.specs.Objects.{ObjectValue, IsDerObject, DerFaultAt}

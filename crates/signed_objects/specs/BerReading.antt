@@ -8,7 +8,7 @@ use Rattle.signed_objects.specs.declared.form.Form.{Form}
 use Rattle.signed_objects.specs.declared.form.Form.TheVariants.{Member, Piece, Der}
 use Rattle.signed_objects.specs.declared.fault.ObjectFault.{ObjectFault}
 use Rattle.signed_objects.specs.declared.fault.ObjectFault.TheVariants.{At, Memory}
-use Rattle.signed_objects.specs.Combinators.{fault_at}
+use Rattle.der_forms.specs.Combinators.{fault_at}
 use Rattle.signed_objects.specs.Faults.{cms_fault_of}
 use Rattle.signed_objects.specs.PartReading.{ReadPart, octet_at, octets_at, gives_at, ruled_at, followed_at, with_own_at, filling_at, closed_at}
 use Rattle.signed_objects.specs.Ber.{tag_rules, length_rules, is_taken, form_inside, der_tag}

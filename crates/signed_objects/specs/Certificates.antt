@@ -3,25 +3,13 @@ use Rattle.std.specs.Prelude.{◌≡◌, ℕ, ◌==◌, ◌&&◌, Bool, true, fa
 use Rattle.std.specs.Option.{option_or}
 use Rattle.der_lite.specs.Der.{BIT_STRING, INTEGER, OBJECT_IDENTIFIER, OCTET_STRING, SEQUENCE, EXPLICIT_0, head_rules, is_integer}
 use Rattle.der_lite.specs.Grammar.{Element, Members, element, primitive, constructed, plain, last, member, each}
-use Rattle.signed_objects.specs.Combinators.{no_rules, needed, element_behind, anything, told, told_content, or_empty, first_part, spelling, standing}
+use Rattle.der_forms.specs.Combinators.{FixedSpells, fixed_rules, fixed, no_rules, needed, element_behind, anything, told, told_content, or_empty, first_part, spelling, standing}
 use Rattle.signed_objects.specs.Oids.{oid_rules}
 use Rattle.signed_objects.specs.Attributes.{integer_rules}
 
 -- [3], EXPLICIT
 abbrev pub EXPLICIT_3 : ℕ
 EXPLICIT_3 = 163
-
--- a content that is this one
-abbrev pub FixedSpells : List ℕ → Unit {0} → List ℕ → Type 0
-FixedSpells wanted _ content = content ≡ wanted
-
--- another is a fault
-abbrev pub fixed_rules : ℕ → List ℕ → List ℕ → List (ℕ × Bool)
-fixed_rules number wanted content = (number, not (bytes_eq content wanted)) ∷ []
-
--- an element with this content, or a fault
-abbrev pub fixed : ℕ → ℕ → List ℕ → Element (Unit {0})
-fixed number tag wanted = element tag (head_rules tag) (primitive (FixedSpells wanted) (fixed_rules number wanted))
 
 -- ---- RFC 5280 section 4.1.2.7: the key
 

@@ -2,10 +2,10 @@
 use Rattle.std.specs.Prelude.{ℕ, ◌||◌, Bool, not, bytes_eq, if◌then◌else◌, List, [], ◌∷◌, ◌++◌, length}
 use Rattle.der_lite.specs.Der.{INTEGER, OBJECT_IDENTIFIER, OCTET_STRING, SEQUENCE, EXPLICIT_0, head_rules}
 use Rattle.der_lite.specs.Grammar.{Element, Members, element, constructed, plain, last, member}
-use Rattle.signed_objects.specs.Combinators.{no_rules, begins, needed, barred, element_behind, nothing, told, holding_one, with_octets}
+use Rattle.der_forms.specs.Combinators.{no_rules, begins, needed, barred, element_behind, nothing, told, holding_one, with_octets, needed_octets, fixed}
 use Rattle.signed_objects.specs.Oids.{object_identifier}
-use Rattle.signed_objects.specs.Attributes.{SET, Said, needed_octets, attributes_content}
-use Rattle.signed_objects.specs.Certificates.{fixed, Key, certificate}
+use Rattle.signed_objects.specs.Attributes.{SET, Said, attributes_content}
+use Rattle.signed_objects.specs.Certificates.{Key, certificate}
 
 -- ---- algorithms
 

@@ -1,5 +1,3 @@
-pub mod Combinators
-pub mod CombinatorReading
 pub mod Oids
 pub mod OidRows
 pub mod Attributes

@@ -7,7 +7,7 @@ use Rattle.rsa_sha256.specs.Rsa.{IsModulus, IsSignature}
 use Rattle.signed_objects.specs.declared.fault.CmsFaultKind.{CmsFaultKind}
 use Rattle.signed_objects.specs.declared.fault.ObjectFault.{ObjectFault}
 use Rattle.signed_objects.specs.declared.fault.ObjectFault.TheVariants.{At, Memory}
-use Rattle.signed_objects.specs.Combinators.{fault_at}
+use Rattle.der_forms.specs.Combinators.{fault_at}
 use Rattle.signed_objects.specs.Attributes.{SET}
 use Rattle.signed_objects.specs.Cms.{ObjectParts, object}
 use Rattle.signed_objects.specs.Faults.{kind_number}

@@ -3,7 +3,7 @@ use Rattle.std.specs.Prelude.{ℕ, zero, suc, ◌+◌, ◌-◌, Bool, true, fals
 use Rattle.der_lite.specs.Place.{Place, Fault, place_of}
 use Rattle.der_lite.specs.DerReading.{◌>>=◌, judged}
 use Rattle.der_lite.specs.Decoding.{Read}
-use Rattle.signed_objects.specs.Combinators.{fault_at}
+use Rattle.der_forms.specs.Combinators.{fault_at}
 use Rattle.signed_objects.specs.Parts.{is_empty, is_closed}
 
 -- reading a part of the element at an offset

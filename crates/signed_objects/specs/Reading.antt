@@ -7,28 +7,12 @@ use Rattle.der_lite.specs.Decoding.{Read, ReadAll, ReadContent, read_primitive, 
 use Rattle.der_lite.specs.Fields.{field_at, last_at}
 use Rattle.signed_objects.specs.declared.attribute.AttributeType.{AttributeType}
 use Rattle.signed_objects.specs.declared.attribute.AttributeType.TheVariants.{ContentType, MessageDigest, SigningTime, BinarySigningTime}
-use Rattle.signed_objects.specs.Combinators.{no_rules, needed, barred, first_part}
-use Rattle.signed_objects.specs.CombinatorReading.{found_at, opened_at, nothing_at, anything_at, told_at, told_content_at, with_octets_at, standing_at, one_of, either_at, or_fault, read_value}
+use Rattle.der_forms.specs.Combinators.{no_rules, needed, barred, first_part, fixed_rules}
+use Rattle.der_forms.specs.CombinatorReading.{fixed_field, all_octets, needed_octets_at, octets_of, found_at, opened_at, nothing_at, anything_at, told_at, told_content_at, with_octets_at, standing_at, one_of, either_at, or_fault, read_value}
 use Rattle.signed_objects.specs.Oids.{oid_rules}
 use Rattle.signed_objects.specs.Attributes.{SET, UTC_TIME, GENERAL_TIME, Attribute, value_of, type_in, attribute_rules, Said, said_by}
-use Rattle.signed_objects.specs.Certificates.{EXPLICIT_3, fixed_rules, zero_rules, rsa_key_algorithm, second_part, names_key, Extension, has_identifier, id_rules, identifier_rules, identifier_told, key_of_parts, version_3, Key}
+use Rattle.signed_objects.specs.Certificates.{EXPLICIT_3, zero_rules, rsa_key_algorithm, second_part, names_key, Extension, has_identifier, id_rules, identifier_rules, identifier_told, key_of_parts, version_3, Key}
 use Rattle.signed_objects.specs.Cms.{digest_rules, signature_rules, IMPLICIT_0, EXPLICIT_1, unsigned_number, Signer, SignedParts, signer_of, ObjectParts, SignedBy, object_of, id_signed_data, second_of}
-
--- a content that was read, if it is this one
-abbrev pub fixed_field : Result (List ℕ × Place) Fault → ℕ → ℕ → List ℕ → Result (Unit {0} × Place) Fault
-fixed_field read at number wanted = field_at read at (fixed_rules number wanted) (λ content. tt)
-
--- the content of an element as it is
-abbrev pub all_octets : ReadContent (List ℕ)
-all_octets = read_primitive no_rules (λ content. content)
-
--- the content of an element, if one of its tag is here
-unfoldable pub needed_octets_at : ℕ → ℕ → Read (List ℕ)
-needed_octets_at number tag p = opened_at (found_at (needed number tag) tag p) p.at all_octets
-
--- an element that is skipped
-abbrev pub octets_of : ℕ → Read (List ℕ)
-octets_of tag = content_at tag no_rules
 
 -- an OBJECT IDENTIFIER of any value
 unfoldable pub object_identifier_at : Read (List ℕ)

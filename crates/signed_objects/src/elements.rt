@@ -3,9 +3,10 @@
 ghost use Rattle.std.specs.Prelude.{◌≡◌, ◌<◌, []};
 ghost use Rattle.signed_objects.specs.Gives.{GivesNext, GivesAll};
 ghost use Rattle.signed_objects.specs.Faults.{kind_number};
-ghost use Rattle.signed_objects.specs.Combinators.{begins as begins_with, needed};
-ghost use Rattle.signed_objects.specs.CombinatorReading.{found_at, nothing_at};
-ghost use Rattle.signed_objects.specs.Reading.{needed_octets_at, version_at};
+ghost use Rattle.der_forms.specs.Combinators.{begins as begins_with, needed};
+ghost use Rattle.der_forms.specs.CombinatorReading.{found_at, nothing_at};
+ghost use Rattle.signed_objects.specs.Reading.{version_at};
+ghost use Rattle.der_forms.specs.CombinatorReading.{needed_octets_at};
 
 use crate::{CmsFault, CmsFaultKind};
 use der_lite::Cursor;
@@ -41,7 +42,7 @@ pub(crate) fn needed_element<'a>(
 }
 
 /// The content of the element of this tag here; if none of it is, this is the fault.
-#[tactic(auto, unfolding(crate::specs::Reading::needed_octets_at))]
+#[tactic(auto, unfolding(der_forms::specs::CombinatorReading::needed_octets_at))]
 pub(crate) fn needed_octets<'a>(
     cursor: &mut Cursor<'a>,
     tag: u8,

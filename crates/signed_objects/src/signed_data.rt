@@ -2,8 +2,8 @@
 
 ghost use Rattle.std.specs.Prelude.{◌≡◌};
 ghost use Rattle.signed_objects.specs.Gives.{GivesNext, GivesAll};
-ghost use Rattle.signed_objects.specs.CombinatorReading.{found_at};
-ghost use Rattle.signed_objects.specs.Combinators.{barred};
+ghost use Rattle.der_forms.specs.CombinatorReading.{found_at};
+ghost use Rattle.der_forms.specs.Combinators.{barred};
 ghost use Rattle.signed_objects.specs.Reading.{digest_algorithms_at, content_here, encapsulated_at, certificates_at, signer_infos_at, signed_by_at, signed_data_at, wrapped_data_at, content_info_at, content_type_at, object_all};
 
 use crate::certificate::{Certificate, read_certificate};

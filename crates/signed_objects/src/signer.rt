@@ -3,7 +3,7 @@
 ghost use Rattle.std.specs.Prelude.{◌≡◌, [], ◌∷◌};
 ghost use Rattle.signed_objects.specs.Gives.{GivesNext, GivesAll};
 ghost use Rattle.signed_objects.specs.Cms.{is_algorithm as is_algorithm_of, sha_256, is_rsa as is_rsa_of, pkcs_1, unsigned_number};
-ghost use Rattle.signed_objects.specs.CombinatorReading.{nothing_at};
+ghost use Rattle.der_forms.specs.CombinatorReading.{nothing_at};
 ghost use Rattle.signed_objects.specs.Reading.{digest_algorithm_at, signature_algorithm_at, signer_identifier_at, signature_members_at, signed_members_at, signer_info_at};
 
 use crate::attributes::{SignedAttributes, signed_attributes};

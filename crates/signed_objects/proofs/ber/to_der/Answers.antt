@@ -1,6 +1,6 @@
 use Rattle.std.proofs.Common.{◌≡◌, ◌∙◌, ℕ, true, false, List, Vec, Global, ap, arith}
 use Rattle.std.proofs.lemmas.Result.{err_from_is_err_and}
-use Rattle.signed_objects.specs.Combinators.{fault_at}
+use Rattle.der_forms.specs.Combinators.{fault_at}
 use Rattle.signed_objects.specs.Faults.{cms_fault_of}
 use Rattle.signed_objects.specs.Parts.{is_empty}
 use Rattle.signed_objects.proofs.BerSteps.{file_read, file_trails, file_wrong}

@@ -1,4 +1,4 @@
--- Reading by the grammars that CMS needs is exact.
+-- Reading by the grammars that CMS and X.509 need is exact.
 use Rattle.std.proofs.Common.{◌≡◌, ◌⊎◌, ℕ, ◌-◌, ◌<◌, Bool, true, false, not, eqb, cond, List, [], ◌∷◌, ◌++◌, length, take, Option, Some, None, Result, Ok, Err, refl, sym, ap, subst, ◌∙◌, arith, inl, inr, length-append}
 use Rattle.std.proofs.lemmas.Bool.{eqb-true, eqb-false, ne_eqb, not-false}
 use Rattle.std.proofs.lemmas.Slice.Eq.{bytes_eq-Decides}
@@ -15,11 +15,8 @@ use Rattle.der_lite.proofs.Elements.{behind}
 use Rattle.der_lite.proofs.Exact.{ExactElement, ExactMembers, ExactContent, exact_element, exact_primitive, exact_constructed, exact_member, mapped_err}
 use Rattle.der_lite.proofs.ContentReads.{element_is, exact_along}
 use Rattle.der_lite.proofs.FieldLaws.{judged-append, exact_field}
-use Rattle.signed_objects.specs.Combinators.{no_rules, begins, fault_at, needed, barred, element_behind, not_empty, nothing, told, told_content, first_part, sole, holding_one, anything, with_octets, standing, either, spelling}
-use Rattle.signed_objects.specs.CombinatorReading.{found_at, opened_at, nothing_at, told_at, told_content_at, with_octets_at, standing_at, sole_at, one_of, anything_at, either_at, or_fault}
-use Rattle.signed_objects.specs.Attributes.{needed_octets}
-use Rattle.signed_objects.specs.Certificates.{FixedSpells, fixed_rules, fixed}
-use Rattle.signed_objects.specs.Reading.{fixed_field, all_octets, needed_octets_at}
+use Rattle.der_forms.specs.Combinators.{no_rules, begins, fault_at, needed, barred, element_behind, not_empty, nothing, told, told_content, first_part, sole, holding_one, anything, with_octets, standing, either, spelling, needed_octets, FixedSpells, fixed_rules, fixed, branch, present, absent, maybe, told_element}
+use Rattle.der_forms.specs.CombinatorReading.{found_at, opened_at, nothing_at, told_at, told_content_at, with_octets_at, standing_at, sole_at, one_of, anything_at, either_at, or_fault, fixed_field, all_octets, needed_octets_at, branch_at, maybe_at, told_element_at}
 
 -- ---- elements behind rules
 
@@ -280,4 +277,45 @@ module _ {V : Type 0} (number : ℕ) (Spells : V → List ℕ → Type 0) (find 
         let k = denied at (find p.rest) f d in
         (bytes, (λ v s. let h : find p.rest ≡ Some v = again p.rest v s in let g = k.0 in cc), k.1);
     refuses = λ at p f h. none_found at p.rest (find p.rest) refl h.0 h.1 ∙ ap (λ (g : Fault). Err g) (sym h.2);
+  }
+
+-- ---- one of two ways to go on
+
+pub exact_branch : {V : Type 0} (tag : ℕ) (first second : Members V) (read other : ReadAll V) → ExactMembers first read → ExactMembers second other → ExactMembers (branch tag first second) (branch_at tag read other)
+exact_branch {V} tag first second read other x y = record {
+  takes = λ p v bytes d.
+      elim (choice (begins tag p.rest) (read p) (other p) (Ok v) d) [ inl k ↦ inl (k.0, x.takes p v bytes k.1) | inr k ↦ inr (k.0, y.takes p v bytes k.1) ];
+  again = λ p v s. elim s [ inl k ↦ rw k.0 (x.again p v k.1) | inr k ↦ rw k.0 (y.again p v k.1) ];
+  faults = λ p f bytes d.
+      elim (choice (begins tag p.rest) (read p) (other p) (Err f) d) [ inl k ↦ inl (k.0, x.faults p f bytes k.1) | inr k ↦ inr (k.0, y.faults p f bytes k.1) ];
+  refuses = λ p f s. elim s [ inl k ↦ rw k.0 (x.refuses p f k.1) | inr k ↦ rw k.0 (y.refuses p f k.1) ];
+}
+
+pub exact_maybe : {A B : Type 0} (tag : ℕ) (e : Element A) (read : Read A) → ExactElement e read → (others : Option A → Members B) (rest : Option A → ReadAll B) → ((a : Option A) → ExactMembers (others a) (rest a))
+    → ExactMembers (maybe tag e others) (maybe_at tag read rest)
+exact_maybe {A} {B} tag e read x others rest y =
+    exact_branch tag (told {A = A × B} present (member e (λ a. others (Some a)))) (told absent (others None)) (told_at present (read_member read (λ a. rest (Some a)))) (told_at absent (rest None))
+    (exact_told {A = A × B} present (member e (λ a. others (Some a))) (read_member read (λ a. rest (Some a))) (exact_member e read x (λ a. others (Some a)) (λ a. rest (Some a)) (λ a. y (Some a))))
+    (exact_told absent (others None) (rest None) (y None))
+
+-- ---- an element of which a part is kept
+
+module _ {A B : Type 0} (tell : A → B) where
+  -- a part, and the next place
+  told_next : A × Place → B × Place
+  told_next x = (tell x.0, x.1)
+
+  pub exact_told_element : (e : Element A) (read : Read A) → ExactElement e read → ExactElement (told_element tell e) (told_element_at tell read)
+  unfolding told_next
+  exact_told_element e read x = record {
+    takes = λ p b q bytes d.
+        let r = bind_ok (read p) (λ y. Ok (told_next y)) (b, q) d in
+        let t = x.takes p r.0.0 r.0.1 bytes r.1 in
+        let s : Stands (told_element tell e).Spells p (tell r.0.0) r.0.1 = record { front = t.front; parts = t.parts; spelled = (r.0.0, t.spelled, refl); behind = t.behind } in
+        subst (λ (y : B × Place). Stands (told_element tell e).Spells p y.0 y.1) (ok_is (told_next r.0) (b, q) r.2) s;
+    again = λ at b front rest s.
+        ap (λ (r : Result (A × Place) Fault). r >>= λ y. Ok (told_next y)) (x.again at s.0 front rest s.1) ∙ ap (λ (c : B). Ok (c, behind at front rest)) s.2;
+    faults = λ p f bytes d. x.faults p f bytes (mapped_err (read p) told_next f d);
+    refuses = λ p f d. ap (λ (r : Result (A × Place) Fault). r >>= λ y. Ok (told_next y)) (x.refuses p f d);
+    some = λ b front s. x.some s.0 front s.1;
   }

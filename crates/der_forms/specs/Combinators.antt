@@ -1,8 +1,8 @@
--- Grammars of elements that CMS needs besides those of `der_lite`.
-use Rattle.std.specs.Prelude.{◌≡◌, ◌≢◌, ℕ, ◌⊎◌, Bool, true, false, not, ◌==◌, List, [], ◌∷◌, ◌++◌, length, Option, Some, None}
+-- Grammars of elements that CMS and X.509 need besides those of `der_lite`.
+use Rattle.std.specs.Prelude.{◌≡◌, ◌≢◌, ℕ, ◌⊎◌, Bool, true, false, not, ◌==◌, bytes_eq, List, [], ◌∷◌, ◌++◌, length, Option, Some, None}
 use Rattle.der_lite.specs.Place.{Fault}
 use Rattle.der_lite.specs.Der.{IsBytes, head_rules}
-use Rattle.der_lite.specs.Grammar.{Element, Members, Content, element, member, constructed}
+use Rattle.der_lite.specs.Grammar.{Element, Members, Content, element, primitive, member, constructed}
 
 -- nothing is judged
 abbrev pub no_rules : {A : Type 0} → A → List (ℕ × Bool)
@@ -101,4 +101,46 @@ abbrev pub spelling : {V : Type 0} → ℕ → (V → List ℕ → Type 0) → C
 spelling {V} number Spells = record {
   Spells = Spells;
   FaultAt = λ at p fault. IsBytes p.rest × ((v : V) → ¬ (Spells v p.rest)) × (fault ≡ fault_at number at);
+}
+
+-- an element with its content unchanged, or none of its tag is here
+abbrev pub needed_octets : ℕ → ℕ → Element (List ℕ)
+needed_octets number tag = element_behind (needed number tag) tag (primitive (λ v inner. inner ≡ v) no_rules)
+
+-- a content that is this one
+abbrev pub FixedSpells : List ℕ → Unit {0} → List ℕ → Type 0
+FixedSpells wanted _ content = content ≡ wanted
+
+-- another is a fault
+abbrev pub fixed_rules : ℕ → List ℕ → List ℕ → List (ℕ × Bool)
+fixed_rules number wanted content = (number, not (bytes_eq content wanted)) ∷ []
+
+-- an element with this content, or a fault
+abbrev pub fixed : ℕ → ℕ → List ℕ → Element (Unit {0})
+fixed number tag wanted = element tag (head_rules tag) (primitive (FixedSpells wanted) (fixed_rules number wanted))
+
+-- One of two forms of all that follows: the first if an element of this tag is here.
+abbrev pub branch : {V : Type 0} → ℕ → Members V → Members V → Members V
+branch tag first second = record {
+  Spells = λ v bytes. ((begins tag bytes ≡ true) × first.Spells v bytes) ⊎ ((begins tag bytes ≡ false) × second.Spells v bytes);
+  FaultAt = λ p fault. ((begins tag p.rest ≡ true) × first.FaultAt p fault) ⊎ ((begins tag p.rest ≡ false) × second.FaultAt p fault);
+}
+
+-- a member that is there, and the others
+abbrev pub present : {A B : Type 0} → A × B → Option A × B
+present v = (Some v.0, v.1)
+
+-- no member, and the others
+abbrev pub absent : {A B : Type 0} → B → Option A × B
+absent v = (None, v)
+
+-- A member that may be left out, known by its tag, and others.
+abbrev pub maybe : {A B : Type 0} → ℕ → Element A → (Option A → Members B) → Members (Option A × B)
+maybe {A} {B} tag e others = branch tag (told {A = A × B} present (member e (λ a. others (Some a)))) (told absent (others None))
+
+-- an element of which only a part is kept
+abbrev pub told_element : {A B : Type 0} → (A → B) → Element A → Element B
+told_element {A} tell e = record {
+  Spells = λ b bytes. (a : A) × e.Spells a bytes × (tell a ≡ b);
+  FaultAt = e.FaultAt;
 }

@@ -1,9 +1,10 @@
 -- Reading by these grammars over what the reads of a cursor give.
 use Rattle.std.specs.Prelude.{ℕ, ◌-◌, Bool, ◌==◌, if◌then◌else◌, List, length, take, Option, Some, None, Result, Ok, Err}
 use Rattle.der_lite.specs.Place.{Place, Fault}
-use Rattle.der_lite.specs.DerReading.{◌>>=◌, judged, element_at}
-use Rattle.der_lite.specs.Decoding.{Read, ReadAll, ReadContent, read_constructed, read_member}
-use Rattle.signed_objects.specs.Combinators.{begins, fault_at, not_empty, no_rules, first_part}
+use Rattle.der_lite.specs.DerReading.{◌>>=◌, judged, content_at, element_at}
+use Rattle.der_lite.specs.Fields.{field_at}
+use Rattle.der_lite.specs.Decoding.{Read, ReadAll, ReadContent, read_primitive, read_constructed, read_member}
+use Rattle.der_forms.specs.Combinators.{begins, fault_at, not_empty, no_rules, needed, first_part, fixed_rules, present, absent}
 
 -- the places of an element's content and after it, if these rules are kept
 abbrev pub found_at : (List ℕ → List (ℕ × Bool)) → ℕ → Place → Result (Place × Place) Fault
@@ -58,3 +59,31 @@ or_fault number at None = Err (fault_at number at)
 abbrev pub read_value : {V : Type 0} → Result V Fault → Option V
 read_value (Ok v) = Some v
 read_value (Err _) = None
+
+-- a content that was read, if it is this one
+abbrev pub fixed_field : Result (List ℕ × Place) Fault → ℕ → ℕ → List ℕ → Result (Unit {0} × Place) Fault
+fixed_field read at number wanted = field_at read at (fixed_rules number wanted) (λ content. tt)
+
+-- the content of an element as it is
+abbrev pub all_octets : ReadContent (List ℕ)
+all_octets = read_primitive no_rules (λ content. content)
+
+-- the content of an element, if one of its tag is here
+unfoldable pub needed_octets_at : ℕ → ℕ → Read (List ℕ)
+needed_octets_at number tag p = opened_at (found_at (needed number tag) tag p) p.at all_octets
+
+-- an element that is skipped
+abbrev pub octets_of : ℕ → Read (List ℕ)
+octets_of tag = content_at tag no_rules
+
+-- one of two forms of all that follows
+abbrev pub branch_at : {V : Type 0} → ℕ → ReadAll V → ReadAll V → ReadAll V
+branch_at tag first second p = if begins tag p.rest then first p else second p
+
+-- a member that may be left out, and others
+abbrev pub maybe_at : {A B : Type 0} → ℕ → Read A → (Option A → ReadAll B) → ReadAll (Option A × B)
+maybe_at tag e others = branch_at tag (told_at present (read_member e (λ a. others (Some a)))) (told_at absent (others None))
+
+-- an element of which only a part is kept
+abbrev pub told_element_at : {A B : Type 0} → (A → B) → Read A → Read B
+told_element_at tell e p = e p >>= λ x. Ok (tell x.0, x.1)

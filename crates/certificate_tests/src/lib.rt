@@ -1,0 +1,14 @@
+//! Examples of certificates and revocation lists, which are the tests of the public items of `resource_certificates`. They use certificates and
+//! CRLs of `openssl`, and each public call once on its happy path.
+#![tactic(auto)]
+
+#[cfg(test)]
+mod certificates;
+#[cfg(test)]
+mod crls;
+#[cfg(test)]
+mod ee_keys_example;
+#[cfg(test)]
+mod resource_certificates_example;
+#[cfg(test)]
+mod vectors;

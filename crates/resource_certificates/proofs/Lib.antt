@@ -1,0 +1,12 @@
+pub mod Exact
+pub mod Seen
+pub mod Texts
+pub mod ExactCrls
+pub mod ExactPolicies
+pub mod Revoking
+pub mod Searches
+pub mod ExactPlaces
+pub mod SeenPlaces
+pub mod LawProofs
+pub mod Profiles
+pub mod CrlProfiles

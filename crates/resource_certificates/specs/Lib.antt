@@ -1,0 +1,17 @@
+pub mod Times
+pub mod Names
+pub mod Keys
+pub mod Extensions
+pub mod Certificates
+pub mod Reading
+pub mod Faults
+pub mod Gives
+pub mod Policies
+pub mod Places
+pub mod PlaceGives
+pub mod Profile
+pub mod Crls
+pub mod CrlReading
+pub mod Revocations
+pub mod Issuing
+pub mod Laws
