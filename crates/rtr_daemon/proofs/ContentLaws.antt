@@ -1,30 +1,78 @@
 -- What is read of several files.
-use Rattle.std.proofs.Common.{◌≡◌, ℕ, zero, suc, ◌+◌, ◌<◌, ◌≤◌, List, [], ◌∷◌, ◌++◌, length, take, get_or, set, arith, subst, sym, ◌∙◌, refl, get_or-set_other}
+use Rattle.std.proofs.Common.{◌≡◌, ℕ, zero, suc, ◌+◌, ◌<◌, ◌≤◌, List, [], ◌∷◌, ◌++◌, length, drop, take, get_or, set, arith, subst, sym, ◌∙◌, refl, get_or-set_other}
 use Rattle.std.proofs.Math.Seq.{map-set_same, take-suc}
 use Rattle.std.proofs.Common.{ap}
 use Rattle.std.specs.String.{string_bytes}
 use Rattle.sources.specs.declared.sources.Sources.{Sources}
 use Rattle.rtr_daemon.specs.DiskAnswers.{DiskAnswers, ReadsWhole}
 use Rattle.rtr_daemon.specs.declared.environment.Stamp.{Stamp}
-use Rattle.std.specs.Prelude.{slice_get, Option, Some, None}
+use Rattle.std.specs.Prelude.{map, slice_get, Option, Some, None}
 use Rattle.std.proofs.Common.{inl, inr, ◌⊎◌}
 use Rattle.std.proofs.lemmas.Bool.{cases_lt}
-use Rattle.std.proofs.lemmas.List.{get_or_default}
+use Rattle.std.proofs.lemmas.List.{get_or_default, length-map}
 use Rattle.rtr_daemon.specs.declared.shrink_guard.ShrinkGuard.{ShrinkGuard}
-use Rattle.rtr_daemon.specs.Files.{AreContents, AreNumbered, FollowsEach, FollowsOne, LoadsEach, LoadsOne, Mark, mark_of, marks_of, names_of, path_of, paths_of}
+use Rattle.rtr_daemon.specs.Files.{AreContents, AreNumbered, FollowsEach, FollowsOne, LoadsEach, LoadsOne, Mark, SameLoad, SameLoads, loads_of, mark_of, marks_of, names_of, path_of, paths_of, stamp_or}
 use Rattle.rtr_daemon.specs.PointOffers.{OffersEach, OffersPoint, points_of}
 use Rattle.rtr_daemon.specs.declared.point_polling.WatchedPoint.{WatchedPoint}
 use Rattle.rtr_daemon.specs.declared.watched_file.WatchedExport.{WatchedExport}
 use Rattle.rtr_daemon.specs.declared.watched_file.WatchedFile.{WatchedFile}
 
 -- One file more
-pub contents_more : {W : Type 0} (answers : DiskAnswers W) (paths : List (List ℕ)) (i : ℕ) (path : List ℕ) (contents : List (List ℕ)) (bytes : List ℕ) → i < length paths → path ≡ get_or paths i path → AreContents answers (take i paths) contents → ((stamp : Stamp) × ReadsWhole answers path stamp bytes)
-    → AreContents answers (take (suc i) paths) (contents ++ bytes ∷ [])
-contents_more answers [] i path contents bytes less is so_far held = absurd (omega (arith, less))
-contents_more answers (first ∷ paths) zero path [] bytes less is so_far held = (subst (λ p. (stamp : Stamp) × ReadsWhole answers p stamp bytes) is held, tt)
-contents_more answers (first ∷ paths) zero path (b ∷ contents) bytes less is so_far held = absurd so_far
-contents_more answers (first ∷ paths) (suc i) path [] bytes less is so_far held = absurd so_far
-contents_more answers (first ∷ paths) (suc i) path (b ∷ contents) bytes less is so_far held = (so_far.0, contents_more answers paths i path contents bytes (omega (arith, less)) is so_far.1 held)
+pub contents_more : {W : Type 0} (answers : DiskAnswers W) (paths : List (List ℕ)) (i : ℕ) (path : List ℕ) (stamps : List Stamp) (contents : List (List ℕ)) (stamp : Stamp) (bytes : List ℕ) → i < length paths → path ≡ get_or paths i path → AreContents answers (take i paths) stamps contents
+    → ReadsWhole answers path stamp bytes → AreContents answers (take (suc i) paths) (stamps ++ stamp ∷ []) (contents ++ bytes ∷ [])
+contents_more answers [] i path stamps contents stamp bytes less is so_far held = absurd (omega (arith, less))
+contents_more answers (first ∷ paths) zero path [] [] stamp bytes less is so_far held = (subst (λ p. ReadsWhole answers p stamp bytes) is held, tt)
+contents_more answers (first ∷ paths) zero path [] (b ∷ contents) stamp bytes less is so_far held = absurd so_far
+contents_more answers (first ∷ paths) zero path (s ∷ stamps) [] stamp bytes less is so_far held = absurd so_far
+contents_more answers (first ∷ paths) zero path (s ∷ stamps) (b ∷ contents) stamp bytes less is so_far held = absurd so_far
+contents_more answers (first ∷ paths) (suc i) path [] [] stamp bytes less is so_far held = absurd so_far
+contents_more answers (first ∷ paths) (suc i) path [] (b ∷ contents) stamp bytes less is so_far held = absurd so_far
+contents_more answers (first ∷ paths) (suc i) path (s ∷ stamps) [] stamp bytes less is so_far held = absurd so_far
+contents_more answers (first ∷ paths) (suc i) path (s ∷ stamps) (b ∷ contents) stamp bytes less is so_far held =
+    (so_far.0, contents_more answers paths i path stamps contents stamp bytes (omega (arith, less)) is so_far.1 held)
+
+-- Each path has its stamp.
+pub contents_many : {W : Type 0} (answers : DiskAnswers W) (paths : List (List ℕ)) (stamps : List Stamp) (contents : List (List ℕ)) → AreContents answers paths stamps contents → length stamps ≡ length paths
+contents_many answers [] [] contents read = refl
+contents_many answers [] (s ∷ stamps) [] read = absurd read
+contents_many answers [] (s ∷ stamps) (b ∷ contents) read = absurd read
+contents_many answers (path ∷ paths) [] [] read = absurd read
+contents_many answers (path ∷ paths) [] (b ∷ contents) read = absurd read
+contents_many answers (path ∷ paths) (s ∷ stamps) [] read = absurd read
+contents_many answers (path ∷ paths) (s ∷ stamps) (b ∷ contents) read = ap suc (contents_many answers paths stamps contents read.1)
+
+-- A file is written, with the stamp of its last load.
+set_loads : (files : List WatchedFile) (i : ℕ) (new : WatchedFile) → loads_of (set files i new) ≡ set (loads_of files) i new.loaded
+set_loads [] i new = refl
+set_loads (file ∷ files) zero new = refl
+set_loads (file ∷ files) (suc i) new = ap (λ loads. file.loaded ∷ loads) (set_loads files i new)
+
+noted_more : (stamps : List Stamp) (loads : List (Option Stamp)) (i : ℕ) (before : Option Stamp) → i < length stamps → i < length loads
+    → set (take i (map Some stamps) ++ drop i loads) i (stamp_or (slice_get stamps i) before) ≡ take (suc i) (map Some stamps) ++ drop (suc i) loads
+noted_more [] loads i before less within = absurd (omega (arith, less))
+noted_more (s ∷ stamps) [] i before less within = absurd (omega (arith, within))
+noted_more (s ∷ stamps) (l ∷ loads) zero before less within = refl
+noted_more (s ∷ stamps) (l ∷ loads) (suc i) before less within = ap (λ all. Some s ∷ all) (noted_more stamps loads i before (omega (arith, less)) (omega (arith, within)))
+
+-- One stamp more is noted.
+pub loaded_more : (stamps : List Stamp) (initial files : List WatchedFile) (i : ℕ) (before : Option Stamp) (new : WatchedFile) → i < length stamps → i < length initial → new.loaded ≡ stamp_or (slice_get stamps i) before
+    → loads_of files ≡ take i (map Some stamps) ++ drop i (loads_of initial) → loads_of (set files i new) ≡ take (suc i) (map Some stamps) ++ drop (suc i) (loads_of initial)
+loaded_more stamps initial files i before new less within is so_far =
+    set_loads files i new ∙ ap (λ loads. set loads i new.loaded) so_far ∙ ap (set (take i (map Some stamps) ++ drop i (loads_of initial)) i) is
+    ∙ noted_more stamps (loads_of initial) i before less (subst (λ n. i < n) (sym (length-map initial (λ file. file.loaded))) within)
+
+noted_all : (stamps : List Stamp) (loads : List (Option Stamp)) (i : ℕ) → length stamps ≡ i → length loads ≡ i → take i (map Some stamps) ++ drop i loads ≡ map Some stamps
+noted_all [] [] zero many all = refl
+noted_all [] [] (suc i) many all = absurd (omega (arith, many))
+noted_all [] (l ∷ loads) zero many all = absurd (omega (arith, all))
+noted_all [] (l ∷ loads) (suc i) many all = absurd (omega (arith, many))
+noted_all (s ∷ stamps) loads zero many all = absurd (omega (arith, many))
+noted_all (s ∷ stamps) [] (suc i) many all = absurd (omega (arith, all))
+noted_all (s ∷ stamps) (l ∷ loads) (suc i) many all = ap (λ rest. Some s ∷ rest) (noted_all stamps loads i (omega (arith, many)) (omega (arith, all)))
+
+-- All stamps are noted.
+pub loaded_all : (stamps : List Stamp) (initial files : List WatchedFile) (i : ℕ) → length stamps ≡ length initial → i ≡ length initial → loads_of files ≡ take i (map Some stamps) ++ drop i (loads_of initial) → loads_of files ≡ map Some stamps
+loaded_all stamps initial files i many all so_far = so_far ∙ noted_all stamps (loads_of initial) i (many ∙ sym all) (length-map initial (λ file. file.loaded) ∙ sym all)
 
 -- One element more
 pub each_more : {A : Type 0} (P : A → Type 0) (xs : List A) (i : ℕ) (x : A) → i < length xs → x ≡ get_or xs i x → P x → ((k : ℕ) (d : A) → k < i → P (get_or xs k d)) → (k : ℕ) (d : A) → k < i + 1 → P (get_or xs k d)
@@ -98,6 +146,23 @@ names_kept exports i d new path number =
 
 pub paths_kept : (files : List WatchedFile) (i : ℕ) (d new : WatchedFile) → new.path ≡ (get_or files i d).path → paths_of (set files i new) ≡ paths_of files
 paths_kept files i d new path = map-set_same path_of files i new d (ap string_bytes path)
+
+-- A file is written of which path and stamp are as they were.
+pub loads_kept : (files : List WatchedFile) (i : ℕ) (d new : WatchedFile) → SameLoad (get_or files i d) new → SameLoads files (set files i new)
+loads_kept files i d new same = (paths_kept files i d new same.0, map-set_same (λ file. file.loaded) files i new d same.1)
+
+-- As many files have the same paths.
+pub same_many : (files others : List WatchedFile) → paths_of others ≡ paths_of files → length files ≡ length others
+same_many files others same = sym (length-map files path_of) ∙ ap length (sym same) ∙ length-map others path_of
+
+-- A slice that was written whole into its vector is what the vector has.
+pub written_back : {A : Type 0} (new old : List A) (len : ℕ) → len ≡ length new → length old ≡ length new → take len (new ++ drop (length new) old) ≡ new
+written_back [] [] zero len same = refl
+written_back [] [] (suc n) len same = absurd (omega (arith, len))
+written_back [] (o ∷ old) n len same = absurd (omega (arith, same))
+written_back (x ∷ new) [] n len same = absurd (omega (arith, same))
+written_back (x ∷ new) (o ∷ old) zero len same = absurd (omega (arith, len))
+written_back (x ∷ new) (o ∷ old) (suc n) len same = ap (λ rest. x ∷ rest) (written_back new old n (omega (arith, len)) (omega (arith, same)))
 
 pub points_kept : (points : List WatchedPoint) (i : ℕ) (d new : WatchedPoint) → new.path ≡ (get_or points i d).path → points_of (set points i new) ≡ points_of points
 points_kept points i d new path = map-set_same (λ p. string_bytes p.path) points i new d (ap string_bytes path)

@@ -5,7 +5,7 @@ use Rattle.rtr_daemon.specs.declared.versions.PublishReport.{PublishReport}
 use Rattle.rtr_daemon.specs.declared.refusal.Refusal.{Refusal}
 use Rattle.rtr_daemon.specs.declared.statistics.Failure.{Failure}
 use Rattle.session_names.specs.Runs.{may_publish}
-use Rattle.rtr_daemon.specs.Files.{FollowsEach, FollowsSlurms, marks_of, names_of, paths_of}
+use Rattle.rtr_daemon.specs.Files.{FollowsEach, FollowsSlurms, loads_of, marks_of, names_of, paths_of}
 use Rattle.rtr_daemon.specs.DiskAnswers.{DiskAnswers}
 use Rattle.rtr_daemon.specs.Due.{DoesWhatIsDue, FailsToPublish, FailureNoted, IsBetween, IsChecked, IsKept, JudgesAges, KeepsFiles, NextAfter, NextPoll, OnlyClients, OnlyFiles, OnlyNotes, PollsAll, PublishesIfDue, SamePaths, WakesIfPublished, failing_since, later_by, second_of_pace}
 use Rattle.rtr_daemon.specs.Overdue.{LeavesNoneOverdue}
@@ -79,12 +79,13 @@ postponed_by {S} {T} ticks a new s began second (Ok report) ticked is paced late
   by (New serial) paced after = inr (record { began = began; ticked = ticked; paced = ap (λ d. d.service.pace) only ∙ paced ∙ ap (λ n. Some n) is; ended = after.0; answered = after.1; next_check = after.2 })
   by Unchanged paced after = inl (ap (λ d. d.service.pace) only ∙ paced, after)
 
-polls_to : {S T W : Type 0} (answers : DiskAnswers W) (clock ticks : ℕ → Type 0) (a b c : Daemon S T) → c.service.sources ≡ b.service.sources → marks_of c.exports.items ≡ marks_of b.exports.items → PollsAll answers clock ticks a b → PollsAll answers clock ticks a c
-polls_to answers clock ticks a b c same marks p = record {
+polls_to : {S T W : Type 0} (answers : DiskAnswers W) (clock ticks : ℕ → Type 0) (a b c : Daemon S T) → c.service.sources ≡ b.service.sources → marks_of c.exports.items ≡ marks_of b.exports.items → loads_of c.slurms.items ≡ loads_of b.slurms.items → PollsAll answers clock ticks a b
+    → PollsAll answers clock ticks a c
+polls_to answers clock ticks a b c same marks loads p = record {
   followed = p.followed;
   excepted = p.excepted;
   exports = subst (λ since. FollowsEach answers clock ticks a.plan.shrink a.exports.items since a.service.sources p.followed) (sym marks) p.exports;
-  slurms = p.slurms;
+  slurms = subst (λ noted. FollowsSlurms answers a.slurms.items noted p.followed p.excepted) (sym loads) p.slurms;
   points = subst (OffersEach answers clock a.points.items p.excepted) (sym same) p.points;
 }
 
@@ -108,7 +109,7 @@ due_of {S} {T} answers clock ticks now a b c d ticked polls fresh paths checked 
     now = now;
     ticked = ticked;
     due = λ is. record {
-      polls = polls_to answers clock ticks a b d r.kept.sources (ap (λ e. marks_of e.items) r.kept.exports) (polls is);
+      polls = polls_to answers clock ticks a b d r.kept.sources (ap (λ e. marks_of e.items) r.kept.exports) (ap (λ e. loads_of e.items) r.kept.slurms) (polls is);
       fresh = r.fresh (fresh is);
       publishes =
           publishes_from clock ticks now a (with_clients b c) d checked.pace checked.rest.1 checked.rest.2 checked.failing
@@ -172,7 +173,7 @@ pub record Parts {S T W : Type 0} (answers : DiskAnswers W) (clock ticks : ℕ �
   pub exports : FollowsEach answers clock ticks b.plan.shrink b.exports.items (marks_of c.exports.items) b.service.sources c.service.sources
   pub names : names_of c.exports.items ≡ names_of b.exports.items
   pub after_exports : (c.slurms ≡ b.slurms) × (c.points ≡ b.points)
-  pub slurms : FollowsSlurms answers c.slurms.items c.service.sources d.service.sources
+  pub slurms : FollowsSlurms answers c.slurms.items (loads_of d.slurms.items) c.service.sources d.service.sources
   pub slurm_paths : paths_of d.slurms.items ≡ paths_of c.slurms.items
   pub after_slurms : (d.exports ≡ c.exports) × (d.points ≡ c.points)
   pub points : OffersEach answers clock d.points.items d.service.sources e.service.sources
@@ -193,7 +194,9 @@ polls_of answers clock ticks a b c d e f p =
       followed = c.service.sources;
       excepted = d.service.sources;
       exports = subst (λ since. FollowsEach answers clock ticks a.plan.shrink a.exports.items since a.service.sources c.service.sources) (sym marks) at_start;
-      slurms = subst (λ z. FollowsSlurms answers z.items c.service.sources d.service.sources) slurms p.slurms;
+      slurms =
+          subst (λ z. FollowsSlurms answers z.items (loads_of f.slurms.items) c.service.sources d.service.sources) slurms
+          (subst (λ z. FollowsSlurms answers c.slurms.items (loads_of z.items) c.service.sources d.service.sources) (sym (ap (λ z. z.slurms) p.ages.rest ∙ p.after_points.1)) p.slurms);
       points = subst (OffersEach answers clock a.points.items d.service.sources) (sym last) (subst (λ z. OffersEach answers clock z.items d.service.sources e.service.sources) points p.points);
     }
 
@@ -260,8 +263,8 @@ clients_kept a b c only kept = again (subst (λ z. KeepsFiles z c) only kept) wh
 
 -- A poll, when the next one was noted, and what has expired
 pub polled_then : {S T W : Type 0} (answers : DiskAnswers W) (clock ticks : ℕ → Type 0) (a b c d : Daemon S T) → b ≡ record a { next_check = b.next_check; next_round = b.next_round; held_until = b.held_until } → PollsAll answers clock ticks b c
-    → d.service.sources ≡ c.service.sources → marks_of d.exports.items ≡ marks_of c.exports.items → PollsAll answers clock ticks a d
-polled_then answers clock ticks a b c d times polls same marks =
+    → d.service.sources ≡ c.service.sources → marks_of d.exports.items ≡ marks_of c.exports.items → loads_of d.slurms.items ≡ loads_of c.slurms.items → PollsAll answers clock ticks a d
+polled_then answers clock ticks a b c d times polls same marks loads =
     let p = subst (λ z. PollsAll answers clock ticks z c) times polls in
     let at_start : PollsAll answers clock ticks a c = record { followed = p.followed; excepted = p.excepted; exports = p.exports; slurms = p.slurms; points = p.points } in
-    polls_to answers clock ticks a c d same marks at_start
+    polls_to answers clock ticks a c d same marks loads at_start

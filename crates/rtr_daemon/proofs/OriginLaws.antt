@@ -21,12 +21,13 @@ use Rattle.points.specs.declared.fault.Offered.{Offered}
 use Rattle.points.specs.declared.fault.Offered.TheVariants as offered
 use Rattle.points.specs.declared.fault.PointFault.{PointFault}
 use Rattle.payload_commands.specs.declared.directories.Directory.{Directory}
+use Rattle.sources.specs.Served.{AreUnited}
 use Rattle.sources.specs.declared.fault.TakeFault.{TakeFault}
 use Rattle.sources.specs.declared.listed.Listed.{Listed}
 use Rattle.sources.specs.declared.sources.Sources.{Sources}
 use Rattle.rtr_daemon.specs.DiskAnswers.{DiskAnswers}
 use Rattle.rtr_daemon.specs.Due.{DoesWhatIsDue, OnlyClients, OnlyServed, PollsAll}
-use Rattle.rtr_daemon.specs.Files.{AreNumbered, Follows, FollowsEach, FollowsSlurms, Loads, LoadsEach, Mark, marks_of, names_of, path_of, paths_of}
+use Rattle.rtr_daemon.specs.Files.{AreNumbered, Follows, FollowsEach, FollowsSlurms, Loads, LoadsEach, Mark, loads_of, marks_of, names_of, path_of, paths_of}
 use Rattle.rtr_daemon.specs.Origins.{ComesAt, ExceptionsComeFrom, ExportComesFrom, ExportsComeFrom, Place, PointComesFrom, PointsComeFrom, SourcesComeFrom, places_of}
 use Rattle.rtr_daemon.specs.PointOffers.{IsOffered, OffersEach, OffersPoint, points_of}
 use Rattle.rtr_daemon.specs.Shrinking.{percent_at}
@@ -164,14 +165,28 @@ pub record SlurmsKeep (old new : Sources) : Type 0 where
   pub lists : new.lists.items ≡ old.lists.items
   pub repository : new.repository ≡ old.repository
 
-slurms_rest : {W : Type 0} (answers : DiskAnswers W) (files : List WatchedFile) (old new : Sources) → FollowsSlurms answers files old new → SlurmsKeep old new
-slurms_rest answers files old new (inl (result, (contents, read, taken))) = record { lists = ap (λ l. l.items) taken.1; repository = taken.2 }
-slurms_rest answers files old new (inr (news, same)) = record { lists = ap (λ s. s.lists.items) same; repository = ap (λ s. s.repository) same }
+slurms_rest : {W : Type 0} (answers : DiskAnswers W) (files : List WatchedFile) (loads : List (Option Stamp)) (old new : Sources) → FollowsSlurms answers files loads old new → SlurmsKeep old new
+slurms_rest answers files loads old new (inl (result, t)) = record { lists = ap (λ l. l.items) t.taken.1; repository = t.taken.2 }
+slurms_rest answers files loads old new (inr (news, noted, same)) = record { lists = ap (λ s. s.lists.items) same; repository = ap (λ s. s.repository) same }
 
-slurms_come : {W : Type 0} (answers : DiskAnswers W) (files : List WatchedFile) (old new : Sources) → FollowsSlurms answers files old new → ExceptionsComeFrom answers (paths_of files) old.exceptions → ExceptionsComeFrom answers (paths_of files) new.exceptions
-slurms_come answers files old new (inl (Ok u, (contents, read, taken))) before = (contents, read, taken.0)
-slurms_come answers files old new (inl (Err fault, (contents, read, taken))) before = subst (ExceptionsComeFrom answers (paths_of files)) (sym taken.0.1) before
-slurms_come answers files old new (inr (news, same)) before = subst (λ s. ExceptionsComeFrom answers (paths_of files) s.exceptions) (sym same) before
+-- What is noted of the files is what was loaded.
+slurms_come : {W : Type 0} (answers : DiskAnswers W) (files : List WatchedFile) (loads : List (Option Stamp)) (old new : Sources) → FollowsSlurms answers files loads old new → ExceptionsComeFrom answers (paths_of files) (loads_of files) old.exceptions
+    → ExceptionsComeFrom answers (paths_of files) loads new.exceptions
+slurms_come answers files loads old new (inl (Ok u, t)) before = record { stamps = t.stamps; contents = t.contents; read = t.read; noted = t.noted; united = t.taken.0 }
+slurms_come answers files loads old new (inl (Err fault, t)) before = record {
+  stamps = before.stamps;
+  contents = before.contents;
+  read = before.read;
+  noted = t.noted ∙ before.noted;
+  united = subst (AreUnited before.contents) (sym t.taken.0.1) before.united;
+}
+slurms_come answers files loads old new (inr (news, noted, same)) before = record {
+  stamps = before.stamps;
+  contents = before.contents;
+  read = before.read;
+  noted = noted ∙ before.noted;
+  united = subst (λ s. AreUnited before.contents s.exceptions) (sym same) before.united;
+}
 
 -- Publication points, and what an offer keeps
 pub record OffersKeep (old new : Sources) : Type 0 where
@@ -230,10 +245,11 @@ polled_comes : {S T W : Type 0} (answers : DiskAnswers W) (clock ticks : ℕ →
     → SourcesComeFrom answers clock old → SourcesComeFrom answers clock new
 polled_comes answers clock ticks old new p names slurms points before =
     let followed = each_rest answers clock ticks old.plan.shrink old.exports.items (marks_of new.exports.items) old.service.sources p.followed p.exports in
-    let excepted = slurms_rest answers old.slurms.items p.followed p.excepted p.slurms in
+    let loads = loads_of new.slurms.items in
+    let excepted = slurms_rest answers old.slurms.items loads p.followed p.excepted p.slurms in
     let offered = offers_rest answers clock old.points.items p.excepted new.service.sources p.points in
     let exports = each_comes answers clock ticks old.plan.shrink [] old.exports.items (marks_of new.exports.items) old.service.sources p.followed p.exports before.exports in
-    let exceptions = slurms_come answers old.slurms.items p.followed p.excepted p.slurms (subst (ExceptionsComeFrom answers (paths_of old.slurms.items)) (sym followed.exceptions) before.exceptions) in
+    let exceptions = slurms_come answers old.slurms.items loads p.followed p.excepted p.slurms (subst (ExceptionsComeFrom answers (paths_of old.slurms.items) (loads_of old.slurms.items)) (sym followed.exceptions) before.exceptions) in
     let held = subst (PointsComeFrom answers (points_of old.points.items)) (sym (excepted.repository ∙ followed.repository)) before.points in
     let offers = offers_come answers clock (points_of old.points.items) old.points.items p.excepted new.service.sources (λ q is. contains_map (λ w. string_bytes w.path) old.points.items q is) p.points held in
     record {
@@ -241,8 +257,8 @@ polled_comes answers clock ticks old new p names slurms points before =
           subst (λ places. ExportsComeFrom answers clock places new.service.sources.lists.items) (placed_as old.exports.items new.exports.items names)
           (subst (ExportsComeFrom answers clock (placed old.exports.items (marks_of new.exports.items))) (sym (ap (λ l. l.items) offered.lists ∙ excepted.lists)) exports);
       exceptions =
-          subst (λ n. ExceptionsComeFrom answers n new.service.sources.exceptions) (sym slurms)
-          (subst (ExceptionsComeFrom answers (paths_of old.slurms.items)) (sym offered.exceptions) exceptions);
+          subst (λ n. ExceptionsComeFrom answers n loads new.service.sources.exceptions) (sym slurms)
+          (subst (ExceptionsComeFrom answers (paths_of old.slurms.items) loads) (sym offered.exceptions) exceptions);
       points = subst (λ n. PointsComeFrom answers n new.service.sources.repository) (sym points) offers;
     }
 
@@ -263,7 +279,9 @@ turn_comes answers clock ticks old new does before = by_time (cases_lt does.now 
       let k = (does.between early).kept in
       record {
         exports = subst (λ e. ExportsComeFrom answers clock (places_of e.items) new.service.sources.lists.items) (sym k.exports) (subst (λ s. ExportsComeFrom answers clock (places_of old.exports.items) s.lists.items) (sym k.sources) before.exports);
-        exceptions = subst (λ e. ExceptionsComeFrom answers (paths_of e.items) new.service.sources.exceptions) (sym k.slurms) (subst (λ s. ExceptionsComeFrom answers (paths_of old.slurms.items) s.exceptions) (sym k.sources) before.exceptions);
+        exceptions =
+            subst (λ e. ExceptionsComeFrom answers (paths_of e.items) (loads_of e.items) new.service.sources.exceptions) (sym k.slurms)
+            (subst (λ s. ExceptionsComeFrom answers (paths_of old.slurms.items) (loads_of old.slurms.items) s.exceptions) (sym k.sources) before.exceptions);
         points = subst (λ e. PointsComeFrom answers (points_of e.items) new.service.sources.repository) (sym k.points) (subst (λ s. PointsComeFrom answers (points_of old.points.items) s.repository) (sym k.sources) before.points);
       }
 
@@ -326,12 +344,15 @@ opened_comes answers clock leaves_out d at numbered r =
     let lists : ExportsComeFrom answers clock (places_of exports) r.loaded.lists.items =
     subst (λ places. ExportsComeFrom answers clock places r.loaded.lists.items) (placed_as exports exports refl)
     (λ i. loads_come answers clock d.started [] exports marks r.first r.loaded at r.exports i (starts_come answers clock (places_of exports) r.first.lists.items exports r.none.0 numbered i)) in
-    let second : SlurmsKeep r.loaded r.excepted = slurms_rest answers d.slurms.items r.loaded r.excepted (inl (Ok tt, r.slurms)) in
+    let loads = loads_of d.slurms.items in
+    let second : SlurmsKeep r.loaded r.excepted = slurms_rest answers d.slurms.items loads r.loaded r.excepted (inl (Ok tt, r.slurms)) in
     let third = offers_rest answers (λ t. t ≡ d.started) d.points.items r.excepted d.service.sources r.points in
     let none : r.excepted.repository ≡ no_points = second.repository ∙ first.repository ∙ r.no_points in
     let held : PointsComeFrom answers (points_of d.points.items) r.excepted.repository = λ name last got. absurd (let never : None ≡ Some last = sym (get-empty (slice_cmp nat_cmp) name) ∙ sym (ap (λ z. accepted_at z name) none) ∙ got in cc) in
     record {
       exports = subst (ExportsComeFrom answers clock (places_of exports)) (sym (ap (λ l. l.items) third.lists ∙ second.lists)) lists;
-      exceptions = subst (ExceptionsComeFrom answers (paths_of d.slurms.items)) (sym third.exceptions) (r.slurms.0, r.slurms.1, r.slurms.2.0);
+      exceptions =
+          subst (ExceptionsComeFrom answers (paths_of d.slurms.items) loads) (sym third.exceptions)
+          (record { stamps = r.slurms.stamps; contents = r.slurms.contents; read = r.slurms.read; noted = r.slurms.noted; united = r.slurms.taken.0 });
       points = offers_come answers (λ t. t ≡ d.started) (points_of d.points.items) d.points.items r.excepted d.service.sources (λ q is. contains_map (λ w. string_bytes w.path) d.points.items q is) r.points held;
     }

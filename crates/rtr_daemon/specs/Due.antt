@@ -4,7 +4,7 @@ use Rattle.vrps.specs.Instance.{Instance}
 use Rattle.session_names.specs.Runs.{may_publish}
 use Rattle.sources.specs.declared.sources.Sources.{Sources}
 use Rattle.rtr_daemon.specs.DiskAnswers.{DiskAnswers}
-use Rattle.rtr_daemon.specs.Files.{FollowsEach, FollowsSlurms, marks_of, names_of, paths_of}
+use Rattle.rtr_daemon.specs.Files.{FollowsEach, FollowsSlurms, loads_of, marks_of, names_of, paths_of}
 use Rattle.rtr_daemon.specs.Overdue.{LeavesNoneOverdue}
 use Rattle.rtr_daemon.specs.PointOffers.{OffersEach, points_of}
 use Rattle.rtr_daemon.specs.Queue.{AreQueued, NoClients, QueuesBehind, ServesEach}
@@ -198,7 +198,7 @@ pub record PollsAll {S T W : Type 0} (answers : DiskAnswers W) (clock ticks : â„
   pub followed : Sources
   pub excepted : Sources
   pub exports : FollowsEach answers clock ticks old.plan.shrink old.exports.items (marks_of new.exports.items) old.service.sources followed
-  pub slurms : FollowsSlurms answers old.slurms.items followed excepted
+  pub slurms : FollowsSlurms answers old.slurms.items (loads_of new.slurms.items) followed excepted
   pub points : OffersEach answers clock old.points.items excepted new.service.sources
 
 -- The sources are watched at the same paths.

@@ -16,6 +16,7 @@ use Rattle.rtr_daemon.specs.declared.refusal.Refusal.{Refusal}
 use Rattle.rtr_daemon.specs.declared.refusal.Refusal.TheVariants as reason
 use Rattle.rtr_daemon.specs.declared.refusals.Refused.{Refused}
 use Rattle.rtr_daemon.specs.declared.shrink_guard.ShrinkGuard.{ShrinkGuard}
+use Rattle.rtr_daemon.specs.declared.slurm_contents.Contents.{Contents}
 use Rattle.rtr_daemon.specs.declared.watched_file.FileState.{FileState}
 use Rattle.rtr_daemon.specs.declared.watched_file.FileState.TheVariants as state
 use Rattle.rtr_daemon.specs.declared.watched_file.Look.{Look}
@@ -157,23 +158,59 @@ names_of exports = map (λ export. (path_of export.file, export.number)) exports
 abbrev pub paths_of : List WatchedFile → List (List ℕ)
 paths_of files = map path_of files
 
--- For each path, in their order, bytes that were read whole of it
-abbrev pub AreContents : {W : Type 0} → DiskAnswers W → List (List ℕ) → List (List ℕ) → Type 0
-AreContents answers [] [] = ⊤
-AreContents answers (path ∷ paths) (bytes ∷ others) = ((stamp : Stamp) × ReadsWhole answers path stamp bytes) × AreContents answers paths others
-AreContents answers paths contents = ⊥
+-- The stamp of the contents of each file that were loaded last
+abbrev pub loads_of : List WatchedFile → List (Option Stamp)
+loads_of files = map (λ file. file.loaded) files
 
--- Bytes that were read whole of a path follow those of the files before.
-abbrev pub AddsContent : {W : Type 0} → DiskAnswers W → List ℕ → List (List ℕ) → List (List ℕ) → Type 0
-AddsContent answers path old new = (stamp : Stamp) × (read : List ℕ) × ReadsWhole answers path stamp read × (new ≡ old ++ read ∷ [])
+-- The path of a file and the stamp of its last load are unchanged.
+abbrev pub SameLoad : WatchedFile → WatchedFile → Type 0
+SameLoad old new = (new.path ≡ old.path) × (new.loaded ≡ old.loaded)
 
--- Bytes that were read whole of the path of each file of local exceptions are loaded together, or refused.
-abbrev pub LoadsTogether : {W : Type 0} → DiskAnswers W → List WatchedFile → Result (Unit {0}) SlurmSetFault → Sources → Sources → Type 0
-LoadsTogether answers files result old new = (contents : List (List ℕ)) × AreContents answers (paths_of files) contents × SlurmsTaken contents result old new
+-- So it is of each file.
+abbrev pub SameLoads : List WatchedFile → List WatchedFile → Type 0
+SameLoads old new = (paths_of new ≡ paths_of old) × (loads_of new ≡ loads_of old)
 
--- The files of local exceptions were loaded.
-abbrev pub ReadsSlurms : {W : Type 0} → DiskAnswers W → List WatchedFile → Sources → Sources → Type 0
-ReadsSlurms answers files old new = LoadsTogether answers files (Ok tt) old new
+-- For each path, in their order, bytes that were read whole of it with the stamp at its place
+abbrev pub AreContents : {W : Type 0} → DiskAnswers W → List (List ℕ) → List Stamp → List (List ℕ) → Type 0
+AreContents answers [] [] [] = ⊤
+AreContents answers (path ∷ paths) (stamp ∷ stamps) (bytes ∷ others) = ReadsWhole answers path stamp bytes × AreContents answers paths stamps others
+AreContents answers paths stamps contents = ⊥
+
+-- the bytes of what was read of several files
+abbrev pub texts_of : Contents → List (List ℕ)
+texts_of contents = map (λ bytes. bytes.items) contents.bytes.items
+
+-- Each of these files was read whole.
+abbrev pub HasContents : {W : Type 0} → DiskAnswers W → List WatchedFile → Contents → Type 0
+HasContents answers files contents = AreContents answers (paths_of files) contents.stamps.items (texts_of contents)
+
+-- One file more was read whole.
+abbrev pub AddsContent : {W : Type 0} → DiskAnswers W → List ℕ → Contents → Contents → Type 0
+AddsContent answers path old new =
+    (stamp : Stamp) × (read : List ℕ) × ReadsWhole answers path stamp read × (new.stamps.items ≡ old.stamps.items ++ stamp ∷ []) × (texts_of new ≡ texts_of old ++ read ∷ [])
+
+-- the stamp of a load, or that of the load before if there was none
+abbrev pub stamp_or : Option Stamp → Option Stamp → Option Stamp
+stamp_or None before = before
+stamp_or (Some stamp) before = Some stamp
+
+-- the stamps of the contents that were loaded last, after contents of these stamps were loaded or refused
+abbrev pub loads_after : Result (Unit {0}) SlurmSetFault → List Stamp → List (Option Stamp) → List (Option Stamp)
+loads_after (Ok done) stamps before = map Some stamps
+loads_after (Err fault) stamps before = before
+
+-- Bytes that were read whole of the path of each file of local exceptions are loaded together, or refused. These stamps of their last loads are noted
+-- then.
+pub record LoadsTogether {W : Type 0} (answers : DiskAnswers W) (files : List WatchedFile) (loads : List (Option Stamp)) (result : Result (Unit {0}) SlurmSetFault) (old new : Sources) : Type 0 where
+  pub stamps : List Stamp
+  pub contents : List (List ℕ)
+  pub read : AreContents answers (paths_of files) stamps contents
+  pub taken : SlurmsTaken contents result old new
+  pub noted : loads ≡ loads_after result stamps (loads_of files)
+
+-- The files of local exceptions were loaded, and these stamps are noted.
+abbrev pub ReadsSlurms : {W : Type 0} → DiskAnswers W → List WatchedFile → List (Option Stamp) → Sources → Sources → Type 0
+ReadsSlurms answers files loads old new = LoadsTogether answers files loads (Ok tt) old new
 
 -- Why a path was not read: it changes while it is read, it cannot be read, or memory ran out for bytes that were read whole.
 abbrev pub IsUnread : {W : Type 0} → DiskAnswers W → List ℕ → Type 0
@@ -187,9 +224,11 @@ IsOneUnread answers paths = (path : List ℕ) × Contains paths path × IsUnread
 abbrev pub HaveNoNews : {W : Type 0} → DiskAnswers W → List WatchedFile → Type 0
 HaveNoNews answers files = All (IsKnown answers) files ⊎ IsOneUnread answers (paths_of files)
 
--- A poll of the files of local exceptions: if one is new, all are loaded together or refused, otherwise the sources are unchanged.
-abbrev pub FollowsSlurms : {W : Type 0} → DiskAnswers W → List WatchedFile → Sources → Sources → Type 0
-FollowsSlurms answers files old new = ((result : Result (Unit {0}) SlurmSetFault) × LoadsTogether answers files result old new) ⊎ (HaveNoNews answers files × (new ≡ old))
+-- A poll of the files of local exceptions: if one is new, all are loaded together or refused, otherwise the sources are unchanged. The stamps of
+-- their last loads are these then.
+abbrev pub FollowsSlurms : {W : Type 0} → DiskAnswers W → List WatchedFile → List (Option Stamp) → Sources → Sources → Type 0
+FollowsSlurms answers files loads old new =
+    ((result : Result (Unit {0}) SlurmSetFault) × LoadsTogether answers files loads result old new) ⊎ (HaveNoNews answers files × (loads ≡ loads_of files) × (new ≡ old))
 
 -- The number of each export is its place.
 abbrev pub AreNumbered : List WatchedExport → Type 0

@@ -9,7 +9,7 @@ use Rattle.sources.specs.Served.{AreUnited, IsTaken}
 use Rattle.sources.specs.declared.listed.Listed.{Listed}
 use Rattle.sources.specs.declared.slurms.AppliedSlurms.{AppliedSlurms}
 use Rattle.rtr_daemon.specs.DiskAnswers.{DiskAnswers, ReadsWhole}
-use Rattle.rtr_daemon.specs.Files.{AreContents, path_of, paths_of}
+use Rattle.rtr_daemon.specs.Files.{AreContents, loads_of, path_of, paths_of}
 use Rattle.rtr_daemon.specs.PointOffers.{points_of}
 use Rattle.rtr_daemon.specs.declared.daemon.Daemon.{Daemon}
 use Rattle.rtr_daemon.specs.declared.environment.Stamp.{Stamp}
@@ -39,9 +39,13 @@ ComesAt answers clock places lists i = (l : Listed) → slice_get lists i ≡ So
 abbrev pub ExportsComeFrom : {W : Type 0} → DiskAnswers W → (ℕ → Type 0) → List Place → List Listed → Type 0
 ExportsComeFrom answers clock places lists = (i : ℕ) → ComesAt answers clock places lists i
 
--- The local exceptions are what the files unite to that were read whole of these paths.
-abbrev pub ExceptionsComeFrom : {W : Type 0} → DiskAnswers W → List (List ℕ) → Option AppliedSlurms → Type 0
-ExceptionsComeFrom answers paths exceptions = (contents : List (List ℕ)) × AreContents answers paths contents × AreUnited contents exceptions
+-- The local exceptions are what the files unite to that were read whole of these paths, with the stamps that are noted of their last loads.
+pub record ExceptionsComeFrom {W : Type 0} (answers : DiskAnswers W) (paths : List (List ℕ)) (loads : List (Option Stamp)) (exceptions : Option AppliedSlurms) : Type 0 where
+  pub stamps : List Stamp
+  pub contents : List (List ℕ)
+  pub read : AreContents answers paths stamps contents
+  pub noted : loads ≡ map Some stamps
+  pub united : AreUnited contents exceptions
 
 -- What a publication point holds was offered by the directory of its name at one of these paths.
 pub record PointComesFrom {W : Type 0} (answers : DiskAnswers W) (paths : List (List ℕ)) (name : List ℕ) (last : AcceptedPoint) : Type 0 where
@@ -60,5 +64,5 @@ PointsComeFrom answers paths points = (name : List ℕ) (last : AcceptedPoint) �
 -- All that the sources have comes from the paths that are watched.
 pub record SourcesComeFrom {S T W : Type 0} (answers : DiskAnswers W) (clock : ℕ → Type 0) (daemon : Daemon S T) : Type 0 where
   pub exports : ExportsComeFrom answers clock (places_of daemon.exports.items) daemon.service.sources.lists.items
-  pub exceptions : ExceptionsComeFrom answers (paths_of daemon.slurms.items) daemon.service.sources.exceptions
+  pub exceptions : ExceptionsComeFrom answers (paths_of daemon.slurms.items) (loads_of daemon.slurms.items) daemon.service.sources.exceptions
   pub points : PointsComeFrom answers (points_of daemon.points.items) daemon.service.sources.repository

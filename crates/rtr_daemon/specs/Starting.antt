@@ -7,7 +7,7 @@ use Rattle.sources.specs.Served.{NoneTaken}
 use Rattle.sources.specs.declared.sources.Sources.{Sources}
 use Rattle.rtr_daemon.specs.DiskAnswers.{DiskAnswers}
 use Rattle.rtr_daemon.specs.Due.{later_by}
-use Rattle.rtr_daemon.specs.Files.{LoadsEach, ReadsSlurms, marks_of, names_of, paths_of}
+use Rattle.rtr_daemon.specs.Files.{LoadsEach, ReadsSlurms, loads_of, marks_of, names_of, paths_of}
 use Rattle.rtr_daemon.specs.PointOffers.{OffersEach, points_of}
 use Rattle.rtr_daemon.specs.declared.accepting.Listener.{Listener}
 use Rattle.rtr_daemon.specs.declared.daemon.Daemon.{Daemon}
@@ -56,5 +56,5 @@ pub record ReadsAll {S T W : Type 0} (answers : DiskAnswers W) (leaves_out : Boo
   pub loaded : Sources
   pub excepted : Sources
   pub exports : LoadsEach answers d.started d.exports.items (marks_of d.exports.items) first loaded
-  pub slurms : ReadsSlurms answers d.slurms.items loaded excepted
+  pub slurms : ReadsSlurms answers d.slurms.items (loads_of d.slurms.items) loaded excepted
   pub points : OffersEach answers (λ at. at ≡ d.started) d.points.items excepted d.service.sources

@@ -247,7 +247,7 @@ impl ClientTable {
         self.notified = counted(self.notified, was_notified, is_notified);
     }
 
-    /// All clients, by poll token.
+    /// All clients, by poll token: those that connected first come first.
     pub(crate) fn iter(&self) -> Values<'_, usize, ClientEntry> {
         self.by_token.values()
     }

@@ -1,4 +1,4 @@
-//! Serving clients.
+//! Serving clients, and closing those that are stalled, slow or silent.
 ghost use Rattle.std.specs.Prelude.{◌≡◌, [], ◌∷◌, ◌||◌, IfSome, None, false, is_some, true, ℕ};
 ghost use Rattle.rtr_daemon.specs.Due.{OnlyClients};
 ghost use Rattle.rtr_server.specs.Clients.{has_asked, slot_at};

@@ -252,8 +252,8 @@ impl<S: StepStore + Drop, T: Stream + Drop> Daemon<S, T> {
         self.publish_and_judge(env);
     }
 
-    /// Returns the counts of what would be published at `now`, in seconds since 1970. Nothing is published.
-    /// `Err`: why nothing would be published.
+    /// Returns the counts of what would be published at `now`, in seconds since 1970. Nothing is published. `Err`: why nothing would be
+    /// published. It is `Clock` if `now` is not within the years 1970 to 9999, and otherwise `Set`: too many records, or out of memory.
     pub fn check_report(&self, now: u64) -> Result<CheckReport, Refusal> {
         let ServedSet { set, left_out, .. } = self.service.served(now)?;
         let Families { ipv4, ipv6 } = Families::of(&set);

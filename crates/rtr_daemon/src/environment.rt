@@ -62,8 +62,8 @@ pub trait Sockets<L> {
     /// Accepts a pending connection from the listener of this index, from 0. It does not block.
     fn accept(&mut self, listener: usize) -> AcceptResult<L>;
 
-    /// Returns the system's tables of TCP connections in one text: `/proc/self/net/tcp`, then `/proc/self/net/tcp6` (proc(5)).
-    /// `Err`: they cannot be read.
+    /// Returns the system's tables of TCP connections in one text: `/proc/self/net/tcp`, then `/proc/self/net/tcp6` (proc(5)). A system without
+    /// IPv6 has only the first. `Err`: they cannot be read, or memory ran out.
     fn connections(&mut self) -> io::Result<Vec<u8>>
         ensures { IfOk result (λ table. can_have table.items) };
 }

@@ -35,41 +35,6 @@
 //! assert!(rt; report.records == 1);
 //! assert!(rt; !service.is_pending());
 //! ```
-//!
-//! In this example, `rt` is the runtime that `main` receives:
-//!
-//! ```rust
-//! use rtr_daemon::{CacheSettings, Service};
-//! use rtr_ends::Timing;
-//! use rtr_server::Duplex;
-//! use session_names::SessionIds;
-//! use sources::Sources;
-//! use vrps::VersionLog;
-//!
-//! let settings = CacheSettings {
-//!     keep: 16,
-//!     timing: Timing::default(),
-//!     clients: 256,
-//! };
-//! let ids = SessionIds {
-//!     session: 4660,
-//!     session0: 4660,
-//!     serial: 5,
-//! };
-//! let sources = Sources::new(rt.alloc(), 1)?;
-//! let mut service: Service<VersionLog, Duplex<&[u8], Vec<u8>>> = Service::new(
-//!     rt.alloc(),
-//!     settings,
-//!     ids,
-//!     sources,
-//! )?;
-//! let text = br#"[{"asn":64496,"prefix":"192.0.2.0/24","maxLength":24}]"#;
-//! service.take_export(0, text, 1_700_000_000)?;
-//! assert!(rt; service.is_pending());
-//! let report = service.publish(1_700_000_000)?;
-//! assert!(rt; report.records == 1);
-//! assert!(rt; !service.is_pending());
-//! ```
 #![tactic(auto)]
 
 mod accept_errors;

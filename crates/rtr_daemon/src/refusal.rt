@@ -1,4 +1,4 @@
-//! Why a source is refused.
+//! Why a source is refused, and the exit status of a start that it ends.
 ghost use Rattle.std.specs.Prelude.{◌≡◌, ◌↔◌, true};
 ghost use Rattle.rtr_daemon.specs.Files.{IsOfExport};
 
@@ -204,7 +204,7 @@ pub struct StartFault {
 }
 
 impl StartFault {
-    /// Returns the fault for out of memory. It has no path.
+    /// Returns the fault for out of memory. The refusal is `Set(Memory)`, and there is no path.
     pub fn memory() -> StartFault {
         StartFault {
             path: None,

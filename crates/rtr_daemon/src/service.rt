@@ -129,7 +129,8 @@ impl<S: VersionStore, T: Stream + Drop> Service<S, T> {
         self.server.serve(client, budget)
     }
 
-    /// Admits a client with its stream. `Err`: too many clients, or out of memory. Then the stream is dropped.
+    /// Admits a client with its stream. `Err`: `TooManyClients` if as many clients are there as there may be, otherwise `Memory`. Then the
+    /// stream is dropped, and the other clients stay as they are.
     pub fn admit(&mut self, stream: T) -> Result<Client, AdmitFault>
         ensures goes { Continues S.holds T.remaining T.contents self.old self.new }
         ensures admits { (p : Past) → ShowsServer S.holds T.remaining T.contents p self.old.server → AdmitsTo S.holds T.remaining T.contents p stream result self.old.server self.new.server }
@@ -148,9 +149,9 @@ impl<S: VersionStore, T: Stream + Drop> Service<S, T> {
         self.server.drop_client(client)
     }
 
-    /// Replaces the export of `file` (from 0) by the export in `bytes`, read at `now`, in seconds since 1970.
-    /// `Ok`: the number of entries that had expired. A version is pending.
-    /// `Err`: there is no such file, the bytes are not an export, or memory ran out. Then nothing changes.
+    /// Replaces the export of `file` (from 0) by the export in `bytes`, read at `now`, in seconds since 1970. `Ok`: the number of entries that
+    /// had expired. A version is pending. `Err(NoSuchFile)`: there is no such file. `Err(Export)`: the bytes are not an export, have too many
+    /// records, or memory ran out. Then nothing changes.
     pub fn take_export(&mut self, file: usize, bytes: &[u8], now: u64) -> Result<u64, TakeFault>
         ensures goes { Continues S.holds T.remaining T.contents self.old self.new }
         ensures takes { TakesSo result self.old self.new }
@@ -162,10 +163,9 @@ impl<S: VersionStore, T: Stream + Drop> Service<S, T> {
         Ok(expired)
     }
 
-    /// Loads an export as [`Service::take_export`] does, but refuses one with far fewer records than the last one.
-    /// `guard` is the largest part of the records that may be gone, in percent. `None`: there is no such limit.
-    /// `Err(Shrank)`: the last load has 1,000 or more records, and more than `guard` percent of them are gone.
-    /// Records that have expired at `now` count on neither side.
+    /// Loads an export as [`Service::take_export`] does, but refuses one with far fewer records than the last one. `guard` is the largest part
+    /// of the records that may be gone, in percent. `None`: there is no such limit. `Err(Shrank)`: the last load has 1,000 or more records, and
+    /// more than `guard` percent of them are gone. Then nothing changes. Records that have expired at `now` count on neither side.
     pub fn take_export_within(
         &mut self,
         guard: Option<u8>,
@@ -228,7 +228,8 @@ impl<S: VersionStore, T: Stream + Drop> Service<S, T> {
 
     /// Replaces the local exceptions by those of several SLURM files together. No two files may overlap (RFC 8416 section 4.2).
     /// If `files` is empty, there are no exceptions. `Ok`: a version is pending.
-    /// `Err(File)`: a file cannot be read. `Err(Unite)`: the files cannot be used together, or memory ran out. Then nothing changes.
+    /// `Err(File)`: the first file that is not a SLURM file. `Err(Unite)`: the files cannot be used together. Either may be that memory ran out.
+    /// Then nothing changes.
     pub fn take_slurms(&mut self, files: &[Vec<u8>]) -> Result<(), SlurmSetFault>
         ensures goes { Continues S.holds T.remaining T.contents self.old self.new }
         ensures takes { TakesSo result self.old self.new }
@@ -279,9 +280,9 @@ impl<S: VersionStore, T: Stream + Drop> Service<S, T> {
         !self.has_points && moment_at(now).is_some()
     }
 
-    /// Offers the content of a directory to the publication point of its name, at `now`, in seconds since 1970. A version is pending.
-    /// `Ok(New)`: the point holds the content now. `Ok(Same)`: the point already holds its manifest.
-    /// `Err`: the point refuses it, memory ran out, or `now` is not within the years 1970 to 9999. The sources do not change.
+    /// Offers the content of a directory to the publication point of its name, at `now`, in seconds since 1970. A version is pending then, also
+    /// after an `Err`. `Ok(New)`: the point holds the content now. `Ok(Same)`: the point already holds its manifest. `Err(Point)`: the point
+    /// refuses it, or memory ran out. `Err(Clock)`: `now` is not within the years 1970 to 9999. On an `Err` the sources do not change.
     pub fn offer(
         &mut self,
         directory: &Directory<'_>,

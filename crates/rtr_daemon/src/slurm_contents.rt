@@ -1,6 +1,6 @@
 //! The content of the files of local exceptions, read together (RFC 8416 section 4.2).
-ghost use Rattle.std.specs.Prelude.{◌≡◌, ◌∷◌, ◌++◌, [], IfErr, IfOk, OnOk, map};
-ghost use Rattle.rtr_daemon.specs.Files.{AddsContent, AreContents, IsOneUnread, IsUnread, path_of, paths_of};
+ghost use Rattle.std.specs.Prelude.{◌≡◌, ◌∷◌, ◌++◌, [], IfErr, IfOk, OnOk, slice_get};
+ghost use Rattle.rtr_daemon.specs.Files.{AddsContent, HasContents, IsOneUnread, IsUnread, SameLoad, SameLoads, path_of, paths_of, stamp_or};
 
 use crate::environment::{Disk, Stamp};
 use crate::refusal::Refusal;
@@ -13,13 +13,13 @@ const TRIES: u8 = 16;
 /// The stamp and the content of each file, in their order.
 #[derive(Drop)]
 pub(crate) struct Contents {
-    stamps: Vec<Stamp>,
+    pub(crate) stamps: Vec<Stamp>,
     pub(crate) bytes: Vec<Vec<u8>>,
 }
 
 impl Contents {
     fn new(alloc: Global) -> Contents
-        ensures { result.bytes.items ≡ [] }
+        ensures { (result.stamps.items ≡ []) × (result.bytes.items ≡ []) }
     {
         Contents {
             stamps: Vec::new(alloc),
@@ -28,7 +28,8 @@ impl Contents {
     }
 
     fn add(&mut self, stamp: Stamp, bytes: Vec<u8>) -> Result<(), AllocError>
-        ensures { OnOk result (self.new.bytes.items ≡ self.old.bytes.items ++ bytes ∷ []) }
+        ensures stamps { OnOk result (self.new.stamps.items ≡ self.old.stamps.items ++ stamp ∷ []) }
+        ensures bytes { OnOk result (self.new.bytes.items ≡ self.old.bytes.items ++ bytes ∷ []) }
     {
         self.stamps.push(stamp)?;
         self.bytes.push(bytes)?;
@@ -37,7 +38,8 @@ impl Contents {
 
     /// Notes that the file of this index was loaded, and returns whether a refusal was reported before.
     pub(crate) fn note_loaded(&self, index: usize, file: &mut WatchedFile, now: u64) -> bool
-        ensures { file.new.path ≡ file.old.path }
+        ensures path { file.new.path ≡ file.old.path }
+        ensures loaded { file.new.loaded ≡ stamp_or (slice_get self.now.stamps.items index) file.old.loaded }
     {
         match self.stamps.get(index) {
             Some(stamp) => file.set_loaded(*stamp, now),
@@ -100,7 +102,7 @@ impl LongestCall {
 
     /// Notes the call at its file, if it is slow.
     pub(crate) fn note_at(&self, slurms: &mut [WatchedFile], now: u64)
-        ensures { paths_of slurms.new ≡ paths_of slurms.old }
+        ensures { SameLoads slurms.old slurms.new }
     {
         for (at, file) in slurms.iter_mut().enumerate() {
             self.note_if_at(at, file, now);
@@ -109,7 +111,7 @@ impl LongestCall {
 
     /// Notes the call at the file of this index, if it was on that file and is slow.
     fn note_if_at(&self, index: usize, file: &mut WatchedFile, now: u64)
-        ensures { file.new.path ≡ file.old.path }
+        ensures { SameLoad file.old file.new }
     {
         if index == self.index {
             file.note_slow(self.millis, now);
@@ -124,7 +126,7 @@ pub(crate) fn contents_of<W: Disk>(
     alloc: Global,
     env: &mut W,
 ) -> Result<Contents, SlurmRefusal>
-    ensures reads { IfOk result (λ contents. AreContents W.answers (paths_of slurms.now) (map (λ b. b.items) contents.bytes.items)) }
+    ensures reads { IfOk result (λ contents. HasContents W.answers slurms.now contents) }
     ensures fails { IfErr result (λ _. IsOneUnread W.answers (paths_of slurms.now)) }
 {
     let mut contents = Contents::new(alloc);
@@ -153,7 +155,7 @@ fn add_content<W: Disk>(
     file: &WatchedFile,
     env: &mut W,
 ) -> Result<(), Refusal>
-    ensures reads { IfOk result (λ _. AddsContent W.answers (path_of file.now) (map (λ b. b.items) contents.old.bytes.items) (map (λ b. b.items) contents.new.bytes.items)) }
+    ensures reads { IfOk result (λ _. AddsContent W.answers (path_of file.now) contents.old contents.new) }
     ensures fails { IfErr result (λ _. IsUnread W.answers (path_of file.now)) }
 {
     let (stamp, bytes) = file.content(env)?;
@@ -170,7 +172,7 @@ pub(crate) fn settled_contents<W: Disk>(
     alloc: Global,
     env: &mut W,
 ) -> Result<Contents, SlurmRefusal>
-    ensures { IfOk result (λ contents. AreContents W.answers (paths_of slurms.now) (map (λ b. b.items) contents.bytes.items)) }
+    ensures { IfOk result (λ contents. HasContents W.answers slurms.now contents) }
 {
     let mut last = contents_of(slurms, longest, alloc, env);
     for _time in 1..TRIES {

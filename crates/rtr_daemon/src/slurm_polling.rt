@@ -1,6 +1,7 @@
 //! Polling the files of local exceptions, which are loaded together (RFC 8416 section 4.2).
-ghost use Rattle.std.specs.Prelude.{◌≡◌, All, IfOk, false, map};
-ghost use Rattle.rtr_daemon.specs.Files.{FollowsSlurms, IsKnown, ReadsSlurms, paths_of};
+ghost use Rattle.std.specs.Prelude.{◌≡◌, All, IfErr, IfOk, Ok, Some, false, length, map, slice_get};
+ghost use Rattle.rtr_daemon.specs.Files.{FollowsSlurms, HasContents, IsKnown, ReadsSlurms, SameLoad, SameLoads, loads_of, paths_of, stamp_or, texts_of};
+ghost use Rattle.sources.specs.Served.{SlurmsTaken};
 ghost use Rattle.rtr_daemon.specs.Due.{OnlyFiles};
 ghost use Rattle.rtr_daemon.specs.Serving.{Continues, LoadsSlurms, OnlySources, TakesSo};
 
@@ -28,7 +29,7 @@ fn take<S: VersionStore, T: Stream + Drop>(
 ) -> Result<(), SlurmRefusal>
     ensures goes { Continues S.holds T.remaining T.contents service.old service.new }
     ensures takes { TakesSo result service.old service.new }
-    ensures loads { LoadsSlurms (map (λ b. b.items) contents.now.bytes.items) result service.old.sources service.new.sources }
+    ensures loads { LoadsSlurms (texts_of contents.now) result service.old.sources service.new.sources }
     ensures rest { OnlySources service.old service.new }
 {
     match service.take_slurms(contents.bytes.as_slice()) {
@@ -64,7 +65,7 @@ fn refusal_of(
 
 /// Reads and loads all files at the start.
 pub(crate) fn read_slurms<S: VersionStore, T: Stream + Drop, W: Disk + EventLog>(
-    slurms: &mut Vec<WatchedFile>,
+    slurms: &mut [WatchedFile],
     service: &mut Service<S, T>,
     max_size: u64,
     alloc: Global,
@@ -72,8 +73,8 @@ pub(crate) fn read_slurms<S: VersionStore, T: Stream + Drop, W: Disk + EventLog>
     env: &mut W,
 ) -> Result<(), StartFault>
     ensures goes { Continues S.holds T.remaining T.contents service.old service.new }
-    ensures reads { IfOk result (λ _. ReadsSlurms W.answers slurms.old.items service.old.sources service.new.sources) }
-    ensures paths { paths_of slurms.new.items ≡ paths_of slurms.old.items }
+    ensures reads { IfOk result (λ _. ReadsSlurms W.answers slurms.old (loads_of slurms.new) service.old.sources service.new.sources) }
+    ensures paths { paths_of slurms.new ≡ paths_of slurms.old }
 {
     let mut longest = LongestCall::none();
     let contents = match settled_contents(slurms, &mut longest, alloc, env) {
@@ -82,26 +83,12 @@ pub(crate) fn read_slurms<S: VersionStore, T: Stream + Drop, W: Disk + EventLog>
     };
     match take(service, slurms, &contents, alloc) {
         Ok(()) => {
-            note_all_loaded(slurms, &contents, now);
             longest.note_at(slurms, now);
-            warn_near_limit(slurms, max_size, alloc, now, env);
+            report_loaded(slurms, &contents, max_size, alloc, now, env);
             report_not_applied(slurms, service.sources(), now, env);
             Ok(())
         }
         Err(refusal) => Err(start_fault(slurms, alloc, refusal)),
-    }
-}
-
-/// Warns of each file that is near the limit of its size.
-fn warn_near_limit<W: EventLog>(
-    slurms: &[WatchedFile],
-    max_size: u64,
-    alloc: Global,
-    now: u64,
-    env: &mut W,
-) {
-    for file in slurms {
-        log_near_limit(file, false, max_size, alloc, now, env);
     }
 }
 
@@ -117,22 +104,13 @@ fn start_fault(slurms: &[WatchedFile], alloc: Global, refusal: SlurmRefusal) -> 
     }
 }
 
-/// Notes that all files were loaded.
-fn note_all_loaded(slurms: &mut [WatchedFile], contents: &Contents, now: u64)
-    ensures { paths_of slurms.new ≡ paths_of slurms.old }
-{
-    for (at, file) in slurms.iter_mut().enumerate() {
-        let _ = contents.note_loaded(at, file, now);
-    }
-}
-
 impl<S: VersionStore, T: Stream + Drop> Daemon<S, T> {
     /// Polls the files of local exceptions, and loads all if one has changed.
     pub(crate) fn follow_slurms<W: Disk + Time + EventLog>(&mut self, env: &mut W)
         ensures goes { Continues S.holds T.remaining T.contents self.old.service self.new.service }
         ensures rest { OnlyFiles self.old self.new }
         ensures kept { (self.new.exports ≡ self.old.exports) × (self.new.points ≡ self.old.points) }
-        ensures follows { FollowsSlurms W.answers self.old.slurms.items self.old.service.sources self.new.service.sources }
+        ensures follows { FollowsSlurms W.answers self.old.slurms.items (loads_of self.new.slurms.items) self.old.service.sources self.new.service.sources }
         ensures paths { paths_of self.new.slurms.items ≡ paths_of self.old.slurms.items }
     {
         follow(
@@ -148,7 +126,7 @@ impl<S: VersionStore, T: Stream + Drop> Daemon<S, T> {
 
 /// Polls the files, loads all if one has changed, and reports the result.
 fn follow<S: VersionStore, T: Stream + Drop, W: Disk + Time + EventLog>(
-    slurms: &mut Vec<WatchedFile>,
+    slurms: &mut [WatchedFile],
     service: &mut Service<S, T>,
     statistics: &mut Statistics,
     max_size: u64,
@@ -157,8 +135,8 @@ fn follow<S: VersionStore, T: Stream + Drop, W: Disk + Time + EventLog>(
 )
     ensures goes { Continues S.holds T.remaining T.contents service.old service.new }
     ensures rest { OnlySources service.old service.new }
-    ensures follows { FollowsSlurms W.answers slurms.old.items service.old.sources service.new.sources }
-    ensures paths { paths_of slurms.new.items ≡ paths_of slurms.old.items }
+    ensures follows { FollowsSlurms W.answers slurms.old (loads_of slurms.new) service.old.sources service.new.sources }
+    ensures paths { paths_of slurms.new ≡ paths_of slurms.old }
 {
     let now = env.seconds();
     let mut longest = LongestCall::none();
@@ -203,7 +181,9 @@ fn load<S: VersionStore, T: Stream + Drop, W: Disk>(
 ) -> Result<Contents, SlurmRefusal>
     ensures goes { Continues S.holds T.remaining T.contents service.old service.new }
     ensures rest { OnlySources service.old service.new }
-    ensures follows { FollowsSlurms W.answers slurms.now service.old.sources service.new.sources }
+    ensures read { IfOk result (λ contents. HasContents W.answers slurms.now contents) }
+    ensures loads { IfOk result (λ contents. SlurmsTaken (texts_of contents) (Ok tt) service.old.sources service.new.sources) }
+    ensures refuses { IfErr result (λ _. FollowsSlurms W.answers slurms.now (loads_of slurms.now) service.old.sources service.new.sources) }
 {
     let contents = contents_of(slurms, longest, alloc, env)?;
     take(service, slurms, &contents, alloc)?;
@@ -218,7 +198,7 @@ fn report_known<W: Disk + EventLog>(
     now: u64,
     env: &mut W,
 )
-    ensures { paths_of slurms.new ≡ paths_of slurms.old }
+    ensures { SameLoads slurms.old slurms.new }
 {
     for file in slurms.iter_mut() {
         report_if_known(file, statistics, alloc, now, env);
@@ -233,7 +213,7 @@ fn report_if_known<W: Disk + EventLog>(
     now: u64,
     env: &mut W,
 )
-    ensures { file.new.path ≡ file.old.path }
+    ensures { SameLoad file.old file.new }
 {
     match file.state(env) {
         FileState::RefusedBefore => {
@@ -256,7 +236,8 @@ fn report_loaded<W: EventLog>(
     now: u64,
     env: &mut W,
 )
-    ensures { paths_of slurms.new ≡ paths_of slurms.old }
+    ensures paths { paths_of slurms.new ≡ paths_of slurms.old }
+    ensures loaded { length contents.now.stamps.items ≡ length slurms.old → loads_of slurms.new ≡ map Some contents.now.stamps.items }
 {
     for (at, file) in slurms.iter_mut().enumerate() {
         let was_near = file.near_limit(max_size).is_some();
@@ -273,7 +254,8 @@ fn report_one_loaded<W: EventLog>(
     now: u64,
     env: &mut W,
 )
-    ensures { file.new.path ≡ file.old.path }
+    ensures path { file.new.path ≡ file.old.path }
+    ensures loaded { file.new.loaded ≡ stamp_or (slice_get contents.now.stamps.items index) file.old.loaded }
 {
     if contents.note_loaded(index, file, now) {
         log_taken(file, now, env);
@@ -287,7 +269,7 @@ fn report_not_applied<W: EventLog>(
     now: u64,
     env: &mut W,
 )
-    ensures { paths_of slurms.new ≡ paths_of slurms.old }
+    ensures { SameLoads slurms.old slurms.new }
 {
     for (at, file) in slurms.iter_mut().enumerate() {
         report_one_not_applied(file, sources.ignored_exceptions(at), now, env);
@@ -301,7 +283,7 @@ fn report_one_not_applied<W: EventLog>(
     now: u64,
     env: &mut W,
 )
-    ensures { file.new.path ≡ file.old.path }
+    ensures { SameLoad file.old file.new }
 {
     if file.set_not_applied(count) {
         let Ignored {
@@ -332,7 +314,7 @@ fn report_refused<W: Disk + EventLog>(
     now: u64,
     env: &mut W,
 )
-    ensures { paths_of slurms.new ≡ paths_of slurms.old }
+    ensures { SameLoads slurms.old slurms.new }
 {
     let SlurmRefusal { index, stamp, why } = refusal;
     let mut why = Some(why);
@@ -352,7 +334,7 @@ fn report_one_refused<W: Disk + EventLog>(
     now: u64,
     env: &mut W,
 )
-    ensures { file.new.path ≡ file.old.path }
+    ensures { SameLoad file.old file.new }
 {
     let is_due = match own {
         Some(why) => file.refusals.add(stamp, why, now),
@@ -367,7 +349,7 @@ fn report_one_refused<W: Disk + EventLog>(
 /// Notes that a file is not loaded because of another one, if it has changed. If it is again as it was loaded, its refusal ends. Returns
 /// whether a refusal is reported now.
 fn is_due_for_other<W: Disk + EventLog>(file: &mut WatchedFile, now: u64, env: &mut W) -> bool
-    ensures { file.new.path ≡ file.old.path }
+    ensures { SameLoad file.old file.new }
 {
     match env.stamp(file.path.as_str()) {
         Err(_) => false,
@@ -383,7 +365,7 @@ fn is_due_for_other<W: Disk + EventLog>(file: &mut WatchedFile, now: u64, env: &
 
 /// A file is again as it was loaded: its refusal ends, and that is reported if the refusal was.
 fn end_refusal<W: EventLog>(file: &mut WatchedFile, now: u64, env: &mut W)
-    ensures { file.new.path ≡ file.old.path }
+    ensures { SameLoad file.old file.new }
 {
     if file.refusals.clear() {
         log_taken(file, now, env);

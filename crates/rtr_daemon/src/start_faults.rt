@@ -1,4 +1,4 @@
-//! Why a program does not start, in words and as an exit status.
+//! Why a program does not start, in words, and its exit status if a socket is at fault.
 ghost use Rattle.std.specs.Prelude.{◌≡◌};
 ghost use Rattle.std.specs.IoError.{error_kind};
 ghost use Rattle.rtr_daemon.specs.Running.{failure_status, random_refusal};
@@ -69,8 +69,9 @@ impl Display for StartFault {
 }
 
 impl StartFault {
-    /// Returns the fault if no session can be chosen. `error` is the error of the system's random source.
-    /// If `error` is out of memory, the refusal is `Set(Memory)`. Otherwise it is `Device(error)`, and the path names the random source.
+    /// Returns the fault if no session can be chosen. `error` is the error of the system's random source. If `error` is out of memory, the
+    /// refusal is `Set(Memory)`, without a path. Otherwise it is `Device(error)`, and the path names the random source, or is `None` without
+    /// memory for the name.
     pub fn of_random(alloc: Global, error: io::Error) -> StartFault
         ensures { result.refusal ≡ random_refusal error }
     {

@@ -1,4 +1,4 @@
-//! The status of a daemon.
+//! The status of a daemon, as its pages and metrics show it.
 ghost use Rattle.std.specs.Prelude.{◌≡◌, IfOk, option_map};
 ghost use Rattle.sources.specs.Served.{ignored_exceptions};
 ghost use Rattle.rtr_daemon.specs.Calls.{near_limit};

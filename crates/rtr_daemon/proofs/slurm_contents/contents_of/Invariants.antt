@@ -1,8 +1,7 @@
 -- So far bytes that were read whole of the path of each file
 use Rattle.std.proofs.Common.{take}
-use Rattle.std.specs.Prelude.{map}
-use Rattle.rtr_daemon.specs.Files.{AreContents, paths_of}
+use Rattle.rtr_daemon.specs.Files.{AreContents, paths_of, texts_of}
 use Rattle.rtr_daemon.proofs.slurm_contents.contents_of.Given as goal
 
 abbrev pub invariant-loop-file : goal.invariant-loop-file
-invariant-loop-file g l = AreContents g.W.Disk.answers (take l.file-index (paths_of l.slurms)) (map (λ b. b.items) l.contents.bytes.items)
+invariant-loop-file g l = AreContents g.W.Disk.answers (take l.file-index (paths_of l.slurms)) l.contents.stamps.items (texts_of l.contents)

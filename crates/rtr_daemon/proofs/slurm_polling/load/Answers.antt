@@ -1,14 +1,21 @@
-use Rattle.std.proofs.Common.{inl, inr, refl}
-use Rattle.std.specs.Prelude.{Ok, Err, map}
+use Rattle.std.proofs.Common.{IfErr, inl, inr, refl, subst, sym}
+use Rattle.std.proofs.lemmas.Result.{err_from_is_err_and}
+use Rattle.std.specs.Prelude.{Err}
+use Rattle.rtr_daemon.specs.Files.{FollowsSlurms, loads_of, texts_of}
 use Rattle.rtr_daemon.proofs.slurm_polling.load.Goals as goal
 
-pub returns-in_err-contents-clause-follows : goal.returns-in_err-contents-clause-follows
-returns-in_err-contents-clause-follows g c = inr (inr c.in_err-contents.ensures.fails, refl)
+pub returns-in_err-contents-clause-refuses : goal.returns-in_err-contents-clause-refuses
+returns-in_err-contents-clause-refuses g c =
+    let files = c.args.slurms.now in
+    let sources = c.args.service.now.sources in
+    let p = err_from_is_err_and c.from_residual.result c.from_residual.ensures.1 in
+    subst (λ r. IfErr r (λ _. FollowsSlurms g.W.Disk.answers files (loads_of files) sources sources)) (sym p.1) (inr (inr c.in_err-contents.ensures.fails, refl, refl))
 
-pub returns-in_err-take-clause-follows : goal.returns-in_err-take-clause-follows
-returns-in_err-take-clause-follows g c =
+pub returns-in_err-take-clause-refuses : goal.returns-in_err-take-clause-refuses
+returns-in_err-take-clause-refuses g c =
+    let files = c.args.slurms.now in
     let taken = c.in_err-take.ensures.loads in
-    inl (Err taken.0, (map (λ b. b.items) c.in_ok-contents.contents.bytes.items, c.in_ok-contents.ensures.reads, taken.1))
-
-pub returns-clause-follows : goal.returns-clause-follows
-returns-clause-follows g c = inl (Ok tt, (map (λ b. b.items) c.in_ok-contents.contents.bytes.items, c.in_ok-contents.ensures.reads, c.in_ok-take.ensures.loads))
+    let contents = c.in_ok-contents.contents in
+    let p = err_from_is_err_and c.from_residual-in_err-take.result c.from_residual-in_err-take.ensures.1 in
+    subst (λ r. IfErr r (λ _. FollowsSlurms g.W.Disk.answers files (loads_of files) c.args.service.now.sources c.take.new.service.sources)) (sym p.1)
+    (inl (Err taken.0, record { stamps = contents.stamps.items; contents = texts_of contents; read = c.in_ok-contents.ensures.reads; taken = taken.1; noted = refl }))

@@ -1,7 +1,6 @@
--- The paths are as they were.
-use Rattle.std.proofs.Common.{◌≡◌}
-use Rattle.rtr_daemon.specs.Files.{paths_of}
+-- The paths are as they were, and the stamps of the last loads.
+use Rattle.rtr_daemon.specs.Files.{SameLoads}
 use Rattle.rtr_daemon.proofs.slurm_polling.report_not_applied.Given as goal
 
 abbrev pub invariant-loop-at : goal.invariant-loop-at
-invariant-loop-at g l = paths_of l.slurms ≡ paths_of l.initial.slurms
+invariant-loop-at g l = SameLoads l.initial.slurms l.slurms

@@ -4,10 +4,11 @@ use Rattle.std.proofs.lemmas.List.{length-map}
 use Rattle.rtr_server.specs.Clients.{Begun}
 use Rattle.sources.specs.Served.{IsNothing}
 use Rattle.rtr_daemon.specs.Due.{later_by}
-use Rattle.rtr_daemon.specs.Files.{AreContents, LoadsEach, marks_of, names_of, paths_of}
+use Rattle.rtr_daemon.specs.Files.{AreContents, LoadsEach, loads_of, marks_of, names_of, paths_of}
 use Rattle.rtr_daemon.specs.PointOffers.{OffersEach, points_of}
 use Rattle.rtr_daemon.specs.Serving.{LeadsToService, past_of}
 use Rattle.rtr_daemon.specs.Starting.{numbered_from, texts}
+use Rattle.rtr_daemon.proofs.ContentLaws.{same_many, written_back}
 use Rattle.rtr_daemon.proofs.OriginLaws.{opened_comes}
 use Rattle.rtr_daemon.proofs.ServiceLaws.{leads_on, then_on}
 use Rattle.rtr_daemon.proofs.StartLaws.{loads_named, names_numbered, numbered_at, offers_named, paths_texts, points_texts, same_length}
@@ -42,13 +43,20 @@ returns-clause-begins g c =
     }
 
 pub returns-clause-watches : goal.returns-clause-watches
-returns-clause-watches g c = record {
-  exports =
-      c.judge_ages.ensures.names ∙ c.in_ok-read_all.ensures.names ∙ names_numbered c.in_ok-exports.exports.items c.in_ok-exports.ensures.numbered
-      ∙ ap (λ paths. numbered_from 0 (texts paths)) c.in_ok-exports.ensures.paths;
-  slurms = ap (λ d. paths_of d.slurms.items) c.judge_ages.ensures.rest ∙ c.in_ok-read_slurms.ensures.paths ∙ paths_texts c.in_ok-slurms.slurms.items ∙ ap texts c.in_ok-slurms.ensures;
-  points = ap (λ d. points_of d.points.items) c.judge_ages.ensures.rest ∙ c.in_ok-read_points.ensures.paths ∙ points_texts c.in_ok-offered.offered.items ∙ ap texts c.in_ok-offered.ensures;
-}
+returns-clause-watches g c =
+    let files = c.in_ok-slurms.slurms in
+    let after = c.read_slurms.new.slurms in
+    let paths = c.in_ok-read_slurms.ensures.paths ∙ ap paths_of c.deref_mut.ensures.value in
+    let same = same_many files.items after paths in
+    let whole = files.ok.0 in
+    let back = written_back after files.items files.len (omega (arith, whole, same)) same in
+    record {
+      exports =
+          c.judge_ages.ensures.names ∙ c.in_ok-read_all.ensures.names ∙ names_numbered c.in_ok-exports.exports.items c.in_ok-exports.ensures.numbered
+          ∙ ap (λ paths. numbered_from 0 (texts paths)) c.in_ok-exports.ensures.paths;
+      slurms = ap (λ d. paths_of d.slurms.items) c.judge_ages.ensures.rest ∙ ap paths_of back ∙ paths ∙ paths_texts files.items ∙ ap texts c.in_ok-slurms.ensures;
+      points = ap (λ d. points_of d.points.items) c.judge_ages.ensures.rest ∙ c.in_ok-read_points.ensures.paths ∙ points_texts c.in_ok-offered.offered.items ∙ ap texts c.in_ok-offered.ensures;
+    }
 
 pub returns-clause-reads : goal.returns-clause-reads
 returns-clause-reads g c =
@@ -59,7 +67,13 @@ returns-clause-reads g c =
     let now = c.seconds-now.result in
     let started : now ≡ d.started = sym (ap (λ d. d.started) only) in
     let names : names_of c.in_ok-exports.exports.items ≡ names_of d.exports.items = sym (c.judge_ages.ensures.names ∙ c.in_ok-read_all.ensures.names) in
-    let slurm_paths : paths_of c.in_ok-slurms.slurms.items ≡ paths_of d.slurms.items = sym (ap (λ d. paths_of d.slurms.items) only ∙ c.in_ok-read_slurms.ensures.paths) in
+    let files = c.in_ok-slurms.slurms in
+    let after = c.read_slurms.new.slurms in
+    let paths = c.in_ok-read_slurms.ensures.paths ∙ ap paths_of c.deref_mut.ensures.value in
+    let same = same_many files.items after paths in
+    let files_whole = files.ok.0 in
+    let back = written_back after files.items files.len (omega (arith, files_whole, same)) same in
+    let slurm_paths : paths_of c.deref_mut.result.now ≡ paths_of d.slurms.items = sym (ap (λ d. paths_of d.slurms.items) only ∙ ap paths_of back ∙ c.in_ok-read_slurms.ensures.paths) in
     let point_paths : points_of c.in_ok-offered.offered.items ≡ points_of d.points.items = sym (ap (λ d. points_of d.points.items) only ∙ c.in_ok-read_points.ensures.paths) in
     let many : length c.in_ok-exports.exports.items ≡ length c.args.sources.files.items = sym (length-map c.in_ok-exports.exports.items (λ e. e.file.path)) ∙ ap length c.in_ok-exports.ensures.paths in
     let first_many : length c.in_ok-service.service.sources.lists.items ≡ length c.in_ok-held.held.lists.items = ap (λ s. length s.lists.items) sources in
@@ -84,7 +98,13 @@ returns-clause-reads g c =
           subst (λ at. LoadsEach g.W.Disk.answers at d.exports.items (marks_of d.exports.items) c.in_ok-service.service.sources c.read_all.new.service.sources) started
           (subst (λ marks. LoadsEach g.W.Disk.answers now d.exports.items marks c.in_ok-service.service.sources c.read_all.new.service.sources) (sym c.judge_ages.ensures.marks)
           (loads_named g.W.Disk.answers now c.in_ok-exports.exports.items d.exports.items (marks_of c.read_all.new.exports.items) c.in_ok-service.service.sources c.read_all.new.service.sources names c.in_ok-read_all.ensures.loads));
-      slurms = (reads.0, subst (λ paths. AreContents g.W.Disk.answers paths reads.0) slurm_paths reads.1, reads.2);
+      slurms = record {
+        stamps = reads.stamps;
+        contents = reads.contents;
+        read = subst (λ paths. AreContents g.W.Disk.answers paths reads.stamps reads.contents) slurm_paths reads.read;
+        taken = reads.taken;
+        noted = ap (λ d. loads_of d.slurms.items) only ∙ ap loads_of back ∙ reads.noted;
+      };
       points =
           subst (λ s. OffersEach g.W.Disk.answers (λ at. at ≡ d.started) d.points.items c.read_slurms.new.service.sources s.sources) (sym (ap (λ d. d.service) only))
           (subst (λ second. OffersEach g.W.Disk.answers (λ at. at ≡ second) d.points.items c.read_slurms.new.service.sources c.read_points.new.service.sources) started offers);

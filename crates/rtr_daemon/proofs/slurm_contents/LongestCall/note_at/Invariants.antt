@@ -1,7 +1,6 @@
--- The paths are as they were.
-use Rattle.std.proofs.Common.{◌≡◌}
-use Rattle.rtr_daemon.specs.Files.{paths_of}
+-- The paths are as they were, and the stamps of the last loads.
+use Rattle.rtr_daemon.specs.Files.{SameLoads}
 use Rattle.rtr_daemon.proofs.slurm_contents.LongestCall.note_at.Given as goal
 
 abbrev pub invariant-loop-at : goal.invariant-loop-at
-invariant-loop-at l = paths_of l.slurms ≡ paths_of l.initial.slurms
+invariant-loop-at l = SameLoads l.initial.slurms l.slurms

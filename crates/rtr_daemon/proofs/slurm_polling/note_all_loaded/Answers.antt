@@ -1,6 +1,0 @@
-use Rattle.std.proofs.Common.{◌∙◌}
-use Rattle.rtr_daemon.proofs.ContentLaws.{paths_kept}
-use Rattle.rtr_daemon.proofs.slurm_polling.note_all_loaded.Goals as goal
-
-pub loop-at-preserved : goal.loop-at-preserved
-loop-at-preserved c = paths_kept c.loop-at.slurms c.loop-at.at c.index-slurms-at.result c.note_loaded.new.file c.note_loaded.ensures ∙ c.loop-at.invariant
