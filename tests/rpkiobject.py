@@ -21,7 +21,7 @@ from signed_objects import CONTENT_TYPE, MESSAGE_DIGEST, PKCS_9, Key, Object, el
 TOP = os.path.realpath(f"{HERE}/..")
 GOOD = f"{TOP}/crates/rpkiobject/data/a.roa"
 CHECKED = "digest and signature are valid under the embedded certificate; its issuer was not checked"
-KIT = re.search(r"checked with `([^`]*)`", open(f"{TOP}/README.md").read()).group(1)
+KIT = re.search(r"(?m)^kit (.*)$", open(f"{TOP}/dist/x86_64-linux/SOURCES").read()).group(1)
 VERSION = re.search(r'VERSION: &str = "([^"]*)"', open(f"{TOP}/crates/rpkirtrd_cli/src/help.rt").read()).group(1)
 ROA = bytes.fromhex("3017020300fbf03010300e0402000130083006030400c00002")
 MANIFEST = element(48, b"\2\1\1" + element(24, b"20250101000000Z") + element(24, b"20250102000000Z") + oid(bytes.fromhex("608648016503040201")) + b"\x30\0")

@@ -37,18 +37,18 @@ package_before() {
 }
 package_before || { cannot 'the package of the release before this one cannot be made' 'mend what the lines above name'; exit 1; }
 
-# The first block of a language below a heading of a page.
-block() { # block PAGE HEADING LANGUAGE
-    awk -v heading="$2" -v fence="\`\`\`$3" '
+# The first blocks of a language below a heading of a page, one if no number is given.
+block() { # block PAGE HEADING LANGUAGE [NUMBER]
+    awk -v heading="$2" -v fence="\`\`\`$3" -v most="${4:-1}" '
         /^##/ { inside = $0 == heading }
         inside && $0 == fence { at++; on = 1; next }
         /^```$/ { on = 0 }
-        on && at == 1' "$top/docs/$1"
+        on && at <= most' "$top/docs/$1"
 }
 
 cd "$folder" || exit 1
 # (a person takes a moment before each command)
-{ echo 'set -eu'; block OPERATING.md '## Install, first router, health' sh | sed 's/^sudo //; s/^birdc/sleep 2\n&/'; } >out/install.sh
+{ echo 'set -eu'; block OPERATING.md '## Install, first router, health' sh 2 | sed 's/^sudo //; s/^birdc/sleep 2\n&/'; } >out/install.sh
 { echo 'set -eu'; block OPERATING.md '### Removing' sh | sed 's/^sudo //'; } >out/remove.sh
 { echo 'router id 192.0.2.2;'; block ROUTERS.md '### BIRD 2 and 3' '' | sed 's/192\.0\.2\.1/127.0.0.1/; s/port 3323;/& retry keep 1;/'; } >root/etc/bird/bird.conf
 [ "$(grep -c tools/install.sh out/install.sh)" -eq 1 ] && [ "$(grep -c -- --remove out/remove.sh)" -eq 1 ] && grep -q 'retry keep 1' root/etc/bird/bird.conf || {

@@ -26,8 +26,9 @@ def read(path):
 
 def libraries():
     """The libraries of crates.txt with code of their own: those that are no program, hold more than tests, and are no part of an example."""
-    # (no crate can use a static library: its example is in C. The start of the daemon's program needs a whole system: rpkirtrd shows it)
-    names = [it for it in crates_txt.named() if not crates_txt.is_static(it) and it != "rpkirtrd_start"]
+    # (no crate can use a static library: its example is in C. The start of the daemon's program needs a whole system: rpkirtrd shows it. The forms of
+    # DER have no call)
+    names = [it for it in crates_txt.named() if not crates_txt.is_static(it) and it not in ("rpkirtrd_start", "der_forms")]
     return [it for it in names if not it.endswith("_tests") and not it.startswith(("example_", "test_")) and os.path.isfile(f"{TOP}/crates/{it}/src/lib.rt")]
 
 
@@ -65,6 +66,8 @@ def main(check):
         made = with_example(page, example_of(file))
         if made != page and check:
             wrong.append(f"crates/{name}/src/lib.rt does not show its example: run tools/examples.py")
+        elif page.count("//! ```rust\n") > 1:
+            wrong.append(f"crates/{name}/src/lib.rt shows more than one example")
         elif made != page:
             with open(path, "w", encoding="utf-8") as it:
                 it.write(made)

@@ -1,5 +1,5 @@
 #!/usr/bin/env python3
-"""Makes the pages of docs/ that are read off the sources: BELIEVE.md and STANDARDS.md.
+"""Makes the pages of docs/ that are read off the sources, BELIEVE.md and STANDARDS.md, and the last section of TOUR.md, which lists every file.
 
 usage: tools/pages.py [--check | --calls [CRATE] | definitions]
 
@@ -42,6 +42,7 @@ PROMISES = [
     ("DER and moments", ["der_lite::laws::reads_exactly", "der_lite::laws::one_spelling", "der_lite::laws::reads_times_exactly"]),
     ("Signatures", ["rsa_sha256::PublicKey::new", "rsa_sha256::PublicKey::verify"]),
     ("Signed objects", ["signed_objects::read_signed_object", "signed_objects::read_der_object", "signed_objects::laws::one_fault", "signed_objects::laws::one_object"]),
+    ("Resource certificates and revocation lists", ["resource_certificates::read_certificate", "resource_certificates::read_crl", "resource_certificates::laws::one_certificate", "ee_keys::same_key"]),
     ("A router of another cache, and chains of caches", ["upstreams::Upstream::poll", "upstreams::laws::each_holds", "relays::laws::chain"]),
     ("The library for C", ["rpkirtr_c::rpkirtr_router_receive", "rpkirtr_c::rpkirtr_router_state", "rpkirtr_c::rpkirtr_index_new", "rpkirtr_c::rpkirtr_cache_receive", "rpkirtr_c::rpkirtr_cache_publish", "rpkirtr_c::rpkirtr_roa_new", "rpkirtr_c::rpkirtr_manifest_new"]),
     ("What the commands print", ["payload_commands::print_roa", "payload_commands::print_manifest", "payload_commands::print_state", "rtr_commands::print_units", "rtr_commands::answer_lines"]),
@@ -184,7 +185,7 @@ class Code:
             roots |= self.meanings.get(word, set())
         of = re.sub(r"<.*?>", "", owner[0].split(" for ")[-1]).strip()
         stem = os.path.basename(path)[:-3]
-        if self.shown is not None and stem not in self.shown and (of or owner[1]) not in self.shown and 'extern "C"' not in text:
+        if self.shown is not None and stem not in ("lib", *self.shown) and (of or owner[1]) not in self.shown and 'extern "C"' not in text:
             return
         place = [self.crate] + (["laws"] if stem == "laws" else []) + ([of] if of else []) + [owner[1]]
         self.calls.append(Call(self.crate, os.path.relpath(path, TOP), "::".join(place), owner[2], roots))
@@ -310,6 +311,55 @@ def print_calls(house, crate):
             names = ", ".join(sorted({house.known[it].name for it in call.roots}))
             print(f"{call.name}: {names or '-'} ({len(rest)} definitions, {lines_of(rest)} lines)")
 
+
+# The tests of each crate: crates of tests with their files, scripts, and files of cases.
+TESTS = {
+    "prefixes": "`payload_tests`: `prefix_texts.rt`, `values.rt`; `tests/cases/route.py`",
+    "vrps": "`payload_tests`: `sets.rt`, `states.rt`, `probes.rt`, `logs.rt`; `memory_tests`; `tests/cases/route.py`",
+    "der_lite": "`payload_tests`: `elements.rt`, `moments.rt`; `tests/payloads.sh`, `tests/mutations.sh`",
+    "der_forms": "`payload_tests`: `objects.rt`; `certificate_tests`",
+    "rsa_sha256": "`payload_tests`: `keys.rt`, `signatures.rt`; `tests/signed_objects.sh`",
+    "signed_objects": "`payload_tests`: `objects.rt`, `ber.rt`; `tests/signed_objects.sh`",
+    "resource_certificates": "`certificate_tests`: `certificates.rt`, `crls.rt`",
+    "ee_keys": "`certificate_tests`",
+    "payloads": "`payload_tests`: `roas.rt`, `manifests.rt`; `tests/cases/roa.py`, `tests/cases/manifest.py`, `tests/payloads.sh`",
+    "points": "`payload_tests`: `offers.rt`; `tests/cases/payloads.py`, `tests/objects.sh`",
+    "prefix_texts": "`export_tests`; `tests/file_rows.py` by `tests/exports.sh`",
+    "json_texts": "`export_tests`; `tests/file_rows.py` by `tests/exports.sh`",
+    "payload_lists": "`export_tests`: `list_parts.rt`; `tests/cases/shared.py`",
+    "exports": "`export_tests`: `export_files.rt`, `anchors.rt`; `tests/file_rows.py` and `tests/exports.py` by `tests/exports.sh`; `tests/validators.sh`",
+    "slurm": "`export_tests`: `slurm_files.rt`; `tests/file_rows.py` and `tests/exceptions.py` by `tests/exports.sh`",
+    "sources": "`export_tests`: `source_files.rt`, `anchors.rt`; `memory_tests`; `tests/daemon/files.py`",
+    "rtr_pdu": "`rtr_tests`: `units.rt`, `units_v0.rt`, `counted.rt`, `values.rt`; `tests/cases/units.py`",
+    "rtr_ends": "`rtr_tests`: `streams.rt`, `timings.rt`, `ends.rt`; `rtr_scripts`; `tests/cases/answer.py`, `tests/cases/fetch.py`, `tests/cases/loop.py`",
+    "rtr_server": "`server_tests`: `clients.rt`, `queries.rt`, `notices.rt`, `orders.rt`, `parted.rt`; `tests/daemon/routers.py`, `tests/peers.sh`",
+    "upstreams": "`server_tests`: `polls.rt`, `times.rt`, `faults.rt`, `stalls.rt`; `tests/example_router_tcp.sh`",
+    "rtr_world": "`server_tests`: `worlds.rt`; `tests/cases/world.py`, `tests/worlds.sh`",
+    "relays": "`server_tests`; `tests/chains.sh`",
+    "feed": "`server_tests`: `routes.rt`; `tests/cases/loop.py`",
+    "rpkirtr_c": "`tests/c_library.sh`, `tests/bindings.sh`, `tests/frr.sh`, `tests/man.sh`",
+    "command_parts": "`tests/cases/shared.py` by `tests/commands.sh`, `tests/sockets.sh`",
+    "payload_commands": "`tests/cases/roa.py`, `tests/cases/manifest.py`, `tests/cases/payloads.py`, `tests/cases/route.py`; `tests/objects.sh`",
+    "rtr_commands": "`tests/cases/answer.py`, `tests/cases/units.py`, `tests/cases/serve.py`, `tests/cases/fetch.py`; `tests/sockets.sh`",
+    "world_scripts": "`tests/cases/world.py`; `tests/worlds.sh`, `tests/chains.sh`",
+    "rpkirtr_cli": "`tests/cases/words.py` by `tests/commands.sh`",
+    "rpkirtr": "`tests/commands.sh`, `tests/run.sh`; `crates/rpkirtr/stdout`",
+    "rpkiobject": "`tests/rpkiobject.sh`, `tests/signed_objects.sh`, `tests/man.sh`",
+    "session_names": "`daemon_tests`: `names.rt`; `tests/daemon/restarts.py`",
+    "event_log": "`daemon_tests`: `levels.rt`, `moments.rt`; `page_texts`: `events.rt`; `tests/page_texts.py` with `tests/texts/log.txt`, `tests/texts/log.json`, `tests/texts/log.systemd`",
+    "log_output": "`daemon_tests`: `log_parts.rt`; `daemon_scripts`: `outputs.rt`; `tests/daemon/output.py`",
+    "sd_notify": "`daemon_tests`: `managers.rt`; `tests/daemon/managers.py`, `tests/service.sh`",
+    "tcp_table": "`daemon_tests`: `tables.rt`; `tests/daemon/bounds.py`",
+    "status_pages": "`page_texts`: `statuses.rt`, `routes.rt`; `tests/page_texts.py` with `tests/texts`; `daemon_tests`: `validities.rt`, `queries.rt`, `lists.rt`",
+    "status_server": "`daemon_scripts`: `endpoint.rt`, `connections.rt`, `versions.rt`; `page_texts`: `responses.rt`; `daemon_tests`: `connections.rt`, `hosts.rt`; `tests/page_requests.py`, `tests/daemon/pages.py`",
+    "rtr_daemon": "`daemon_scripts`: `daemon.rt`; `daemon_tests`: `starts.rt`, `stamps.rt`; `tests/daemon.sh`",
+    "rpkirtrd_cli": "`page_texts`: `settings.rt`; `tests/page_options.py` by `tests/page_texts.sh`; `tests/man.sh`",
+    "rpkirtrd_start": "`daemon_scripts`: `runs.rt`; `tests/daemon/starts.py`",
+    "rpkirtrd": "`tests/daemon.sh`, `tests/peers.sh`; as root `tests/service.sh`",
+}
+
+# Where the list of every file begins in TOUR.md. It goes on to the end of the page.
+FILES_HEAD = "## Every file"
 
 # What a comment cites: sections of a standard, or of the one that its file is about, or a standard alone.
 SECTIONS = re.compile(r"(RFC \d+|X\.690)(?:,? sections?)?,? (\d[\d., andto]*)|\bsections? (\d[\d., andto]*)|(RFC \d+|X\.690)|^(\d+\.\d+[\d., andto]*):")
@@ -439,11 +489,47 @@ def layer_findings():
     return crates_txt.misplaced() + texts
 
 
+def head_of(path):
+    """What the first comment of a file says, in its first sentence."""
+    lines = []
+    for line in read(path).split("\n"):
+        if not line.startswith(("//! ", "// ")):
+            break
+        lines.append(line.partition(" ")[2])
+    said = re.match(r".*?\.(?= |$)|.*", " ".join(lines)).group()
+    if not said:
+        sys.exit(f"pages: {os.path.relpath(path, TOP)} begins with no comment")
+    return said
+
+
+def tour_page():
+    """TOUR.md with the list of every file of each crate, and the tests of the crate."""
+    out = [read(f"{TOP}/docs/TOUR.md").split(FILES_HEAD)[0].rstrip(), "", FILES_HEAD, ""]
+    out += ["Made from the sources by `tools/pages.py`: the files in `src/` of each crate, lowest first, and the tests of the crate. Laws are in", "`laws.rt`, and `lib.rt` has the public names."]
+    for crate in TESTS:
+        out += ["", f"### `{crate}`", "", f"Tests: {TESTS[crate]}.", ""]
+        files = [it for it in sorted(glob.glob(f"{TOP}/crates/{crate}/src/*.rt")) if os.path.basename(it) not in ("lib.rt", "laws.rt")]
+        out += [f"- `{os.path.basename(it)}`: {head_of(it)}" for it in files] or [f"- {'Laws' if os.path.exists(f'{TOP}/crates/{crate}/src/laws.rt') else 'Definitions and lemmas'} alone."]
+    return out
+
+
+def lost_tests():
+    """A text for each test that TESTS names and that is not there."""
+    wanted = [name for layer, names in crates_txt.layers().items() if layer not in ("tests", "examples") for name in names]
+    found = ["tools/pages.py: TESTS has other crates than crates.txt, or another order"] * (wanted != list(TESTS))
+    for crate, said in TESTS.items():
+        for name in re.findall(r"`([\w./]+)`", said):
+            of = [it for it in crates_txt.named() if it not in TESTS and os.path.exists(f"{TOP}/crates/{it}/src/{name}")]
+            if not (name in crates_txt.named() or of or os.path.exists(f"{TOP}/{name}")):
+                found.append(f"tools/pages.py: the tests of {crate} name {name}, which is not there")
+    return found
+
+
 def findings(pages):
     """What is wrong with the pages that are kept: they are not those of the sources, or too long."""
     found = [f"docs/{name} differs from the sources: tools/pages.py makes it anew" for name, text in pages.items() if not os.path.exists(f"{TOP}/docs/{name}") or read(f"{TOP}/docs/{name}") != text]
     count = sum(len(read(f"{TOP}/docs/{name}").split()) for name in READ_THROUGH)
-    return found + layer_findings() + ([f"{', '.join(READ_THROUGH)} have {count} words together, and at most {MOST_WORDS} are allowed"] if count > MOST_WORDS else [])
+    return found + layer_findings() + lost_tests() + ([f"{', '.join(READ_THROUGH)} have {count} words together, and at most {MOST_WORDS} are allowed"] if count > MOST_WORDS else [])
 
 
 def main(words):
@@ -455,7 +541,7 @@ def main(words):
         write(f"{TOP}/out/DEFINITIONS.md", text_of(definitions_page(house)))
         print("out/DEFINITIONS.md")
         return 0
-    pages = {"BELIEVE.md": text_of(believe_page(house)), "STANDARDS.md": text_of(standards_page(house))}
+    pages = {"BELIEVE.md": text_of(believe_page(house)), "STANDARDS.md": text_of(standards_page(house)), "TOUR.md": text_of(tour_page())}
     if words == ["--check"]:
         found = findings(pages)
         print("\n".join(found), end="\n" if found else "")

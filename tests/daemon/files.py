@@ -316,7 +316,7 @@ def pipe_for_a_file(given):
         port = daemon.listens()
         os.mkfifo("pipe")
         os.replace("pipe", "list.json")
-        daemon.wait("refused", file="list.json")
+        daemon.wait("refused", file="list.json", reason="cannot be read: not a regular file")
         expect("what is served with a pipe in its place", Router(port).catch_up(), set(FIRST))
         put("list.json", text_of(SECOND))
         daemon.wait("taken", file="list.json")

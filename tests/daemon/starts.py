@@ -7,7 +7,7 @@ import subprocess
 
 from checks import expect
 from common import PATIENCE, connected, free_port, put
-from daemon.shared import FIRST, SECOND, part, text_of
+from daemon.shared import EXCEPTIONS, FIRST, SECOND, part, text_of
 from rtr import Router
 
 
@@ -36,6 +36,13 @@ def words_and_starts(given):
     put("bad.json", '{"roas": [{"asn": 64496, "prefix": "192.0.2.0/24", "maxLength": 24}, {"asn": "AS01", "prefix": "192.0.2.0/24", "maxLength": 24}]}')
     status, out, err = ran(*free.split(), "bad.json")
     expect("a file that is refused", (status, "bad.json: entry 1 of roas: asn \"AS01\" is not an AS number (fault 3)" in err), (1, True))
+    listed = [*free.split(), "list.json", "--slurm"]
+    status, out, err = ran(*listed, "nothing.json")
+    expect("local exceptions that are not there", (status, "nothing.json" in err, len(err.splitlines())), (3, True, 1))
+    put("none.slurm", json.dumps(EXCEPTIONS))
+    put("bad.slurm", '{"slurmVersion": 2}')
+    status, out, err = ran(*listed, "none.slurm", "--slurm", "bad.slurm")
+    expect("local exceptions of which the second file is refused", (status, "bad.slurm: " in err, "none.slurm" in err, len(err.splitlines())), (1, True, False, 1))
     status, out, err = ran(b"--vrps", b"\xff")
     expect("a word that is not UTF-8", (status, out, "UTF-8" in err), (2, "", True))
     status, out, err = ran(*free.split(), "no\x1bsuch\nfile")

@@ -1,7 +1,7 @@
 #!/usr/bin/env python3
-"""Prints how many checks `rt ci` is to run at a time: one a processor, as far as the memory goes that is free now. It says so on standard error.
+"""Prints how many checks of wrong bodies run at a time: one a processor, as far as the memory goes that is free now. It says so on standard error.
 
-Left to itself `rt ci` reckons with about twice the memory that a check takes. Large crates then wait for memory until small ones have ended,
+Left to itself the kit reckons with about twice the memory that a check takes. Large crates then wait for memory until small ones have ended,
 as these fit before them each time."""
 import os
 import sys
