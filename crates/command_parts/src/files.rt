@@ -13,8 +13,8 @@ pub fn read_file<R: Files + AllocGlobal>(rt: &R, file: &str) -> io::Result<Vec<u
     Ok(bytes)
 }
 
-/// Reads a payload list from a file, and returns its set. `file` is its path. `Ok(None)`: the file is not a payload list.
-/// `Err`: the file cannot be read, or memory ran out.
+/// Reads a payload list from a file, and returns its set. `file` is its path. `Ok(None)`: the file is not a payload list, or has over 16,777,215
+/// different VRPs. `Err`: the file cannot be read, or memory ran out.
 pub fn read_set<R: Files + AllocGlobal>(
     rt: &R,
     file: &str,

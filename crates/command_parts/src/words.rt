@@ -11,8 +11,8 @@ pub struct CacheName {
     pub serial: u32,
 }
 
-/// Parses a number in decimal digits.
-/// `None`: the text is no such number, has a sign or a leading zero, or the number is over `u64::MAX`.
+/// Parses a number in decimal digits, such as `0` or `4660`. `None`: the text is empty, or has a character that is not a digit, such as a sign.
+/// Or it has a leading zero before another digit, or the number is over `u64::MAX`.
 pub fn decimal(text: &str) -> Option<u64> {
     match text.as_bytes() {
         [b'+', ..] => None,

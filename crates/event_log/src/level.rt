@@ -110,7 +110,7 @@ impl LogEvent<'_> {
         self.level() <= level
     }
 
-    /// Returns whether the event is about one client or visitor. A peer can cause any number of such lines.
+    /// Returns whether the event is about one client or visitor. A peer can cause any number of such lines, so a log limits them.
     pub fn is_of_client(&self) -> bool
         ensures { result ≡ is_of_client self.now }
     {

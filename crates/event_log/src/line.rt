@@ -1,4 +1,4 @@
-//! The lines of the event log.
+//! The lines of the event log, as text, as JSON and for systemd.
 ghost use Rattle.std.specs.Prelude.{◌≡◌, ◌<◌, ◌/◌, ◌%◌, ◌∷◌, ◌++◌, [], true, codes, map, OnOk};
 ghost use Rattle.std.specs.Char.{digit_char, is_control};
 ghost use Rattle.std.specs.Io.KnownBytes.{Appends};

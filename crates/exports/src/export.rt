@@ -138,16 +138,19 @@ fn read_text(alloc: Global, text: &str, now: u64) -> Result<ExportCounted, Expor
     })
 }
 
-/// Reads an export: a payload list, or an object whose member `roas` is an array of entries. `now` is in seconds since 1970.
+/// Reads an export: a payload list (an array), or an object whose member `roas` is an array of entries. `now` is in seconds since 1970.
 ///
-/// An entry is an object with `asn`, `prefix`, `maxLength` and perhaps `expires`. Other members are ignored.
-/// `asn` is a whole number below 2^32, or a text of one, with `AS` before it or without.
+/// An entry of `roas` is an object with `asn`, `prefix`, `maxLength` and perhaps `expires`. Other members are ignored.
+/// `asn` is a whole number below 2^32, or a text of one, with `AS` before it or without. An IPv6 prefix may be in mixed notation.
 /// An entry with `expires` counts before that second since 1970, any other entry always.
+/// A name that is read must not be repeated in its object. [`ExportFault::Repeated`] lists these names.
 ///
-/// A name that is read must not be repeated in its object. In an entry of a payload list it may be repeated: the last value counts.
+/// An item of a payload list has exactly `asn`, `prefix` and `maxLength`, and `asn` is a number. If an item is otherwise, the fault is `NoRoas`.
+/// Of a repeated name the last value counts.
 ///
-/// The first fault in this order is reported: `NotJson`, `Repeated`, `NoRoas`, `Entry`, `TooMany`. `Memory`: memory runs out.
-/// The text is read token by token, without a tree of it.
+/// `Err`: the first fault in this order: `NotJson`, `Repeated`, `NoRoas`, `Entry`, `TooMany`. `Memory` (out of memory) may come at any step.
+/// `NotJson` includes bytes that are not UTF-8, a nesting of over 127 levels, and a number that is too large for a float. The text is read token
+/// by token, without a tree of it.
 pub fn read_export(alloc: Global, bytes: &[u8], now: u64) -> Result<Export, ExportFault>
     ensures ok { IfOk result (λ export. IsExport bytes.now now export) }
     ensures fault { IfErr result (λ fault. HasFault bytes.now now fault) }
@@ -158,9 +161,9 @@ pub fn read_export(alloc: Global, bytes: &[u8], now: u64) -> Result<Export, Expo
     }
 }
 
-/// Reads an export by the rules of [`read_export`], with the same faults. Also returns the second, since 1970, until which it stays the
-/// same.
-/// From that second on, an entry that counts at `now` does not count. Before it the bytes need not be read again.
+/// Reads an export by the rules of [`read_export`], with the same faults. Also returns the second, since 1970, until which it stays the same.
+/// From that second on, an entry that counts at `now` does not count. Before it the bytes need not be read again. `None`: it stays the same at
+/// each later second.
 pub fn read_export_until(alloc: Global, bytes: &[u8], now: u64) -> Result<TimedExport, ExportFault>
     ensures ok { IfOk result (λ x. IsExportUntil bytes.now now x) }
     ensures lasts { IfOk result (λ x. (t : ℕ) → now ≤ t → IsBefore t x.until → IsExport bytes.now t x.export) }
@@ -175,8 +178,10 @@ pub fn read_export_until(alloc: Global, bytes: &[u8], now: u64) -> Result<TimedE
     }
 }
 
-/// Reads an export by the rules of [`read_export`], with the same faults. Also returns the last second at which each record counts.
-/// So the records at a later second follow without the bytes. `now` and the last seconds are in seconds since 1970.
+/// Reads an export by the rules of [`read_export`], with the same faults. Also returns the last second at which each record counts, in the order
+/// of the set.
+/// So the records at a later second follow without the bytes. `now` and the last seconds are in seconds since 1970. A last second of `u64::MAX`:
+/// the record does not end.
 pub fn read_export_lasting(
     alloc: Global,
     bytes: &[u8],
@@ -203,8 +208,9 @@ pub fn read_export_lasting(
 /// A member that is not an array counts as empty, and a payload list has no such members.
 /// These names must not be repeated in the root. The elements cost no memory.
 ///
-/// The trust anchor of a record is the text `ta` of its entry. A value that is not a text counts as absent.
-/// If `ta` is repeated in an entry, the last one counts. The faults are those of [`read_export`].
+/// The trust anchor of a record is the text `ta` of its entry, or of one of its entries if several have this record. A value that is not a text
+/// counts as absent.
+/// At most 32 names of at most 64 bytes are kept. If `ta` is repeated in an entry, the last one counts. The faults are those of [`read_export`].
 pub fn read_export_counted(
     alloc: Global,
     bytes: &[u8],

@@ -1,4 +1,4 @@
-//! What is gathered of the entries of an export.
+//! What is gathered of the entries of an export: which count at a second (`expires`), and the last second of each.
 ghost use Rattle.std.specs.Prelude.{◌≡◌, ◌+◌, ◌^◌, ◌<◌, ◌++◌, ◌∷◌, [], ℕ, List, map, option_map, IfOk, OnOk};
 ghost use Rattle.std.specs.Bool.{OnFalse, OnTrue};
 ghost use Rattle.exports.specs.Anchors.{number_in, one_named};

@@ -19,14 +19,14 @@ pub struct Fed {
     pub wire: Vec<u8>,
 }
 
-/// Computes the state of a route at a new router, which fetches all data from a cache.
+/// Computes the state of a route at a new router of protocol version 1, which fetches all data from a cache.
 /// The offers are made at moment `now` (UTC), in order, to publication points that have accepted nothing before.
-/// An offer equal to what its point holds is no fault. The cache publishes the payloads that are then valid.
+/// If its point accepted the same manifest last, an offer is not a fault, and its files are not checked.
+/// After all offers, the cache publishes the VRPs of the ROAs that the points hold.
 /// It publishes them as serial 0 of session 1, with the default intervals of RFC 8210 section 6.
-/// Bytes move between router and cache in turns of at most 4,096.
 ///
-/// `Err(Point)`: the first offer that was refused. `Err(TooMany)`: too many payloads. `Err(Memory)`: memory ran out.
-/// The fault that comes first is returned: offers in order, then the number of payloads, then the fetch.
+/// `Err(Point)`: the first offer that was refused. `Err(TooMany)`: too many VRPs. `Err(Memory)`: memory ran out.
+/// The fault that comes first is returned: offers in order, then the number of VRPs, then the fetch.
 pub fn route_from_payloads(
     alloc: Global,
     offers: &[Offer<'_>],

@@ -100,7 +100,8 @@ impl LogBuffer {
         self.lost
     }
 
-    /// The number of lines that were lost since the last report of dropped lines was written in full.
+    /// The number of lost lines that are not in a report that was written in full. A line that is lost while a report is pending is not in that
+    /// report.
     pub fn dropped(&self) -> u64
         ensures { result ≡ self.now.dropped }
     {

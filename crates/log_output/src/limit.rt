@@ -41,7 +41,8 @@ impl ClientLineLimit {
         }
     }
 
-    /// Returns whether a window is open at `millis`.
+    /// Returns whether a window is open at `millis`: it began less than [`LIMIT_MILLIS`] before. A time before its beginning is in the window
+    /// too.
     pub fn is_open(&self, millis: u64) -> bool
         ensures { result ≡ is_open self.now millis }
     {
@@ -51,7 +52,8 @@ impl ClientLineLimit {
         }
     }
 
-    /// Counts a line about a client at `millis`. It returns whether the line is let through. If not, the line is counted as suppressed.
+    /// Counts a line about a client at `millis`. It returns whether the line is let through. If no window is open, the line begins one and
+    /// passes. In an open window, a line passes if fewer than [`LIMIT_LINES`] have passed. Otherwise it is counted as suppressed.
     pub fn admit(&mut self, millis: u64) -> bool
         ensures passes { result ≡ is_let_through self.old millis }
         ensures counts { self.new ≡ after_client_line self.old millis }
@@ -69,15 +71,17 @@ impl ClientLineLimit {
         false
     }
 
-    /// The number of lines that were suppressed since the last report.
+    /// Returns how many lines about clients were suppressed since [`ClientLineLimit::take_suppressed`] last set this count to 0, or since the
+    /// start. Those of an open window count too. It saturates at `u64::MAX`.
     pub fn suppressed(&self) -> u64
         ensures { result ≡ self.now.suppressed }
     {
         self.suppressed
     }
 
-    /// Returns the number of suppressed lines to report at `millis`, and sets the count to 0. While a window is open, it returns 0 and changes
-    /// nothing.
+    /// Returns how many lines about clients were suppressed since the last report, and sets that count to 0. `millis` is the time now, in
+    /// milliseconds of the monotonic clock. It returns 0 and changes nothing while a window is open, which is for [`LIMIT_MILLIS`] after its
+    /// first line.
     pub fn take_suppressed(&mut self, millis: u64) -> u64
         ensures lines { result ≡ lines_to_report self.old millis }
         ensures takes { self.new ≡ after_take self.old millis }

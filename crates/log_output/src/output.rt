@@ -131,8 +131,8 @@ impl Log {
     /// Adds an event. `seconds` is its time since 1970. `millis` is the time of a monotonic clock, in milliseconds. An event that is less severe
     /// than the level changes nothing.
     ///
-    /// Otherwise the reports that are due come first. Then the event's line is added if the limit of lines about clients lets it through and it
-    /// fits.
+    /// Otherwise the reports that are due come first. Then the event's line is added if the limit of lines about clients lets it through. It
+    /// counts as lost if there is no memory for it, if it does not fit, or if no pending report covers the lost lines before it.
     pub fn add(&mut self, seconds: u64, millis: u64, event: &LogEvent<'_>)
         ensures below { severity self.old.level < severity (level_of event.now) → self.new ≡ self.old }
         ensures adds { severity (level_of event.now) ≤ severity self.old.level → AddsEvent self.old self.new seconds millis event.now }

@@ -15,9 +15,9 @@ use std::alloc::Global;
 use std::io::{BufWriter, Write};
 use std::rt::Files;
 
-/// The command `roa`: prints the entries of a ROA payload as `print_roa` does. `file` is the path of the payload.
-/// `Ok`: the exit status, 0, or 1 if the payload is refused. Then its first fault and the byte offset are printed.
-/// `Err`: the file cannot be read, the output failed, or memory ran out.
+/// The command `roa`: prints the entries of a ROA payload as `print_roa` does. `file` is the path of the payload. `Ok`: the exit status, 0, or 1
+/// if the payload is refused. Then the line `refused NUMBER at OFFSET` is printed instead: its first fault and the byte offset. `Err`: the file
+/// cannot be read, the output failed, or memory ran out.
 pub fn roa<R: Files + AllocGlobal, O: Write>(
     rt: &R,
     file: &str,
@@ -37,9 +37,9 @@ pub fn roa<R: Files + AllocGlobal, O: Write>(
     }
 }
 
-/// The command `manifest`: prints a manifest payload as `print_manifest` does. `file` is the path of the payload.
-/// `Ok`: the exit status, 0, or 1 if the payload is refused. Then its first fault and the byte offset are printed.
-/// `Err`: the file cannot be read, the output failed, or memory ran out.
+/// The command `manifest`: prints a manifest payload as `print_manifest` does. `file` is the path of the payload. `Ok`: the exit status, 0, or 1
+/// if the payload is refused. Then the line `refused NUMBER at OFFSET` is printed instead: its first fault and the byte offset. `Err`: the file
+/// cannot be read, the output failed, or memory ran out.
 pub fn manifest<R: Files + AllocGlobal, O: Write>(
     rt: &R,
     file: &str,
@@ -59,11 +59,12 @@ pub fn manifest<R: Files + AllocGlobal, O: Write>(
     }
 }
 
-/// The command `payloads`: offers each directory to the point of its name, and prints the payloads valid at `now` as a list.
-/// `now` is a time in UTC such as `20250101000000Z`. `names` are the paths of the directories. All files are read before anything is printed.
-/// What became of each offer is printed to `err`.
-/// `Ok`: the exit status, 0, or 1 if an offer is refused or `now` is not a time.
-/// `Err`: a file cannot be read, an output failed, or memory ran out.
+/// The command `payloads`: offers each directory, in the order given, to the point of its name, and prints the payloads valid at `now` as a
+/// list. `now` is a time in UTC such as `20250101000000Z`. `names` are the paths of the directories. All files are read before anything is
+/// printed. What became of each offer is printed to `err`, as `tell_answer` does.
+///
+/// `Ok`: the exit status, 0, or 1 if an offer is refused, and then the list is printed all the same. It is also 1 if `now` is not a time. Then
+/// nothing is read, and only the line `refused word` is printed. `Err`: a file cannot be read, an output failed, or memory ran out.
 pub fn payloads<R: Files + AllocGlobal + Clone + Drop, O: Write, E: Write>(
     rt: &R,
     now: &str,

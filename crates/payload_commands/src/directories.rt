@@ -56,9 +56,10 @@ impl<'a> Directory<'a> {
     }
 }
 
-/// Reads the directories with these paths, in their order. Each has a file `manifest.der` and a directory `objects`.
-/// The content of an object is the file of the same name in the directory `contents`, or empty if there is none.
-/// `Err`: a directory or a file cannot be read, `manifest.der` is not a regular file, or memory ran out.
+/// Reads the directories with these paths, in their order. Each has a file `manifest.der` and a directory `objects`. The objects are the regular
+/// files of `objects`, sorted by name. Anything else in it is skipped, and links are followed. The content of an object is the file of the same
+/// name in the directory `contents`, or empty if there is none. `Err`: a directory or a file cannot be read, memory ran out, or `manifest.der`
+/// or a content is not a regular file.
 pub fn read_directories<'a, R: Files + AllocGlobal + Clone + Drop>(
     rt: &R,
     names: &[&'a str],

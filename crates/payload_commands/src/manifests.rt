@@ -37,9 +37,8 @@ fn print_files<W: Write>(files: &[ListedFile], out: &mut W) -> io::Result<()>
     Ok(())
 }
 
-/// Prints a manifest: the lines `number HEX`, `this TIME` and `next TIME`, and one line for each file.
-/// HEX is the number's content octets in hexadecimal. A file's line is its SHA-256 hash in hexadecimal, a space and its name.
-/// `Err`: the output failed.
+/// Prints a manifest: the lines `number HEX`, `this TIME` and `next TIME`, and one line for each file, in the manifest's order. HEX is the
+/// number's content octets in hexadecimal. A file's line is its SHA-256 hash in hexadecimal, a space and its name. `Err`: the output failed.
 pub fn print_manifest<W: Write>(manifest: &Manifest, out: &mut W) -> io::Result<()>
     ensures { OnOk result (Appends (W.contents out.old) (W.contents out.new) (manifest_lines manifest.now)) }
 {

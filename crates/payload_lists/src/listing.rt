@@ -1,4 +1,4 @@
-//! Payload lists, read from JSON.
+//! Payload lists, read from JSON and written.
 ghost use Rattle.std.specs.Prelude.{◌≡◌, ◌==◌, ◌<◌, ◌≤◌, ◌++◌, ◌∷◌, [], if◌then◌else◌, ℕ, List, string_bytes, OnOk, OnErr, Err, IfOk, IfSome, IfNone, IsErrOf, option_map};
 ghost use Rattle.serde_json.specs.View.{view, items_view};
 ghost use Rattle.std.specs.List.Sorted.{IsStrictlySortedBy};
@@ -64,7 +64,8 @@ pub fn text<'a>(value: &'a Value, key: &str) -> Option<&'a str>
 }
 
 /// Makes a VRP from the values of an entry. `max_len` is in bits.
-/// `None`: `prefix` is not a prefix, `asn` is 2^32 or more, or `max_len` is below the prefix length or over 32 (IPv4) or 128 (IPv6).
+/// `None`: `IpPrefix::parse` does not read `prefix`, `asn` is 2^32 or more, or `max_len` is below the prefix length or over 32 (IPv4) or 128
+/// (IPv6).
 pub fn payload(asn: u64, max_len: u64, prefix: &str) -> Option<Vrp>
     ensures some { IfSome result (λ v. MakesPayload asn max_len prefix.now v) }
     ensures one { IfSome result (λ v. (w : Payload) → MakesPayload asn max_len prefix.now w → w ≡ v) }
@@ -160,9 +161,9 @@ fn read_any(alloc: Global, bytes: &[u8]) -> Result<VrpSet, ListFault>
     }
 }
 
-/// Reads a payload list: a JSON array of objects with exactly the keys `asn`, `maxLength` and `prefix`. If an object has a key twice, the last
-/// value counts.
-/// `NoList`: the bytes are no such list, or it has over 16,777,215 different VRPs. `Memory`: out of memory.
+/// Reads a payload list: a JSON array of objects with exactly the keys `asn`, `maxLength` and `prefix`. `asn` and `maxLength` are whole numbers,
+/// and `prefix` is a string that `IpPrefix::parse` reads. If an object has a key twice, the last value counts.
+/// `NoList`: the bytes are not such a list, or it has over 16,777,215 different VRPs. `Memory`: out of memory.
 /// A list in plain form (each key once, numbers of digits alone) is read token by token, up to the first entry that makes no VRP. Other lists
 /// are read as a whole.
 pub fn read_list(alloc: Global, bytes: &[u8]) -> Result<VrpSet, ListFault>

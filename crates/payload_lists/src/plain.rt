@@ -117,10 +117,10 @@ fn plain_records(alloc: Global, reader: &mut Reader<'_>) -> Result<Option<Vec<Vr
     Ok(Some(records))
 }
 
-/// The VRPs of a payload list in plain form, in their order. Plain form: an array of objects with each of the three keys exactly once, and
-/// numbers of digits alone.
+/// The VRPs of a payload list in plain form, in their order, duplicates included. Plain form: an array of objects with each of the keys `asn`,
+/// `prefix` and `maxLength` exactly once, and numbers below 2^64 of digits alone.
 /// `Ok(None)`: the text has another form, or is not JSON. It may still be a payload list.
-/// `NoList`: an entry in plain form makes no VRP, whatever follows it. `Memory`: out of memory.
+/// `NoList`: an entry in plain form makes no VRP, and all before it are in plain form. What follows is not read. `Memory`: out of memory.
 pub fn plain_list(alloc: Global, text: &str) -> Result<Option<Vec<Vrp>>, ListFault>
     ensures ok { IfOk result (λ found. IfSome found (λ vs. (ds : Items) × (read text.now ≡ Some (array ds)) × AreEntries ds vs.items)) }
     ensures no_list { IsErrOf result ListFault.NoList → (ds : Items) → read text.now ≡ Some (array ds) → (vs : List Payload) → ¬ (AreEntries ds vs) }

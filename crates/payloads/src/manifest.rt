@@ -48,7 +48,7 @@ impl ListedFile {
         ListedFile { name, hash }
     }
 
-    /// The file name.
+    /// The file name. It is checked only once the file is in a [`Manifest`] (RFC 9286 section 4.2.2).
     pub fn name(&self) -> &str
         ensures { result.now ≡ self.now.name }
     {
@@ -102,7 +102,7 @@ impl Manifest {
     /// Makes a manifest. `number` is the content of its DER INTEGER, most significant byte first.
     ///
     /// The first fault in this order is reported: `NumberRange`, `TimesOrder`, then file by file `TooMany`, `Name`, `NameTwice`.
-    /// `Memory`: memory runs out.
+    /// `Memory`: memory runs out, which may happen before the later files are checked.
     pub fn new(
         alloc: Global,
         number: Vec<u8>,
@@ -145,14 +145,14 @@ impl Manifest {
         &self.this_update
     }
 
-    /// nextUpdate: the time until which the next manifest is made (RFC 9286 section 4.2.1). It is later than thisUpdate.
+    /// nextUpdate: the time by which the next manifest is issued (RFC 9286 section 4.2.1). It is later than thisUpdate.
     pub fn next_update(&self) -> &Moment
         ensures { result.now ≡ self.now.next_update }
     {
         &self.next_update
     }
 
-    /// The listed files, at most 65,536. No two have the same name.
+    /// The listed files in the order of the manifest, at most 65,536. No two have the same name.
     pub fn files(&self) -> &[ListedFile]
         ensures value { result.now ≡ self.now.files }
         ensures right { IsManifest self.now }

@@ -1,4 +1,4 @@
-//! The names of files.
+//! The names of files: what one is, and whether it came before.
 
 ghost use Rattle.std.specs.Prelude.{◌≡◌, List, [], ◌∷◌, ◌++◌, OnOk, OnErr};
 ghost use Rattle.std.specs.List.{list_all};

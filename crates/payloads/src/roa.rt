@@ -47,10 +47,10 @@ impl Eq for Roa {
 }
 
 impl Roa {
-    /// Makes a ROA of an AS number and its entries.
+    /// Makes a ROA of an AS number and its entries. The entries are checked, not sorted.
     ///
-    /// The first fault in this order is reported: `Empty`, then entry by entry `TooMany`, `Order` (an IPv4 entry behind an IPv6 one),
-    /// `MaxLength`, `MaxLengthSuperfluous`, `Order`.
+    /// `Err`: the first fault, with the index of its entry, from 0. `Empty` (index 0): there are no entries. Then entry by entry: `TooMany` (more
+    /// than 65,536), `Order` (IPv4 after IPv6), `MaxLength`, `MaxLengthSuperfluous`, `Order` (not above the entry before it).
     pub fn new(asn: Asn, entries: Vec<RoaEntry>) -> Result<Roa, ValueFault>
         ensures { Makes result asn.0 entries.items }
     {
@@ -60,7 +60,7 @@ impl Roa {
         }
     }
 
-    /// The AS number that may originate the prefixes.
+    /// The AS number that may originate the prefixes. AS 0: no route matches the VRPs of the ROA (RFC 6483 section 4).
     pub fn asn(&self) -> Asn
         ensures { result.0 ≡ self.now.asn }
     {

@@ -16,7 +16,8 @@ use der_lite::{Bits, DerWriter};
 use prefixes::IpPrefix;
 use std::alloc::{AllocError, Global};
 
-/// Encodes a ROA as its payload (RFC 9582 section 4). It has no other encoding. An error means that memory runs out.
+/// Encodes a ROA as the DER of a RouteOriginAttestation (RFC 9582 section 4): the content of a signed object, without its signature. No other
+/// bytes decode to this ROA. `Err`: memory ran out.
 pub fn encode_roa(alloc: Global, roa: &Roa) -> Result<Vec<u8>, AllocError>
     ensures { IfOk result (λ bytes. RoaSpells roa.now bytes.items) }
 {

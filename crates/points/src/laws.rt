@@ -2,7 +2,8 @@
 
 ghost use Rattle.points.specs.PointLaws.{NewWhereAcceptable, OneJudgement};
 
-/// Law: an offer to a point is judged `New` if and only if it is acceptable.
+/// Law: an offer to a point is judged `New` if and only if it is acceptable. Its manifest is valid, current, and newer than the one accepted
+/// last. No two supplied files have one name. Each listed file is supplied with the listed hash, and each listed ROA is valid.
 pub fn new_where_acceptable()
     ensures { NewWhereAcceptable }
 {}

@@ -48,6 +48,9 @@ impl Point {
     ///
     /// The first case in this order decides: `Manifest`, `NotYet`, `Stale`, `Same`, `OldNumber`, `OldTime`, `FileTwice`.
     /// Then file by file of the manifest: `Missing`, `HashDiffers`, `Roa`. `Memory` may come at any step.
+    ///
+    /// Of a listed file whose name does not end in `.roa`, only the hash is checked. Supplied files that the manifest does not list are ignored.
+    /// Only `FileTwice` counts them.
     pub fn offer(
         &mut self,
         manifest: &[u8],

@@ -49,7 +49,8 @@ impl Repository {
         }
     }
 
-    /// Makes an offer to the point `name`, with the results of [`Point::offer`](crate::Point::offer). No other point changes.
+    /// Makes an offer to the point `name`, with the results of [`Point::offer`](crate::Point::offer). No other point changes. If the offer is
+    /// refused, no point changes.
     pub fn offer(
         &mut self,
         name: &str,

@@ -16,8 +16,8 @@ fn plain_asn(text: &str) -> Option<Asn>
     }
 }
 
-/// Reads an AS number in decimal digits, as `Asn::parse` does (RFC 5396, "asplain"), with or without `AS` before it. `None`: any other text, or
-/// a number over 4294967295.
+/// Reads an AS number in decimal digits, as `Asn::parse` does (RFC 5396, "asplain"), with or without a capital `AS` before it. `None`: any other
+/// text, or a number over 4294967295.
 pub fn parse_asn(text: &str) -> Option<Asn>
     ensures some { IfSome result (λ a. (a.0 < 2 ^ 32) × AsnText a.0 text.now) }
     ensures none { IfNone result (IsNoAsn text.now) }

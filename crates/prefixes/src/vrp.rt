@@ -76,7 +76,7 @@ impl Vrp {
         self.max_len
     }
 
-    /// The AS that may originate the prefix. AS 0: no AS may originate it (RFC 6483 section 4).
+    /// The AS that may originate the prefix. AS 0: no route matches this VRP (RFC 6483 section 4). Another VRP may still match the route.
     pub fn asn(&self) -> Asn
         ensures value { result.0 ≡ self.now.asn }
         ensures payload { IsPayload self.now }

@@ -31,8 +31,8 @@ fn tell<E: Write>(fault: ProgramFault, err: &mut E) {
     let _ = writeln!(err, "{fault}");
 }
 
-/// Runs the program for these command-line arguments, without the program name, and returns its exit status.
-/// 0: done. 1: an input is refused. 2: the arguments do not parse. 3: a file, a socket or an output failed. 4: memory ran out.
+/// Runs the program for these command-line arguments, without the program name, and returns its exit status. 0: done. 1: an input is refused, or
+/// a router fetched no data. 2: the arguments do not parse. 3: a file, a socket or an output failed. 4: memory ran out.
 pub fn run_words<R: Files + Net + AllocGlobal + Clone + Drop, O: Write, E: Write>(
     rt: &R,
     words: &[String],

@@ -15,7 +15,7 @@ pub enum CallStatus {
     NoMemory,
     /// A record whose prefix, maximum length or padding is not valid.
     BadRecord,
-    /// A route whose prefix or padding is not valid.
+    /// A route whose prefix is not valid, or whose IPv4 address is not followed by zeros.
     BadRoute,
     /// No version of the protocol.
     BadVersion,
@@ -40,7 +40,7 @@ pub enum CallStatus {
 }
 
 impl CallStatus {
-    /// The number of the status in the C interface.
+    /// The number of the status in the C interface: from 0 for `Done` to 15 for `BadStructure`, in the order of the variants.
     pub fn number(self) -> i32
         ensures { result ≡ number self }
     {

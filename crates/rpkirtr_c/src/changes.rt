@@ -67,8 +67,9 @@ fn begin(
     CallStatus::Done
 }
 
-/// Compares the committed records with those accepted last, and counts those withdrawn and announced. That change is
-/// kept until another begins or this one is accepted.
+/// Compares the committed records with those of the change that was accepted last (none at first). It writes how many were withdrawn and
+/// announced. That change is kept until another begins or this one is accepted. Returns the number of a `CallStatus`: `Done`, `Empty` or
+/// `NoMemory`. On a refusal both numbers are 0, and an earlier change is kept.
 #[unsafe(no_mangle)]
 pub extern "C" fn rpkirtr_router_changes_begin(
     alloc: Global,
@@ -89,7 +90,8 @@ pub extern "C" fn rpkirtr_router_changes_begin(
     answer.number()
 }
 
-/// Copies the withdrawn records of the change in ascending order, from an index on, as many as fit, and writes how many.
+/// Copies the withdrawn records of the change from index `first` on into `room`, in ascending order, as many as fit. It writes to `copied` how
+/// many: 0 if no change has begun. The rest of `room` stays. Returns the number of a `CallStatus`: `Done`, or `Empty`, and then `copied` is 0.
 #[unsafe(no_mangle)]
 pub extern "C" fn rpkirtr_router_withdrawn(
     alloc: Global,
@@ -110,7 +112,8 @@ pub extern "C" fn rpkirtr_router_withdrawn(
     CallStatus::Done.number()
 }
 
-/// Copies the announced records of the change, in the same way.
+/// Copies the announced records of the change from index `first` on into `room`, in ascending order, as many as fit. It writes to `copied` how
+/// many: 0 if no change has begun. The rest of `room` stays. Returns the number of a `CallStatus`: `Done`, or `Empty`, and then `copied` is 0.
 #[unsafe(no_mangle)]
 pub extern "C" fn rpkirtr_router_announced(
     alloc: Global,
@@ -131,7 +134,8 @@ pub extern "C" fn rpkirtr_router_announced(
     CallStatus::Done.number()
 }
 
-/// Accepts the change: the next one begins at the records that it led to. If none has begun, nothing changes.
+/// Accepts the change: the next one begins at the records to which it led, even if the router has committed others since. If none has begun,
+/// nothing changes. Returns the number of a `CallStatus`: `Done` in both cases, or `Empty`.
 #[unsafe(no_mangle)]
 pub extern "C" fn rpkirtr_router_changes_taken(alloc: Global, h: &mut RouterHandle) -> i32
     ensures { On h.old.value h.new.value result (λ s t. (result ≡ number Done) × Takes s t) }

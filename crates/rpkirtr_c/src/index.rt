@@ -231,7 +231,9 @@ fn boxed_over(alloc: Global, records: &[CRecord]) -> Result<Box<Judge>, IndexFau
     }
 }
 
-/// Makes an index over records in an empty handle. If a record is none, the index of the first such is written.
+/// Makes an index over records in the empty handle `h`. A record that is listed twice counts once. Returns the number of a `CallStatus`: `Done`,
+/// `Live`, `BadRecord`, `OutOfRange` for more than 16,777,215 different records, or `NoMemory`. After `BadRecord`, `bad` is the index of the
+/// first malformed record, otherwise 0. On a refusal the handle stays as it was.
 #[unsafe(no_mangle)]
 pub extern "C" fn rpkirtr_index_new(
     alloc: Global,
@@ -286,7 +288,7 @@ pub(crate) fn fill_index(alloc: Global, set: &VrpSet, h: &mut IndexHandle) -> Ca
     }
 }
 
-/// Frees the index, and empties the handle.
+/// Frees the index, and empties the handle. Returns the number of a `CallStatus`: `Done` or `Empty`.
 #[unsafe(no_mangle)]
 pub extern "C" fn rpkirtr_index_free(alloc: Global, h: &mut IndexHandle) -> i32
     ensures { Freed h.old.value h.new.value result }
@@ -297,7 +299,7 @@ pub extern "C" fn rpkirtr_index_free(alloc: Global, h: &mut IndexHandle) -> i32
     }
 }
 
-/// Writes how many different records the index is over.
+/// Writes how many different records the index is over. Returns the number of a `CallStatus`: `Done`, or `Empty`, and then 0 is written.
 #[unsafe(no_mangle)]
 pub extern "C" fn rpkirtr_index_count(alloc: Global, h: &mut IndexHandle, count: &mut usize) -> i32
     ensures call { On h.old.value h.new.value result (λ s t. (result ≡ number Done) × (t ≡ s) × (count.new ≡ size s.index)) }
@@ -312,7 +314,8 @@ pub extern "C" fn rpkirtr_index_count(alloc: Global, h: &mut IndexHandle, count:
     CallStatus::Done.number()
 }
 
-/// Writes the state of a route over the index: 0 not found, 1 valid, 2 invalid.
+/// Writes the origin validation state of a route over the index (RFC 6811 section 2): 0 not found, 1 valid, 2 invalid. Returns the number of a
+/// `CallStatus`: `Done`, `Empty`, or `BadRoute` if the route has no valid prefix. On a refusal 0 is written.
 #[unsafe(no_mangle)]
 pub extern "C" fn rpkirtr_index_state(
     alloc: Global,
@@ -338,7 +341,9 @@ pub extern "C" fn rpkirtr_index_state(
     answer.number()
 }
 
-/// Copies the records that cover a route in ascending order, as many as fit, and writes how many there are.
+/// Copies the records of the index that cover a route into `room`, in ascending order, as many as fit. It writes to `count` how many cover the
+/// route, also if fewer fit. The rest of `room` stays. Returns the number of a `CallStatus`: `Done`, `Empty`, `BadRoute` or `NoMemory`. On a
+/// refusal `count` is 0, and `room` stays.
 #[unsafe(no_mangle)]
 pub extern "C" fn rpkirtr_index_covering(
     alloc: Global,

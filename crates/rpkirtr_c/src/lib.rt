@@ -1,4 +1,8 @@
 //! A router, a cache, origin validation and payloads of signed objects for C: `include/rpkirtr.h` declares what is here. The caller owns sockets and clocks.
+//!
+//! Each export except `rpkirtr_abi_version` returns the number of a `CallStatus`. `Done` is 0. `Empty`: there is nothing in the handle `h`.
+//! `Live`: a handle in which something is made is not empty. An export writes its outputs whatever it returns, except a structure of a wrong
+//! size.
 #![tactic(auto)]
 
 mod authorization;

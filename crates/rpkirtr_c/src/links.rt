@@ -9,8 +9,8 @@ use rtr_pdu::Version;
 /// The time, in seconds of the caller's clock, that means an event that never happens.
 pub const NEVER: u64 = u64::MAX;
 
-/// A link: 0 closed, 1 idle, 2 asked, 3 answering, 4 ended. If it ended, `end` is the number of the end, and `code` the code of
-/// its Error Report, if it has one.
+/// A link: 0 closed, 1 idle, 2 asked, 3 answering, 4 ended. If it ended, `end` is the number of its end (`End::number`), otherwise 0. `code` is
+/// the code of the Error Report of that end, or 0 if there is none.
 #[repr(C)]
 #[derive(Clone, Copy, Debug)]
 pub struct CLink {
@@ -45,7 +45,7 @@ fn code_of(end: End) -> u16
     }
 }
 
-/// Converts a link to the C interface.
+/// Converts a link to the C interface. `end` and `code` are 0 unless the link has ended. `code` is also 0 if the end has no Error Report code.
 pub fn link_of(link: Link) -> CLink
     ensures { result ≡ link_of link }
 {

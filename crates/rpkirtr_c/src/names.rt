@@ -177,7 +177,8 @@ fn fault_name(kind: GrammarFaultKind) -> &'static [u8]
     }
 }
 
-/// Writes the name of the state of a route.
+/// Writes the name of the state of a route: `not-found` for 0, `valid` for 1, `invalid` for 2. Any other number gives `no such state`. Returns
+/// the number of `CallStatus::Done`.
 #[unsafe(no_mangle)]
 pub extern "C" fn rpkirtr_state_name(state: i32, text: &mut CText) -> i32
     ensures text { IsNamed state_number state_text (codes "no such state") state text.new }
@@ -190,7 +191,8 @@ pub extern "C" fn rpkirtr_state_name(state: i32, text: &mut CText) -> i32
     CallStatus::Done.number()
 }
 
-/// Writes the name of the state of a link.
+/// Writes the name of the state of a link: `closed` for 0, `idle` for 1, `asked` for 2, `answering` for 3, `ended` for 4. Any other number gives
+/// `no such link`. Returns the number of `CallStatus::Done`.
 #[unsafe(no_mangle)]
 pub extern "C" fn rpkirtr_link_name(link: u8, text: &mut CText) -> i32
     ensures text { IsNamed link_number link_name (codes "no such link") link text.new }
@@ -203,7 +205,8 @@ pub extern "C" fn rpkirtr_link_name(link: u8, text: &mut CText) -> i32
     CallStatus::Done.number()
 }
 
-/// Writes how a link ended. The code of its Error Report is not in the text.
+/// Writes in English how a link ended, by the number of the end, 1 to 6. The code of its Error Report is not in the text. Any other number gives
+/// `no such end`. Returns the number of `CallStatus::Done`.
 #[unsafe(no_mangle)]
 pub extern "C" fn rpkirtr_end_name(end: u8, text: &mut CText) -> i32
     ensures text { IsNamed end_number end_name (codes "no such end") end text.new }
@@ -216,7 +219,8 @@ pub extern "C" fn rpkirtr_end_name(end: u8, text: &mut CText) -> i32
     CallStatus::Done.number()
 }
 
-/// Writes what is at fault in a payload.
+/// Writes in English what is at fault in a payload, by the number of the fault, 1 to 20. Any other number gives `no such fault`. Returns the
+/// number of `CallStatus::Done`.
 #[unsafe(no_mangle)]
 pub extern "C" fn rpkirtr_fault_name(fault: u32, text: &mut CText) -> i32
     ensures text { IsNamed kind_number fault_name (codes "no such fault") fault text.new }

@@ -1,4 +1,4 @@
-//! The committed records of a router.
+//! The committed records of a router for C, and the state of a route over them.
 ghost use Rattle.std.specs.Prelude.{◌≡◌, ◌≤◌, length, drop, Option, Some, None, OnErr};
 ghost use Rattle.prefixes.specs.declared.route.Route.{Route};
 ghost use Rattle.rpkirtr_c.specs.Answers.{number};
@@ -18,7 +18,7 @@ use crate::values::{
 use std::alloc::Global;
 use vrps::OriginState;
 
-/// Writes how many records are committed.
+/// Writes how many records are committed. Returns the number of a `CallStatus`: `Done`, or `Empty`, and then 0 is written.
 #[unsafe(no_mangle)]
 pub extern "C" fn rpkirtr_router_count(
     alloc: Global,
@@ -37,7 +37,9 @@ pub extern "C" fn rpkirtr_router_count(
     CallStatus::Done.number()
 }
 
-/// Writes the state of a route over the committed records: 0 not found, 1 valid, 2 invalid.
+/// Writes the origin validation state of a route over the committed records (RFC 6811 section 2): 0 not found, 1 valid, 2 invalid. Records that
+/// have expired count until the next call with a time. Returns the number of a `CallStatus`: `Done`, `Empty`, or `BadRoute` if the route has no
+/// valid prefix. On a refusal 0 is written.
 #[unsafe(no_mangle)]
 pub extern "C" fn rpkirtr_router_state(
     alloc: Global,
@@ -63,7 +65,8 @@ pub extern "C" fn rpkirtr_router_state(
     answer.number()
 }
 
-/// Writes the record at an index of the committed records, in ascending order.
+/// Writes the record at `index`, from 0, of the committed records in ascending order. Returns the number of a `CallStatus`: `Done`, `Empty`, or
+/// `OutOfRange` if `index` is their number or more. On a refusal all fields of `out` are 0.
 #[unsafe(no_mangle)]
 pub extern "C" fn rpkirtr_router_record(
     alloc: Global,
@@ -83,7 +86,8 @@ pub extern "C" fn rpkirtr_router_record(
     answer.number()
 }
 
-/// Copies committed records in ascending order, from an index on, as many as fit, and writes how many.
+/// Copies the committed records from index `first` on into `room`, in ascending order, as many as fit. It writes to `copied` how many: 0 if
+/// `first` is their number or more. The rest of `room` stays. Returns the number of a `CallStatus`: `Done`, or `Empty`, and then `copied` is 0.
 #[unsafe(no_mangle)]
 pub extern "C" fn rpkirtr_router_records(
     alloc: Global,
@@ -104,7 +108,9 @@ pub extern "C" fn rpkirtr_router_records(
     CallStatus::Done.number()
 }
 
-/// Copies the committed records that cover a route in ascending order, as many as fit, and writes how many there are.
+/// Copies the committed records that cover a route into `room`, in ascending order, as many as fit. It writes to `count` how many cover the
+/// route, also if fewer fit. The rest of `room` stays. Returns the number of a `CallStatus`: `Done`, `Empty`, `BadRoute` or `NoMemory`. On a
+/// refusal `count` is 0, and `room` stays.
 #[unsafe(no_mangle)]
 pub extern "C" fn rpkirtr_router_covering(
     alloc: Global,
@@ -135,7 +141,9 @@ pub extern "C" fn rpkirtr_router_covering(
     answer.number()
 }
 
-/// Makes an index over the committed records in an empty handle of an index. It stays if the router changes or is freed.
+/// Makes an index over the committed records in the empty handle `index`. It does not change if the router changes or is freed, nor if the
+/// records expire. Returns the number of a `CallStatus`: `Done`, `Empty` if there is no router, `Live` if `index` is not empty, or `NoMemory`.
+/// On a refusal `index` stays as it was.
 #[tactic(auto, using(crate::proofs::Calls::indexes))]
 #[unsafe(no_mangle)]
 pub extern "C" fn rpkirtr_router_index(

@@ -86,7 +86,8 @@ impl CallStatus {
     }
 }
 
-/// Writes what a status means.
+/// Writes in English what a status means, by its number. A number without a status gives `no such status`. Returns the number of
+/// `CallStatus::Done`.
 #[unsafe(no_mangle)]
 pub extern "C" fn rpkirtr_strerror(status: i32, text: &mut CText) -> i32
     ensures text { Means status text.new }
@@ -99,7 +100,7 @@ pub extern "C" fn rpkirtr_strerror(status: i32, text: &mut CText) -> i32
     CallStatus::Done.number()
 }
 
-/// Writes the version of the release.
+/// Writes the version of the release: `1.1.0`. Returns the number of `CallStatus::Done`.
 #[unsafe(no_mangle)]
 pub extern "C" fn rpkirtr_version(text: &mut CText) -> i32
     ensures text { text.new ≡ in_room (codes "1.1.0") }
@@ -109,7 +110,7 @@ pub extern "C" fn rpkirtr_version(text: &mut CText) -> i32
     CallStatus::Done.number()
 }
 
-/// The version of the header. A program needs the one that it was compiled with.
+/// Returns the version of the C header, 0. A program needs the one that it was compiled with.
 #[unsafe(no_mangle)]
 pub extern "C" fn rpkirtr_abi_version() -> u32
     ensures { result ≡ 0 }

@@ -24,7 +24,7 @@ pub struct CRecord {
     pub zero_: u8,
 }
 
-/// A route, with an origin unless `has_origin` is 0.
+/// A route. If `has_origin` is 0, its origin is NONE (RFC 6811 section 2).
 #[repr(C)]
 #[derive(Clone, Copy, Debug)]
 pub struct CRoute {
@@ -157,7 +157,7 @@ fn family_of(prefix: &IpPrefix) -> u8
     }
 }
 
-/// Converts a VRP to a record of the C interface.
+/// Converts a VRP to a record of the C interface. Zeros follow an IPv4 address, and `zero_` is 0.
 pub fn record_of(vrp: &Vrp) -> CRecord
     ensures { SpellsRecord result vrp.now }
 {
@@ -207,7 +207,7 @@ pub fn copy_records(list: &[Vrp], room: &mut [CRecord]) -> usize
     count
 }
 
-/// Writes the record at this index to `told`. `OutOfRange`: the index is the length or more, and `no_record` is written.
+/// Writes the record at this index, from 0, to `told`. `OutOfRange`: the index is the length or more, and `no_record` is written.
 pub fn record_at(list: &[Vrp], index: usize, told: &mut CRecord) -> CallStatus
     ensures { IsRecordAt list.now index (number result) told.new }
 {

@@ -37,13 +37,13 @@ impl Connection {
         Some(Connection { stream })
     }
 
-    /// The socket.
+    /// The socket, to register it for poll events.
     pub fn socket(&mut self) -> &mut TcpStream {
         &mut self.stream
     }
 }
 
-/// Bounds the send buffer of a socket to 256 KiB. Returns whether that succeeded.
+/// Asks the system for a send buffer of 256 KiB for a socket. Returns whether the system accepted that.
 pub fn is_bounded(stream: &TcpStream) -> bool {
     takes_option(stream, SOL_SOCKET, SO_SNDBUF, SEND_ROOM)
 }

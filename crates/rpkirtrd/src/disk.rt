@@ -1,4 +1,4 @@
-//! The files.
+//! The files and directories, and how long each call on them lasts.
 use crate::system::System;
 use event_log::LogEvent;
 use payload_commands::{Directory, read_directories};

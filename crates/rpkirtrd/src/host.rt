@@ -34,7 +34,8 @@ impl<R: Files + RandomSource + AllocGlobal> HostFacts for SystemHost<'_, R> {
     }
 }
 
-/// The host name of the system. `Ok(None)`: it cannot be read, is empty, or is not UTF-8. `Err`: memory ran out.
+/// The host name of the system, without white space at its ends. `Ok(None)`: it cannot be read, is empty, or is not UTF-8. `Err`: memory ran
+/// out.
 pub fn host_name<R: Files + AllocGlobal>(rt: &R) -> io::Result<Option<String>> {
     let bytes = content_of(rt, HOST_NAME)?;
     match str::from_utf8(bytes.as_slice()) {

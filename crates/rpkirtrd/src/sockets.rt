@@ -1,4 +1,4 @@
-//! The sockets over `mio`.
+//! The sockets over `mio`, and the addresses of routers and visitors.
 use crate::connection::{Connection, is_bounded};
 use crate::system::System;
 use event_log::LogEvent;

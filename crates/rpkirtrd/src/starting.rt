@@ -21,8 +21,8 @@ pub fn out_of_memory<E: Write>(err: &mut E) -> u8 {
     4
 }
 
-/// Runs the daemon for these command-line arguments, without the program name, and returns its exit status.
-/// 0: done. 1: an input is refused. 2: the arguments do not parse. 3: a file, a socket or an output failed. 4: memory ran out.
+/// Runs the daemon for these command-line arguments, without the program name, and returns its exit status. 0: done. 1: an input is refused, or
+/// the daemon stopped because an export is too old. 2: the arguments do not parse. 3: a file, a socket or an output failed. 4: memory ran out.
 pub fn run_words<
     R: Files + Env + Net + Clock + RandomSource + AllocGlobal + Clone + Drop,
     O: Write,

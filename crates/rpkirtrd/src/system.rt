@@ -196,7 +196,7 @@ impl<'a, R: Clock + AllocGlobal, E: Write> System<'a, R, E> {
         self.end(Ok(fault.status()))
     }
 
-    /// Ends a run: notifies the service manager, flushes the log, and returns the exit status.
+    /// Ends a run: notifies the service manager, flushes the log, and returns the exit status. It waits at most a second for standard error.
     /// `ended` is the exit status of a run, or why the daemon did not start, which is reported.
     pub fn end(&mut self, ended: Result<u8, StartFault>) -> u8 {
         let status = match ended {
@@ -280,7 +280,8 @@ impl<'a, R: Clock + AllocGlobal, E: Write> System<'a, R, E> {
         manager.wait_limit(millis)
     }
 
-    /// Notifies the service manager that the daemon is ready, once it serves. A failure is logged. Without a service manager it does nothing.
+    /// Notifies the service manager that the daemon is ready, at the first call only. A failure is logged. Without a service manager it does
+    /// nothing.
     pub fn report_ready(&mut self) {
         let Some(manager) = &mut self.manager else {
             return;

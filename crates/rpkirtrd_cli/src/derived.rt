@@ -57,7 +57,7 @@ impl Settings {
         )
     }
 
-    /// The listening addresses for routers as text, one a line. `Err`: memory ran out.
+    /// The listening addresses for routers as text, in the order given. Each is a line that ends with a newline. `Err`: memory ran out.
     pub fn listen_text(&self, alloc: Global) -> Result<String, AllocError>
         ensures { IfOk result (λ text. string_bytes text ≡ flat_map address_line self.now.listen.items) }
     {
@@ -66,7 +66,8 @@ impl Settings {
         Ok(text)
     }
 
-    /// All sources as text, one a line: the option, a space and the path. `Err`: memory ran out.
+    /// All sources as text, from which the session ID is derived: lines `--vrps PATH`, then `--points PATH`, then `--slurm PATH`. Those of one
+    /// option are in the order given, and each line ends with a newline. `Err`: memory ran out.
     pub fn sources_text(&self, alloc: Global) -> Result<String, AllocError>
         ensures { IfOk result (λ text. string_bytes text ≡ sources_text self.now) }
     {

@@ -257,8 +257,8 @@ static NAMES: OptionGroup = OptionGroup {
             kind: OptionKind::Number,
             value: "NUMBER",
             help: &[
-                "How many versions are kept. A router that has one of them is sent only the",
-                "changes. The number is from 1 to 65536; the default is 16.",
+                "How many earlier versions are kept. A router that has one of them is sent",
+                "only the changes. The number is from 1 to 65536; the default is 16.",
             ],
         },
     ],

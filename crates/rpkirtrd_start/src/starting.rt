@@ -26,9 +26,9 @@ pub trait Addresses {
     fn log_addresses(&mut self, seconds: u64);
 }
 
-/// Loads all files and returns the daemon for these settings, ready to run. `Err`: why it does not start.
-/// `descriptors` is the process's descriptor limit. `http` is how many of them the status pages may need.
-/// If the start fails, the log gets nothing but the reason.
+/// Loads all files and returns the daemon for these settings, ready to run. `Err`: why it does not start. `descriptors` is the process's
+/// descriptor limit. `http` is how many of them the status pages may need. If the start fails, its reason is not logged: the caller reports it.
+/// The log may have events of paths that are given twice, and of files that were loaded before.
 pub fn start<T: Stream + Drop, H: HostFacts, W: Disk + Time + EventLog + Addresses>(
     alloc: Global,
     settings: Settings,

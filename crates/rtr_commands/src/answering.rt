@@ -219,10 +219,10 @@ fn answers_of(
     Ok(Answered { lines, left })
 }
 
-/// Returns the replies of a cache to the bytes that `hex` gives, which come on a new connection.
-/// The cache has published only `set`, under `serial`. Its session is `session` in protocol version 1 and `session0` in version 0.
-/// It replies in the version of the first PDU's header (RFC 8210 section 7).
-/// `Err(BadHex)`: `hex` is not hexadecimal. `Err(Memory)`: memory ran out, for a reply or its line.
+/// Returns the replies of a cache to the bytes that `hex` gives, which come on a new connection. The cache has published only `set`, under
+/// `serial`. Its session is `session` in protocol version 1 and `session0` in version 0. It replies in version 0 if the first byte is 0,
+/// otherwise in version 1 (RFC 8210 section 7). `Err(BadHex)`: `hex` is not hexadecimal. `Err(Memory)`: memory ran out. Then no replies are
+/// returned, not even an Error Report of code 1.
 pub fn answer_lines(
     alloc: Global,
     session: u16,

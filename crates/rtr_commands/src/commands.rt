@@ -51,10 +51,10 @@ fn cache_of(alloc: Global, name: CacheName, set: VrpSet) -> Result<Cache<Version
     cache_with(alloc, name.session, name.session0, name.serial, set)
 }
 
-/// The command `answer`: prints the replies of a cache to the bytes that `hex` gives, one PDU a line, in hexadecimal.
-/// `vrps` is the path of the payload list that the cache has published under `name`.
-/// `Ok`: the exit status, 0, or 1 if the file is not a list, `hex` is not hexadecimal, or its last PDU is incomplete.
-/// `Err`: the file cannot be read, the output failed, or memory ran out.
+/// The command `answer`: prints the replies of a cache to the bytes that `hex` gives, one PDU a line, in hexadecimal. `vrps` is the path of the
+/// payload list that the cache has published under `name`. `Ok`: the exit status, 0, or 1 if the file is not a list, `hex` is not hexadecimal,
+/// or its last PDU is incomplete. Then a line is printed: `refused list`, `refused hex`, or `refused 7 at OFFSET` after the replies. If the
+/// cache has ended the connection, a last incomplete PDU is not refused. `Err`: the file cannot be read, the output failed, or memory ran out.
 pub fn answer<R: Files + AllocGlobal, O: Write>(
     rt: &R,
     name: CacheName,
@@ -81,10 +81,10 @@ pub fn answer<R: Files + AllocGlobal, O: Write>(
     }
 }
 
-/// The command `serve`: serves `connections` connections on `port` of 127.0.0.1, one after the other.
-/// `vrps` is the path of the payload list that the cache has published under `name`. Failed connections count too.
-/// `Ok`: the exit status, 0, or 1 if the file is not a list, and then nothing is served.
-/// `Err`: a connection, the listener, the file or the output failed, or memory ran out. For connections, the first fault decides.
+/// The command `serve`: serves `connections` connections on `port` of 127.0.0.1, one after the other. Then it prints the word `served` and their
+/// number. `vrps` is the path of the payload list that the cache has published under `name`. Failed connections count too. `Ok`: the exit
+/// status, 0, or 1 if the file is not a list. Then the line `refused list` is printed, and nothing is served. `Err`: a connection, the listener,
+/// the file or the output failed, or memory ran out. For connections, the first fault decides.
 pub fn serve<R: Files + Net + AllocGlobal, O: Write>(
     rt: &R,
     port: u16,
@@ -110,8 +110,8 @@ pub fn serve<R: Files + Net + AllocGlobal, O: Write>(
 }
 
 /// The command `fetch`: fetches all data from a cache on `port` of 127.0.0.1 in this protocol version, and prints it as `tell_fetched` does.
-/// `Ok`: the exit status, 0, or 1 if no data was fetched, and then the reason is printed.
-/// `Err`: the connection or the output failed, or memory ran out.
+/// `Ok`: the exit status, 0, or 1 if no data was fetched, and then the reason is printed. It is also 1 if the router ran out of memory for the
+/// data. `Err`: the connection or the output failed, or memory ran out otherwise.
 pub fn fetch<R: Net + AllocGlobal, O: Write>(
     rt: &R,
     port: u16,
@@ -125,12 +125,11 @@ pub fn fetch<R: Net + AllocGlobal, O: Write>(
     tell_fetched(rt.alloc(), &router, fetched, out)
 }
 
-/// The command `loop`: a router fetches from a cache in this process, over a local TCP connection.
-/// Then the line of `tell_committed` and the state of a route are printed.
-/// `vrps` is the path of the payload list that the cache has published under `name`. `words` are the route's prefix and origin, as for
-/// `read_route`.
-/// `Ok`: the exit status, 0, or 1 if the route does not parse, the file is not a list, or the router fetched no data.
-/// `Err`: the file, the connection or the output failed, or memory ran out.
+/// The command `loop`: a router fetches from a cache in this process, over a local TCP connection. Then the line of `tell_committed` and the
+/// state of a route are printed. `vrps` is the path of the payload list that the cache has published under `name`. `words` are the route's
+/// prefix and origin, as for `read_route`. `Ok`: the exit status, 0, or 1 if the route does not parse, the file is not a list, or the router
+/// fetched no data. Then one line is printed: `refused word`, `refused list`, or the reason as `tell_fetched` prints it. Memory that runs out at
+/// the router is such a reason. `Err`: the file, the connection or the output failed, or memory ran out otherwise.
 pub fn both_ends<R: Files + Net + AllocGlobal, O: Write>(
     rt: &R,
     name: CacheName,

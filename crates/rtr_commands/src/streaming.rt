@@ -29,12 +29,13 @@ fn loopback(port: u16) -> SocketAddr {
     SocketAddr::new(IpAddr::V4(Ipv4Addr::LOCALHOST), port)
 }
 
-/// Opens a listener on this port of 127.0.0.1. With port 0, the system chooses a free one.
+/// Opens a listener on this port of 127.0.0.1. With port 0, the system chooses a free one. `Err`: the error of the system, for example that the
+/// port is in use.
 pub fn listen<R: Net>(rt: &R, port: u16) -> io::Result<R::Listener> {
     TcpListener::bind(rt, loopback(port))
 }
 
-/// Opens a connection to this port of 127.0.0.1.
+/// Opens a connection to this port of 127.0.0.1. `Err`: the error of the system, for example that nothing listens there.
 pub fn dial<R: Net>(rt: &R, port: u16) -> io::Result<R::Stream> {
     TcpStream::connect(rt, loopback(port))
 }
@@ -56,9 +57,9 @@ fn is_passing(kind: ErrorKind) -> bool {
     matches!(kind, ErrorKind::ConnectionAborted | ErrorKind::Interrupted)
 }
 
-/// Accepts and serves `connections` connections, one after the other. `Ok(None)`: none failed.
-/// `Ok(Some(fault))`: the fault of the first connection that failed. The connections after it are served nevertheless.
-/// `Err`: an accept failed. No further connection is served.
+/// Accepts and serves `connections` connections, one after the other. `Ok(None)`: none failed. `Ok(Some(fault))`: the fault of the first
+/// connection that failed. The connections after it are served nevertheless. `Err`: an accept failed. No further connection is served. An accept
+/// that was interrupted, or whose connection was aborted, is made again.
 pub fn serve_all<L: OpenListener>(
     listener: &L,
     cache: &mut Cache<VersionLog>,
@@ -120,8 +121,9 @@ fn let_go<T: Read + OpenStream>(stream: &mut T) {
     }
 }
 
-/// Fetches all data with a new router over a connection, in this protocol version. The router's clock stays at second 0.
-/// `Ok`: the router, and how the fetch ended. `Err`: a read or a write failed, or memory ran out.
+/// Fetches all data with a new router over a connection, in this protocol version. The router's clock stays at second 0. `Ok`: the router, and
+/// how the fetch ended. It is `Ended(Memory)` if memory ran out at the router. `Err`: a read, a write or another call of the connection failed,
+/// perhaps for lack of memory.
 pub fn fetch_all<T: Read + Write + OpenStream + Drop>(
     alloc: Global,
     stream: T,
@@ -138,7 +140,8 @@ pub fn fetch_all<T: Read + Write + OpenStream + Drop>(
     }
 }
 
-/// Opens a TCP connection from this process to itself over 127.0.0.1. Returns the router's socket and the cache's socket.
+/// Opens a TCP connection from this process to itself over 127.0.0.1. Returns the router's socket, which connected, and the cache's socket,
+/// which was accepted. `Err`: the error of the system.
 pub fn connected<R: Net>(rt: &R) -> io::Result<(R::Stream, R::Stream)> {
     let listener = listen(rt, 0)?;
     let near = TcpStream::connect(rt, listener.local_addr()?)?;
@@ -146,9 +149,10 @@ pub fn connected<R: Net>(rt: &R) -> io::Result<(R::Stream, R::Stream)> {
     Ok((near, far))
 }
 
-/// Fetches all data with a new router from `cache`. `near` is the router's socket and `far` the cache's, of one connection.
-/// Both ends move bytes in turns of at most 4,096. The router's clock stays at second 0.
-/// `Ok`: the router, and how the fetch ended. `Err`: a read or a write failed, or memory ran out.
+/// Fetches all data with a new router from `cache`, in protocol version 1. `near` is the router's socket and `far` the cache's, of one
+/// connection. Both ends move bytes in turns of at most 4,096. The router's clock stays at second 0. `Ok`: the router, and how the fetch ended.
+/// It is `Ended(Memory)` if memory ran out at the router. `Err`: a read or a write failed, or there was no memory for the connection at the
+/// cache.
 pub fn fetch_in_turns<T: Read + Write + Drop>(
     alloc: Global,
     cache: &mut Cache<VersionLog>,

@@ -52,7 +52,8 @@ fn print_report<W: Write>(code: u16, copy: &[u8], out: &mut W) -> io::Result<()>
     writeln!(out)
 }
 
-/// Prints a PDU as one line: its type and its fields, such as `serial-query 4660 5`. `Err`: the output failed.
+/// Prints a PDU as one line: its type and its fields, such as `serial-query 4660 5`. An Error Report has its code and its encapsulated PDU in
+/// hexadecimal, `-` if that is empty. A Router Key has its type alone. `Err`: the output failed.
 #[tactic(auto, unfolding(crate::specs::UnitLines::unit_line))]
 pub fn print_unit<W: Write>(unit: &Unit, out: &mut W) -> io::Result<()>
     ensures { OnOk result (Appends (W.contents out.old) (W.contents out.new) (unit_line unit.now)) }

@@ -56,8 +56,8 @@ impl<S: VersionStore> Cache<S> {
         Cache::new_both(alloc, store, session0, timing)
     }
 
-    /// A cache as from `new`, but with its own session ID `session0` for version 0 of the protocol. A session is one of a version of the
-    /// protocol (RFC 8210 section 5.1). Version 1 uses the session ID of the store.
+    /// A cache as from `new`, but with its own session ID `session0` for version 0 of the protocol. A session ID belongs to one version of the
+    /// protocol (RFC 8210 section 5.1). Version 1 uses the session ID of the store. Allocates no memory.
     pub fn new_both(alloc: Global, store: S, session0: u16, timing: Timing) -> Cache<S>
         ensures { (keep : ℕ) (i : Instance) → S.holds keep i store → i.session0 ≡ session0 → ShowsCache S.holds (without_conns keep timing i) result }
     {
@@ -72,8 +72,11 @@ impl<S: VersionStore> Cache<S> {
     }
 
     /// Receives bytes from the router, and returns how many were consumed. Returns 0 if bytes are due to the router (call `pull` first), if the
-    /// connection has ended, or if there is none. Otherwise consumes up to the end of the first PDU, up to a fault, or all of `piece`. Only a
-    /// Serial Query allocates memory. If memory runs out, an Error Report of code 1 is due, and the connection ends (RFC 8210 section 12).
+    /// connection has ended, or if there is none.
+    /// Otherwise consumes up to the end of the first PDU, up to a fault, or all of `piece`. A fault ends the connection, and an Error Report is
+    /// due unless the faulty PDU is one. An Error Report from the router ends it without an answer.
+    /// Only a Serial Query allocates memory. If memory runs out, an Error Report of code 1 is due, and the connection ends (RFC 8210 section
+    /// 12).
     pub fn receive(&mut self, conn: Conn, piece: &[u8]) -> usize
         ensures takes { (m : CacheState) → ShowsCache S.holds m self.old → TakesPiece S.holds m conn.0 piece.now result self.new }
         ensures within { result ≤ length piece.now }
@@ -102,8 +105,9 @@ impl<S: VersionStore> Cache<S> {
         }
     }
 
-    /// Queues a Serial Notify of the current version for the router (RFC 8210 section 5.2), to be pulled. Returns whether it did. Returns
-    /// `false` if there is no such connection, if it has ended, if bytes are due, or if nothing is published. Allocates no memory.
+    /// Queues a Serial Notify of the current version for the router (RFC 8210 section 5.2), to be pulled. It is of the protocol version of
+    /// `version`, or of version 1 if that is `None`. Returns whether it did.
+    /// Returns `false` if there is no such connection, if it has ended, if bytes are due, or if nothing is published. Allocates no memory.
     pub fn notify(&mut self, conn: Conn) -> bool
         ensures { (m : CacheState) → ShowsCache S.holds m self.old → (result ≡ can_notify_at m.cache (m.at conn.0)) × ShowsCache S.holds (notified conn.0 m) self.new }
     {
@@ -157,8 +161,8 @@ impl<S: VersionStore> Cache<S> {
         }
     }
 
-    /// The version of the protocol in which the router speaks: that of its first header (RFC 8210 section 7). `None`: no whole header has come
-    /// yet, or there is no such connection.
+    /// The version of the protocol that the first header of the router selects: version 0 if its first byte is 0, otherwise version 1 (RFC 8210
+    /// section 7). `None`: no whole header has come yet, or there is no such connection.
     pub fn version(&self, conn: Conn) -> Option<Version>
         ensures { (m : CacheState) → ShowsCache S.holds m self.now → result ≡ version_at (m.at conn.0) }
     {

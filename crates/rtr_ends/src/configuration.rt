@@ -53,7 +53,7 @@ impl Default for RouterConfig {
     }
 }
 
-/// An interval of a router's own if it keeps that, otherwise the one of an End of Data.
+/// Returns `own`, the router's own interval, if `keeps` is true. Otherwise returns `told`, the interval of an End of Data.
 pub fn own_if(keeps: bool, own: u32, told: u32) -> u32
     ensures { result ≡ own_if keeps own told }
 {

@@ -28,10 +28,12 @@ pub enum Fetched {
     Limit,
 }
 
-/// Fetches one version from a cache: connects the router, sends its query, and reads from `input` until the query is answered. Returns earlier
-/// if the link or the input ends or `limit` reads were made. Returns an error if a read or a write fails. Reads pieces of at most 4,096 bytes.
-/// Sends each query in one write if the writer accepts it. `now` is in seconds of the router's clock. In every case `Router::closed` is called.
-/// The router drops its committed table only if it expires, if the cache shows another session, or if it answers a Serial Query with code 0.
+/// Fetches one version from a cache: connects the router, sends its query, and reads from `input` until no query is outstanding. Returns earlier
+/// if the link or the input ends or `limit` reads were made. Returns an error if a read or a write fails.
+/// Reads pieces of at most 4,096 bytes, each to its end unless the link ends, so also PDUs after the answer. Sends each query in one write if
+/// the writer accepts it. `now` is in seconds of the router's clock. In every case `Router::closed` is called.
+/// The router drops its committed table only if it has expired at `now`, if the cache shows another session, or if it answers a Serial Query
+/// with code 0.
 pub fn fetch_stream<R: Read, W: Write>(
     router: &mut Router,
     input: &mut Counted<R>,

@@ -47,7 +47,8 @@ pub fn router_takes()
     ensures stops { RouterStops }
 {}
 
-/// Law: the test by which a router judges a whole answer passes if and only if the answer commits.
+/// Law: the test by which a router judges a whole answer passes if and only if the answer commits. It commits if each record acts, and acts
+/// once: it is withdrawn from the base, or announced although the base does not have it.
 pub fn acts_exactly()
     ensures { ActsExactly }
 {}
@@ -59,7 +60,7 @@ pub fn serves_history()
 {}
 
 /// Law: the bytes that a router consumed on its latest connection split into PDUs as its transcript lists them. This holds for any calls and any
-/// splitting of the bytes. The transcript has all PDUs in order, and a fault if one shows. While it reads, the router holds the bytes behind
+/// splitting of the bytes. The transcript has all PDUs in order, and a fault if one shows. While it reads, the router holds the bytes after
 /// them. A closed link holds none.
 pub fn router_splits()
     ensures { RouterSplits }
@@ -72,15 +73,17 @@ pub fn router_keeps()
     ensures { RouterKeeps }
 {}
 
-/// Law: after any calls, each query of a router is the one that its transcript calls for. So is the next one. It is a Reset Query if nothing is
-/// committed, if a record acted wrongly since the last commit, or after a Cache Reset. Otherwise it is a Serial Query since the committed
-/// version.
+/// Law: after any calls, each query that a router has sent is the one that its transcript calls for, and so is the one that it would send now.
+///
+/// It is a Reset Query in three cases. It comes directly after a Cache Reset. Nothing is committed in the connection's version of the protocol.
+/// Since the last commit a record was announced that was there, or withdrawn that was not (RFC 8210 section 12, codes 7 and 6). Otherwise it is
+/// a Serial Query with the committed session and serial.
 pub fn router_asks()
     ensures { RouterAsks }
 {}
 
-/// Law: after any calls, the next connection of a router has the version that was set last, or version 1 if none was set. The latest connection
-/// has the version that was set when it was made.
+/// Law: after any calls, the next connection of a router speaks the version of the protocol that `Router::speak` set last, or version 1 if none
+/// was set. The latest connection speaks the version that was set when it was made.
 pub fn router_speaks()
     ensures { RouterSpeaks }
 {}

@@ -24,7 +24,7 @@ pub enum End {
 impl End {
     ghost use Rattle.rtr_ends.specs.RouterLink.{end_number};
 
-    /// The fixed number of the kind of end, from 1 to 6. It does not depend on the error code.
+    /// The fixed number of the kind of end, from 1 to 6, in the order of the variants. It does not depend on the error code.
     pub fn number(self) -> u8
         ensures { result ≡ end_number self }
     {
@@ -86,7 +86,7 @@ pub enum AskFault {
 impl AskFault {
     ghost use Rattle.rtr_ends.specs.RouterLink.{ask_fault_number};
 
-    /// The number of the fault, as in its printed text.
+    /// The number of the fault, as in its printed text: 1 or 2.
     pub fn number(self) -> u8
         ensures { result ≡ ask_fault_number self }
     {

@@ -67,7 +67,8 @@ impl Machine {
     ghost use Rattle.rtr_ends.specs.declared.machine.State.TheVariants as states;
     ghost use Rattle.rtr_ends.specs.declared.link.End.TheVariants as ends;
 
-    /// A router that has committed nothing and has no connection.
+    /// A router that has committed nothing and has no connection. It has the default configuration, and its next connection is of version 1. It
+    /// allocates no memory.
     pub fn new(alloc: Global) -> Machine
         ensures { ShowsRouter rules.new_router result }
     {
@@ -91,7 +92,7 @@ impl Machine {
         }
     }
 
-    /// Sends this query, and waits for its answer.
+    /// Puts this query into `out`, in the version of the connection. Bytes that were pending before are dropped. The state becomes `Asked`.
     pub fn send_query(&mut self, question: Question)
         ensures { self.new ≡ record self.old { state = states.Asked question; out = sent self.old.spoken (query (seen_question question)) } }
     {
@@ -105,7 +106,7 @@ impl Machine {
         self.state = State::Asked(question);
     }
 
-    /// Adopts the reader's version for the connection, if the reader knows one.
+    /// Adopts the reader's version for the connection. `None`: the reader knows none, and nothing changes.
     pub fn follow(&mut self, version: Option<Version>)
         ensures { (spoken : Protocol) → version ≡ Some spoken → self.new ≡ record self.old { spoken = spoken } }
     {
@@ -160,7 +161,7 @@ impl Machine {
         self.send_query(question);
     }
 
-    /// Drops what is committed.
+    /// Drops what is committed: the table, the table before it, the version and the mark. The link, the pending bytes and `due` stay.
     pub fn empty(&mut self)
         ensures { self.new ≡ record self.old { table = empty; before = empty; version = None; mark = false } }
     {
@@ -170,7 +171,8 @@ impl Machine {
         self.mark = false;
     }
 
-    /// Sends an Error Report on a PDU, and ends the link.
+    /// Puts an Error Report of this code on `unit` into `out`, and ends the link with `End::Reported`. What is committed stays. `unit` must fit
+    /// the version of the connection.
     pub fn send_report(&mut self, code: u16, unit: &Unit)
         requires { fits self.old.spoken unit.now ≡ true }
         ensures { self.new ≡ record self.old { state = states.Ended (ends.Reported code); out = sent self.old.spoken (report code (sent self.old.spoken unit.now)) } }
@@ -180,7 +182,7 @@ impl Machine {
         self.state = State::Ended(End::Reported(code));
     }
 
-    /// Drops what is committed, and sends an Error Report of code 0, Corrupt Data, which ends the link.
+    /// Drops what is committed, and sends an Error Report of code 0, Corrupt Data, on `unit`, which ends the link with `End::Reported`.
     pub fn drop_and_report(&mut self, unit: &Unit)
         requires { fits self.old.spoken unit.now ≡ true }
         ensures { self.new ≡ record self.old { table = empty; before = empty; version = None; mark = false; state = states.Ended (ends.Reported CORRUPT_DATA); out = sent self.old.spoken (report CORRUPT_DATA (sent self.old.spoken unit.now)) } }
@@ -189,7 +191,7 @@ impl Machine {
         self.send_report(error_code::CORRUPT_DATA, unit);
     }
 
-    /// Returns whether bytes are consumed: a link is open, and there is nothing to pull.
+    /// Returns whether bytes that are received next are consumed: the link has not ended, it is not closed, and nothing is left to pull.
     pub fn takes(&self) -> bool
         ensures { result ≡ (linked.is_reading (seen_link self.now.state [] []) && is_none self.now.out) }
     {

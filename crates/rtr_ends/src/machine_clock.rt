@@ -1,4 +1,4 @@
-//! What a router does at a moment, and as a connection is made or closed (RFC 8210 sections 6 and 8).
+//! What a router does as time passes, and as a connection is made or closed: queries, retries and expiry (RFC 8210 sections 6 and 8).
 ghost use Rattle.std.specs.Prelude.{◌≡◌, ◌<◌, ◌^◌, ◌||◌, ℕ, [], Option};
 ghost use Rattle.rtr_ends.specs.LinkRules as rules;
 ghost use Rattle.rtr_ends.specs.Router as model;
@@ -29,7 +29,9 @@ impl Machine {
     ghost use Rattle.rtr_ends.specs.declared.machine.State.TheVariants as states;
     ghost use Rattle.rtr_ends.specs.declared.link.End.TheVariants as ends;
 
-    /// Advances the clock. A version that has expired is dropped, and then an outstanding Serial Query ends the link.
+    /// Advances the clock to `now`, in seconds; an earlier time changes nothing. If more than the expire interval has passed since the commit,
+    /// drops what is committed.
+    /// If a Serial Query is outstanding then, the link ends with `End::Expired`, and pending bytes are dropped.
     pub fn advance_clock(&mut self, now: u64)
         ensures { Does (model.clocked now) self.old self.new }
     {
@@ -74,7 +76,8 @@ impl Machine {
         }
     }
 
-    /// A connection is made, of the version that was set last.
+    /// Advances the clock, closes an older connection, and makes one of the version that was set last. Puts its first query into `out`. The
+    /// state becomes `Asked`.
     pub fn connect(&mut self, now: u64)
         ensures { Does (λ r. (model.connects_at now r).router) self.old self.new }
     {
@@ -84,7 +87,8 @@ impl Machine {
         self.query();
     }
 
-    /// The connection is closed.
+    /// Advances the clock. If there is a connection, closes it: pending bytes and staged records are dropped, and a query is due after the retry
+    /// interval.
     pub fn closed(&mut self, now: u64)
         ensures { Does (λ r. (model.closed_at now r).router) self.old self.new }
     {
@@ -107,7 +111,8 @@ impl Machine {
         self.due = Some(self.retry_moment());
     }
 
-    /// When to try again after a failure.
+    /// When to try again after a failure: the clock plus the retry interval of the committed version, or the configured one if nothing is
+    /// committed. The sum stops at `u64::MAX`.
     pub fn retry_moment(&self) -> u64
         ensures { result ≡ sum_of self.now.clock (retry_of self.now.config (seen_versions self.now.version)) }
     {
@@ -118,7 +123,7 @@ impl Machine {
         self.clock.saturating_add(u64::from(retry))
     }
 
-    /// Advances the clock. An idle link sends a query if that is due.
+    /// Advances the clock to `now`, in seconds. An idle link sends a query if that is due.
     pub fn tick(&mut self, now: u64)
         ensures { Does (λ r. (model.ticks_at now r).router) self.old self.new }
     {
@@ -161,7 +166,7 @@ impl Machine {
         }
     }
 
-    /// The first moment at which `tick` does more than advance the clock, if there is one.
+    /// The first time at which `tick` does more than advance the clock, in seconds. It may be past. `None`: there is no such time.
     pub fn wake_at(&self) -> Option<u64>
         ensures { (r : rules.Router) → ShowsRouter r self.now → WakesAt result r }
     {

@@ -27,7 +27,9 @@ impl Machine {
     ghost use Rattle.rtr_ends.specs.declared.machine.State.TheVariants as states;
     ghost use Rattle.rtr_ends.specs.declared.link.End.TheVariants as ends;
 
-    /// Reads a PDU. Returns whether memory ran out, in which case the link has ended.
+    /// Reads a PDU, which must fit the version of the connection. On a closed or ended link nothing changes. If the table would have too many
+    /// records, the link ends with `End::TooMany`.
+    /// Returns whether memory ran out, in which case the link has ended with `End::Memory`. Then what is committed stays.
     pub fn read(&mut self, unit: &Unit) -> bool
         requires { fits self.old.spoken unit.now ≡ true }
         ensures { ReadsOrLacks result unit.now self.old self.new }
@@ -59,7 +61,7 @@ impl Machine {
         }
     }
 
-    /// A Prefix is read, as `read` does. If it is staged, no `Unit` is made of it.
+    /// Reads a Prefix as `read` does, with the same result. If it is staged, no `Unit` is made of it.
     pub fn read_prefix(&mut self, announce: bool, vrp: &Vrp) -> bool
         ensures { ReadsOrLacks result (Unit.Prefix announce vrp.now) self.old self.new }
     {
@@ -415,7 +417,9 @@ impl Machine {
         }
     }
 
-    /// Bytes show a fault. An Error Report is sent, unless the bytes are one, and the link ends.
+    /// Ends the link at a fault that `bytes` show: with `End::Malformed` if their type is Error Report, otherwise with `End::Reported`. Pending
+    /// bytes are dropped.
+    /// Then `out` holds an Error Report, unless the type is Error Report or the fault is `Truncated`. What is committed stays.
     pub fn on_fault(&mut self, fault: UnitFault, bytes: &[u8])
         ensures { Does (λ r. (model.breaks fault bytes.now r).router) self.old self.new }
     {

@@ -32,14 +32,15 @@ impl FreeNumbers {
         }
     }
 
-    /// Frees a number in use. It allocates no memory.
+    /// Frees a number, which must be in use. It allocates no memory.
     pub fn put(&mut self, number: usize)
         ensures { (taken : List Bool) → AreFree taken self.old → slice_get taken number ≡ Option.Some true → AreFree (slice_set taken number false) self.new }
     {
         let _ = self.numbers.push(Reverse(number));
     }
 
-    /// Makes room for this many numbers beside the free ones.
+    /// Makes room for `count` numbers beside the free ones. If it succeeds and fewer than `count` numbers exist, the caller may add the next
+    /// number. That number is then in use, and `put` frees it. `AllocError`: out of memory. The call itself frees and uses no number.
     pub fn reserve(&mut self, count: usize) -> Result<(), AllocError>
         ensures same { (taken : List Bool) → AreFree taken self.old → AreFree taken self.new }
         ensures room { OnOk result ((taken : List Bool) → AreFree taken self.old → length taken < count → AreFree (taken ++ true ∷ []) self.new) }

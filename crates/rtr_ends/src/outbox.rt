@@ -26,7 +26,7 @@ impl Model for Outbox {
 }
 
 impl Outbox {
-    /// An outbox with nothing pending.
+    /// An outbox with nothing pending. It allocates no memory.
     pub fn new() -> Outbox
         ensures { result ≡ [] }
     {
@@ -43,7 +43,7 @@ impl Outbox {
         self.pulled == self.unit.len()
     }
 
-    /// How many bytes are pending.
+    /// How many bytes are pending, at most 4,096.
     pub fn len(&self) -> usize
         ensures count { result ≡ length self.now }
         ensures fits { result ≤ MAX_UNIT_LEN }
@@ -59,7 +59,7 @@ impl Outbox {
         self.pulled = 0;
     }
 
-    /// Makes a PDU pending in this version of the protocol, and drops what was pending before.
+    /// Makes a PDU pending in this version of the protocol, and drops what was pending before. The PDU must fit the version (`Unit::fits`).
     pub fn put(&mut self, version: Version, unit: &Unit)
         requires { fits version unit.now ≡ true }
         ensures { self.new ≡ sent version unit.now }
@@ -68,7 +68,8 @@ impl Outbox {
         self.pulled = 0;
     }
 
-    /// Moves pending bytes into the front of `room`, as many as fit, and returns how many.
+    /// Moves pending bytes into the front of `room`, as many as fit, and returns how many. The rest of `room` and the rest of the pending bytes
+    /// stay.
     pub fn pull(&mut self, room: &mut [u8]) -> usize
         ensures count { result ≡ min (length room.old) (length self.old) }
         ensures front { room.new ≡ take (length room.old) self.old ++ drop (length self.old) room.old }

@@ -1,4 +1,4 @@
-//! A router on its connection, as the cache sees it.
+//! A router on its connection, as the cache sees it: what is answered to each PDU.
 ghost use Rattle.std.specs.Prelude.{◌≡◌, ◌≤◌, ℕ, length, Bool, true, false, not, ◌||◌, List, [], ◌∷◌, Some, option_map};
 ghost use Rattle.vrps.specs.Instance.{Instance, versions};
 ghost use Rattle.vrps.specs.Stores.{newest};
@@ -45,14 +45,15 @@ impl Peer {
         self.ended || self.sender.is_due()
     }
 
-    /// Returns whether a PDU has arrived only in part.
+    /// Returns whether a PDU from the router has arrived only in part. After a fault it is `false`.
     pub fn is_within_unit(&self) -> bool
         ensures { result ≡ not (is_none self.now.reader.held) }
     {
         !self.reader.held().is_empty()
     }
 
-    /// The version of the protocol in the first header. `None`: no whole header has come yet.
+    /// The version of the protocol that the first header selects: version 0 if its first byte is 0, otherwise version 1. `None`: no whole header
+    /// has come yet.
     pub fn version(&self) -> Option<Version>
         ensures { result ≡ known_version self.now.reader }
     {
@@ -154,7 +155,9 @@ impl Peer {
     }
 
     /// Consumes bytes from the front of `piece`, and returns how many: up to the end of the first PDU, up to a fault, or all. Returns 0 if bytes
-    /// are due or the connection has ended.
+    /// are due or the connection has ended. `store` is the cache's store, which answers a Serial Query.
+    /// A fault ends the connection, with an Error Report unless the faulty PDU is one. If memory for an answer runs out, an Error Report of code
+    /// 1 ends it.
     pub fn receive<S: VersionStore>(&mut self, store: &S, piece: &[u8]) -> usize
         ensures receives { (keep : ℕ) (t : Intervals) (i : Instance) (o : Conn) → S.holds keep i store.now → ShowsPeer t i o self.old →
             Receives keep t i o piece.now result self.new }
@@ -178,7 +181,7 @@ impl Peer {
         }
     }
 
-    /// Writes bytes that are due into the front of `out`, as many as fit, and returns how many.
+    /// Writes bytes that are due into the front of `out`, as many as fit, and returns how many: 0 if nothing is due.
     pub fn pull(&mut self, out: &mut [u8]) -> usize
         ensures pulls { (keep : ℕ) (t : Intervals) (i : Instance) (o : Conn) → ShowsPeer t i o self.old → Pulls keep t i o out.old result out.new self.new }
         ensures within { result ≤ length out.old }
@@ -186,8 +189,9 @@ impl Peer {
         self.sender.pull(out)
     }
 
-    /// Queues a Serial Notify of the current version, and returns whether it did. Returns `false` if bytes are due, if the connection has ended,
-    /// or if nothing is published.
+    /// Queues a Serial Notify of the current version, and returns whether it did. It is of the protocol version of the first header, or of
+    /// version 1 if no header has come.
+    /// Returns `false` if bytes are due, if the connection has ended, or if nothing is published.
     pub fn notify(&mut self) -> bool
         ensures { (keep : ℕ) (t : Intervals) (i : Instance) (o : Conn) → ShowsPeer t i o self.old →
             (result ≡ can_notify i o) × ShowsPeer t i (conn_notified keep t i o) self.new }
@@ -222,7 +226,8 @@ impl Peer {
         self.sender.is_due()
     }
 
-    /// Returns whether the connection continues. `false`: it has ended.
+    /// Returns whether the connection continues. `false`: it has ended, by an Error Report that came, faulty or not, or by one that is sent. No
+    /// Data Available ends nothing, and an Error Report gets no answer (RFC 8210 sections 5.11 and 12). Bytes that are due can still be pulled.
     pub fn is_open(&self) -> bool
         ensures { (t : Intervals) (i : Instance) (o : Conn) → ShowsPeer t i o self.now → result ≡ not o.state.ended }
     {

@@ -1,4 +1,4 @@
-//! What a router asks for, and what it has committed.
+//! What a router asks for, what it has committed, and when that expires.
 ghost use Rattle.std.specs.Prelude.{◌≡◌, ◌<◌, ◌^◌, ℕ, Option, Some, None};
 ghost use Rattle.vrps.specs.Serial.{is_before};
 ghost use Rattle.rtr_ends.specs.Transcript.{is_over, is_same, is_serial, within};
@@ -19,7 +19,7 @@ pub enum Question {
 impl Question {
     ghost use Rattle.rtr_ends.specs.Seen.{seen_question};
 
-    /// Whether it is a Serial Query.
+    /// Returns whether it is a Serial Query. `false`: it is a Reset Query.
     pub fn is_serial(self) -> bool
         ensures { result ≡ is_serial (Some (seen_question self)) }
     {
@@ -93,7 +93,7 @@ impl CommittedVersion {
     }
 }
 
-/// An interval, brought to the nearest bound of its range.
+/// Returns `seconds` if it is from `low` to `high`, otherwise the nearer bound. `low` must not be above `high`.
 pub fn within(low: u32, high: u32, seconds: u32) -> u32
     ensures { result ≡ within low high seconds }
 {

@@ -54,7 +54,7 @@ impl Router {
     }
 
     /// Sets the configuration. It applies to later commits, and to later records of an answer that is under way. What is committed keeps its
-    /// intervals. Sends nothing, and allocates no memory.
+    /// intervals. While nothing is committed, a later failure uses the new retry interval. Sends nothing, and allocates no memory.
     pub fn configure(&mut self, config: RouterConfig)
         ensures calls { Calls (λ r. (called (model.Configures config) r).router) self.old self.new }
         ensures leads { LeadsOn (model.Configures config) self.old self.new }
@@ -71,7 +71,8 @@ impl Router {
     }
 
     /// Starts a connection and queues its first query, to be pulled. Call it once the transport is connected. The connection has the version
-    /// that `speak` set last. An older connection is closed. `now` is in seconds of the caller's clock. Allocates no memory.
+    /// that `speak` set last. An older connection is closed.
+    /// `now` is in seconds of the caller's clock. A committed table that has expired at `now` is dropped first. Allocates no memory.
     pub fn connect(&mut self, now: u64)
         ensures calls { Calls (λ r. (called (model.Connects now) r).router) self.old self.new }
         ensures leads { LeadsOn (model.Connects now) self.old self.new }
@@ -80,8 +81,9 @@ impl Router {
         self.reader = UnitReader::for_router(self.machine.spoken);
     }
 
-    /// Notes that the transport connection is closed. Drops the pending bytes and the unfinished answer, and keeps the committed
-    /// table. `now` is in seconds of the caller's clock. Allocates no memory.
+    /// Notes that the transport connection is closed. Advances the clock to `now`, in seconds of the caller's clock. Drops the pending bytes and
+    /// the unfinished answer. Keeps the committed table unless it has expired at `now`.
+    /// If there was a connection, the next query is due after the retry interval. Allocates no memory.
     pub fn closed(&mut self, now: u64)
         ensures calls { Calls (λ r. (called (model.Closes now) r).router) self.old self.new }
         ensures leads { LeadsOn (model.Closes now) self.old self.new }
@@ -89,8 +91,9 @@ impl Router {
         self.machine.closed(now);
     }
 
-    /// Advances the clock to `now`, in seconds of the caller's clock. Drops the committed table if it has expired. Queues a query if the link is
-    /// idle and the query is due. Allocates no memory.
+    /// Advances the clock to `now`, in seconds of the caller's clock. Drops the committed table if it has expired. If a Serial Query is
+    /// outstanding then, the link ends with `End::Expired`, and pending bytes are dropped.
+    /// Queues a query if the link is idle and the query is due. Allocates no memory.
     pub fn tick(&mut self, now: u64)
         ensures calls { Calls (λ r. (called (model.Ticks now) r).router) self.old self.new }
         ensures leads { LeadsOn (model.Ticks now) self.old self.new }
@@ -162,8 +165,9 @@ impl Router {
         self.machine.version
     }
 
-    /// The change that the latest commit made: the records that it withdrew and announced. `Ok(None)`: nothing is committed, so whoever follows
-    /// the table drops all records. Returns an error if memory runs out. The time is linear in the records of both tables.
+    /// The change of the latest commit: the records by which the committed table differs from the table before it. `Ok(None)`: nothing is
+    /// committed, so whoever follows the table drops all records. Returns an error if memory runs out. The time is linear in the records of both
+    /// tables.
     pub fn last_change(&self) -> Result<Option<Change>, AllocError>
         ensures shown { (r : rules.Router) → IsShown r self.now → IfOk result (λ change. change ≡ last_change (record { version = r.version; table = r.table; before = r.before })) }
         ensures kept { (calls : List model.RouterCall) → CallsLead calls self.now → IfOk result (λ change. change ≡ last_change (kept (model.played calls).items)) }
@@ -178,7 +182,8 @@ impl Router {
         }
     }
 
-    /// The committed records that cover the route, in ascending order. It is empty if none does. Returns an error if memory runs out.
+    /// The committed VRPs whose prefix covers that of the route (RFC 6811 section 2), in ascending order. The list is empty if there are none.
+    /// The origin and the maximum lengths do not matter. Returns an error if memory runs out.
     pub fn covering(&self, route: &Route) -> Result<Vec<Vrp>, AllocError>
         ensures { (r : rules.Router) → IsShown r self.now → IfOk result (λ records. records.items ≡ covering r.table route.now) }
     {
@@ -192,9 +197,9 @@ impl Router {
         self.machine.table.state(route)
     }
 
-    /// When to query again, in seconds of the caller's clock: refresh seconds after a commit, or retry seconds after No Data or a close. The
-    /// latest of these events counts. If the link is idle, `tick` sends the query then. If it is closed, connect again then. `None`: no such
-    /// event yet.
+    /// When to query again, in seconds of the caller's clock: refresh seconds after a commit, or retry seconds after No Data to a query or after
+    /// a close. The latest of these events counts. If the link is idle, `tick` sends the query then. If it is closed, connect again then.
+    /// `None`: no such event yet.
     pub fn due(&self) -> Option<u64>
         ensures shown { (r : rules.Router) → IsShown r self.now → result ≡ r.due }
         ensures kept { (calls : List model.RouterCall) → CallsLead calls self.now → result ≡ due (model.played calls).items }
@@ -211,7 +216,7 @@ impl Router {
         self.machine.wake_at()
     }
 
-    /// The state of the link.
+    /// The state of the link to the cache. The clock does not advance. After `Link::Ended`, close the transport and call `closed`.
     pub fn link(&self) -> Link
         ensures { (r : rules.Router) → IsShown r self.now → result ≡ told_link r.link }
     {
@@ -239,10 +244,11 @@ impl Router {
         let _ready = self.machine.out.len();
     }
 
-    /// Receives bytes from the cache, and returns how many were consumed. `now` is in seconds of the caller's clock, which advances first.
+    /// Receives bytes from the cache, and returns how many were consumed. `now` is in seconds of the caller's clock, which advances first. A
+    /// table that has expired is dropped then, as by `tick`.
     /// Returns 0 if bytes are pending (call `pull` first) or no link is open. Otherwise consumes up to the first PDU or fault that makes bytes
-    /// pending or ends the link. If there is none, consumes all of `piece`. If memory runs out, the link ends with `End::Memory`, and the
-    /// committed table stays.
+    /// pending or ends the link. If there is none, consumes all of `piece`.
+    /// If memory runs out, the link ends with `End::Memory`, and the committed table stays.
     pub fn receive(&mut self, piece: &[u8], now: u64) -> usize
         ensures shown { ReceivesSo now piece.now result self.old self.new }
         ensures leads { (wanting : Option ℕ) × LeadsOn (model.Receives now wanting piece.now) self.old self.new }

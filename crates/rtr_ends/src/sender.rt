@@ -1,4 +1,4 @@
-//! What a connection at the cache has to send.
+//! What a connection at the cache has to send: answers, notifies and Error Reports.
 ghost use Rattle.std.specs.Prelude.{◌≡◌, ℕ, ◌<◌, ◌≤◌, length, Bool, true, false, not, [], ◌∷◌, ◌++◌, ◌+◌, Some, None, map, option_map, slice_get, drop, ◌^◌};
 ghost use Rattle.vrps.specs.Instance.{NumberedSet};
 ghost use Rattle.rtr_pdu.specs.Unit.{fits};
@@ -172,7 +172,8 @@ pub struct Sender {
 }
 
 impl Sender {
-    /// A sender with nothing to send. `ready` is the newest version. `None`: nothing is published yet.
+    /// A sender with nothing to send. Its version of the protocol is 1 until `speak` sets another. `ready` is the newest version. `None`:
+    /// nothing is published yet.
     pub fn new(sessions: Sessions, timing: Timing, ready: Option<Share>) -> Self
         ensures due { due_of result ≡ [] }
         ensures version { result.version ≡ V1 }
@@ -214,7 +215,7 @@ impl Sender {
         self.pulled < self.buffer.len() || self.answer.is_some()
     }
 
-    /// Sends a PDU.
+    /// Queues a PDU, to be pulled. Call it only if nothing is due. The PDU must fit the version of the sender (`Unit::fits`).
     pub fn send(&mut self, unit: &Unit)
         requires due { due_of self.old ≡ [] }
         requires fits { fits self.old.version unit.now ≡ true }
@@ -290,7 +291,7 @@ impl Sender {
         }
     }
 
-    /// The serial of the newest version. `None`: nothing is published.
+    /// The serial of the newest version. `None`: nothing is published. Call it only if nothing is due.
     pub fn current(&self) -> Option<Serial>
         requires { due_of self.now ≡ [] }
         ensures { option_map (λ s. s.0) result ≡ option_map (λ v. v.serial) (newest_of self.now) }
@@ -316,7 +317,8 @@ impl Sender {
         let _none = self.answer.replace(AnswerCursor { records, place: 0 });
     }
 
-    /// Answers a Reset Query.
+    /// Answers a Reset Query: with a Cache Response, the announcements of the newest version in ascending order, and an End of Data. If nothing
+    /// is published, it is an Error Report of code 2, No Data Available. Call it only if nothing is due.
     pub fn answer_reset(&mut self)
         requires { due_of self.old ≡ [] }
         ensures { Sends self.old (whole_answer self.old.version (own_session self.old) self.old.timing (as_list (newest_of self.old))) self.new }
@@ -334,7 +336,8 @@ impl Sender {
         }
     }
 
-    /// Answers a Serial Query with the change to the version of which a share is ready.
+    /// Answers a Serial Query: with a Cache Response, the withdrawals and then the announcements of `change`, each in ascending order, and an
+    /// End of Data. `serial` must be that of the newest version. Call it only if nothing is due.
     pub fn answer_step(&mut self, serial: Serial, change: Change)
         requires due { due_of self.old ≡ [] }
         requires serial { Some serial.0 ≡ option_map (λ v. v.serial) (newest_of self.old) }
@@ -344,7 +347,7 @@ impl Sender {
         self.begin(Records::Step(serial, change));
     }
 
-    /// Sets the newest version, which the next answer sends.
+    /// Sets the newest version, which the next answer sends. An answer that is under way does not change.
     pub fn offer(&mut self, share: Share)
         ensures version { self.new.version ≡ self.old.version }
         ensures sessions { self.new.sessions ≡ self.old.sessions }
@@ -382,8 +385,9 @@ impl Sender {
         }
     }
 
-    /// Writes bytes that are due into the front of `out`, as many as fit, and returns how many. Records are written straight into `out`. The
-    /// buffer holds the PDU of which only a part fits at the end of `out`.
+    /// Writes bytes that are due into the front of `out`, as many as fit, and returns how many. It is less than the length of `out` only if
+    /// nothing is due afterwards. Records are written straight into `out`. The buffer holds the PDU of which only a part fits at the end of
+    /// `out`.
     pub fn pull(&mut self, out: &mut [u8]) -> usize
         ensures gives { PullsBytes (due_of self.old) out.old result out.new (due_of self.new) }
         ensures stays { Stays self.old self.new }

@@ -27,9 +27,10 @@ pub enum Served {
 }
 
 /// Serves one connection until it ends: reads queries from `input`, and writes the replies of the cache to `output`. Returns once the input or
-/// the connection ends, or after `limit` reads. Returns an error if a read or a write fails, or if memory for the connection runs out. What was
-/// read is answered before the next read. Reads pieces of at most 4,096 bytes, and writes pieces of at most 32,768. The connection is closed in
-/// every case.
+/// the connection ends, or after `limit` reads. Returns an error if a read or a write fails, or if memory for the connection runs out.
+/// If memory for an answer runs out, the cache sends an Error Report of code 1, and the result is `CacheEnded`. What was read is answered before
+/// the next read. No Serial Notify is sent.
+/// Reads pieces of at most 4,096 bytes, and writes pieces of at most 32,768. The connection is closed in every case.
 pub fn serve_stream<S: VersionStore, R: Read, W: Write>(
     cache: &mut Cache<S>,
     input: &mut Counted<R>,

@@ -43,7 +43,9 @@ impl Staging {
         }
     }
 
-    /// A record is withdrawn: code 6 if it is not in the base, or was withdrawn already. Without memory nothing is staged.
+    /// Withdraws a record. `in_base`: the base has it. `Stays`: it is staged. `Wrong` with code 6: it is not in the base, or was withdrawn
+    /// already. A record that only this answer announced is not in the base.
+    /// `Memory` is the only error. Nothing is staged unless the result is `Stays`.
     pub fn withdraw(&mut self, in_base: bool, vrp: &Vrp) -> Result<Staged, SetFault>
         ensures { (most : ℕ) (base : Vrps) (b : Begun) → IsStaged base b.withdrawn b.announced self.old → in_base ≡ has base vrp.now
             → GoesTo most base b false vrp.now result self.new }
@@ -61,8 +63,9 @@ impl Staging {
         }
     }
 
-    /// A record is announced: code 7 if it is in the base, or was announced already; `TooMany` if the table would have more records than
-    /// `most`. Without memory nothing is staged.
+    /// Announces a record. `in_base`: the base has it. `Stays`: it is staged. `Wrong` with code 7: it is in the base, or was announced already.
+    /// A record that this answer withdrew is still in the base.
+    /// `TooMany`: the table would have more records than `most`. `Memory`: out of memory. Nothing is staged unless the result is `Stays`.
     pub fn announce(&mut self, most: usize, in_base: bool, vrp: &Vrp) -> Result<Staged, SetFault>
         ensures { (base : Vrps) (b : Begun) → most ≤ 16777215 → IsStaged base b.withdrawn b.announced self.old → in_base ≡ has base vrp.now
             → GoesTo most base b true vrp.now result self.new }
@@ -86,7 +89,7 @@ impl Staging {
         }
     }
 
-    /// A record comes: it is staged, or acts wrongly.
+    /// Stages a record, or says what is wrong with it: as `announce` does if `announce` is true, otherwise as `withdraw` does.
     pub fn take(
         &mut self,
         most: usize,
@@ -124,7 +127,8 @@ impl Staging {
         }
     }
 
-    /// The set to which the records lead from the base. The time is linear in the number of all of them.
+    /// The set to which the records lead from `base`: without those withdrawn, together with those announced. `Memory` is the only error. The
+    /// time is linear in the number of all of them.
     pub fn lead(self, alloc: Global, base: &VrpSet) -> Result<VrpSet, SetFault>
         ensures ok { IfOk result (λ table. table ≡ union (without base.now self.withdrawn) self.announced) }
         ensures too_many { (b : Begun) → IsStaged base.now b.withdrawn b.announced self → ¬ (IsErrOf result SetFault.TooMany) }
@@ -141,7 +145,7 @@ impl Staging {
         Change { withdraw, announce }.apply(alloc, base)
     }
 
-    /// The set of the announced records, which is what the records lead to from the empty set.
+    /// The set of the announced records, which is what the records lead to from the empty set. `Memory` is the only error.
     pub fn lead_from_nothing(self, alloc: Global) -> Result<VrpSet, SetFault>
         ensures ok { IfOk result (λ table. table ≡ self.announced) }
         ensures too_many { (b : Begun) → IsStaged empty b.withdrawn b.announced self → ¬ (IsErrOf result SetFault.TooMany) }

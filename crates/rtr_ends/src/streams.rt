@@ -25,7 +25,7 @@ pub enum StreamFault {
 impl StreamFault {
     ghost use Rattle.rtr_ends.specs.Streams.{stream_fault_number};
 
-    /// The number of the fault, as in its printed text.
+    /// The number of the fault, as in its printed text: 1 to 3.
     pub fn number(self) -> u8
         ensures { result ≡ stream_fault_number self }
     {

@@ -32,7 +32,7 @@ impl Model for Table {
 }
 
 impl Table {
-    /// No record. It allocates no memory.
+    /// A table without records. It allocates no memory.
     pub fn empty(alloc: Global) -> Table
         ensures { result ≡ empty }
     {
@@ -42,7 +42,7 @@ impl Table {
         }
     }
 
-    /// The table of these records. The time is linear in their number.
+    /// The table of these records, with its index. The time is linear in their number. `AllocError`: no memory for the index.
     pub fn of(alloc: Global, set: VrpSet) -> Result<Table, AllocError>
         ensures { IfOk result (λ table. table ≡ set) }
     {
@@ -50,7 +50,7 @@ impl Table {
         Ok(Table { set, index })
     }
 
-    /// The records alone.
+    /// The records alone. The index is dropped.
     pub fn into_set(self) -> VrpSet
         ensures { result ≡ self }
     {
@@ -58,14 +58,14 @@ impl Table {
         set
     }
 
-    /// The records.
+    /// The records, in ascending order.
     pub fn set(&self) -> &VrpSet
         ensures { result.now ≡ self.now }
     {
         &self.set
     }
 
-    /// How many records there are.
+    /// How many records there are, at most 16,777,215.
     pub fn len(&self) -> usize
         ensures count { result ≡ size self.now }
         ensures fits { result ≤ 16777215 }
@@ -73,21 +73,21 @@ impl Table {
         self.set.len()
     }
 
-    /// Whether the record is there.
+    /// Returns whether the record is in the table. The time is logarithmic in the number of records.
     pub fn contains(&self, vrp: &Vrp) -> bool
         ensures { result ≡ has self.now vrp.now }
     {
         self.set.contains(vrp)
     }
 
-    /// The records that cover a route, in ascending order.
+    /// The records that cover a route, in ascending order. `AllocError`: no memory for the list.
     pub fn covering(&self, alloc: Global, route: &Route) -> Result<Vec<Vrp>, AllocError>
         ensures { IfOk result (λ records. records.items ≡ covering self.now route.now) }
     {
         self.index.covering(alloc, route)
     }
 
-    /// The state of a route. It allocates no memory.
+    /// The origin validation state of a route (RFC 6811 section 2). It allocates no memory.
     pub fn state(&self, route: &Route) -> OriginState
         ensures { result ≡ state self.now route.now }
     {

@@ -19,7 +19,7 @@ pub enum TimingFault {
 impl TimingFault {
     ghost use Rattle.rtr_ends.specs.Timing.{timing_fault_number};
 
-    /// The number of the fault, as in its printed text.
+    /// The number of the fault, as in its printed text: 1 or 2.
     pub fn number(self) -> u8
         ensures { result ≡ timing_fault_number self }
     {
@@ -92,7 +92,7 @@ impl Timing {
         self.retry
     }
 
-    /// The expire interval in seconds: how long a router keeps what it committed.
+    /// The expire interval in seconds: how long a router keeps what it committed if it commits nothing later.
     pub fn expire(&self) -> u32
         ensures value { result ≡ self.now.expire }
         ensures timing { IsTiming self.now }

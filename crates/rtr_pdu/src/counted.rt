@@ -49,7 +49,7 @@ impl<D> Counted<D> {
         self.calls
     }
 
-    /// The number of read and write calls that failed.
+    /// The number of read and write calls that failed: they returned an error, or wrote no byte of a nonempty buffer.
     pub fn failures(&self) -> u64
         ensures value { result ≡ failures_of self.now }
         ensures most { failures_of self.now ≤ calls_of self.now }

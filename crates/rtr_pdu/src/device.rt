@@ -66,8 +66,8 @@ fn write_bytes<W: Write>(bytes: &[u8], out: &mut Counted<W>) -> Result<(), Write
 }
 
 /// Writes a PDU of version 1 (RFC 8210 section 5), with one write call if the writer accepts all bytes at once. The PDU must fit version 1
-/// (`Unit::fits`).
-/// `WriteFailed`: a write call failed. Then only a part of the PDU is written, possibly no byte of it.
+/// (`Unit::fits`). The writer is not flushed.
+/// `WriteFailed`: a write call returned an error of any kind, or wrote no byte. Then only a part of the PDU is written, possibly no byte of it.
 pub fn write_unit<W: Write>(unit: &Unit, out: &mut Counted<W>) -> Result<(), WriteFailed>
     requires { fits Version.V1 unit.now ≡ true }
     ensures ok { IfOk result (λ _. Appends (W.contents (device_of out.old)) (W.contents (device_of out.new)) (unit_bytes Version.V1 unit.now)
@@ -106,7 +106,7 @@ fn missing(version: Version, held: &[u8]) -> usize
     }
 }
 
-/// Reads one PDU of version 1, as `read_unit_of` does. `Ok(None)`: the input ends before the first byte.
+/// Reads one PDU of version 1, as `read_unit_of` does, with the same errors. `Ok(None)`: the input ends before the first byte.
 pub fn read_unit<R: Read>(input: &mut Counted<R>) -> Result<Option<Unit>, ReadFault>
     ensures reads { ReadsUnit Version.V1 (R.remaining (device_of input.old)) (R.remaining (device_of input.new)) (calls_of input.old) (calls_of input.new) result }
     ensures counts { CountsRead input.old input.new result }
@@ -116,8 +116,8 @@ pub fn read_unit<R: Read>(input: &mut Counted<R>) -> Result<Option<Unit>, ReadFa
 
 /// Reads one PDU of this version, and no byte after it. `Ok(None)`: the input ends before the first byte. Every PDU must show this version, a
 /// Serial Notify too.
-/// `Fault`: the bytes are not a valid PDU, or the input ends within one. `ReadFailed`: a read call returned an error. Then the bytes read so far
-/// are lost.
+/// `Fault`: the bytes are not a valid PDU, or the input ends within one (`Truncated`). `ReadFailed`: a read call returned an error of any kind.
+/// Then the bytes read so far are lost.
 pub fn read_unit_of<R: Read>(
     version: Version,
     input: &mut Counted<R>,

@@ -60,8 +60,10 @@ impl Kind {
         self as u8
     }
 
-    /// The length in bytes of a PDU of this type, header included. For a Router Key it excludes the key, for an Error Report the copy and the
-    /// text: it is the minimum length.
+    /// The length in bytes of a PDU of this type, header included. Only an End of Data depends on the version: it has 12 bytes in version 0, and
+    /// 24 in version 1.
+    /// For a Router Key it excludes the key, for an Error Report the copy and the text: it is the minimum length. A Router Key has 32 in version
+    /// 0, too, although version 0 has no such PDU.
     pub fn fixed_len(self, version: Version) -> u32
         ensures { result ≡ fixed_len version self }
     {
@@ -76,7 +78,8 @@ impl Kind {
         }
     }
 
-    /// Returns whether a PDU of this type may have this length in bytes, header included. The limit `MAX_UNIT_LEN` is not checked.
+    /// Returns whether a PDU of this type may have this length in bytes, header included. A Router Key and an Error Report may be longer than
+    /// `fixed_len`. Neither the limit `MAX_UNIT_LEN` nor whether the version has this type is checked.
     pub fn may_have(self, version: Version, len: u32) -> bool
         ensures { result ≡ may_have version self len }
     {

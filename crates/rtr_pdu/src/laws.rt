@@ -3,7 +3,8 @@ ghost use Rattle.rtr_pdu.specs.Device.{TellsFirst};
 ghost use Rattle.rtr_pdu.specs.Judging.{BeginsExactly, FaultyExactly, WholeExactly};
 ghost use Rattle.rtr_pdu.specs.Stream.{EachSplits, NoBeginning, OneSplit, WrittenIsRead};
 
-/// Law: a stream has only one split into PDUs, at the cache and at a router, for each version.
+/// Law: a stream has only one split into its PDUs, the remaining bytes, and a fault if they show one. This holds at the cache and at a router,
+/// for each version.
 pub fn one_split()
     ensures { OneSplit }
 {}
@@ -18,7 +19,8 @@ pub fn written_is_read()
     ensures { WrittenIsRead }
 {}
 
-/// Law: the bytes of one PDU are never a proper beginning of the bytes of another PDU of the same version.
+/// Law: if the bytes of two PDUs of one version are at the front of the same bytes, they are one PDU, and what follows is the same. So no PDU's
+/// bytes are a proper beginning of another's.
 pub fn no_beginning()
     ensures { NoBeginning }
 {}

@@ -126,15 +126,16 @@ impl UnitReader {
         UnitReader::fresh(Some(version), true)
     }
 
-    /// The version given at the start, or that of the PDUs read so far. `None`: it is a reader for a cache that has read no PDU yet.
+    /// The version given at the start, otherwise that of the first PDU that was returned. `None`: it is a reader for a cache that has returned
+    /// no PDU. A PDU with a fault is not returned.
     pub fn expected(&self) -> Option<Version>
         ensures { result ≡ self.now.version }
     {
         self.version
     }
 
-    /// The version given at the start, or else the one of the first header, as `Version::first` reads it. `None`: the 8 bytes of the first
-    /// header are not complete.
+    /// The version given at the start, otherwise that of the first header, as `Version::first` reads it. `None`: it is a reader for a cache, and
+    /// the 8 bytes of the first header are not complete.
     pub fn version(&self) -> Option<Version>
         ensures { result ≡ known_version self.now }
     {
@@ -230,6 +231,7 @@ impl UnitReader {
 
     /// Notes the end of the input and returns its fault: the one already found, or `Truncated` if the input ends within a PDU. `None`: the input
     /// ends after a whole PDU, or is empty.
+    /// After `Truncated`, `next` returns this fault, too.
     pub fn end_of_input(&mut self) -> Option<UnitFault>
         ensures answer { result ≡ at_end self.old }
         ensures kept { self.new ≡ record self.old { fault = at_end self.old } }

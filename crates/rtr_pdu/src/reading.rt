@@ -54,7 +54,9 @@ fn shown_version(version: Version, any: bool, shown: u8, kind: u8, len: u32) -> 
     }
 }
 
-/// The fault of a whole header.
+/// The first fault of the header in the first 8 bytes, in the order `Version`, `Type`, `Length`, `TooLong`. `None`: it has none of these.
+/// `bytes` must have at least 8 bytes.
+/// `any`: a Serial Notify of 12 bytes may show any version (RFC 8210 section 7).
 pub fn judge(version: Version, any: bool, bytes: &[u8]) -> Option<UnitFault>
     requires { 8 ≤ length bytes.now }
     ensures { result ≡ header_fault version (as_read version any bytes.now) }
@@ -72,6 +74,7 @@ fn number_16(bytes: &[u8], at: usize) -> u16
     BigEndian::read_u16(&bytes[at..])
 }
 
+/// The 32-bit number in network byte order at offset `at`. `bytes` must have at least `at + 4` bytes.
 pub fn number_32(bytes: &[u8], at: usize) -> u32
     requires { at + 4 ≤ length bytes.now }
     ensures { result ≡ number_at 4 at bytes.now }
@@ -189,7 +192,9 @@ fn end_of_data(version: Version, bytes: &[u8]) -> Unit
     }
 }
 
-/// Reads a PDU that has come whole, behind a header without a fault.
+/// Reads the PDU in `bytes`, which must be one whole PDU whose header has no fault by `judge`.
+/// `Record`: a Prefix does not hold a valid VRP. `ErrorReport`: the lengths in an Error Report do not add up, or its text is not UTF-8. There
+/// are no other faults.
 pub fn read(version: Version, any: bool, bytes: &[u8]) -> Result<Unit, UnitFault>
     requires { IsBody version any bytes.now }
     ensures ok { IfOk result (λ unit. IsRead version any bytes.now unit) }
@@ -232,8 +237,9 @@ pub fn read(version: Version, any: bool, bytes: &[u8]) -> Result<Unit, UnitFault
     }
 }
 
-/// The Prefix that has come whole, behind a header without a fault: whether it is announced, and its payload. None if it is another
-/// PDU, or a fault.
+/// Reads the Prefix in `bytes`, which must be one whole PDU whose header has no fault by `judge`. It returns `true` for an announcement or
+/// `false` for a withdrawal, and the VRP.
+/// `None`: it is another PDU, or a Prefix that does not hold a valid VRP.
 pub fn read_prefix(version: Version, any: bool, bytes: &[u8]) -> Option<(bool, Vrp)>
     requires { IsBody version any bytes.now }
     ensures some { IfSome result (λ found. IsRead version any bytes.now (Unit.Prefix found.0 found.1)) }
@@ -252,7 +258,9 @@ pub fn read_prefix(version: Version, any: bool, bytes: &[u8]) -> Option<(bool, V
     }
 }
 
-/// The size of the PDU with which the bytes begin, if it has come whole, behind a header without a fault.
+/// Returns the length in bytes, header included, of the PDU with which `bytes` begins, once all of it is there. `version` is the expected one, and
+/// `any` is as in `judge`. `None`: fewer than 8 bytes are there, the header has a fault by `judge`, or the end has not arrived. The body is not
+/// checked.
 pub fn whole_size(version: Version, any: bool, bytes: &[u8]) -> Option<usize>
     ensures within { IfSome result (λ size. size ≤ length bytes.now) }
     ensures body { IfSome result (λ size. IsBody version any (take size bytes.now)) }

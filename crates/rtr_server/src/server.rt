@@ -1,4 +1,4 @@
-//! One cache and many clients.
+//! One cache and many clients: who is admitted, served, notified and closed.
 ghost use Rattle.std.specs.Prelude.{◌≡◌, ◌+◌, ◌<◌, ◌&&◌, ℕ, false, true, not, [], ◌∷◌, IfErr, IfOk, Option, cond, if◌then◌else◌, length, option_map};
 ghost use Rattle.vrps.specs.Instance.{Instance, IsInstance, versions};
 ghost use Rattle.vrps.specs.Stores.{newest};
@@ -17,7 +17,8 @@ use std::alloc::{AllocError, Global};
 use thiserror::Error;
 use vrps::{Published, Serial, VersionStore, VrpSet};
 
-/// The handle of a client: the number of its connection at the cache. The number may go to another client after this one is closed.
+/// The handle of a client: the number of its connection at the cache. The number may go to another client after this one is closed. The handle
+/// then means that client.
 #[derive(Clone, Copy, Debug, PartialEq, Eq)]
 pub struct Client(Conn);
 
@@ -189,7 +190,7 @@ impl<S: VersionStore, T: Stream + Drop> Server<S, T> {
         self.cache.close(client.0);
     }
 
-    /// The number of clients.
+    /// The number of clients: those that were admitted and are not closed.
     pub fn clients(&self) -> usize
         ensures { (p : Past) → ShowsServer S.holds T.remaining T.contents p self.now → result ≡ clients_in self.now.slots.items }
     {
@@ -224,7 +225,7 @@ impl<S: VersionStore, T: Stream + Drop> Server<S, T> {
     }
 
     /// The PDUs that came from a client, by type. `None`: there is no such client. A PDU counts once its connection has consumed as many bytes
-    /// as its header says, even if the PDU has a fault behind its header.
+    /// as its header says, and at least 8. It counts even if it has a fault after its header.
     pub fn received(&self, client: Client) -> Option<PdusByKind>
         ensures { result ≡ option_map (λ slot. slot.traffic.received.pdus) (slot_at self.now.slots.items client.0.0) }
     {
@@ -267,8 +268,9 @@ impl<S: VersionStore, T: Stream + Drop> Server<S, T> {
         }
     }
 
-    /// The version of the protocol in which a client speaks: that of its first header (RFC 8210 section 7). `None`: no whole header has come
-    /// yet, or there is no such client.
+    /// The version of the protocol in which the connection of a client speaks (RFC 8210 section 7): 0 if its first header has version 0,
+    /// otherwise 1. So it is also 1 if that header has a version that the cache does not support. `None`: no whole header has come yet, or there
+    /// is no such client.
     pub fn version(&self, client: Client) -> Option<Version>
         ensures { (p : Past) → ShowsServer S.holds T.remaining T.contents p self.now → result ≡ version_at ((present p).at client.0.0) }
     {

@@ -66,14 +66,16 @@ pub trait Stream {
     /// Its calls and what each answered, the last first, if that is known.
     ghost answers: { Self → Option (List Call) };
 
-    /// Reads into the front of `buf` without blocking. `Bytes(n)`: `n` bytes were read, at most the length of `buf`.
+    /// Reads into the front of `buf` without blocking. `Bytes(n)`: `n` bytes were read, at most the length of `buf`. `Bytes(0)` into a `buf`
+    /// that is not empty: the input has ended. Any other outcome: nothing was read.
     fn read(&mut self, buf: &mut [u8]) -> Progress
         ensures reads { ReadsSo (remaining self.old) (remaining self.new) result buf.new }
         ensures within { IsWithin (length buf.old) result }
         ensures keeps { Keeps (contents self.old) (contents self.new) }
         ensures logs { Logged (a_read result) (answers self.old) (answers self.new) };
 
-    /// Writes from the front of `buf` without blocking. `Bytes(n)`: the first `n` bytes were written, at most all of `buf`.
+    /// Writes from the front of `buf` without blocking. `Bytes(n)`: the first `n` bytes were written, at most all of `buf`. Any other outcome:
+    /// nothing was written.
     fn write(&mut self, buf: &[u8]) -> Progress
         ensures writes { WritesSo (contents self.old) (contents self.new) result buf.now }
         ensures within { IsWithin (length buf.now) result }

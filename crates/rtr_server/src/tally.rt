@@ -27,7 +27,7 @@ impl PdusByKind {
         PdusByKind { counts: [0; 11] }
     }
 
-    /// The number of PDUs of this type.
+    /// The number of PDUs of this type that were counted. It saturates at `u64::MAX`.
     pub fn of(&self, kind: Kind) -> u64
         ensures { result ≡ count_of self.now kind }
     {
@@ -101,7 +101,8 @@ impl Tally {
         self.pdus
     }
 
-    /// The serial of the last End of Data (RFC 8210 section 5.8). `None`: there was no End of Data.
+    /// The serial of the last End of Data (RFC 8210 section 5.8). An End of Data of fewer than 12 bytes has no serial, and does not change it.
+    /// `None`: there was no End of Data with a serial.
     pub fn serial(&self) -> Option<Serial>
         ensures { result ≡ self.now.serial }
     {
@@ -125,8 +126,9 @@ impl Tally {
         }
     }
 
-    /// Counts the next bytes of the direction. They may begin or end inside a PDU. For what is counted see
-    /// [`counts_units`](crate::laws::counts_units).
+    /// Counts the next bytes of the direction. They may begin or end inside a PDU. Only headers are judged: a PDU ends after as many bytes as its
+    /// length says, and at least 8. It then counts under its type, even if it has a fault. A type that is not in RFC 8210 counts nowhere. For
+    /// whole PDUs see [`counts_units`](crate::laws::counts_units), for Error Reports [`counts_reports`](crate::laws::counts_reports).
     pub fn count(&mut self, piece: &[u8])
         ensures { self.new ≡ counted_on self.old piece.now }
     {

@@ -1,4 +1,4 @@
-//! One turn of a client.
+//! One turn of a client: what is read, answered and written.
 ghost use Rattle.std.specs.Prelude.{◌≡◌, ◌<◌, ◌≤◌, [], false, drop, length, take};
 ghost use Rattle.rtr_server.specs.Turns.{Anyhow, AnswersTurn, AnswersStep, EndsSo, GoesFrom, GoesOrEnds, IsIdle, IsOver, IsSettled, IsToWrite};
 ghost use Rattle.rtr_server.specs.Turns.{MaySettle, NoneDue, StandsFor, WritesFrom, after_read, after_write, and_received, no_traffic, settles};
@@ -65,7 +65,7 @@ pub struct Parted {
     /// The error code of the last Error Report that was sent to the client (RFC 8210 section 12). The cache ends the connection after each of
     /// them, except code 2, No Data Available. `None`: none was sent.
     pub sent_report: Option<u16>,
-    /// The version of the protocol in which the client spoke (RFC 8210 section 7). `None`: no whole header came.
+    /// The version of the protocol in which its connection spoke, as `Server::version` says. `None`: no whole header came.
     pub version: Option<Version>,
     /// The first byte that came from the client and was consumed: the version in its first header. The cache need not support that
     /// version. `None`: no byte was consumed.

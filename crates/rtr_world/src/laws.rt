@@ -5,7 +5,8 @@ ghost use Rattle.rtr_world.specs.Claims.{ActExactlyOnce, AnswersNow, ConnsRun, E
 
 /// Law: a history of events and outcomes leads to exactly one world, and every list of events has possible outcomes.
 /// After each event and its clean-up, another clean-up would change nothing. Publishing the current set is never refused.
-/// If a refusal is due, there is no other outcome. If memory runs out, the event's connection is cut and nothing more arrives.
+/// If a refusal is due, there is no other outcome. If memory runs out for an event at a router, so that it is refused, its connection is
+/// cut and nothing more arrives.
 /// An event at one router leaves the others unchanged. It moves at most as many bytes as it says, and no more than it would with enough memory.
 pub fn steps()
     ensures one { OneWorld }
@@ -81,9 +82,9 @@ pub fn one_answer()
     ensures now { AnswersNow }
 {}
 
-/// Law: suppose that a router connects, and then only bytes of it are moved and its connection is cut or made anew. Memory may run out.
-/// If its link is then idle, it has the protocol version that the router speaks, and the router holds the newest version of the present
-/// instance.
+/// Law: suppose that a router connects. After it, each event moves bytes of this router, cuts its connection or connects it again. Memory may
+/// run out. If its link is then idle, it has the protocol version that the router speaks, and the router holds the newest set published by the
+/// present instance of the cache.
 /// Or nothing is published, and the router holds no session of that protocol version. If it holds no session at all, its table is empty.
 pub fn idle_is_current()
     ensures { IdleIsCurrent }

@@ -55,7 +55,7 @@ impl Side {
         }
     }
 
-    /// Notes that the cache restarted: its side of the connection and the bytes in transit to it are lost.
+    /// Notes that the cache restarted: its side of the connection and the bytes in transit to it are lost. Bytes in transit to the router stay.
     pub fn lose_cache(&mut self)
         ensures { Lost self.old self.new }
     {

@@ -10,8 +10,9 @@ const FAMILY: [u8; 2] = [1, 0];
 /// The longest name, in bytes: with a byte more it has the 108 of an address (unix(7)).
 const LONGEST: usize = 107;
 
-/// The address of the socket `name`, as the bytes of a `sockaddr_un` (unix(7)). `name` is the value of `NOTIFY_SOCKET`: an absolute path, or `@` and
-/// a name in the abstract namespace, of at most 107 bytes. `None`: it is neither. `Err`: memory ran out.
+/// The address of the socket `name`, as the bytes of a `sockaddr_un` without padding (unix(7)). `name` is the value of `NOTIFY_SOCKET`: an
+/// absolute path, or `@` and a name in the abstract namespace, of 2 to 107 bytes in all. A zero byte is appended to a path only.
+/// `None`: it is neither, or has another length. `Err`: memory ran out.
 pub fn socket_address(alloc: Global, name: &str) -> Result<Option<Vec<u8>>, AllocError>
     ensures { IfOk result (λ found. option_map (λ bytes. bytes.items) found ≡ socket_address name.now) }
 {

@@ -7,12 +7,12 @@ use std::io::{self, ErrorKind};
 
 /// A socket of a service manager that can be opened.
 pub trait OpenNotifySocket: NotifySocket {
-    /// The socket at an address, as the bytes of a `sockaddr_un` (unix(7)). Its sends do not block.
+    /// Opens the socket for an address, as the bytes of a `sockaddr_un` (unix(7)). Its sends do not block. `Err`: it cannot be opened.
     fn open(address: &[u8]) -> io::Result<Self>;
 }
 
 /// The service manager that the environment of this process names. `own` is the process number, `now` the time in milliseconds of a monotonic
-/// clock. `None`: the environment names none. `Err`: it names one that cannot be notified, or memory ran out.
+/// clock. `None`: `NOTIFY_SOCKET` is not set, is empty or is not UTF-8. `Err`: it names one that cannot be notified, or memory ran out.
 pub fn service_manager<R: Env + AllocGlobal, C: OpenNotifySocket>(
     rt: &R,
     own: u64,

@@ -11,7 +11,7 @@ pub trait NotifySocket {
     /// The messages that were sent, if that is known. The last one is at the end.
     ghost sent: { Self → Option (List (List ℕ)) };
 
-    /// Sends a message without blocking. Returns whether the service manager got it.
+    /// Sends a message without blocking. Returns whether it was sent.
     fn send(&mut self, message: &[u8]) -> bool
         ensures { sent self.new ≡ and_sent message.now (sent self.old) };
 }
@@ -26,8 +26,9 @@ pub struct Notifier<C> {
     is_ready: bool,
 }
 
-/// The watchdog that the environment turns on for the process of the number `own` (sd_watchdog_enabled(3)). `process` and `microseconds` are the numbers
-/// in `WATCHDOG_PID` and `WATCHDOG_USEC`, if they are set. The last signal counts as sent at `now`. `None`: it is not on.
+/// The watchdog that the environment turns on for the process of the number `own` (sd_watchdog_enabled(3)). `process` and `microseconds` are the
+/// numbers in `WATCHDOG_PID` and `WATCHDOG_USEC`, if they are set. The last signal counts as sent at `now`, in milliseconds of a monotonic
+/// clock. `None`: `microseconds` is `None` or 0, or `process` is another number than `own`.
 pub fn enabled_watchdog(
     process: Option<u64>,
     microseconds: Option<u64>,
@@ -59,7 +60,8 @@ impl<C: NotifySocket> Notifier<C> {
         }
     }
 
-    /// Reports that the service is ready, at the first call only. Returns whether the report failed.
+    /// Reports that the service is ready, at the first call only. Returns whether the report failed. Later calls send nothing and return
+    /// `false`, even if the first report failed.
     pub fn fails_to_report_ready(&mut self) -> bool
         ensures later { self.old.is_ready ≡ true → result ≡ false }
         ensures once { self.old.is_ready ≡ true → self.new ≡ self.old }
@@ -74,14 +76,14 @@ impl<C: NotifySocket> Notifier<C> {
         !self.socket.send(b"READY=1")
     }
 
-    /// Reports that the service ends.
+    /// Reports that the service ends. A report that fails is ignored.
     pub fn report_stop(&mut self)
         ensures { C.sent self.new.socket ≡ and_sent (codes "STOPPING=1") (C.sent self.old.socket) }
     {
         let _ = self.socket.send(b"STOPPING=1");
     }
 
-    /// Signals the watchdog if a signal is due at `now`.
+    /// Signals the watchdog if a signal is due at `now`. A signal that fails counts as sent. Without a watchdog it does nothing.
     pub fn signal(&mut self, now: u64)
         ensures sends { C.sent self.new.socket ≡ signal_sent self.old.watchdog now (C.sent self.old.socket) }
         ensures watchdog { self.new.watchdog ≡ after_signal self.old.watchdog now }
@@ -95,7 +97,7 @@ impl<C: NotifySocket> Notifier<C> {
         }
     }
 
-    /// How many milliseconds after `now` the next signal is due. Without a watchdog it is `u64::MAX`.
+    /// How many milliseconds after `now` the next signal is due: 0 if it is due already. Without a watchdog it is `u64::MAX`.
     pub fn wait_limit(&self, now: u64) -> u64
         ensures { result ≡ notifier_wait self.now.watchdog now }
     {

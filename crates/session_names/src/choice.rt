@@ -39,7 +39,7 @@ pub trait HostFacts {
     fn name(&mut self) -> io::Result<Vec<u8>>
         ensures { IfOk result (λ name. answers.names name.items) };
 
-    /// Returns a random session id.
+    /// Returns a random session id. An error means that the source of random numbers failed.
     fn random_session(&mut self) -> io::Result<u16>
         ensures { IfOk result answers.randoms };
 }

@@ -48,7 +48,7 @@ impl Pace {
         }
     }
 
-    /// Notes that a version was published at `now`, in seconds since 1970.
+    /// Notes that a version was published at `now`, in seconds since 1970. It does not check that `may_publish` was true.
     pub fn published(&mut self, now: u64)
         ensures { self.new ≡ Some now }
     {

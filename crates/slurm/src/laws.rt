@@ -21,12 +21,14 @@ pub fn one_reading()
     ensures { OneReading }
 {}
 
-/// Law: `ReadsSlurm` accepts exactly the files that `IsSlurmFile` describes, with the same exceptions.
+/// Law: reading step by step, as [`read_slurm`](crate::read_slurm) does, accepts exactly the files that the definition `IsSlurmFile` describes
+/// (RFC 8416 section 3). The exceptions are the same.
 pub fn reads_exactly()
     ensures { ReadsExactly }
 {}
 
-/// Law: `ReadsScoped` accepts exactly the files that `IsScopedFile` describes, with the same scope.
+/// Law: reading step by step with the scope, as [`read_slurm_scoped`](crate::read_slurm_scoped) does, accepts exactly the files that the
+/// definition `IsScopedFile` describes. The scope is the same.
 pub fn reads_scoped_exactly()
     ensures { ReadsScopedExactly }
 {}
@@ -51,7 +53,7 @@ pub fn united_applied()
     ensures { UnitedApplied }
 {}
 
-/// Law: the order of the files does not change the set that results.
+/// Law: the order in which files are united does not change the set that results from applying them.
 pub fn any_order()
     ensures { AnyOrder }
 {}

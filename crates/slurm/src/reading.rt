@@ -141,10 +141,11 @@ pub fn read_slurm_scoped(alloc: Global, bytes: &[u8]) -> Result<ScopedSlurm, Slu
 /// - The filters: the arrays `prefixFilters` and `bgpsecFilters` (section 3.3).
 /// - The assertions: the arrays `prefixAssertions` and `bgpsecAssertions` (section 3.4).
 ///
+/// An entry may have only the members of these sections. Its prefix is a text that `prefix_texts::parse_prefix` reads.
 /// BGPsec entries have no effect. Their `SKI` and `routerPublicKey` are not checked to be Base64.
 ///
 /// `Err` is the first fault, in this order:
-/// - `NotJson`: the bytes are not a JSON text.
+/// - `NotJson`: the bytes are not a JSON text in UTF-8, nest over 127 deep, or have a number that is too large for a float.
 /// - `Repeated`: an object repeats a name.
 /// - `Members` of the file, then `Version`: the members are wrong, or `slurmVersion` is not 1.
 /// - `Members` of the filters, then of the assertions.

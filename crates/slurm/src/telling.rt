@@ -326,9 +326,12 @@ fn joined(alloc: Global, place: &str, why: &str, fault: SlurmFault) -> Result<St
 
 /// Formats a fault of a SLURM file as a message. `bytes` is the file that [`read_slurm`](crate::read_slurm) refused with `fault`.
 ///
-/// - The message names a member that is missing, unknown or repeated. Otherwise it names the array, the index from 0, the member and its value.
+/// - The message names a member that is missing, unknown or repeated. A repeated name is named only if it is in the object of the file, in one
+///   of its two objects, or in an entry.
+/// - If a value is wrong, the message names its object, or its array with the index from 0 and the member, and shows the value.
 /// - The value is shown as JSON. If that has over 80 bytes, only the first 80 are shown.
-/// - If the bytes are not JSON, the message gives the line and the column. Or it says that they are compressed or begin with a byte order mark.
+/// - If the bytes are not JSON, the message gives the line and the column. Or it says that they are compressed, or begin with a byte order mark
+///   or a zero byte.
 /// - The message ends in the fault number, such as `(fault 1)`.
 ///
 /// `Err`: out of memory.

@@ -85,7 +85,8 @@ fn united(alloc: Global, files: &[ScopedSlurm]) -> Result<Slurm, UniteFault>
 /// Entries of one file may overlap each other. Entries of two files may not. A filter without a prefix, or a BGPsec filter without an AS,
 /// overlaps with nothing.
 ///
-/// `Err` is the first fault, in this order. `Overlap`: two files overlap; prefixes are compared before the ASes of BGPsec entries.
+/// `Err` is the first fault, in this order. `Overlap`: two files overlap; prefixes are compared before the ASes of BGPsec entries. If several
+/// overlap, one overlap is reported.
 /// `TooMany`: the files assert over 16,777,215 different VRPs. `Memory` (out of memory) can occur at any point.
 ///
 /// The running time is that of sorting all entries.

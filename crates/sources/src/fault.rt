@@ -61,15 +61,15 @@ impl From<AllocError> for TakeSetFault {
 /// Why several SLURM files are refused.
 #[derive(Clone, Copy, Debug, PartialEq, Eq, Error)]
 pub enum SlurmSetFault {
-    /// A file cannot be read. It is the first such file.
+    /// The bytes of a file are not a SLURM file, or memory ran out while they were read. It is the first such file.
     #[error("{fault}")]
     File {
         /// The index of the file, from 0.
         index: usize,
-        /// Why it cannot be read.
+        /// Why they are refused.
         fault: SlurmFault,
     },
-    /// All files can be read, but they cannot be used together. Or memory ran out.
+    /// Each file is a SLURM file, but they cannot be used together. Or memory ran out.
     #[error("{0}")]
     Unite(UniteFault),
 }

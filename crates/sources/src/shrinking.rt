@@ -22,7 +22,7 @@ pub(crate) fn shrinking(guard: Option<u8>, had: u64, has: u64) -> Option<TakeFau
 
 /// Returns whether an export has too few records. `had` is the number of records before, and `has` the number now.
 ///
-/// It is true if `had` is 1,000 or more, and more than `percent` percent of them are gone.
+/// It is true if `had` is 1,000 or more, and more than `percent` percent of them are gone. It is false if `percent` is 100 or more.
 pub fn is_too_short(percent: u8, had: u64, has: u64) -> bool
     ensures { result ≡ is_too_short percent had has }
 {

@@ -46,6 +46,7 @@ pub struct ServedSet {
 impl Sources {
     /// Creates sources with this number of files, each without records. There are no local exceptions and no publication points. Payloads of
     /// length 0 are not left out.
+    /// `files` includes the lists for sets of other caches. `AllocError`: no memory for them.
     pub fn new(alloc: Global, files: usize) -> Result<Sources, AllocError>
         ensures { IfOk result (λ s. (s.exceptions ≡ None) × (s.repository ≡ no_points) × NoneTaken files s.lists.items × (s.leaves_out ≡ false)) }
     {
@@ -70,14 +71,15 @@ impl Sources {
         self.leaves_out = true;
     }
 
-    /// The number of files.
+    /// The number of files, as given to `new`. It includes the lists for sets of other caches.
     pub fn files(&self) -> usize
         ensures { result ≡ length self.now.lists.items }
     {
         self.lists.len()
     }
 
-    /// The number of records of a file that have expired since the file was read. `now` is in seconds since 1970.
+    /// The number of records of a file that have expired since the file was read. Entries that had expired before are not counted. `now` is in
+    /// seconds since 1970.
     ///
     /// It is 0 if there is no such file.
     pub fn expired(&self, file: usize, now: u64) -> u64
@@ -113,7 +115,8 @@ impl Sources {
         }
     }
 
-    /// When the last export of a file was made, in seconds since 1970. `None`: the export does not say so, or there is no such file.
+    /// When the last export of a file was made, in seconds since 1970. `None`: the export does not say so, the file has no export or a set of
+    /// another cache, or there is no such file.
     pub fn built(&self, file: usize) -> Option<u64>
         ensures { result ≡ built_at (slice_get self.now.lists.items file) }
     {
@@ -163,7 +166,8 @@ impl Sources {
 
     /// Replaces the export of `file` (from 0) by the export in `bytes`, read at `now`, in seconds since 1970.
     ///
-    /// `Ok`: the number of entries that had expired. `Err`: there is no such file, or the bytes are not an export. Then nothing changes.
+    /// `Ok`: the number of its entries that had expired at `now`. On an error nothing changes. `NoSuchFile`: there is no such file.
+    /// `Export`: the bytes are not an export, over 16,777,215 different VRPs count, or memory ran out. The result is never `Shrank`.
     pub fn take_export(&mut self, file: usize, bytes: &[u8], now: u64) -> Result<u64, TakeFault>
         ensures lists { TakesExport bytes.now now file result self.old.lists.items self.new.lists.items }
         ensures rest { (self.new.exceptions ≡ self.old.exceptions) × (self.new.repository ≡ self.old.repository) × (self.new.leaves_out ≡ self.old.leaves_out) }
@@ -177,7 +181,7 @@ impl Sources {
     /// `Err(Shrank)`: the last export has 1,000 or more records, and more than `guard` percent of them are gone. Records that have expired at
     /// `now` count on neither side.
     ///
-    /// `guard` of `None`: no export is refused for this reason.
+    /// `guard` of `None`, or of 100 or more: no export is refused for this reason. On an error nothing changes.
     pub fn take_export_within(
         &mut self,
         guard: Option<u8>,
@@ -204,7 +208,8 @@ impl Sources {
         }
     }
 
-    /// The number of records of a file that count at `now`, in seconds since 1970. It is 0 if there is no such file.
+    /// Returns how many records of `file` have not expired at `now`, in seconds since 1970. `file` is its index, from 0. A record has expired if
+    /// its last second is before `now`. The lists for sets of other caches count as files. 0: there is no such file, or no record is left.
     pub fn left(&self, file: usize, now: u64) -> u64
         ensures { result ≡ left_of now (slice_get self.now.lists.items file) }
     {
@@ -218,7 +223,7 @@ impl Sources {
     /// in seconds since 1970. So the records end with the Expire Interval (RFC 8210 section 6). `None`: they count until the list is replaced or
     /// dropped.
     ///
-    /// `Err`: there is no such list, or memory ran out. Then nothing changes.
+    /// `NoSuchList`: there is no such list. `Memory`: out of memory. On an error nothing changes.
     pub fn take_set(
         &mut self,
         list: usize,
@@ -248,7 +253,8 @@ impl Sources {
         true
     }
 
-    /// Replaces the local exceptions by those of one SLURM file. `Err`: the bytes are not a SLURM file, or memory ran out. Then nothing changes.
+    /// Replaces the local exceptions by those of one SLURM file. `Err`: the bytes are not a SLURM file, assert over 16,777,215 different VRPs,
+    /// or memory ran out. Then nothing changes.
     pub fn take_slurm(&mut self, bytes: &[u8]) -> Result<(), SlurmFault>
         ensures exceptions { TakesSlurm bytes.now result self.old.exceptions self.new.exceptions }
         ensures rest { (self.new.lists ≡ self.old.lists) × (self.new.repository ≡ self.old.repository) × (self.new.leaves_out ≡ self.old.leaves_out) }
@@ -258,10 +264,11 @@ impl Sources {
         Ok(())
     }
 
-    /// Replaces the local exceptions by those of several SLURM files together. No two of them may overlap (RFC 8416 section 4.2). If `files` is
-    /// empty, there are no exceptions from then on.
+    /// Replaces the local exceptions by those of several SLURM files together. `files` has their bytes. No two of them may overlap (RFC 8416
+    /// section 4.2). If `files` is empty, there are no exceptions from then on.
     ///
-    /// `Err(File)`: a file cannot be read. `Err(Unite)`: the files cannot be used together, or memory ran out. On an error nothing changes.
+    /// `Err(File)`: the first file that is not a SLURM file or asserts over 16,777,215 VRPs, or memory ran out while it was read.
+    /// `Err(Unite)`: two files overlap, they assert over 16,777,215 VRPs together, or memory ran out. On an error nothing changes.
     pub fn take_slurms(&mut self, files: &[Vec<u8>]) -> Result<(), SlurmSetFault>
         ensures exceptions { TakesSlurms (map (λ f. f.items) files.now) result self.old.exceptions self.new.exceptions }
         ensures rest { (self.new.lists ≡ self.old.lists) × (self.new.repository ≡ self.old.repository) × (self.new.leaves_out ≡ self.old.leaves_out) }

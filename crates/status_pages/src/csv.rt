@@ -26,8 +26,8 @@ fn write_csv_lines<W: Write>(out: &mut W, records: &[Vrp], end: &str) -> io::Res
     Ok(())
 }
 
-/// Writes VRPs as CSV: the header line `ASN,IP Prefix,Max Length`, then one line for each VRP, such as `AS64496,192.0.2.0/24,26`. `Err`: the
-/// writer failed.
+/// Writes VRPs as CSV: the header line `ASN,IP Prefix,Max Length`, then one line for each VRP in the order given, such as
+/// `AS64496,192.0.2.0/24,26`. `Err`: the writer failed.
 pub fn write_csv<W: Write>(out: &mut W, records: &[Vrp]) -> io::Result<()>
     ensures { OnOk result (Appends (W.contents out.old) (W.contents out.new) (csv_text records.now)) }
 {

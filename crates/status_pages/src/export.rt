@@ -1,4 +1,4 @@
-//! The start of an export.
+//! The start of an export: its metadata, before the records.
 ghost use Rattle.std.specs.Prelude.{◌≡◌, OnOk};
 ghost use Rattle.std.specs.Io.KnownBytes.{Appends};
 ghost use Rattle.status_pages.specs.Export.{BeginsExport, BeginsRoutinator, export_head, routinator_head};

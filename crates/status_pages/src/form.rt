@@ -116,8 +116,11 @@ fn write_fault<W: Write>(out: &mut W, alloc: Global, fault: QueryFault) -> io::R
 
 /// Writes the HTML page with the form that asks for a route. `query` is the part of the URL after `?`. `now` is the time on the page, in seconds
 /// since 1970.
-/// - If `query` is empty, the form is empty.
-/// - Otherwise the form has what was typed. The page says why that is not a route (`fault`), and links to the route that was probably meant.
+///
+/// - If `query` is empty, the form is empty, and `fault` is not shown.
+///
+/// - Otherwise the form has what was typed. The page says why that is not a route (`fault`), and links to the route that was probably meant, if
+///   it can guess one.
 ///
 /// The page does not refresh, so the typed text stays. `Err`: the writer failed, or memory ran out.
 pub fn write_form_page<W: Write>(

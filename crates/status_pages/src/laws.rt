@@ -10,7 +10,8 @@ pub fn covering_is_parted()
     ensures lists { ListsCover }
 {}
 
-/// Law: let a route be Invalid. If a covering VRP has the route's origin AS, the reason is `length`. Otherwise it is `as`.
+/// Law: let a route be Invalid. If a covering VRP has the route's origin AS, the reason is `length`. Otherwise it is `as`. AS 0 is not the
+/// origin of a route (RFC 6483 section 4).
 ///
 /// If the reason is `length`, such a VRP is in the list of those whose maximum length is too small.
 pub fn reason_is_by_origin()

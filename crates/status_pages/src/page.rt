@@ -98,7 +98,7 @@ fn write_parts<W: Write>(out: &mut W, status: &Status) -> io::Result<()> {
     write_part_end(out)
 }
 
-/// Writes the status as one HTML page. `Err`: the writer failed.
+/// Writes the status as one HTML page, which a browser loads again each minute. `Err`: the writer failed.
 pub fn write_page<W: Write>(out: &mut W, status: &Status) -> io::Result<()> {
     write_head(out, status)?;
     write_header(out, status)?;

@@ -257,7 +257,7 @@ fn has_any(status: &Status, reasons: &[Reason]) -> bool
     reasons.iter().any(|reason| has_reason(status, *reason))
 }
 
-/// Returns whether no reason holds.
+/// Returns whether none of [`REASONS`] holds, for the cache as a whole or for a source.
 pub fn is_well(status: &Status) -> bool
     ensures { result ≡ is_well status.entry.now }
 {

@@ -1,4 +1,4 @@
-//! The records as the array of objects that Routinator and StayRTR write.
+//! The records as the array of objects in Routinator's JSON (`/json`).
 ghost use Rattle.std.specs.Prelude.{◌≡◌, OnOk};
 ghost use Rattle.std.specs.Io.KnownBytes.{Appends};
 ghost use Rattle.std.specs.List.{flat_map};
@@ -48,8 +48,8 @@ fn write_joined<W: Write>(out: &mut W, records: &[Vrp]) -> io::Result<()>
     write_more(out, others)
 }
 
-/// Writes VRPs as a JSON array of objects, as Routinator and StayRTR do. The member `ta` is empty, as a cache does not know the trust anchor.
-/// `Err`: the writer failed.
+/// Writes VRPs as a JSON array of objects in the order given, as Routinator and StayRTR do. The member `ta` is empty, as a cache does not know
+/// the trust anchor. `Err`: the writer failed.
 #[tactic(auto, unfolding(crate::specs::Roas::roas_text))]
 pub fn write_roas<W: Write>(out: &mut W, records: &[Vrp]) -> io::Result<()>
     ensures { OnOk result (Appends (W.contents out.old) (W.contents out.new) (roas_text records.now)) }

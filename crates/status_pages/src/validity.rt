@@ -24,7 +24,7 @@ pub struct Validity {
 impl Validity {
     ghost use Rattle.status_pages.specs.Validity.{IsValidity};
 
-    /// Computes the validity of a route under the VRPs of `index`. `Err`: out of memory.
+    /// Computes the validity of a route under the VRPs of `index`. Each of the three lists is in ascending order. `Err`: out of memory.
     pub fn of_route(
         alloc: Global,
         index: &OriginIndex,

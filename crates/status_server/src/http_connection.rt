@@ -23,14 +23,14 @@ pub enum HttpProgress {
 }
 
 impl HttpProgress {
-    /// Returns whether the connection is busy.
+    /// Returns whether the next turn serves the connection: it used up its calls, or its stream became ready.
     pub fn is_busy(self) -> bool
         ensures { result ≡ is_busy self }
     {
         matches!(self, HttpProgress::Busy)
     }
 
-    /// Returns whether the connection is closed.
+    /// Returns whether the connection is finished or its stream failed.
     pub fn is_closed(self) -> bool
         ensures { result ≡ is_closed self }
     {

@@ -199,7 +199,8 @@ impl<T: Read + Write + Drop> HttpConnections<T> {
         self.entries.is_empty()
     }
 
-    /// Adds a connection with this poll token, at `now`. It is busy, so it is served next. `Err`: it is refused, and the others do not change.
+    /// Adds a connection with this poll token, at `now`. It is busy, so it is served next. `Err`: the stream is dropped, and the others do not
+    /// change. `TooManyConnections`: [`MAX_CONNECTIONS`] are open. `Memory`: fewer are open, and memory ran out.
     pub fn admit(&mut self, token: usize, stream: T, now: u64) -> Result<(), HttpAdmitFault>
         ensures ok { OnOk result (Admits token now stream self.old self.new) }
         ensures full { result ≡ Err HttpAdmitFault.TooManyConnections ↔ (64 ≤ length self.old) }
@@ -243,7 +244,7 @@ impl<T: Read + Write + Drop> HttpConnections<T> {
         Some(connection.into_stream())
     }
 
-    /// Returns whether a connection has the poll token.
+    /// Returns whether an open connection has this poll token.
     pub fn has(&self, token: usize) -> bool
         ensures { result ≡ has_token token self.now }
     {

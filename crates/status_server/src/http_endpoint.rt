@@ -59,14 +59,15 @@ impl<T: Read + Write + Drop> HttpEndpoint<T> {
         }
     }
 
-    /// The connections.
+    /// The open connections, for example to count them.
     pub fn connections(&self) -> &HttpConnections<T>
         ensures { result.now ≡ self.now.0 }
     {
         &self.connections
     }
 
-    /// Runs one turn at `now`, in milliseconds of a monotonic clock. It accepts connections and serves those that are busy or ready.
+    /// Runs one turn at `now`, in milliseconds of a monotonic clock. It accepts connections and serves those that are busy or ready. If the most
+    /// connections are open, it closes the one that has waited longest for its request, or the new one if all are being answered.
     ///
     /// It removes connections that are closed or timed out. It refuses a request if `is_served_host` is false for the host that it names.
     ///

@@ -144,7 +144,7 @@ impl<T: Read + Write + Drop> StatusEndpoint<T> {
     }
 
     /// Runs one turn of the endpoint. The pages show `view`. `now` is in seconds since 1970, and `millis` in milliseconds of a monotonic clock.
-    /// `lost` is the number of lines that the log lost.
+    /// `lost` has the numbers of lines that the log dropped and suppressed.
     pub fn turn<N: HttpSockets<T>, V: CacheView>(
         &mut self,
         now: u64,

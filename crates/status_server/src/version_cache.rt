@@ -36,7 +36,7 @@ impl Debug for VersionCache {
 }
 
 impl VersionCache {
-    /// Creates an empty cache.
+    /// Creates an empty cache: nothing was made of a version yet.
     pub fn new(alloc: Global) -> VersionCache
         ensures { IsUnused result }
     {
@@ -48,7 +48,7 @@ impl VersionCache {
         }
     }
 
-    /// Drops what was made of a version with another serial than `version`.
+    /// Drops what was made of a version with another serial than `version`. `None`: drops all that was made.
     pub fn drop_old(&mut self, version: Option<(Serial, &VrpSet)>)
         ensures { self.new ≡ kept_for (version_of version.entry) self.old }
     {

@@ -24,7 +24,8 @@ fn host_word(a: u8, b: u8, c: u8, d: u8) -> u32
 }
 
 impl Endpoint {
-    /// The end of a connection at this address.
+    /// The end of a connection at this address. An IPv4 address is that of its IPv4-mapped IPv6 address. The scope of an IPv6 address does not
+    /// count.
     pub fn of(address: SocketAddr) -> Endpoint
         ensures { result ≡ endpoint_of address }
     {
@@ -52,7 +53,7 @@ impl Endpoint {
         }
     }
 
-    /// Whether it is the same as another.
+    /// Whether address and port are the same as those of `other`.
     pub fn is(&self, other: &Endpoint) -> bool
         ensures { result ≡ is_same self.now other.now }
     {

@@ -22,7 +22,7 @@ pub struct TcpLine {
 }
 
 impl TcpLine {
-    /// Parses a line of `/proc/net/tcp` or `/proc/net/tcp6` (proc(5)). `None`: it shows no connection, as the first line does.
+    /// Parses a line of `/proc/net/tcp` or `/proc/net/tcp6` (proc(5)). `None`: it shows no connection, as the heading of a table does not.
     pub fn parse(line: &[u8]) -> Option<TcpLine>
         ensures { result ≡ line_in line.now }
     {

@@ -6,7 +6,8 @@ use crate::endpoint::Endpoint;
 use crate::line::TcpLine;
 use std::alloc::{AllocError, Global};
 
-/// The connections of a table whose bytes are retransmitted, in its order. `Err`: memory ran out.
+/// The connections of a table whose bytes are retransmitted, in its order. `table` is the content of `/proc/net/tcp`, of `/proc/net/tcp6`, or of
+/// both. Lines that show no connection are skipped. `Err`: memory ran out.
 pub fn unanswered(alloc: Global, table: &[u8]) -> Result<Vec<TcpLine>, AllocError>
     ensures { IfOk result (λ lines. lines.items ≡ unanswered table.now) }
 {

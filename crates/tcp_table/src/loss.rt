@@ -12,8 +12,9 @@ pub struct Unanswered {
     pub since: u64,
 }
 
-/// What is known of a connection after a reading at `now`, in milliseconds of a monotonic clock. The reading showed how many bytes are retransmitted, or
-/// `None`. If they are fewer than before, some were acknowledged, and the time begins anew.
+/// What is known of a connection after a reading at `now`, in milliseconds of a monotonic clock. The reading showed how many bytes are
+/// retransmitted, or `None` if none are. Then the result is `None` too. If they are fewer than before, some were acknowledged, and the time
+/// begins anew.
 pub fn unanswered_after(
     before: Option<Unanswered>,
     bytes: Option<u32>,
@@ -31,7 +32,8 @@ pub fn unanswered_after(
     }
 }
 
-/// Whether a connection is lost at `now`: for `stall` milliseconds all readings showed bytes of it that are retransmitted.
+/// Whether a connection is lost at `now`: for `stall` milliseconds each reading showed bytes of it that are retransmitted, and never fewer than
+/// the reading before. It is `false` if `known` is `None`. Times are in milliseconds of a monotonic clock.
 pub fn is_lost(known: Option<Unanswered>, now: u64, stall: u64) -> bool
     ensures { result ≡ is_lost known now stall }
 {

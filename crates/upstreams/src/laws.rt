@@ -13,7 +13,8 @@ pub fn each_holds<T: Stream + Drop>(upstream: &Upstream<T>)
     ensures { EachHolds T.remaining T.contents upstream.now }
 {}
 
-/// Law: `received` counts the PDUs in the router's transcript by type, up to the first fault in the bytes received.
+/// Law: while a connection is open and its bytes have shown no [`UnitFault`](rtr_pdu::UnitFault), `received` counts the PDUs in the router's
+/// transcript since it was opened, by type. Each count saturates at `u64::MAX`.
 pub fn counts_received<T: Stream + Drop>(upstream: &Upstream<T>)
     ensures { CountsReceived T.remaining T.contents upstream.now }
 {

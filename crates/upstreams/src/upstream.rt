@@ -79,8 +79,8 @@ impl<T: Stream + Drop> Upstream<T> {
         self.connection = Some(Connection::new(stream, now));
     }
 
-    /// Notes that an attempt to connect failed at second `at`. An older connection is dropped.
-    /// The next attempt is due after the retry interval (RFC 8210 section 6).
+    /// Notes that an attempt to connect failed at second `at`. An older connection is dropped. The next attempt is due after the retry interval
+    /// (RFC 8210 section 6). `carried`, `received` and `sent` keep the counts of the latest connection.
     pub fn connect_failed(&mut self, at: u64)
         ensures calls { (calls : List model.RouterCall) (b : Begun) → ShowsUpstream T.remaining T.contents calls b self.old →
             ShowsUpstream T.remaining T.contents (model.Closes at ∷ model.Connects at ∷ calls) b self.new }
@@ -94,8 +94,8 @@ impl<T: Stream + Drop> Upstream<T> {
         self.close(at);
     }
 
-    /// Drops the connection at second `now`, if there is one. Bytes that are not written yet are lost.
-    /// `carried`, `received` and `sent` keep the counts of the dropped connection.
+    /// Drops the connection at second `now`, if there is one. Bytes that are not written yet are lost. Committed data stays unless it has
+    /// expired. `carried`, `received` and `sent` keep the counts of the dropped connection.
     pub fn disconnect(&mut self, now: u64)
         ensures calls { CallsOn T.remaining T.contents (model.Closes now) self.old self.new }
         ensures gone { self.new.connection ≡ None }
@@ -140,11 +140,10 @@ impl<T: Stream + Drop> Upstream<T> {
         None
     }
 
-    /// Writes and reads at second `now`, with at most `budget` calls of the stream. See [`PollOutcome`] for the result.
-    /// All pending output is written before more is read. The router consumes input only while it has nothing to send.
-    /// `Disconnected`: the connection was dropped, for this reason. `carried`, `received` and `sent` keep its counts. A lost connection alone
-    /// drops no committed data.
-    /// After Error Report 4 (Unsupported Protocol Version), later connections speak version 0 (RFC 8210 section 7).
+    /// Writes and reads at second `now`, with at most `budget` calls of the stream. See [`PollOutcome`] for the result. All pending output is
+    /// written before more is read. The router consumes input only while it has nothing to send. `Disconnected`: the connection was dropped, for
+    /// this reason. `carried`, `received` and `sent` keep its counts. A lost connection alone drops no committed data. After Error Report 4
+    /// (Unsupported Protocol Version), sent or received, later connections speak version 0 (RFC 8210 section 7).
     pub fn poll(&mut self, now: u64, budget: u32) -> PollOutcome
         ensures polls { Polls T.remaining T.contents T.answers now budget self.old result self.new }
         ensures goes { GoesOn T.remaining T.contents self.old self.new }
@@ -195,14 +194,14 @@ impl<T: Stream + Drop> Upstream<T> {
         is_past(self.next_due(), now)
     }
 
-    /// Whether, at second `now`, a query is outstanding and no byte came for `stall` seconds.
+    /// Whether, at second `now`, a query is outstanding and no byte came for `stall` seconds. A `tick` at that second drops the connection.
     pub fn is_stalled(&self, now: u64) -> bool
         ensures { (calls : List model.RouterCall) (b : Begun) → ShowsUpstream T.remaining T.contents calls b self.now → result ≡ is_stalled self.now.stall now calls }
     {
         is_asking(&self.router) && self.is_due(now)
     }
 
-    /// Whether there is a connection.
+    /// Whether there is a connection. If its link has ended, `poll` drops it once all is written.
     pub fn is_connected(&self) -> bool
         ensures { result ≡ is_some self.now.connection }
     {
@@ -219,7 +218,7 @@ impl<T: Stream + Drop> Upstream<T> {
         }
     }
 
-    /// The numbers of bytes read and written on the latest connection, also after it was dropped.
+    /// The numbers of bytes read and written on the latest connection, also after it was dropped. Both are 0 before the first one.
     pub fn carried(&self) -> ByteCounts
         ensures { result ≡ carried_by self.now.connection self.now.carried }
     {
@@ -229,7 +228,8 @@ impl<T: Stream + Drop> Upstream<T> {
         }
     }
 
-    /// The number of PDUs of each type received on the latest connection. Only PDUs that the router consumed count.
+    /// The number of PDUs of each type received on the latest connection, also after it was dropped. Only PDUs that the router consumed count.
+    /// All are 0 before the first connection.
     pub fn received(&self) -> PdusByKind
         ensures { result ≡ received_by self.now.connection self.now.received }
     {
@@ -239,7 +239,8 @@ impl<T: Stream + Drop> Upstream<T> {
         }
     }
 
-    /// The number of PDUs of each type sent on the latest connection. Only PDUs that were written completely count.
+    /// The number of PDUs of each type sent on the latest connection, also after it was dropped. Only PDUs that were written completely count.
+    /// All are 0 before the first connection.
     pub fn sent(&self) -> PdusByKind
         ensures { result ≡ sent_by self.now.connection self.now.sent }
     {
@@ -257,7 +258,7 @@ impl<T: Stream + Drop> Upstream<T> {
         self.router.committed()
     }
 
-    /// The committed table. It is empty if nothing is committed.
+    /// The committed table. It is empty if nothing is committed. A committed table may be empty too: see `data`.
     pub fn table(&self) -> &VrpSet
         ensures { (calls : List model.RouterCall) (b : Begun) → ShowsUpstream T.remaining T.contents calls b self.now → result.now ≡ (kept (model.played calls).items).table }
     {
@@ -286,7 +287,7 @@ impl<T: Stream + Drop> Upstream<T> {
         }
     }
 
-    /// The router state machine behind this upstream.
+    /// The router state machine of this upstream, for example to read its link and its intervals.
     pub fn router(&self) -> &Router
         ensures { result.now ≡ self.now.router }
     {

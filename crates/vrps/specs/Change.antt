@@ -1,4 +1,4 @@
--- What leads from one set to another (RFC 8210 sections 5.6 and 8.2).
+-- What leads from one set to another (RFC 8210 sections 5.3, 5.6 and 8.2).
 use Rattle.std.specs.Prelude.{◌≡◌}
 use Rattle.vrps.specs.VrpSet.{VrpSet, union, without}
 use Rattle.vrps.specs.declared.change.Change.{Change}

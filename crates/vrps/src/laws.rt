@@ -40,7 +40,8 @@ pub fn covering_members()
     ensures { CoveringMembers }
 {}
 
-/// Law: a route is Valid if and only if one of the VRPs that cover it matches it. It is NotFound if and only if no VRP covers it.
+/// Law: a route is Valid if and only if one of the VRPs that cover it matches it. It is NotFound if and only if no VRP of the set covers it.
+/// Otherwise it is Invalid (RFC 6811 section 2).
 pub fn state_by_covering()
     ensures { StateByCovering }
 {}

@@ -1,4 +1,4 @@
-//! The states of routes.
+//! The states of routes (RFC 6811).
 ghost use Rattle.std.specs.Prelude.{◌≡◌, ◌+◌, ◌*◌, ◌≤◌, ◌<◌, ◌++◌, reverse, IfOk, OnOk, Some};
 ghost use Rattle.std.specs.List.{list_any};
 ghost use Rattle.prefixes.specs.Payload.{block_of};
@@ -65,8 +65,8 @@ impl Model for OriginIndex {
 }
 
 impl OriginIndex {
-    /// Builds an index over a set. It copies the VRPs, and uses 12 bytes more for each IPv4 prefix and 21 for each IPv6 prefix. `AllocError`: no
-    /// memory for it.
+    /// Builds an index over a set. It copies the VRPs. Beside the copy it allocates 4 bytes for each VRP, 8 for each different IPv4 prefix, and
+    /// 17 for each different IPv6 prefix. `AllocError`: no memory for it.
     pub fn over(alloc: Global, set: &VrpSet) -> Result<OriginIndex, AllocError>
         ensures { IfOk result (λ index. index ≡ set.now) }
     {
@@ -84,7 +84,7 @@ impl OriginIndex {
         }
     }
 
-    /// The validation state of a route. It allocates no memory.
+    /// The validation state of a route against the set (RFC 6811 section 2). It allocates no memory.
     pub fn state(&self, route: &Route) -> OriginState
         ensures { result ≡ state self.now route.now }
     {
@@ -114,7 +114,8 @@ impl OriginIndex {
         (state, probes)
     }
 
-    /// The VRPs that cover the route, in ascending order; an empty list if there are none. `AllocError`: no memory for the list.
+    /// The VRPs whose prefix covers that of the route, in ascending order; an empty list if there are none. The origin of the route and the
+    /// maximum lengths do not matter. `AllocError`: no memory for the list.
     pub fn covering(&self, alloc: Global, route: &Route) -> Result<Vec<Vrp>, AllocError>
         ensures { IfOk result (λ records. records.items ≡ covering self.now route.now) }
     {

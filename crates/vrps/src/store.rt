@@ -35,12 +35,13 @@ pub trait VersionStore {
     /// the current one are kept.
     ghost holds: { ℕ → Instance → Self → Type 0 };
 
-    /// The session ID.
+    /// The session ID (RFC 8210 section 5.1). All versions of the store have the same one.
     fn session(&self) -> u16
         ensures { (keep : ℕ) (i : Instance) → holds keep i self.now → result ≡ i.session };
 
-    /// Publishes a set as the current version. `New`: it has a new serial. `Unchanged`: it equals the current version.
-    /// `AllocError`: no memory. Then nothing is published.
+    /// Publishes a set as the current version. `New`: it is a new version. Its serial is one above the latest one modulo 2^32, or the first
+    /// serial of the session. If the store is full, its oldest version is dropped.
+    /// `Unchanged`: the set equals the current version, and nothing changes. `AllocError`: no memory. Then nothing is published.
     fn publish(&mut self, set: Rc<VrpSet>) -> Result<Published, AllocError>
         ensures { (keep : ℕ) (i : Instance) → holds keep i self.old → Publishes (holds keep) result set.value i self.new };
 
@@ -48,7 +49,9 @@ pub trait VersionStore {
     fn current(&self) -> Option<(Serial, &Rc<VrpSet>)>
         ensures { (keep : ℕ) (i : Instance) → holds keep i self.now → option_map (λ found. record { serial = found.0.0; set = found.1.now.value }) result ≡ newest (versions i) };
 
-    /// Returns the change from the version with this serial to the current one, or why there is none. `AllocError`: no memory for the change.
+    /// Returns what leads from the version with this serial to the current one. `Change`: the change, which is empty if this serial is the
+    /// current one. `Unknown`: no kept version has this serial. `NoData`: nothing is published yet.
+    /// `AllocError`: no memory for the change.
     fn since(&self, serial: Serial) -> Result<Since, AllocError>
         ensures { (keep : ℕ) (i : Instance) → holds keep i self.now → IfOk result (λ found. told_since found ≡ since keep serial.0 (versions i)) };
 }

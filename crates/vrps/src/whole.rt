@@ -24,8 +24,8 @@ pub struct WholeLog {
 impl WholeLog {
     ghost use Rattle.vrps.specs.WholeLogs.{HasRoom, IsLogOf, sets_of};
 
-    /// A log without versions. `session` is the session ID, `start` the serial of the first version.
-    /// `keep` is how many versions before the current one are kept, from 1 to 65,536. `AllocError`: no memory for them.
+    /// A log without versions. `session` is the session ID, `start` the serial of the first version. `keep` is how many versions before the
+    /// current one are kept, from 1 to 65,536. Room for references to `keep + 1` sets is allocated here. `AllocError`: no memory for it.
     pub fn new(alloc: Global, session: u16, start: u32, keep: u32) -> Result<WholeLog, AllocError>
         requires some { 1 ≤ keep }
         requires limit { keep ≤ 65536 }

@@ -6,8 +6,8 @@ use command_parts::{ProgramFault, read_file};
 use std::io::{BufWriter, Write};
 use std::rt::Files;
 
-/// The command `world`: runs the script in a file as `play` does. `file` is its path.
-/// `Ok`: the exit status, 0, or 1 if a line does not parse. `Err`: the file cannot be read, the output failed, or memory ran out.
+/// The command `world`: runs the script in a file as `play` does. `file` is its path. `Ok`: the exit status, 0, or 1 if a line does not parse.
+/// `Err`: the file cannot be read, the output failed, or memory ran out, other than in an event.
 pub fn world<R: Files + AllocGlobal, O: Write>(
     rt: &R,
     file: &str,

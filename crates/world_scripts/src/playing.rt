@@ -38,9 +38,10 @@ impl<'a> Lines<'a> {
     }
 }
 
-/// Runs a script on a new world, and prints what it shows and which events are refused. Returns the exit status.
-/// 0: the script was run to its end. 1: a line does not parse. Its number is printed, and nothing after it is run.
-/// `Err`: the output failed, or memory ran out.
+/// Runs a script on a new world, and prints what it shows and which events are refused. Returns the exit status. 0: the script was run to its
+/// end. 1: a line does not parse. The line `line NUMBER unreadable` is printed, and nothing after it is run. An empty script has an unreadable
+/// line 1. If memory runs out in an event or in catching up, that is printed, and the next line is run. `Err`: the output failed, or memory ran
+/// out for the world or for a line.
 pub fn play<O: Write>(alloc: Global, script: &[u8], out: &mut O) -> Result<u8, ProgramFault>
     ensures { IfOk result (λ s. s ≤ 1) }
 {
