@@ -27,7 +27,7 @@ impl LogLevel {
         self as u8
     }
 
-    /// Returns the level of a word: `error`, `warning`, `notice` or `info`. `None`: the text is another one.
+    /// Returns the level of a word: `error`, `warning`, `notice` or `info`, in lower case. `None`: any other text.
     pub fn parse(text: &str) -> Option<LogLevel>
         ensures { (level : LogLevel) → (result ≡ Some level) ↔ (text.now ≡ level_word level) }
     {

@@ -100,8 +100,8 @@ impl LogBuffer {
         self.lost
     }
 
-    /// The number of lost lines that are not in a report that was written in full. A line that is lost while a report is pending is not in that
-    /// report.
+    /// The number of lost lines that are not yet reported. Lines are reported once the last byte of their report is written. A line that is lost
+    /// while a report is pending belongs to the next one. The number saturates at `u64::MAX`.
     pub fn dropped(&self) -> u64
         ensures { result ≡ self.now.dropped }
     {

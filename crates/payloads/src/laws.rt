@@ -13,17 +13,18 @@ pub fn one_spelling()
     ensures { OneSpelling }
 {}
 
-/// Law: two valid ROA payloads are the same bytes if and only if their AS numbers are equal and their sets of VRPs are equal.
+/// Law: two byte strings that `decode_roa` accepts are equal if and only if their AS numbers are equal and so are their sets of VRPs.
+/// `decode_roa` is stricter than RFC 9582: it refuses entries out of order, and a maximum length that equals the prefix length.
 pub fn one_payload()
     ensures { OnePayload }
 {}
 
-/// Law: a ROA value is refused if and only if no bytes encode it.
+/// Law: `Roa::new` refuses a value if and only if no bytes encode it.
 pub fn roa_refuses_exactly()
     ensures { RoaRefusesExactly }
 {}
 
-/// Law: a manifest value is refused if and only if no bytes encode it.
+/// Law: `Manifest::new` refuses a value if and only if no bytes encode it, unless memory runs out.
 pub fn manifest_refuses_exactly()
     ensures { ManifestRefusesExactly }
 {}

@@ -109,7 +109,8 @@ fn refusal(entries: &[RoaEntry]) -> Option<ValueFault>
     None
 }
 
-/// Decodes a ROA payload (RFC 9582 section 4). `At`: the bytes are not a valid payload, and this is the first fault.
+/// Decodes a ROA payload (RFC 9582 section 4) whose entries ascend, without a maximum length that equals the prefix length. `At`: the bytes are
+/// no such payload, and this is the first fault.
 /// `Memory`: memory runs out. The whole payload is checked before memory is asked for.
 pub fn decode_roa(alloc: Global, payload: &[u8]) -> Result<Roa, PayloadFault>
     ensures { Decodes result payload.now }

@@ -8,22 +8,22 @@ pub fn one_fault()
     ensures { OneDerFault }
 {}
 
-/// Law: in DER, bytes are at most one signed object.
+/// Law: the same bytes are never two different signed objects in DER. They determine content type, content, certificate and key identifier.
 pub fn one_object()
     ensures { OneDerObject }
 {}
 
-/// Law: there is at most one rewriting of given bytes with the lengths of DER.
+/// Law: `to_der` can write at most one result for given bytes: lengths as in DER, and each OCTET STRING in one piece.
 pub fn one_content()
     ensures { OneContent }
 {}
 
-/// Law: if lengths may be in BER, bytes are at most one signed object.
+/// Law: if lengths and OCTET STRINGs may be in BER, the same bytes are never two different signed objects.
 pub fn one_object_in_ber()
     ensures { OneObject }
 {}
 
-/// Law: if lengths may be in BER, bytes have at most one fault (its offset and its kind). Bytes that are a signed object have none.
+/// Law: if lengths and OCTET STRINGs may be in BER, bytes have at most one fault (its offset and its kind). Bytes that are a signed object have none.
 pub fn one_fault_in_ber()
     ensures { OneFault }
 {}

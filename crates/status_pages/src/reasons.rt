@@ -227,8 +227,9 @@ fn serves_none(status: &Status) -> bool
     status.serial.is_some() && (status.given == 0 || served_vrps(status) == 0)
 }
 
-/// Returns whether a reason holds for the cache as a whole. It looks at no source. It is false for `Old`, `RefusedLong`, `Refused` and
-/// `SlowPoll`.
+/// Returns whether a reason holds for the cache as a whole, without a look at `status.files`. It can be true only for `NoVrps`, `Publication`,
+/// `NoVersion`, `Shrank`, `TurnedAway` and `Clock`. `Shrank` says here that the served table shrank: for a trust anchor that shrank, see
+/// [`is_blamed`].
 pub fn holds_for_all(status: &Status, reason: Reason) -> bool
     ensures { result ≡ holds_for_all status.entry.now reason }
 {

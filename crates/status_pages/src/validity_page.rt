@@ -90,7 +90,9 @@ fn write_lists<W: Write>(out: &mut W, validity: &Validity) -> io::Result<()> {
     write_records(out, "VRPs of another AS", &validity.unmatched_as)
 }
 
-/// Writes the validity of a route as one HTML page. `now` is the time on the page, in seconds since 1970. `Err`: the writer failed.
+/// Writes a whole HTML page: the state of a route, a form that is filled with the route, and the covering VRPs in three lists. `validity` has to
+/// be that of `route`, which is not checked. `now` is the time on the page, in seconds since 1970. `Err`: the writer failed, and a part of the page
+/// may be written.
 pub fn write_validity_page<W: Write>(
     out: &mut W,
     route: &Route,

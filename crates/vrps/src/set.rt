@@ -71,7 +71,7 @@ impl VrpSet {
     /// The maximum number of VRPs in a set.
     pub const LIMIT: usize = 16_777_215;
 
-    /// A set without VRPs. It allocates no memory.
+    /// A set without VRPs. It allocates no memory: `alloc` is kept for the list that [`VrpSet::into_list`] returns.
     pub fn empty(alloc: Global) -> VrpSet
         ensures { result ≡ empty }
     {
