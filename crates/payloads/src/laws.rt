@@ -24,7 +24,7 @@ pub fn roa_refuses_exactly()
     ensures { RoaRefusesExactly }
 {}
 
-/// Law: `Manifest::new` refuses a value if and only if no bytes encode it, unless memory runs out.
+/// Law: `Manifest::new` refuses a number, times and files if and only if no bytes encode them, unless memory runs out.
 pub fn manifest_refuses_exactly()
     ensures { ManifestRefusesExactly }
 {}

@@ -8,7 +8,8 @@ pub fn new_where_acceptable()
     ensures { NewWhereAcceptable }
 {}
 
-/// Law: an offer has at most one judgement: `New`, `Same`, or one refusal.
+/// Law: what a point accepted last, the manifest, the files and the time determine at most one judgement: `New`, `Same`, or one refusal. A
+/// refusal includes the index of its file and the fault of its payload. That memory ran out is no judgement.
 pub fn one_judgement()
     ensures { OneJudgement }
 {}

@@ -41,7 +41,8 @@ fn tell<E: Write>(fault: ProgramFault, err: &mut E) {
     let _ = writeln!(err, "{fault}");
 }
 
-/// Runs the program for these command-line arguments, without the program name, and returns its exit status.
+/// Runs the program for these command-line arguments, without the program name, and returns its exit status. What is found goes to `out`, the
+/// reasons of failures go to `err`. A file over 20,000,000 bytes is refused. A file that fails does not stop the others.
 /// The status is the greatest over the files: 0 accepted, 1 refused, 3 unreadable. It is 0 for help and version.
 /// 2: the arguments do not parse, or an output file is also an input or the other output. 3: an output failed. 4: memory ran out.
 pub fn run_words<R: Files + Input + AllocGlobal, O: Write, E: Write>(

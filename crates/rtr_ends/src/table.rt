@@ -73,7 +73,7 @@ impl Table {
         self.set.len()
     }
 
-    /// Returns whether the record is in the table. The time is logarithmic in the number of records.
+    /// Returns whether the table has this very record: the same prefix, maximum length and AS. The time is logarithmic in the number of records.
     pub fn contains(&self, vrp: &Vrp) -> bool
         ensures { result ≡ has self.now vrp.now }
     {

@@ -202,13 +202,16 @@ impl World {
         }
     }
 
-    /// Runs the events in their order, and returns how many were refused. A refused event does not stop the run.
-    /// After every list of events, each router's table is empty if it holds no session. Otherwise it is exactly a set that the cache published.
-    /// It is the one under the protocol version, session and serial of the End of Data that this router committed last.
-    /// Each announcement and each withdrawal acted exactly once, and the state of every route is that of RFC 6811 over the table.
-    /// At most one answer is in transit to a router: that of the cache as it was when it read the query.
+    /// Runs the events in their order, and returns how many were refused. A refused event does not stop the run: [`step`](World::step) says what
+    /// it leaves. If memory runs out while an end handles a PDU, the event is not refused.
+    ///
+    /// After every list of events, each router's table is empty if it holds no session. Otherwise it is exactly a set that the cache published:
+    /// the one under the protocol version, session and serial of the End of Data that this router committed last.
+    /// Each announcement and each withdrawal of a committed answer acted exactly once. The state of every route is that of RFC 6811 over the table.
+    /// At most one answer is in transit to a router: that of the cache when the cache read the query, or an Error Report if memory ran out.
     /// No router commits a version that was published before one that it committed earlier.
-    /// A link ends only by lack of memory, by expiry, or by an Error Report about lack of memory or another session.
+    /// A link becomes `Ended` only by lack of memory, by expiry, or by an Error Report about lack of memory or another session. Events that close
+    /// a connection make it `Closed`.
     pub fn run(&mut self, events: &[Event]) -> usize
         ensures steps { (made : Made) (history : List Entry) → LeadsTo made history self.old → RunsTo made history (map event_of events.now) result self.new }
         ensures tables { (made : Made) (history : List Entry) → LeadsTo made history self.old → RunsSo made history (map event_of events.now) result self.new (λ w s. IsKept s.router s.items) }

@@ -42,8 +42,8 @@ fn add_part(hasher: &mut Sha256, part: &[u8])
     hasher.update(part);
 }
 
-/// Returns whether the content of `/etc/machine-id` is a machine id: neither empty nor `uninitialized` (machine-id(5)), with or without a
-/// newline.
+/// Returns whether the content of `/etc/machine-id` names a machine (machine-id(5)). It does not if, without one newline at its end, it is empty
+/// or `uninitialized`. Any other content does: its digits are not checked.
 pub fn is_machine_id(content: &[u8]) -> bool
     ensures { result ≡ is_machine_id content.now }
 {

@@ -166,8 +166,9 @@ impl Sources {
 
     /// Replaces the export of `file` (from 0) by the export in `bytes`, read at `now`, in seconds since 1970.
     ///
-    /// `Ok`: the number of its entries that had expired at `now`. On an error nothing changes. `NoSuchFile`: there is no such file.
-    /// `Export`: the bytes are not an export, over 16,777,215 different VRPs count, or memory ran out. The result is never `Shrank`.
+    /// `Ok`: the number of its entries whose `expires` is at or before `now`: they are left out. On an error nothing changes. `NoSuchFile`: there
+    /// is no such file. `Export`: the bytes are not an export, more than 16,777,215 different VRPs have not expired, or memory ran out. The result
+    /// is never `Shrank`.
     pub fn take_export(&mut self, file: usize, bytes: &[u8], now: u64) -> Result<u64, TakeFault>
         ensures lists { TakesExport bytes.now now file result self.old.lists.items self.new.lists.items }
         ensures rest { (self.new.exceptions ≡ self.old.exceptions) × (self.new.repository ≡ self.old.repository) × (self.new.leaves_out ≡ self.old.leaves_out) }
