@@ -1,0 +1,5 @@
+pub mod BitLaws
+pub mod RangeLaws
+pub mod ExactResources
+pub mod LawProofs
+pub mod Listing
