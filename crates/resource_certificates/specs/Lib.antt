@@ -8,6 +8,7 @@ pub mod Faults
 pub mod Gives
 pub mod Policies
 pub mod Places
+pub mod Directories
 pub mod PlaceGives
 pub mod Profile
 pub mod Crls

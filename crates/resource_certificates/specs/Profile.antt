@@ -11,6 +11,7 @@ use Rattle.resource_certificates.specs.declared.fault.CertificateFaultKind.{Cert
 use Rattle.resource_certificates.specs.Faults.{fault_of, kind_number}
 use Rattle.resource_certificates.specs.Policies.{policies_all}
 use Rattle.resource_certificates.specs.Places.{crl_uri_of, Accesses, accesses_of}
+use Rattle.resource_certificates.specs.Directories.{names_file}
 use Rattle.resource_certificates.specs.Certificates.{Tbs, Certificate, file}
 
 -- RFC 6487 section 4.8.2: an OCTET STRING of the SHA-1 of the key's bits
@@ -62,9 +63,10 @@ are_issuers Anchor found = is_none found
 are_issuers Authority found = is_some (accesses_of found).issuer
 are_issuers EndEntity found = is_some (accesses_of found).issuer
 
--- RFC 6487 section 4.8.8.1, RFC 8182 section 3.2: an authority names its repository and its manifest by rsync, and at most one https URI of rpkiNotify
+-- RFC 6487 section 4.8.8.1, RFC 8182 section 3.2: an authority names its repository and, in it, its manifest by rsync, and at most one https URI
+-- of rpkiNotify
 abbrev pub is_authority_info : Accesses → Bool
-is_authority_info a = is_some a.repository && is_some a.manifest && not a.bad_notify
+is_authority_info a = names_file a.repository a.manifest && not a.bad_notify
 
 -- RFC 6487 section 4.8.8.2: an end entity names its object by rsync, and no other method but rpkiNotify
 abbrev pub is_object_info : Accesses → Bool

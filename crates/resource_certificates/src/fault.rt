@@ -73,7 +73,8 @@ pub enum CertificateFaultKind {
     /// 25: authorityInfoAccess has no rsync URI of caIssuers, or is there in a trust anchor (RFC 6487 section 4.8.7).
     #[error("authorityInfoAccess has no rsync URI of caIssuers, or is there in a trust anchor (fault 25)")]
     AuthorityInfo,
-    /// 26: subjectInfoAccess does not have the rsync URIs of an authority or of an object, or another method (RFC 6487 section 4.8.8).
+    /// 26: subjectInfoAccess does not have the rsync URIs of an authority or of an object, or another method, or the manifest is not in the
+    /// repository (RFC 6487 section 4.8.8).
     #[error("subjectInfoAccess does not have the URIs that the certificate needs, or has others (fault 26)")]
     SubjectInfo,
     /// 27: certificatePolicies is not id-cp-ipAddr-asNumber with at most one qualifier, a CPS (RFC 6487 section 4.8.9, RFC 7318).

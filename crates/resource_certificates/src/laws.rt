@@ -2,12 +2,14 @@
 
 ghost use Rattle.resource_certificates.specs.Laws.{OneCertificate, OneCrl, SpelledValues};
 
-/// Law: bytes are the elements of one certificate, or have one fault, and never both.
+/// Law: bytes are the elements of exactly one certificate, or have exactly one fault of an element (its kind and offset), and never both. What its
+/// extensions say is not judged here.
 pub fn one_certificate()
     ensures { OneCertificate }
 {}
 
-/// Law: bytes are the elements of one CRL, or have one fault, and never both.
+/// Law: bytes are the elements of exactly one CRL, or have exactly one fault of an element (its kind and offset), and never both. What
+/// authorityKeyIdentifier and cRLNumber say is not judged here.
 pub fn one_crl()
     ensures { OneCrl }
 {}

@@ -19,6 +19,7 @@
 mod certificate;
 mod crl;
 mod crl_extensions;
+mod directory;
 mod elements;
 mod extension;
 mod extensions;

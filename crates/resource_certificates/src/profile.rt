@@ -7,6 +7,7 @@ ghost use Rattle.resource_certificates.specs.Profile.{has_key_value as has_key_v
 ghost use Rattle.resource_certificates.specs.Profile.{is_authority_info as is_authority_info_of, is_object_info as is_object_info_of, is_info as is_info_of, Profiled, ReadsCertificate};
 
 use crate::certificate::{Certificate, Tbs, read_elements};
+use crate::directory::names_file;
 use crate::places::{Accesses, accesses_of, crl_uri_of};
 use crate::policies::{IP_ADDR_AS_NUMBER, IP_ADDR_AS_NUMBER_V2, are_policies};
 use crate::role::Role;
@@ -137,7 +138,7 @@ fn are_issuers(role: Role, found: Option<&[u8]>) -> bool
 fn is_authority_info(accesses: &Accesses) -> bool
     ensures { result ≡ is_authority_info_of accesses.now }
 {
-    accesses.repository.is_some() && accesses.manifest.is_some() && !accesses.bad_notify
+    names_file(accesses.repository, accesses.manifest) && !accesses.bad_notify
 }
 
 /// Whether this is the place of a signed object.
@@ -229,6 +230,20 @@ impl<'a> Certificate<'a> {
         ensures { option_map (λ u. u.now) result ≡ (accesses_of_value self.now.tbs.found.subject_info).manifest }
     {
         accesses_of(self.tbs.extensions.subject_info).manifest
+    }
+
+    /// The value of the extension ipAddrBlocks: which IP addresses the subject has (RFC 3779 section 2). `None`: the certificate has none.
+    pub fn ip_blocks(&self) -> Option<&'a [u8]>
+        ensures { option_map (λ v. v.now) result ≡ self.now.tbs.found.ip_blocks }
+    {
+        self.tbs.extensions.ip_blocks
+    }
+
+    /// The value of the extension autonomousSysIds: which AS numbers the subject has (RFC 3779 section 3). `None`: the certificate has none.
+    pub fn as_ids(&self) -> Option<&'a [u8]>
+        ensures { option_map (λ v. v.now) result ≡ self.now.tbs.found.as_ids }
+    {
+        self.tbs.extensions.as_ids
     }
 
     /// The first rsync URI of signedObject, in ASCII, at which the object of an end entity is (RFC 6487 section 4.8.8.2).
