@@ -1,0 +1,80 @@
+//! Names, times, revoked serial numbers and signatures.
+
+ghost use Rattle.std.specs.Prelude.{◌≡◌, ◌↔◌, IsTrue};
+ghost use Rattle.der_lite.specs.Moments.{moment_before};
+ghost use Rattle.issuing.specs.Issued.{IsSignedBy, JudgesCertificate, JudgesCrl};
+
+use crate::IssueFault;
+use der_lite::Moment;
+use resource_certificates::{Certificate, Crl, Revocations};
+use rsa_sha256::PublicKey;
+
+/// Whether one moment is before another.
+#[tactic(auto, unfolding(der_lite::specs::Moments::moment_before))]
+fn is_before(one: &Moment, other: &Moment) -> bool
+    ensures { result ≡ moment_before one.now other.now }
+{
+    one < other
+}
+
+/// Whether the octets are signed by the key of this modulus.
+fn is_signed_by(modulus: &[u8], octets: &[u8], signature: &[u8]) -> bool
+    ensures { IsTrue result ↔ IsSignedBy modulus.now octets.now signature.now }
+{
+    match PublicKey::new(modulus) {
+        Ok(key) => key.verify(octets, signature),
+        Err(_) => false,
+    }
+}
+
+/// Judges whether `authority` issued a certificate that counts at `now` (RFC 6487 section 7.2). `revoked` are the serial numbers of the
+/// authority's CRL. The first reason in the order of [`IssueFault`] is reported. notBefore and notAfter are included.
+pub fn judge_certificate(
+    certificate: &Certificate,
+    authority: &Certificate,
+    revoked: &Revocations,
+    now: &Moment,
+) -> Result<(), IssueFault>
+    ensures { JudgesCertificate now.now authority.now revoked.now certificate.now result }
+{
+    if !certificate.is_issued_by(authority) {
+        return Err(IssueFault::Issuer);
+    }
+    if is_before(now, &certificate.tbs.not_before) {
+        return Err(IssueFault::NotYet);
+    }
+    if is_before(&certificate.tbs.not_after, now) {
+        return Err(IssueFault::Expired);
+    }
+    if revoked.has(certificate.tbs.serial) {
+        return Err(IssueFault::Revoked);
+    }
+    if !is_signed_by(
+        authority.tbs.key.modulus,
+        certificate.signed,
+        certificate.signature,
+    ) {
+        return Err(IssueFault::Signature);
+    }
+    Ok(())
+}
+
+/// Judges whether a CRL of `authority` counts at `now` (RFC 5280 section 6.3.3). The first reason in the order of [`IssueFault`] is reported, and
+/// never `Revoked`. thisUpdate and nextUpdate are included.
+pub fn judge_crl(crl: &Crl, authority: &Certificate, now: &Moment) -> Result<(), IssueFault>
+    ensures { JudgesCrl now.now authority.now crl.now result }
+{
+    if !crl.is_issued_by(authority) {
+        return Err(IssueFault::Issuer);
+    }
+    if is_before(now, &crl.tbs.this_update) {
+        return Err(IssueFault::NotYet);
+    }
+    if is_before(&crl.tbs.next_update, now) {
+        return Err(IssueFault::Expired);
+    }
+    if !is_signed_by(authority.tbs.key.modulus, crl.signed, crl.signature) {
+        return Err(IssueFault::Signature);
+    }
+    Ok(())
+}

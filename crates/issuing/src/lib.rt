@@ -1,0 +1,11 @@
+//! Whether an authority issued a certificate or a revocation list that counts at a moment (RFC 6487 section 7.2).
+//!
+//! [`judge_certificate`] and [`judge_crl`] compare names and keys, the time and the revoked serial numbers, and then verify the signature. What
+//! the certificate says of resources is not judged here.
+#![tactic(auto)]
+
+mod fault;
+mod judging;
+
+pub use fault::IssueFault;
+pub use judging::{judge_certificate, judge_crl};
