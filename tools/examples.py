@@ -27,8 +27,8 @@ def read(path):
 def libraries():
     """The libraries of crates.txt with code of their own: those that are no program, hold more than tests, and are no part of an example."""
     # (no crate can use a static library: its example is in C. The start of the daemon's program needs a whole system: rpkirtrd shows it. The forms of
-    # DER have no call)
-    names = [it for it in crates_txt.named() if not crates_txt.is_static(it) and it not in ("rpkirtrd_start", "der_forms")]
+    # DER have no call. Who issued a certificate is judged of two certificates, which are too long for a page)
+    names = [it for it in crates_txt.named() if not crates_txt.is_static(it) and it not in ("rpkirtrd_start", "der_forms", "issuing")]
     return [it for it in names if not it.endswith("_tests") and not it.startswith(("example_", "test_")) and os.path.isfile(f"{TOP}/crates/{it}/src/lib.rt")]
 
 
