@@ -73,6 +73,9 @@ fn certificates_are_judged(rt: HostRuntime) {
     let alloc = rt.alloc();
     let anchor = (ANCHOR, Role::Anchor);
     let other = (AUTHORITY, Role::Authority);
+    let object = (END_ENTITY, Role::EndEntity);
+    let none = Some(Err(IssueFault::NoAuthority));
+    assert!(rt; judged(alloc, NONE, object, EMPTY_CRL, "20261130050112Z") == none);
     assert!(rt; judged(alloc, NONE, anchor, EMPTY_CRL, "20261130050112Z") == Some(Ok(())));
     assert!(rt; judged(alloc, NONE, anchor, EMPTY_CRL, "20350216050112Z") == Some(Ok(())));
     assert!(rt;
@@ -128,6 +131,9 @@ fn lists_are_judged(rt: HostRuntime) {
     let alloc = rt.alloc();
     let anchor = (ANCHOR, Role::Anchor);
     let other = (AUTHORITY, Role::Authority);
+    let object = (END_ENTITY, Role::EndEntity);
+    let none = Some(Err(IssueFault::NoAuthority));
+    assert!(rt; judged_crl(alloc, None, object, "20260101000000Z") == none);
     assert!(rt; judged_crl(alloc, None, anchor, "20260101000000Z") == Some(Ok(())));
     assert!(rt; judged_crl(alloc, None, anchor, "20270101000000Z") == Some(Ok(())));
     assert!(rt;

@@ -5,8 +5,11 @@ use thiserror::Error;
 /// Why an authority did not issue a certificate or a CRL that counts at a moment.
 #[derive(Clone, Copy, Debug, PartialEq, Eq, Error)]
 pub enum IssueFault {
-    /// It names another issuer, or another key of the issuer.
-    #[error("it names another issuer, or another key of the issuer")]
+    /// The extensions of the issuer's certificate do not let it issue (RFC 5280 section 6.1.4).
+    #[error("the certificate of the issuer does not let it issue")]
+    NoAuthority,
+    /// It names another issuer, or another key of the issuer or none.
+    #[error("it names another issuer, or another key of the issuer or none")]
     Issuer,
     /// notBefore or thisUpdate is not reached.
     #[error("its time has not begun")]
@@ -17,7 +20,7 @@ pub enum IssueFault {
     /// The authority has revoked the certificate.
     #[error("the authority has revoked it")]
     Revoked,
-    /// The signature does not hold under the authority's key.
+    /// The signature does not hold under the authority's key, or that is no RSA key.
     #[error("the signature does not hold under the authority's key")]
     Signature,
 }

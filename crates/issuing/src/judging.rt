@@ -27,8 +27,11 @@ fn is_signed_by(modulus: &[u8], octets: &[u8], signature: &[u8]) -> bool
     }
 }
 
-/// Judges whether `authority` issued a certificate that counts at `now` (RFC 6487 section 7.2). `revoked` are the serial numbers of the
-/// authority's CRL. The first reason in the order of [`IssueFault`] is reported. notBefore and notAfter are included.
+/// Judges whether `authority` issued a certificate that counts at `now` (RFC 6487 section 7.2). The first reason in the order of [`IssueFault`] is
+/// reported. notBefore and notAfter are included.
+///
+/// `authority` has to be judged itself, or be a trust anchor. `revoked` has to be from the CRL of this authority that [`judge_crl`] accepted. What
+/// the certificate says of resources is not judged. A trust anchor without authorityKeyIdentifier is not issued by itself: `Issuer`.
 pub fn judge_certificate(
     certificate: &Certificate,
     authority: &Certificate,
@@ -37,6 +40,9 @@ pub fn judge_certificate(
 ) -> Result<(), IssueFault>
     ensures { JudgesCertificate now.now authority.now revoked.now certificate.now result }
 {
+    if !authority.is_authority() {
+        return Err(IssueFault::NoAuthority);
+    }
     if !certificate.is_issued_by(authority) {
         return Err(IssueFault::Issuer);
     }
@@ -60,10 +66,13 @@ pub fn judge_certificate(
 }
 
 /// Judges whether a CRL of `authority` counts at `now` (RFC 5280 section 6.3.3). The first reason in the order of [`IssueFault`] is reported, and
-/// never `Revoked`. thisUpdate and nextUpdate are included.
+/// never `Revoked`. thisUpdate and nextUpdate are included. `authority` has to be judged itself, or be a trust anchor.
 pub fn judge_crl(crl: &Crl, authority: &Certificate, now: &Moment) -> Result<(), IssueFault>
     ensures { JudgesCrl now.now authority.now crl.now result }
 {
+    if !authority.is_authority() {
+        return Err(IssueFault::NoAuthority);
+    }
     if !crl.is_issued_by(authority) {
         return Err(IssueFault::Issuer);
     }

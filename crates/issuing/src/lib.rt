@@ -1,7 +1,7 @@
 //! Whether an authority issued a certificate or a revocation list that counts at a moment (RFC 6487 section 7.2).
 //!
-//! [`judge_certificate`] and [`judge_crl`] compare names and keys, the time and the revoked serial numbers, and then verify the signature. What
-//! the certificate says of resources is not judged here.
+//! [`judge_certificate`] and [`judge_crl`] ask whether the issuer is an authority, compare names and keys, the time and the revoked serial
+//! numbers, and then verify the signature. What the certificate says of resources is not judged here.
 #![tactic(auto)]
 
 mod fault;

@@ -51,6 +51,10 @@ are_constraints Anchor found = is_value found ca_constraints
 are_constraints Authority found = is_value found ca_constraints
 are_constraints EndEntity found = is_none found
 
+-- RFC 5280 section 6.1.4, k and n: cA TRUE, and a key that signs certificates and CRLs
+abbrev pub is_authority : Tbs → Bool
+is_authority tbs = is_value tbs.found.basic_constraints ca_constraints && is_value tbs.found.key_usage (usage_of Authority)
+
 -- RFC 6487 section 4.8.6: no CRL is named in a trust anchor, and an rsync URI in others
 abbrev pub are_points : Role → Option (List ℕ) → Bool
 are_points Anchor found = is_none found

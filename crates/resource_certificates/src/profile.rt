@@ -4,7 +4,7 @@ ghost use Rattle.std.specs.Prelude.{◌≡◌, option_map, bytes_eq};
 ghost use Rattle.resource_certificates.specs.Places.{crl_uri_of as crl_uri_of_value, accesses_of as accesses_of_value};
 ghost use Rattle.resource_certificates.specs.Profile.{subject_value, authority_value, is_value as is_value_of, usage_of, are_constraints as are_constraints_of, is_key_value as is_key_value_of};
 ghost use Rattle.resource_certificates.specs.Profile.{has_key_value as has_key_value_of, is_authority_key as is_authority_key_of, are_points as are_points_of, are_issuers as are_issuers_of};
-ghost use Rattle.resource_certificates.specs.Profile.{is_authority_info as is_authority_info_of, is_object_info as is_object_info_of, is_info as is_info_of, Profiled, ReadsCertificate};
+ghost use Rattle.resource_certificates.specs.Profile.{is_authority_info as is_authority_info_of, is_object_info as is_object_info_of, is_info as is_info_of, is_authority as is_authority_of, Profiled, ReadsCertificate};
 
 use crate::certificate::{Certificate, Tbs, read_elements};
 use crate::directory::names_file;
@@ -204,6 +204,16 @@ pub fn read_certificate(role: Role, bytes: &[u8]) -> Result<Certificate<'_>, Cer
 }
 
 impl<'a> Certificate<'a> {
+    /// Returns whether the extensions let the subject issue: cA is TRUE, and the key signs certificates and CRLs (RFC 5280 section 6.1.4).
+    pub fn is_authority(&self) -> bool
+        ensures { result ≡ is_authority_of self.now.tbs }
+    {
+        is_value(
+            self.tbs.extensions.basic_constraints,
+            CA_CONSTRAINTS.as_slice(),
+        ) && is_value(self.tbs.extensions.key_usage, CA_USAGE.as_slice())
+    }
+
     /// The first rsync URI of cRLDistributionPoints, in ASCII, at which the CRL of the issuer is (RFC 6487 section 4.8.6).
     pub fn crl_uri(&self) -> Option<&'a [u8]>
         ensures { option_map (λ u. u.now) result ≡ crl_uri_of_value self.now.tbs.found.distribution_points }
