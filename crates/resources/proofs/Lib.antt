@@ -3,3 +3,4 @@ pub mod RangeLaws
 pub mod ExactResources
 pub mod LawProofs
 pub mod Listing
+pub mod OneList

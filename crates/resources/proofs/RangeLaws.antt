@@ -25,7 +25,7 @@ not_followed end ranges i d lt after = at_drop_more (follow end) ranges i d lt �
 
 -- ---- one walk of both lists
 
-abbrev IsFull : ResourceRange → Type 0
+abbrev pub IsFull : ResourceRange → Type 0
 IsFull r = r.low ≤ r.high
 
 pub tail_ranges : (o : ResourceRange) (more : List ResourceRange) → AreRanges (o ∷ more) → AreRanges more
@@ -33,7 +33,7 @@ tail_ranges o [] h = record { full = All-tail IsFull o [] h.full; apart = refl }
 tail_ranges o (p ∷ rest) h = record { full = All-tail IsFull o (p ∷ rest) h.full; apart = (and_parts (ltb (o.high + 1) p.low) (are_apart (p ∷ rest)) h.apart).1 }
 
 -- a later range begins behind the first, and behind a number that none has
-later : (o : ResourceRange) (more : List ResourceRange) (n : ℕ) → AreRanges (o ∷ more) → Covers more n → o.high + 1 < n
+pub later : (o : ResourceRange) (more : List ResourceRange) (n : ℕ) → AreRanges (o ∷ more) → Covers more n → o.high + 1 < n
 later o [] n h c = absurd c
 later o (p ∷ rest) n h c =
     let gap = ltb-true (o.high + 1) p.low (and_parts (ltb (o.high + 1) p.low) (are_apart (p ∷ rest)) h.apart).0 in

@@ -1,8 +1,10 @@
 -- What holds of the grammars of resources.
-use Rattle.std.specs.Prelude.{◌≡◌, ◌⊎◌, List, ℕ}
+use Rattle.std.specs.Prelude.{◌≡◌, ◌⊎◌, ◌↔◌, List, ℕ}
 use Rattle.der_lite.specs.Place.{Fault, place_of}
 use Rattle.der_lite.specs.Der.{IsBytes}
 use Rattle.der_lite.specs.Grammar.{Members}
+use Rattle.resources.specs.declared.range.ResourceRange.{ResourceRange}
+use Rattle.resources.specs.Ranges.{AreRanges, Covers}
 use Rattle.resources.specs.Resources.{ip_value, as_value}
 
 -- Octets are one value, or have one fault, and never both.
@@ -17,3 +19,7 @@ OneIpValue = IsOneOrFaulty ip_value
 
 abbrev pub OneAsValue : Type 0
 OneAsValue = IsOneOrFaulty as_value
+
+-- A set of numbers has one list of ranges.
+abbrev pub OneList : Type 0
+OneList = (ranges others : List ResourceRange) → AreRanges ranges → AreRanges others → ((n : ℕ) → Covers ranges n ↔ Covers others n) → ranges ≡ others

@@ -3,7 +3,7 @@ use Rattle.std.specs.Prelude.{◌≡◌, ℕ, ◌+◌, ◌≤◌, ◌⊎◌, Boo
 use Rattle.std.specs.List.{All}
 use Rattle.resources.specs.declared.range.ResourceRange.{ResourceRange}
 
--- RFC 3779 sections 2.2.3.6 and 3.2.3.4: ascending, neither overlapping nor adjacent
+-- RFC 3779 sections 2.2.3.6 and 3.2.3.4: ranges that are not empty ascend, and neither overlap nor touch
 abbrev pub are_apart : List ResourceRange → Bool
 are_apart [] = true
 are_apart (a ∷ []) = true

@@ -1,4 +1,4 @@
--- IP addresses and AS numbers of a certificate (RFC 3779), in canonical form.
+-- IP addresses and AS numbers of a certificate (RFC 3779), in canonical form. Faults.antt has the numbers of the faults.
 use Rattle.std.specs.Prelude.{◌≡◌, ℕ, ◌+◌, ◌-◌, ◌^◌, Bool, true, false, not, ◌||◌, ◌==◌, nat_lt, bytes_eq, if◌then◌else◌, List, [], ◌∷◌, length, Option, Some, None}
 use Rattle.der_lite.specs.Der.{BIT_STRING, INTEGER, OCTET_STRING, SEQUENCE, EXPLICIT_0, head_rules, is_bit_string}
 use Rattle.der_lite.specs.Values.{integer_between, bits_value, bits_number}
@@ -60,8 +60,8 @@ between width v = range_of (prefix_of width v.0).low (prefix_of width v.1).high
 abbrev pub longer : ℕ → ℕ → ℕ
 longer a b = if nat_lt a b then b else a
 
--- RFC 3779 section 2.2.3.7: a range that is a prefix is written as one. It is one exactly if it has the size of the prefix that its longer
--- bound is: the shorter bound is the same prefix, without its last zeros or ones.
+-- RFC 3779 section 2.2.3.7: a range that is a prefix is written as one. A range is a prefix exactly if its size is 2^(width - n), n being the
+-- length of its longer bound.
 abbrev pub is_prefix : ℕ → Bounds → Bool
 is_prefix width v = (between width v).high + 1 == (between width v).low + 2 ^ (width - longer (length v.0) (length v.1))
 
@@ -91,7 +91,7 @@ alone n = range_of n n
 abbrev pub from_to : ℕ × ℕ → ResourceRange
 from_to v = range_of v.0 v.1
 
--- RFC 3779 section 3.2.3.8: a range has two numbers at least
+-- A range has two numbers at least, as one number has a form of its own (RFC 3779 section 3.2.3.5).
 abbrev pub from_to_rules : ℕ × ℕ → List (ℕ × Bool)
 from_to_rules v = (8, nat_lt v.1 v.0) ∷ (9, v.1 == v.0) ∷ []
 
@@ -110,6 +110,7 @@ block Ipv4 = address_block 32
 block Ipv6 = address_block 128
 block As = as_block
 
+-- RFC 6487 sections 4.8.10 and 4.8.11: a list is not empty
 abbrev pub block_rules : List ResourceRange → List (ℕ × Bool)
 block_rules blocks = (10, length blocks == 0) ∷ (11, not (are_apart blocks)) ∷ []
 
@@ -156,7 +157,7 @@ address_family = element SEQUENCE (head_rules SEQUENCE) (constructed no_rules (m
 abbrev pub Families : Type 0
 Families = FamilyChoice × Option FamilyChoice
 
--- RFC 3779 section 2.2.3.2: the families ascend, so each comes at most once
+-- RFC 3779 section 2.2.3.3: the families ascend, and each comes at most once
 abbrev pub are_ascending : Families → Bool
 are_ascending (first, None) = true
 are_ascending ((Ipv4, choice), Some (Ipv6, other)) = true

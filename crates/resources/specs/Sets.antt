@@ -5,8 +5,8 @@ use Rattle.resources.specs.declared.choice.ResourceChoice.{ResourceChoice}
 use Rattle.resources.specs.declared.choice.ResourceChoice.TheVariants.{Inherit, Listed}
 use Rattle.resources.specs.Ranges.{Within}
 
--- What the subject of a certificate holds, if its issuer holds these: all of them by inherit, otherwise what is listed, which the issuer holds
--- too. None: the issuer does not hold all that is listed.
+-- What the subject of a certificate holds of one kind, if its issuer holds these: all of them by inherit, otherwise what is listed, if the issuer
+-- holds that. None: the issuer does not hold all that is listed. (What the issuer holds is not what its own certificate lists, if that inherits.)
 abbrev pub Holds : ResourceChoice → List ResourceRange → Option (List ResourceRange) → Type 0
 Holds Inherit issuer held = held ≡ Some issuer
 Holds (Listed ranges) issuer (Some held) = (held ≡ ranges) × Within ranges issuer

@@ -47,8 +47,10 @@ fn whole_as(alloc: Global, value: &[u8]) -> Result<ResourceChoice, ResourceError
     Ok(choice)
 }
 
-/// Reads the value of the extension autonomousSysIds: asnum alone, with its numbers in canonical form (RFC 3779 section 3.2.3).
-/// `At`: the first fault, whose offset counts from the start of `value`. `Memory`: memory ran out.
+/// Reads the content of the extnValue of autonomousSysIds (RFC 3779 section 3.2.3, RFC 6487 section 4.8.11). It has to be DER in canonical form:
+/// asnum alone, with `inherit`, or a list that is not empty.
+///
+/// `At`: the first fault, with its offset in `value`. Bytes that follow are a fault. `Memory`: memory ran out.
 pub fn read_as_ids(alloc: Global, value: &[u8]) -> Result<ResourceChoice, ResourceError>
     ensures { Reads as_value result value.now }
 {

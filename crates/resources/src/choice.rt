@@ -21,8 +21,8 @@ pub enum ResourceChoice {
 }
 
 impl ResourceChoice {
-    /// What the subject of the certificate holds, if its issuer holds `issuer`. `None`: the certificate lists a number that the issuer does not
-    /// hold, so it is not valid (RFC 6487 section 7.2).
+    /// What the subject of the certificate holds of one kind, if its issuer holds `issuer` of the same kind. `None`: the certificate lists a number
+    /// that the issuer does not hold, so it is not valid (RFC 6487 section 7.2). A trust anchor may not inherit: its caller judges that.
     pub fn held<'a>(&'a self, issuer: &'a ResourceSet) -> Option<&'a ResourceSet>
         ensures { Holds self.now issuer.now (option_map (λ held. held.now) result) }
     {

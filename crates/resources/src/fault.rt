@@ -19,13 +19,13 @@ pub enum ResourceFaultKind {
     /// 7: min of a range ends in a 0 bit, or max in a 1 bit (RFC 3779 section 2.2.3.9).
     #[error("min of a range ends in a 0 bit, or max in a 1 bit (fault 7)")]
     Bound,
-    /// 8: max of a range is below min (RFC 3779 sections 2.2.3.9 and 3.2.3.8).
+    /// 8: max of a range is below min (RFC 3779 sections 2.2.3.9 and 3.2.3.9).
     #[error("max of a range is below min (fault 8)")]
     Order,
     /// 9: a range is one prefix, or one AS number (RFC 3779 sections 2.2.3.7 and 3.2.3.5).
     #[error("a range is one prefix, or one AS number (fault 9)")]
     Single,
-    /// 10: a list has no blocks.
+    /// 10: a list has no blocks (RFC 6487 sections 4.8.10 and 4.8.11).
     #[error("the list has no blocks (fault 10)")]
     Empty,
     /// 11: the blocks of a list do not ascend, or overlap, or touch (RFC 3779 sections 2.2.3.6 and 3.2.3.4).
@@ -34,7 +34,7 @@ pub enum ResourceFaultKind {
     /// 12: addressFamily is not IPv4 or IPv6 without a SAFI (RFC 3779 section 2.2.3.3, RFC 6487 section 4.8.10).
     #[error("addressFamily is not IPv4 or IPv6 without a SAFI (fault 12)")]
     Family,
-    /// 13: the families do not ascend, or one comes twice (RFC 3779 section 2.2.3.2).
+    /// 13: the families do not ascend, or one comes twice (RFC 3779 section 2.2.3.3).
     #[error("the families do not ascend, or one comes twice (fault 13)")]
     FamilyOrder,
     /// 14: an AS number is negative, or 2^32 or above (RFC 6793).

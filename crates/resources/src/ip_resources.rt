@@ -117,8 +117,10 @@ fn whole_ip(alloc: Global, value: &[u8]) -> Result<IpResources, ResourceError>
     Ok(ip)
 }
 
-/// Reads the value of the extension ipAddrBlocks, with the families ascending, each once, and blocks in canonical form: RFC 3779 section 2.2.3.
-/// `At`: the first fault, whose offset counts from the start of `value`. `Memory`: memory ran out.
+/// Reads the content of the extnValue of ipAddrBlocks (RFC 3779 section 2.2.3, RFC 6487 section 4.8.10). It has to be DER in canonical form. The
+/// families are IPv4, or IPv6, or IPv4 and then IPv6, without a SAFI. Each has `inherit`, or a list that is not empty.
+///
+/// `At`: the first fault, with its offset in `value`. Bytes that follow are a fault. `Memory`: memory ran out.
 pub fn read_ip_blocks(alloc: Global, value: &[u8]) -> Result<IpResources, ResourceError>
     ensures { Reads ip_value result value.now }
 {
