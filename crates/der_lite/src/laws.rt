@@ -14,7 +14,8 @@ pub fn opens_exactly()
     ensures { OpensExactly }
 {}
 
-/// Law: a place in the input has either an element with the expected tag that keeps the rules, or exactly one fault.
+/// Law: at each place there is either an element with the expected tag whose content keeps the rules, or exactly one fault. This holds for any tag
+/// and any rules about the content.
 pub fn one_fault()
     ensures { OneDerFault }
 {}

@@ -144,11 +144,12 @@ pub fn check<T: Stream + Drop, H: HostFacts, W: Disk + Time + EventLog + Address
     report_check(&daemon, env)
 }
 
-/// Waits until the clock is set (2020 or later), loads all files, and serves until the daemon stops or a wait for events fails.
-/// `descriptors` is the process's descriptor limit. `http` is how many of them the status pages may need. `after` runs after each turn of the
-/// loop.
-/// `Ok`: the exit status. 0: the daemon stopped as configured. 1: an export is too old. 3: a wait failed. 4: memory ran out at a wait.
-/// `Err`: why the daemon does not start.
+/// Waits until the clock is set (2020 or later), loads all files, and serves until the daemon stops or a wait for events fails. `env` listens
+/// already. `descriptors` is the process's descriptor limit. `http` is how many of them the status pages may need. `host` has the facts from
+/// which session IDs are chosen. `after` runs after each turn of the loop.
+///
+/// `Ok`: the exit status; the reason is logged. 0: with `once`, the client has gone. 1: with `stop_when_old`, an export is too old. 3: a wait
+/// failed. 4: memory ran out at a wait. `Err`: why the daemon does not start; the caller logs it.
 pub fn serve<
     T: Stream + Drop,
     H: HostFacts,

@@ -141,7 +141,7 @@ impl<S: VersionStore> Cache<S> {
         }
     }
 
-    /// Returns whether bytes are due to the router. `false` if there is no such connection.
+    /// Returns whether bytes are due to the router, also after the connection has ended. `false` if there is no such connection.
     pub fn has_bytes(&self, conn: Conn) -> bool
         ensures { (m : CacheState) → ShowsCache S.holds m self.now → result ≡ has_bytes_at (m.at conn.0) }
     {

@@ -132,7 +132,8 @@ impl Machine {
         }
     }
 
-    /// The next query: a Serial Query of the committed version, or a Reset Query if `known` returns `None` or `mark` is set.
+    /// Chooses the query to send: a Serial Query if a version of the connection's protocol version is committed and `mark` is not set. Otherwise a
+    /// Reset Query. Nothing is sent. The query after a Cache Reset is not asked for here.
     pub fn choose(&self) -> Question
         ensures { seen_question result ≡ choose (of_version self.now.spoken (seen_versions self.now.version)) self.now.mark }
     {

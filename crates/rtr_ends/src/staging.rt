@@ -107,7 +107,9 @@ impl Staging {
         }
     }
 
-    /// The table to which the records lead from the base of the answer to this question. Out of memory is the only error.
+    /// Ends the answer: returns its base without the withdrawn records, together with the announced ones. The base is empty if `question` is a
+    /// Reset Query. Otherwise it is `table`, the router's table. All records have to be staged over this base. Then out of memory is the only
+    /// error.
     pub fn end(self, alloc: Global, question: Question, table: &Table) -> Result<Table, SetFault>
         ensures { (b : Begun) → IsStaged (base_of (seen_question question) table.now) b.withdrawn b.announced self
             → LeadsToSet (base_of (seen_question question) table.now) b result }

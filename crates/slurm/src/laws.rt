@@ -16,7 +16,7 @@ pub fn assertions_stay()
     ensures { AssertionsStay }
 {}
 
-/// Law: for any bytes there is one result of reading: the exceptions of the file, or its first fault.
+/// Law: bytes have at most one result of reading. Two readings give the same exceptions, or the same first fault.
 pub fn one_reading()
     ensures { OneReading }
 {}
@@ -33,7 +33,7 @@ pub fn reads_scoped_exactly()
     ensures { ReadsScopedExactly }
 {}
 
-/// Law: for any bytes there is one result of reading with the scope: the file with its scope, or its first fault.
+/// Law: bytes have at most one result of reading with the scope. Two readings give the same file with its scope, or the same first fault.
 pub fn one_scoped_reading()
     ensures { OneScopedReading }
 {}

@@ -258,7 +258,8 @@ impl<T: Stream + Drop> Upstream<T> {
         self.router.committed()
     }
 
-    /// The committed table. It is empty if nothing is committed. A committed table may be empty too: see `data`.
+    /// The committed table. It is empty if nothing is committed. A committed table may be empty too: see `data`. Records that have expired stay
+    /// until the next call with a time, such as `tick` or `poll`.
     pub fn table(&self) -> &VrpSet
         ensures { (calls : List model.RouterCall) (b : Begun) → ShowsUpstream T.remaining T.contents calls b self.now → result.now ≡ (kept (model.played calls).items).table }
     {
