@@ -1,7 +1,8 @@
 //! Files of a directory, by their URIs.
 
 ghost use Rattle.std.specs.Prelude.{◌≡◌, option_map};
-ghost use Rattle.resource_certificates.specs.Directories.{is_name as is_name_of, is_name_behind as is_name_behind_of, ends_in_slash as ends_in_slash_of, is_file_of as is_file_of_directory, names_file as names_file_of};
+ghost use Rattle.resource_certificates.specs.Directories.{is_name as is_name_of, is_name_behind as is_name_behind_of, ends_in_slash as ends_in_slash_of};
+ghost use Rattle.resource_certificates.specs.Directories.{is_file_of as is_file_of_directory, names_file as names_file_of};
 
 /// Whether this is one name.
 fn is_name(name: &[u8]) -> bool

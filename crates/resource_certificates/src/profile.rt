@@ -4,7 +4,8 @@ ghost use Rattle.std.specs.Prelude.{◌≡◌, option_map, bytes_eq};
 ghost use Rattle.resource_certificates.specs.Places.{crl_uri_of as crl_uri_of_value, accesses_of as accesses_of_value};
 ghost use Rattle.resource_certificates.specs.Profile.{subject_value, authority_value, is_value as is_value_of, usage_of, are_constraints as are_constraints_of, is_key_value as is_key_value_of};
 ghost use Rattle.resource_certificates.specs.Profile.{has_key_value as has_key_value_of, is_authority_key as is_authority_key_of, are_points as are_points_of, are_issuers as are_issuers_of};
-ghost use Rattle.resource_certificates.specs.Profile.{is_authority_info as is_authority_info_of, is_object_info as is_object_info_of, is_info as is_info_of, is_authority as is_authority_of, Profiled, ReadsCertificate};
+ghost use Rattle.resource_certificates.specs.Profile.{is_authority_info as is_authority_info_of, is_object_info as is_object_info_of, is_info as is_info_of, Profiled, ReadsCertificate};
+ghost use Rattle.resource_certificates.specs.Profile.{is_authority as is_authority_of};
 
 use crate::certificate::{Certificate, Tbs, read_elements};
 use crate::directory::names_file;
