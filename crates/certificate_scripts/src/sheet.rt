@@ -2,7 +2,7 @@
 use std::io::Write;
 
 /// Prints texts and numbers.
-#[derive(Drop)]
+#[derive(Debug, Drop)]
 pub struct Sheet<W: Write> {
     out: W,
     failed: bool,
