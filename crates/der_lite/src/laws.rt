@@ -2,8 +2,8 @@
 
 ghost use Rattle.der_lite.specs.DerLaws.{OneDerFault, OneFaultOfTimes, OneIsBefore, OneDerSpelling, OneSpellingOfTimes, OneText, OpensExactly, ReadsExactly, ReadsTimesExactly, SpellsBits};
 
-/// Law: a read gives a content if and only if an element with the expected tag and that content is at its place.
-/// It gives a fault if and only if that fault is the first one at this place.
+/// Law, for each tag and any rules about the content. A read gives a content, and the place after it, if and only if an element with that tag and
+/// that content is there and the content keeps the rules. It gives a fault if and only if that fault is the first one at this place.
 pub fn reads_exactly()
     ensures { ReadsExactly }
 {}

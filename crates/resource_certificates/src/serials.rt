@@ -67,7 +67,8 @@ impl<'a> Model for Revocations<'a> {
 }
 
 impl<'a> Revocations<'a> {
-    /// A sorted copy of these serial numbers.
+    /// Sorts the serial numbers of a CRL, for [`Revocations::has`]. Only references are copied: the octets stay in the file. A number that comes
+    /// twice stays twice. `Err`: out of memory.
     pub fn of(alloc: Global, serials: &Serials<'a>) -> Result<Revocations<'a>, AllocError>
         ensures { IfOk result (λ r. SameMembers r serials.now) }
     {

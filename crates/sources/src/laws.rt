@@ -25,7 +25,8 @@ pub fn nothing_ends()
     ensures { NothingEnds }
 {}
 
-/// Law: one SLURM file gives the same exceptions by `take_slurm` and as the only file of `take_slurms`.
+/// Law: `take_slurms` with one file does what `take_slurm` does with it. It gives the same exceptions, or the same fault, as that of file 0. Of the
+/// faults of uniting files only `Memory` can come.
 pub fn one_slurm()
     ensures { OneSlurm }
 {}
