@@ -59,7 +59,8 @@ pub fn link_of(link: Link) -> CLink
     CLink { state, end, code }
 }
 
-/// Converts a committed version to the C interface. `None`: all fields are 0.
+/// Converts a committed version to the C interface. `Some`: `is_committed` is 1, `moment` is the time of the commit in seconds of the caller's clock,
+/// and intervals are in seconds. `None`: all fields are 0, `is_committed` too.
 pub fn committed_of(version: Option<CommittedVersion>) -> CCommitted
     ensures { result ≡ committed_of (seen_versions version) }
 {
