@@ -110,7 +110,9 @@ impl LogEvent<'_> {
         self.level() <= level
     }
 
-    /// Returns whether the event is about one client or visitor. A peer can cause any number of such lines, so a log limits them.
+    /// Returns whether the event names one client or visitor by its address: `ClientCame`, `ClientGone`, `ErrorReport`, `VersionRefused`, `Stalled`,
+    /// `Full`, `AddressFull` or `StatusFull`. A peer can cause any number of such lines, so a log limits them. `Memory` is none of them, even
+    /// if memory ran out for a client.
     pub fn is_of_client(&self) -> bool
         ensures { result ≡ is_of_client self.now }
     {

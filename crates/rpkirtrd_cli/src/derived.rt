@@ -38,7 +38,7 @@ impl Settings {
         u64::from(self.stall) * 1000
     }
 
-    /// After how many milliseconds a client is closed that has not accepted the whole answer to a query.
+    /// How many milliseconds after a query its client is closed, if it has not accepted the whole answer by then.
     pub fn slow_millis(&self) -> u64
         ensures { result ≡ millis_of self.now.slow }
     {

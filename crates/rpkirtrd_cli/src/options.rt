@@ -374,8 +374,8 @@ static OTHERS: OptionGroup = OptionGroup {
             value: "",
             help: &[
                 "Read and judge all files, say what would be served, and exit. The status",
-                "is 0 if the daemon could start so, and 1 if a file is refused. No address",
-                "is opened.",
+                "is 0 if the daemon could start so, 1 if the content of a file is refused,",
+                "and 3 if a file cannot be read. No address is opened.",
             ],
         },
         OptionSpec {

@@ -47,7 +47,7 @@ pub struct Settings {
     pub clients_per_address: Option<u64>,
     /// After how many seconds without progress a client that is blocked on writing is closed.
     pub stall: u32,
-    /// After how many seconds a client is closed that has not accepted the whole answer to a query, 60 to 86,400.
+    /// How many seconds after a query its client is closed, if it has not accepted the whole answer by then: 60 to 86,400.
     pub slow: u32,
     /// The address of the status pages. `None`: there are no status pages.
     pub status: Option<SocketAddr>,

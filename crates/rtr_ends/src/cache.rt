@@ -151,7 +151,8 @@ impl<S: VersionStore> Cache<S> {
         }
     }
 
-    /// Returns whether a PDU from the router has arrived only in part. `false` if there is no such connection.
+    /// Returns whether a PDU from the router has arrived only in part. `false` if the connection has ended, also by a fault in such a PDU, or if
+    /// there is no such connection.
     pub fn is_within_unit(&self, conn: Conn) -> bool
         ensures { (m : CacheState) → ShowsCache S.holds m self.now → result ≡ is_within (m.at conn.0) }
     {

@@ -174,7 +174,8 @@ impl Machine {
         first(self.expires_at(), self.asks_at())
     }
 
-    /// Sends a query if the link is idle, and returns whether it did.
+    /// If the link is idle, puts a query into the output as [`query`](Machine::query) does, and returns `true`. Otherwise it returns `false`, and
+    /// nothing changes. The clock is not advanced.
     pub fn ask_idle(&mut self) -> bool
         ensures asks { Does (λ r. (model.asks r).router) self.old self.new }
         ensures idle { result ≡ linked.is_idle (seen_link self.old.state [] []) }
