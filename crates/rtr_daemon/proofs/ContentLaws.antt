@@ -9,7 +9,8 @@ use Rattle.rtr_daemon.specs.declared.environment.Stamp.{Stamp}
 use Rattle.std.specs.Prelude.{map, slice_get, Option, Some, None}
 use Rattle.std.proofs.Common.{inl, inr, ◌⊎◌}
 use Rattle.std.proofs.lemmas.Bool.{cases_lt}
-use Rattle.std.proofs.lemmas.List.{get_or_default, length-map}
+use Rattle.std.proofs.lemmas.List.{append-nil, drop_all, get_or_default, length-map, take_all}
+use Rattle.std.proofs.lemmas.List.Edits.{map_over_more}
 use Rattle.rtr_daemon.specs.declared.shrink_guard.ShrinkGuard.{ShrinkGuard}
 use Rattle.rtr_daemon.specs.Files.{AreContents, AreNumbered, FollowsEach, FollowsOne, LoadsEach, LoadsOne, Mark, SameLoad, SameLoads, loads_of, mark_of, marks_of, names_of, path_of, paths_of, stamp_or}
 use Rattle.rtr_daemon.specs.PointOffers.{OffersEach, OffersPoint, points_of}
@@ -185,3 +186,16 @@ pub numbered_more : (exports : List WatchedExport) (last : WatchedExport) → Ar
 numbered_more exports last each is i export got =
     let at : export.number ≡ 0 + i = numbered_from 0 exports last (λ k e h. let here : e.number ≡ k = each k e h in omega (arith, here)) (omega (arith, is)) i export got in
     omega (arith, at)
+
+get_or_self : {A : Type 0} (xs : List A) (i : ℕ) (d : A) → get_or xs i d ≡ get_or xs i (get_or xs i d)
+get_or_self [] i d = refl
+get_or_self (x ∷ xs) zero d = refl
+get_or_self (x ∷ xs) (suc i) d = get_or_self xs i d
+
+-- A loop changed each element before an index, and changes this one.
+pub changed_more : {A : Type 0} (change : A → A) (initial items : List A) (i : ℕ) (d new : A) → i < length initial → items ≡ map change (take i initial) ++ drop i initial → new ≡ change (get_or items i d) → set items i new ≡ map change (take (i + 1) initial) ++ drop (i + 1) initial
+changed_more change initial items i d new less so_far is = ap (set items i) is ∙ map_over_more change initial items i (get_or items i d) less so_far (get_or_self items i d)
+
+-- It changed all.
+pub changed_all : {A : Type 0} (change : A → A) (initial items : List A) (i : ℕ) → length initial ≤ i → items ≡ map change (take i initial) ++ drop i initial → items ≡ map change initial
+changed_all change initial items i all so_far = so_far ∙ ap (λ xs. map change xs ++ drop i initial) (take_all i initial all) ∙ ap (λ xs. map change initial ++ xs) (drop_all i initial all) ∙ append-nil (map change initial)

@@ -6,11 +6,13 @@ use Rattle.rtr_daemon.specs.declared.refusal.Refusal.{Refusal}
 use Rattle.rtr_daemon.specs.declared.statistics.Failure.{Failure}
 use Rattle.session_names.specs.Runs.{may_publish}
 use Rattle.rtr_daemon.specs.Files.{FollowsEach, FollowsSlurms, loads_of, marks_of, names_of, paths_of}
+use Rattle.rtr_daemon.specs.Ages.{AreJudged, IsOldAfter, ages_of}
 use Rattle.rtr_daemon.specs.DiskAnswers.{DiskAnswers}
-use Rattle.rtr_daemon.specs.Due.{DoesWhatIsDue, FailsToPublish, FailureNoted, IsBetween, IsChecked, IsKept, JudgesAges, KeepsFiles, NextAfter, NextPoll, OnlyClients, OnlyFiles, OnlyNotes, PollsAll, PublishesIfDue, SamePaths, WakesIfPublished, failing_since, later_by, second_of_pace}
+use Rattle.rtr_daemon.specs.Due.{DoesWhatIsDue, FailsToPublish, FailureNoted, IsBetween, IsChecked, IsKept, IsReadyAfter, JudgesAges, KeepsFiles, NextAfter, NextPoll, OnlyAdmitted, OnlyClients, OnlyFiles, OnlyNotes, OnlyPolled, PollsAll, PublishesIfDue, SamePaths, WakesIfPublished, failing_since, second_of_pace}
 use Rattle.rtr_daemon.specs.Overdue.{LeavesNoneOverdue}
 use Rattle.rtr_daemon.specs.PointOffers.{OffersEach, points_of}
 use Rattle.rtr_daemon.specs.Queue.{WakesIfNew}
+use Rattle.rtr_daemon.specs.Times.{later_by}
 use Rattle.rtr_daemon.specs.Serving.{IsFresh, IsOfSecond, IsReason, OnlySources, PacesSo, StaysFresh}
 use Rattle.vrps.specs.declared.store.Published.{Published}
 use Rattle.vrps.specs.declared.store.Published.TheVariants.{New, Unchanged}
@@ -20,11 +22,22 @@ use Rattle.rtr_daemon.specs.declared.service.Service.{Service}
 
 -- old with the clients of new
 abbrev pub with_clients : {S T : Type 0} → Daemon S T → Daemon S T → Daemon S T
-with_clients old new = record old { service = record old.service { server = new.service.server }; clients = new.clients; listeners = new.listeners; readings = new.readings; statistics = new.statistics; has_parted = new.has_parted }
+with_clients old new = record old { service = record old.service { server = new.service.server }; clients = new.clients; has_room = new.has_room; readings = new.readings; statistics = new.statistics; has_parted = new.has_parted }
 
 -- One part after another changes only clients.
 pub only_on : {S T : Type 0} (a b c : Daemon S T) → OnlyClients a b → OnlyClients b c → OnlyClients a c
 only_on a b c first second = subst (λ z. c ≡ with_clients z c) first second
+
+-- old with what was admitted to new
+abbrev pub with_admitted : {S T : Type 0} → Daemon S T → Daemon S T → Daemon S T
+with_admitted old new = record (with_clients old new) { listeners = new.listeners }
+
+pub admitted_on : {S T : Type 0} (a b c : Daemon S T) → OnlyAdmitted a b → OnlyAdmitted b c → OnlyAdmitted a c
+admitted_on a b c first second = subst (λ z. c ≡ with_admitted z c) first second
+
+-- Pauses were ended.
+pub resumed_only : {S T : Type 0} (a b : Daemon S T) → b ≡ record a { listeners = b.listeners; has_room = false } → OnlyAdmitted a b
+resumed_only a b h = subst (λ z. z ≡ with_admitted a z) (sym h) refl
 
 -- Then clients are queued.
 pub then_queued : {S T : Type 0} (a b : Daemon S T) (table : ClientTable) → OnlyClients a b → OnlyClients a (record b { clients = table })
@@ -58,17 +71,18 @@ next_from ticks time a b c pace plan started opened (inr p) = inr (record {
 })
 
 -- That clients are woken depends on the pace before alone.
-pub wakes_from : {S T : Type 0} (a b c : Daemon S T) → b.service.pace ≡ a.service.pace → WakesIfPublished b c → WakesIfPublished a c
-wakes_from a b c pace (inl same) = inl (same ∙ pace)
-wakes_from a b c pace (inr woke) = inr woke
+pub wakes_from : {S T : Type 0} (a b c : Daemon S T) → b.service.pace ≡ a.service.pace → b.is_ready ≡ a.is_ready → WakesIfPublished b c → WakesIfPublished a c
+wakes_from a b c pace ready (inl same) = inl (same.0 ∙ pace, same.1 ∙ ready)
+wakes_from a b c pace ready (inr woke) = inr woke
 
 -- A publication was tried: no version is new, or all clients are woken.
-pub woken_by : {S T : Type 0} (a new : Daemon S T) (s : Service S T) (second : ℕ) (tried : Result PublishReport Refusal) → PacesSo (Some tried) second a.service.pace s.pace → IfOk tried (λ report. WakesIfNew report.published a.clients new.clients) → OnlyNotes (record a { service = s }) new → WakesIfPublished a new
-woken_by a new s second (Err refusal) paced wakes only = inl (ap (λ d. d.service.pace) only ∙ paced)
-woken_by {S} {T} a new s second (Ok report) paced wakes only = by report.published paced wakes where
-  by : (published : Published) → IsOfSecond published second a.service.pace s.pace → WakesIfNew published a.clients new.clients → WakesIfPublished a new
-  by (New serial) paced wakes = inr wakes.each
-  by Unchanged paced wakes = inl (ap (λ d. d.service.pace) only ∙ paced)
+pub woken_by : {S T : Type 0} (a new : Daemon S T) (s : Service S T) (second : ℕ) (tried : Result PublishReport Refusal) → PacesSo (Some tried) second a.service.pace s.pace → IfOk tried (λ report. WakesIfNew report.published a.clients new.clients) → IfOk tried (λ report. IsReadyAfter report.published a.is_ready new.is_ready) → IfErr tried (λ refusal. new.is_ready ≡ a.is_ready) → OnlyNotes (record a { service = s }) new
+    → WakesIfPublished a new
+woken_by a new s second (Err refusal) paced wakes ready unready only = inl (ap (λ d. d.service.pace) only ∙ paced, unready)
+woken_by {S} {T} a new s second (Ok report) paced wakes ready unready only = by report.published paced wakes ready where
+  by : (published : Published) → IsOfSecond published second a.service.pace s.pace → WakesIfNew published a.clients new.clients → IsReadyAfter published a.is_ready new.is_ready → WakesIfPublished a new
+  by (New serial) paced wakes ready = inr (wakes.each, ready)
+  by Unchanged paced wakes ready = inl (ap (λ d. d.service.pace) only ∙ paced, ready)
 
 -- A publication was tried: no version is new, or the next poll is one interval later.
 pub postponed_by : {S T : Type 0} (ticks : ℕ → Type 0) (a new : Daemon S T) (s : Service S T) (began second : ℕ) (tried : Result PublishReport Refusal) → ticks began → second ≡ second_of_pace a.started a.opened began → PacesSo (Some tried) second a.service.pace s.pace
@@ -79,14 +93,16 @@ postponed_by {S} {T} ticks a new s began second (Ok report) ticked is paced late
   by (New serial) paced after = inr (record { began = began; ticked = ticked; paced = ap (λ d. d.service.pace) only ∙ paced ∙ ap (λ n. Some n) is; ended = after.0; answered = after.1; next_check = after.2 })
   by Unchanged paced after = inl (ap (λ d. d.service.pace) only ∙ paced, after)
 
-polls_to : {S T W : Type 0} (answers : DiskAnswers W) (clock ticks : ℕ → Type 0) (a b c : Daemon S T) → c.service.sources ≡ b.service.sources → marks_of c.exports.items ≡ marks_of b.exports.items → loads_of c.slurms.items ≡ loads_of b.slurms.items → PollsAll answers clock ticks a b
-    → PollsAll answers clock ticks a c
-polls_to answers clock ticks a b c same marks loads p = record {
+polls_to : {S T W : Type 0} (answers : DiskAnswers W) (clock ticks : ℕ → Type 0) (a b c : Daemon S T) → c.service.sources ≡ b.service.sources → marks_of c.exports.items ≡ marks_of b.exports.items → ages_of c.exports.items ≡ ages_of b.exports.items → loads_of c.slurms.items ≡ loads_of b.slurms.items
+    → c.is_old ≡ b.is_old → PollsAll answers clock ticks a b → PollsAll answers clock ticks a c
+polls_to answers clock ticks a b c same marks ages loads old p = record {
   followed = p.followed;
   excepted = p.excepted;
   exports = subst (λ since. FollowsEach answers clock ticks a.plan.shrink a.exports.items since a.service.sources p.followed) (sym marks) p.exports;
   slurms = subst (λ noted. FollowsSlurms answers a.slurms.items noted p.followed p.excepted) (sym loads) p.slurms;
   points = subst (OffersEach answers clock a.points.items p.excepted) (sym same) p.points;
+  judged = subst (λ s. AreJudged clock a.plan.max_age s (ages_of c.exports.items)) (sym same) (subst (AreJudged clock a.plan.max_age b.service.sources) (sym ages) p.judged);
+  is_old = subst (IsOldAfter a.plan.max_age a.is_old (ages_of c.exports.items)) (sym old) (subst (λ all. IsOldAfter a.plan.max_age a.is_old all b.is_old) (sym ages) p.is_old);
 }
 
 -- A round of publication, after a check and a turn of clients
@@ -109,7 +125,7 @@ due_of {S} {T} answers clock ticks now a b c d ticked polls fresh paths checked 
     now = now;
     ticked = ticked;
     due = λ is. record {
-      polls = polls_to answers clock ticks a b d r.kept.sources (ap (λ e. marks_of e.items) r.kept.exports) (ap (λ e. loads_of e.items) r.kept.slurms) (polls is);
+      polls = polls_to answers clock ticks a b d r.kept.sources (ap (λ e. marks_of e.items) r.kept.exports) (ap (λ e. ages_of e.items) r.kept.exports) (ap (λ e. loads_of e.items) r.kept.slurms) r.kept.is_old (polls is);
       fresh = r.fresh (fresh is);
       publishes =
           publishes_from clock ticks now a (with_clients b c) d checked.pace checked.rest.1 checked.rest.2 checked.failing
@@ -126,7 +142,8 @@ due_of {S} {T} answers clock ticks now a b c d ticked polls fresh paths checked 
       };
     };
     between = λ is. between_of (checked.between is);
-    wakes = wakes_from a (with_clients b c) d checked.pace r.wakes;
+    wakes = wakes_from a (with_clients b c) d checked.pace checked.ready r.wakes;
+    listeners = r.kept.listeners ∙ checked.listeners;
     rest = (r.kept.rest.0 ∙ checked.rest.0, r.kept.rest.1 ∙ checked.rest.1, r.kept.rest.2 ∙ checked.rest.2);
   } where
     early_enough : a.next_check ≤ now → b.next_round ≤ now
@@ -136,7 +153,7 @@ due_of {S} {T} answers clock ticks now a b c d ticked polls fresh paths checked 
     between_of same = again (subst (λ z. Round clock ticks now (with_clients z c) d) same r) where
       again : Round clock ticks now (with_clients a c) d → IsBetween clock ticks now a d
       again s = record {
-        kept = record { sources = s.kept.sources; exports = s.kept.exports; slurms = s.kept.slurms; points = s.kept.points; rest = s.kept.rest };
+        kept = record { sources = s.kept.sources; exports = s.kept.exports; slurms = s.kept.slurms; points = s.kept.points; is_old = s.kept.is_old; listeners = s.kept.listeners; rest = s.kept.rest };
         next_poll = next_from ticks a.next_check a (with_clients a c) d refl refl refl refl s.next;
         publishes = λ due. publishes_from clock ticks a.held_until a (with_clients a c) d refl refl refl refl (s.due due);
         next_round = s.round;
@@ -153,7 +170,6 @@ with_files old new = record old {
   points = new.points;
   statistics = new.statistics;
   clock_behind = new.clock_behind;
-  is_old = new.is_old;
 }
 
 -- One part after another changes only files.
@@ -164,8 +180,15 @@ files_on a b c first second = subst (λ z. c ≡ with_files z c) first second
 pub clock_only : {S T : Type 0} (a b : Daemon S T) → b ≡ record a { clock_behind = b.clock_behind } → OnlyFiles a b
 clock_only a b h = subst (λ z. z ≡ with_files a z) (sym h) refl
 
-pub ages_only : {S T : Type 0} (a b : Daemon S T) → JudgesAges a b → OnlyFiles a b
-ages_only a b h = subst (λ z. z ≡ with_files a z) (sym h.rest) refl
+-- old with what a poll changes
+abbrev pub with_polled : {S T : Type 0} → Daemon S T → Daemon S T → Daemon S T
+with_polled old new = record (with_files old new) { is_old = new.is_old }
+
+-- After the files, ages are judged.
+pub polled_on : {S T : Type 0} (clock : ℕ → Type 0) (a b c : Daemon S T) → OnlyFiles a b → JudgesAges clock b c → OnlyPolled a c
+polled_on clock a b c only h =
+    let last : c ≡ with_polled b c = subst (λ z. z ≡ with_polled b z) (sym h.rest) refl in
+    subst (λ z. c ≡ with_polled z c) only last
 
 -- A poll by its parts: the clock, exports, local exceptions, publication points, and ages
 pub record Parts {S T W : Type 0} (answers : DiskAnswers W) (clock ticks : ℕ → Type 0) (a b c d e f : Daemon S T) : Type 0 where
@@ -179,7 +202,8 @@ pub record Parts {S T W : Type 0} (answers : DiskAnswers W) (clock ticks : ℕ �
   pub points : OffersEach answers clock d.points.items d.service.sources e.service.sources
   pub point_paths : points_of e.points.items ≡ points_of d.points.items
   pub after_points : (e.exports ≡ d.exports) × (e.slurms ≡ d.slurms)
-  pub ages : JudgesAges e f
+  pub only : OnlyFiles a e
+  pub ages : JudgesAges clock e f
 
 pub polls_of : {S T W : Type 0} (answers : DiskAnswers W) (clock ticks : ℕ → Type 0) (a b c d e f : Daemon S T) → Parts answers clock ticks a b c d e f → PollsAll answers clock ticks a f
 polls_of answers clock ticks a b c d e f p =
@@ -198,6 +222,12 @@ polls_of answers clock ticks a b c d e f p =
           subst (λ z. FollowsSlurms answers z.items (loads_of f.slurms.items) c.service.sources d.service.sources) slurms
           (subst (λ z. FollowsSlurms answers c.slurms.items (loads_of z.items) c.service.sources d.service.sources) (sym (ap (λ z. z.slurms) p.ages.rest ∙ p.after_points.1)) p.slurms);
       points = subst (OffersEach answers clock a.points.items d.service.sources) (sym last) (subst (λ z. OffersEach answers clock z.items d.service.sources e.service.sources) points p.points);
+      judged =
+          subst (λ s. AreJudged clock a.plan.max_age s (ages_of f.exports.items)) (sym last)
+          (subst (λ plan. AreJudged clock plan.max_age e.service.sources (ages_of f.exports.items)) (ap (λ z. z.plan) p.only) p.ages.judged);
+      is_old =
+          subst (λ before. IsOldAfter a.plan.max_age before (ages_of f.exports.items) f.is_old) (ap (λ z. z.is_old) p.only)
+          (subst (λ plan. IsOldAfter plan.max_age e.is_old (ages_of f.exports.items) f.is_old) (ap (λ z. z.plan) p.only) p.ages.is_old);
     }
 
 pub same_paths_of : {S T W : Type 0} (answers : DiskAnswers W) (clock ticks : ℕ → Type 0) (a b c d e f : Daemon S T) → Parts answers clock ticks a b c d e f → SamePaths a f
@@ -238,6 +268,8 @@ published_kept a new s same settings only = record {
   exports = ap (λ d. d.exports) only;
   slurms = ap (λ d. d.slurms) only;
   points = ap (λ d. d.points) only;
+  is_old = ap (λ d. d.is_old) only;
+  listeners = ap (λ d. d.listeners) only;
   rest = (ap (λ d. d.plan) only, ap (λ d. d.started) only, ap (λ d. d.opened) only, ap (λ d. d.service.settings) only ∙ settings);
 }
 
@@ -259,12 +291,12 @@ clients_fresh clock a b only fresh = subst (λ z. IsFresh clock z.service) (sym 
 pub clients_kept : {S T : Type 0} (a b c : Daemon S T) → OnlyClients a b → KeepsFiles b c → KeepsFiles a c
 clients_kept a b c only kept = again (subst (λ z. KeepsFiles z c) only kept) where
   again : KeepsFiles (with_clients a b) c → KeepsFiles a c
-  again k = record { sources = k.sources; exports = k.exports; slurms = k.slurms; points = k.points; rest = k.rest }
+  again k = record { sources = k.sources; exports = k.exports; slurms = k.slurms; points = k.points; is_old = k.is_old; listeners = k.listeners; rest = k.rest }
 
 -- A poll, when the next one was noted, and what has expired
 pub polled_then : {S T W : Type 0} (answers : DiskAnswers W) (clock ticks : ℕ → Type 0) (a b c d : Daemon S T) → b ≡ record a { next_check = b.next_check; next_round = b.next_round; held_until = b.held_until } → PollsAll answers clock ticks b c
-    → d.service.sources ≡ c.service.sources → marks_of d.exports.items ≡ marks_of c.exports.items → loads_of d.slurms.items ≡ loads_of c.slurms.items → PollsAll answers clock ticks a d
-polled_then answers clock ticks a b c d times polls same marks loads =
+    → d.service.sources ≡ c.service.sources → marks_of d.exports.items ≡ marks_of c.exports.items → ages_of d.exports.items ≡ ages_of c.exports.items → loads_of d.slurms.items ≡ loads_of c.slurms.items → d.is_old ≡ c.is_old → PollsAll answers clock ticks a d
+polled_then answers clock ticks a b c d times polls same marks ages loads old =
     let p = subst (λ z. PollsAll answers clock ticks z c) times polls in
-    let at_start : PollsAll answers clock ticks a c = record { followed = p.followed; excepted = p.excepted; exports = p.exports; slurms = p.slurms; points = p.points } in
-    polls_to answers clock ticks a c d same marks loads at_start
+    let at_start : PollsAll answers clock ticks a c = record { followed = p.followed; excepted = p.excepted; exports = p.exports; slurms = p.slurms; points = p.points; judged = p.judged; is_old = p.is_old } in
+    polls_to answers clock ticks a c d same marks ages loads old at_start

@@ -1,3 +1,5 @@
+pub mod AcceptLaws
+pub mod AgeLaws
 pub mod ContentLaws
 pub mod DroppingLaws
 pub mod DueLaws

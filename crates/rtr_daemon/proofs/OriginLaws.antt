@@ -26,7 +26,7 @@ use Rattle.sources.specs.declared.fault.TakeFault.{TakeFault}
 use Rattle.sources.specs.declared.listed.Listed.{Listed}
 use Rattle.sources.specs.declared.sources.Sources.{Sources}
 use Rattle.rtr_daemon.specs.DiskAnswers.{DiskAnswers}
-use Rattle.rtr_daemon.specs.Due.{DoesWhatIsDue, OnlyClients, OnlyServed, PollsAll}
+use Rattle.rtr_daemon.specs.Due.{DoesWhatIsDue, OnlyAdmitted, OnlyClients, OnlyServed, PollsAll}
 use Rattle.rtr_daemon.specs.Files.{AreNumbered, Follows, FollowsEach, FollowsSlurms, Loads, LoadsEach, Mark, loads_of, marks_of, names_of, path_of, paths_of}
 use Rattle.rtr_daemon.specs.Origins.{ComesAt, ExceptionsComeFrom, ExportComesFrom, ExportsComeFrom, Place, PointComesFrom, PointsComeFrom, SourcesComeFrom, places_of}
 use Rattle.rtr_daemon.specs.PointOffers.{IsOffered, OffersEach, OffersPoint, points_of}
@@ -265,6 +265,9 @@ polled_comes answers clock ticks old new p names slurms points before =
 -- Only clients have changed.
 pub clients_come : {S T W : Type 0} (answers : DiskAnswers W) (clock : ℕ → Type 0) (old new : Daemon S T) → OnlyClients old new → SourcesComeFrom answers clock old → SourcesComeFrom answers clock new
 clients_come answers clock old new only before = subst (SourcesComeFrom answers clock) (sym only) (record { exports = before.exports; exceptions = before.exceptions; points = before.points })
+
+pub admitted_comes : {S T W : Type 0} (answers : DiskAnswers W) (clock : ℕ → Type 0) (old new : Daemon S T) → OnlyAdmitted old new → SourcesComeFrom answers clock old → SourcesComeFrom answers clock new
+admitted_comes answers clock old new only before = subst (SourcesComeFrom answers clock) (sym only) (record { exports = before.exports; exceptions = before.exceptions; points = before.points })
 
 -- Versions may have been dropped.
 pub served_comes : {S T W : Type 0} (answers : DiskAnswers W) (clock : ℕ → Type 0) (old new : Daemon S T) → OnlyServed old new → SourcesComeFrom answers clock old → SourcesComeFrom answers clock new

@@ -5,31 +5,41 @@ use Rattle.std.proofs.lemmas.List.{append-nil}
 use Rattle.std.proofs.lemmas.List.Elements.{Contains-append_cases, Contains-append_left}
 use Rattle.points.proofs.Named.{contains_cases}
 use Rattle.rtr_daemon.specs.Queue.{IsQueued, QueuesBehind, SameClients}
-use Rattle.rtr_daemon.specs.Readiness.{QueuesReady, TellsEach}
+use Rattle.rtr_daemon.specs.Accepting.{noted}
+use Rattle.rtr_daemon.specs.Readiness.{QueuesReady, TellsEach, all_noted}
 use Rattle.rtr_daemon.specs.SocketCalls.{SocketCalls}
 use Rattle.rtr_daemon.specs.declared.client_table.ClientTable.{ClientTable}
 use Rattle.rtr_daemon.specs.declared.environment.Ready.{Ready}
-use Rattle.rtr_daemon.specs.declared.environment.Ready.TheVariants.{Connection, Listener}
+use Rattle.rtr_daemon.specs.declared.environment.Ready.TheVariants.{Connection}
+use Rattle.rtr_daemon.specs.declared.environment.Ready.TheVariants as what
+use Rattle.rtr_daemon.specs.declared.accepting.Listener.{Listener}
 use Rattle.rtr_daemon.proofs.WakeLaws.{behind_on}
 
 -- So far this many were ready, and the clients among them are queued.
-pub record ReadySoFar {W : Type 0} (calls : SocketCalls W) (before : W) (old now : ClientTable) (after : W) (count : ℕ) : Type 0 where
+pub record ReadySoFar {W : Type 0} (calls : SocketCalls W) (before : W) (old : ClientTable) (listeners : List Listener) (now : ClientTable) (heard : List Listener) (after : W) (count : ℕ) : Type 0 where
   pub told : List Ready
   pub each : TellsEach calls before told after
   pub many : length told ≡ count
   pub queues : QueuesReady told old now
+  pub notes : heard ≡ all_noted told listeners
 
 not_in_none : (x : Ready) → Contains [] x → ⊥
 not_in_none x among = absurd (omega (arith, among.1))
 
 -- None was ready yet.
-pub ready_none : {W : Type 0} (calls : SocketCalls W) (before : W) (table : ClientTable) → ReadySoFar calls before table table before 0
-ready_none calls before table = record {
+pub ready_none : {W : Type 0} (calls : SocketCalls W) (before : W) (table : ClientTable) (listeners : List Listener) → ReadySoFar calls before table listeners table listeners before 0
+ready_none calls before table listeners = record {
   told = [];
   each = refl;
   many = refl;
   queues = record { woken = λ token among. absurd (not_in_none (Connection token) among); clients = λ token. refl; queue = ([], sym (append-nil table.queue.items)) };
+  notes = refl;
 }
+
+-- One more was noted.
+noted_more : (told : List Ready) (ready : Ready) (listeners : List Listener) → all_noted (told ++ ready ∷ []) listeners ≡ noted ready (all_noted told listeners)
+noted_more [] ready listeners = refl
+noted_more (first ∷ told) ready listeners = noted_more told ready (noted first listeners)
 
 -- One more was ready.
 tells_more : {W : Type 0} (calls : SocketCalls W) (before : W) (told : List Ready) (last : W) (next : Ready) (after : W) → TellsEach calls before told last → calls.tells last (Some next) after → TellsEach calls before (told ++ next ∷ []) after
@@ -42,10 +52,10 @@ still_queued a b token same behind queued there =
     subst (λ q. Contains q token) (sym behind.1) (Contains-append_left a.queue.items behind.0 token (queued (subst IsSome (ap (λ known. option_map (λ entry. entry.client) known) (same token)) there)))
 
 -- A listener is ready: nobody is queued.
-pub queues_listener : (listener : ℕ) (table : ClientTable) → QueuesReady (Listener listener ∷ []) table table
-queues_listener listener table = record { woken = λ token among. alone token (contains_cases (Connection token) (Listener listener) [] among); clients = λ token. refl; queue = ([], sym (append-nil table.queue.items)) } where
-  alone : (token : ℕ) → (Listener listener ≡ Connection token) ⊎ Contains [] (Connection token) → IsQueued table token
-  alone token (inl is) = absurd (let never : Listener listener ≡ Connection token = is in cc)
+pub queues_listener : (listener : ℕ) (table : ClientTable) → QueuesReady (what.Listener listener ∷ []) table table
+queues_listener listener table = record { woken = λ token among. alone token (contains_cases (Connection token) (what.Listener listener) [] among); clients = λ token. refl; queue = ([], sym (append-nil table.queue.items)) } where
+  alone : (token : ℕ) → (what.Listener listener ≡ Connection token) ⊎ Contains [] (Connection token) → IsQueued table token
+  alone token (inl is) = absurd (let never : what.Listener listener ≡ Connection token = is in cc)
   alone token (inr none) = absurd (not_in_none (Connection token) none)
 
 -- A connection is ready: its client is queued.
@@ -64,10 +74,12 @@ queues_more told ready old mid now h one = record { woken = woken; clients = λ 
   woken : (token : ℕ) → Contains (told ++ ready ∷ []) (Connection token) → IsQueued now token
   woken token among = by token (Contains-append_cases told (ready ∷ []) (Connection token) among)
 
-pub ready_more : {W : Type 0} (calls : SocketCalls W) (before : W) (old mid now : ClientTable) (last after : W) (count : ℕ) (ready : Ready) → ReadySoFar calls before old mid last count → calls.tells last (Some ready) after → QueuesReady (ready ∷ []) mid now → ReadySoFar calls before old now after (count + 1)
-ready_more calls before old mid now last after count ready h tells one = record {
+pub ready_more : {W : Type 0} (calls : SocketCalls W) (before : W) (old mid now : ClientTable) (listeners heard new : List Listener) (last after : W) (count : ℕ) (ready : Ready) → ReadySoFar calls before old listeners mid heard last count → calls.tells last (Some ready) after → QueuesReady (ready ∷ []) mid now
+    → new ≡ noted ready heard → ReadySoFar calls before old listeners now new after (count + 1)
+ready_more calls before old mid now listeners heard new last after count ready h tells one hears = record {
   told = h.told ++ ready ∷ [];
   each = tells_more calls before h.told last ready after h.each tells;
   many = length-append h.told (ready ∷ []) ∙ ap (λ n. n + 1) h.many;
   queues = queues_more h.told ready old mid now h.queues one;
+  notes = hears ∙ ap (noted ready) h.notes ∙ sym (noted_more h.told ready listeners);
 }

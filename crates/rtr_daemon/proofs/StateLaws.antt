@@ -22,7 +22,7 @@ judged_wakes {S} {T} a b c same wakes = subst (WakesIfPublished a) (sym same) (o
   on (inr woke) = inr woke
 
 pub judged_kept : {S T : Type 0} (a b c : Daemon S T) → c ≡ with_unwell b c.unwell → KeepsFiles a b → KeepsFiles a c
-judged_kept {S} {T} a b c same k = subst (KeepsFiles a) (sym same) (record { sources = k.sources; exports = k.exports; slurms = k.slurms; points = k.points; rest = k.rest })
+judged_kept {S} {T} a b c same k = subst (KeepsFiles a) (sym same) (record { sources = k.sources; exports = k.exports; slurms = k.slurms; points = k.points; is_old = k.is_old; listeners = k.listeners; rest = k.rest })
 
 pub judged_next : {S T : Type 0} (ticks : ℕ → Type 0) (time : ℕ) (a b c : Daemon S T) → c ≡ with_unwell b c.unwell → NextPoll ticks time a b → NextPoll ticks time a c
 judged_next {S} {T} ticks time a b c same next = subst (NextPoll ticks time a) (sym same) (on next) where

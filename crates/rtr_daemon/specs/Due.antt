@@ -1,8 +1,10 @@
 -- What a turn does that is due by the clock. Times are milliseconds of the monotonic clock.
-use Rattle.std.specs.Prelude.{◌≡◌, ◌⊎◌, ◌<◌, ◌≤◌, ◌+◌, ◌-◌, ◌*◌, ◌/◌, ℕ, max, min, true, false, List, [], Option, None, Some, unwrap_or}
+use Rattle.std.specs.Prelude.{◌≡◌, ◌⊎◌, ◌<◌, ◌≤◌, ◌+◌, ◌-◌, ◌*◌, ◌/◌, ◌&&◌, ℕ, zero, suc, Bool, max, min, true, false, List, [], Option, None, Some, unwrap_or, if◌then◌else◌}
 use Rattle.vrps.specs.Instance.{Instance}
 use Rattle.session_names.specs.Runs.{may_publish}
 use Rattle.sources.specs.declared.sources.Sources.{Sources}
+use Rattle.rtr_daemon.specs.Accepting.{AsksEach, resumed}
+use Rattle.rtr_daemon.specs.Ages.{AreJudged, IsOldAfter, ages_of}
 use Rattle.rtr_daemon.specs.DiskAnswers.{DiskAnswers}
 use Rattle.rtr_daemon.specs.Files.{FollowsEach, FollowsSlurms, loads_of, marks_of, names_of, paths_of}
 use Rattle.rtr_daemon.specs.Overdue.{LeavesNoneOverdue}
@@ -11,21 +13,51 @@ use Rattle.rtr_daemon.specs.Queue.{AreQueued, NoClients, QueuesBehind, ServesEac
 use Rattle.rtr_daemon.specs.Readiness.{TakesReady}
 use Rattle.rtr_daemon.specs.Serving.{Continues, Drops, EndsEmpty, IsFresh, IsReason}
 use Rattle.rtr_daemon.specs.SocketCalls.{SocketCalls}
+use Rattle.rtr_daemon.specs.Times.{later_by}
 use Rattle.rtr_server.specs.declared.stream.Call.{Call}
 use Rattle.vrps.specs.declared.store.Published.{Published}
 use Rattle.vrps.specs.declared.store.Published.TheVariants.{New, Unchanged}
 use Rattle.rtr_daemon.specs.declared.daemon.Daemon.{Daemon}
+use Rattle.rtr_daemon.specs.declared.daemon.StopReason.{StopReason}
+use Rattle.rtr_daemon.specs.declared.daemon.StopReason.TheVariants.{Once, Old}
 use Rattle.rtr_daemon.specs.declared.refusal.Refusal.{Refusal}
 use Rattle.rtr_daemon.specs.declared.statistics.Failure.{Failure}
 
--- Only clients and listeners have changed, and what is counted of them.
+-- Only clients have changed, what is counted of them, and whether one was closed.
 abbrev pub OnlyClients : {S T : Type 0} → Daemon S T → Daemon S T → Type 0
 OnlyClients old new =
-    new ≡ record old { service = record old.service { server = new.service.server }; clients = new.clients; listeners = new.listeners; readings = new.readings; statistics = new.statistics; has_parted = new.has_parted }
+    new ≡ record old { service = record old.service { server = new.service.server }; clients = new.clients; has_room = new.has_room; readings = new.readings; statistics = new.statistics; has_parted = new.has_parted }
+
+-- So it is, and listeners have changed.
+abbrev pub OnlyAdmitted : {S T : Type 0} → Daemon S T → Daemon S T → Type 0
+OnlyAdmitted old new =
+    new
+    ≡ record old {
+      service = record old.service { server = new.service.server };
+      clients = new.clients;
+      listeners = new.listeners;
+      has_room = new.has_room;
+      readings = new.readings;
+      statistics = new.statistics;
+      has_parted = new.has_parted;
+    }
 
 -- Only what was read of the files has changed, and what is noted of them.
 abbrev pub OnlyFiles : {S T : Type 0} → Daemon S T → Daemon S T → Type 0
 OnlyFiles old new =
+    new
+    ≡ record old {
+      service = record old.service { sources = new.service.sources; is_pending = new.service.is_pending; current_at = new.service.current_at; has_points = new.service.has_points };
+      exports = new.exports;
+      slurms = new.slurms;
+      points = new.points;
+      statistics = new.statistics;
+      clock_behind = new.clock_behind;
+    }
+
+-- So after a poll, and whether an export is too old.
+abbrev pub OnlyPolled : {S T : Type 0} → Daemon S T → Daemon S T → Type 0
+OnlyPolled old new =
     new
     ≡ record old {
       service = record old.service { sources = new.service.sources; is_pending = new.service.is_pending; current_at = new.service.current_at; has_points = new.service.has_points };
@@ -58,15 +90,18 @@ pub record FailureNoted {S T : Type 0} (refusal : Refusal) (millis : ℕ) (old n
   pub since : new.failing ≡ Some (failing_since millis old.failing)
 
 -- Whether an export is old was judged.
-pub record JudgesAges {S T : Type 0} (old new : Daemon S T) : Type 0 where
+pub record JudgesAges {S T : Type 0} (clock : ℕ → Type 0) (old new : Daemon S T) : Type 0 where
   pub names : names_of new.exports.items ≡ names_of old.exports.items
   pub marks : marks_of new.exports.items ≡ marks_of old.exports.items
+  pub judged : AreJudged clock old.plan.max_age old.service.sources (ages_of new.exports.items)
+  pub is_old : IsOldAfter old.plan.max_age old.is_old (ages_of new.exports.items) new.is_old
   pub rest : new ≡ record old { exports = new.exports; is_old = new.is_old }
 
 -- Which records have expired was judged.
 pub record JudgesExpiry {S T : Type 0} (old new : Daemon S T) : Type 0 where
   pub names : names_of new.exports.items ≡ names_of old.exports.items
   pub marks : marks_of new.exports.items ≡ marks_of old.exports.items
+  pub ages : ages_of new.exports.items ≡ ages_of old.exports.items
   pub rest :
       new
       ≡ record old {
@@ -74,17 +109,15 @@ pub record JudgesExpiry {S T : Type 0} (old new : Daemon S T) : Type 0 where
         exports = new.exports;
       }
 
--- The sources are unchanged, and the paths too.
+-- The sources are unchanged, the paths too, whether an export is too old, and the listeners.
 pub record KeepsFiles {S T : Type 0} (old new : Daemon S T) : Type 0 where
   pub sources : new.service.sources ≡ old.service.sources
   pub exports : new.exports ≡ old.exports
   pub slurms : new.slurms ≡ old.slurms
   pub points : new.points ≡ old.points
+  pub is_old : new.is_old ≡ old.is_old
+  pub listeners : new.listeners ≡ old.listeners
   pub rest : (new.plan ≡ old.plan) × (new.started ≡ old.started) × (new.opened ≡ old.opened) × (new.service.settings ≡ old.service.settings)
-
--- a time that is later by so much, in 64 bits
-abbrev pub later_by : ℕ → ℕ → ℕ
-later_by span millis = min (millis + span) 18446744073709551615
 
 -- The second of the pace at a time: the second of the start, and the seconds since, in 64 bits.
 abbrev pub second_of_pace : ℕ → ℕ → ℕ → ℕ
@@ -172,7 +205,7 @@ pub record OnlyServed {S T : Type 0} (old new : Daemon S T) : Type 0 where
       ≡ record old {
         service = record old.service { server = new.service.server; is_pending = new.service.is_pending };
         clients = new.clients;
-        listeners = new.listeners;
+        has_room = new.has_room;
         readings = new.readings;
         statistics = new.statistics;
         has_parted = new.has_parted;
@@ -189,17 +222,30 @@ pub record DropsIfLate {S T : Type 0} (ticks : ℕ → Type 0) (holds : ℕ → 
   pub clients : (new ≡ old) ⊎ NoClients new.clients
   pub rest : OnlyServed old new
 
--- No version was published, or each client is in the queue then. The second of the pace changes with each version.
-abbrev pub WakesIfPublished : {S T : Type 0} → Daemon S T → Daemon S T → Type 0
-WakesIfPublished old new = (new.service.pace ≡ old.service.pace) ⊎ AreQueued new.clients
+-- Routers are admitted from the first version on.
+abbrev pub IsReadyAfter : Published → Bool → Bool → Type 0
+IsReadyAfter (New serial) old new = new ≡ true
+IsReadyAfter Unchanged old new = new ≡ old
 
--- Each file and each publication point was polled, in this order: exports, local exceptions, publication points.
+-- No version was published, and routers are admitted if they were before. Or one was: each client is in the queue then, and routers are admitted. The
+-- second of the pace changes with each version.
+abbrev pub WakesIfPublished : {S T : Type 0} → Daemon S T → Daemon S T → Type 0
+WakesIfPublished old new = ((new.service.pace ≡ old.service.pace) × (new.is_ready ≡ old.is_ready)) ⊎ (AreQueued new.clients × (new.is_ready ≡ true))
+
+-- Why a daemon stops, if it does: one router was served and it serves one alone, or an export is too old and it stops then.
+abbrev pub end_of : {S T : Type 0} → Daemon S T → Option StopReason
+end_of d = if d.plan.once && d.has_parted then Some Once else if d.plan.stops_when_old && d.is_old then Some Old else None
+
+-- Each file and each publication point was polled, in this order: exports, local exceptions, publication points. Then the ages of the exports were
+-- judged.
 pub record PollsAll {S T W : Type 0} (answers : DiskAnswers W) (clock ticks : ℕ → Type 0) (old new : Daemon S T) : Type 0 where
   pub followed : Sources
   pub excepted : Sources
   pub exports : FollowsEach answers clock ticks old.plan.shrink old.exports.items (marks_of new.exports.items) old.service.sources followed
   pub slurms : FollowsSlurms answers old.slurms.items (loads_of new.slurms.items) followed excepted
   pub points : OffersEach answers clock old.points.items excepted new.service.sources
+  pub judged : AreJudged clock old.plan.max_age new.service.sources (ages_of new.exports.items)
+  pub is_old : IsOldAfter old.plan.max_age old.is_old (ages_of new.exports.items) new.is_old
 
 -- The sources are watched at the same paths.
 pub record SamePaths {S T : Type 0} (old new : Daemon S T) : Type 0 where
@@ -215,6 +261,8 @@ pub record IsChecked {S T : Type 0} (now : ℕ) (old new : Daemon S T) : Type 0 
   pub pace : new.service.pace ≡ old.service.pace
   pub failing : new.failing ≡ old.failing
   pub settings : new.service.settings ≡ old.service.settings
+  pub ready : new.is_ready ≡ old.is_ready
+  pub listeners : new.listeners ≡ old.listeners
   pub rest : (new.plan ≡ old.plan) × (new.started ≡ old.started) × (new.opened ≡ old.opened)
   pub between : now < old.next_check → new ≡ old
 
@@ -245,43 +293,53 @@ pub record DoesWhatIsDue {S T W : Type 0} (answers : DiskAnswers W) (clock ticks
   pub due : old.next_check ≤ now → Polls answers clock ticks now old new
   pub between : now < old.next_check → IsBetween clock ticks now old new
   pub wakes : WakesIfPublished old new
+  pub listeners : new.listeners ≡ old.listeners
   pub rest : (new.plan ≡ old.plan) × (new.started ≡ old.started) × (new.opened ≡ old.opened)
 
--- The sockets were waited for, at most as long as `IsWait` says from a time that the clock answered. Then they were asked for all that is ready, and
--- clients that are ready were queued.
-pub record Awakes {S T W : Type 0} (calls : SocketCalls W) (ticks : ℕ → Type 0) (old new : Daemon S T) : Type 0 where
+-- First the clock was read. The sockets were waited for, at most as long as `IsWait` says from that time. Then they were asked for all that is ready:
+-- clients that are ready were queued, and listeners noted.
+pub record Awakes {S T W : Type 0} (calls : SocketCalls W) (reads : W → ℕ → W → Type 0) (ticks : ℕ → Type 0) (start : W) (old new : Daemon S T) : Type 0 where
   pub millis : ℕ
   pub ticked : ticks millis
   pub wait : ℕ
   pub is : IsWait old millis wait
   pub before : W
+  pub read : reads start millis before
   pub woken : W
   pub after : W
   pub waits : calls.waits before wait woken
-  pub ready : TakesReady calls woken old.clients new.clients after
+  pub ready : TakesReady calls woken old.clients old.listeners.listeners.items new.clients new.listeners.listeners.items after
   pub service : new.service ≡ old.service
-  pub only : OnlyClients old new
+  pub only : OnlyAdmitted old new
 
--- Pending connections were accepted, and their clients are queued after those that were. There are none before the first version.
-pub record Accepts {S T : Type 0} (old new : Daemon S T) : Type 0 where
+-- Each listener was asked for connections, and their clients are queued after those that were. Before the first version none is asked.
+pub record Accepts {S T W : Type 0} (calls : SocketCalls W) (ticks : ℕ → Type 0) (old new : Daemon S T) : Type 0 where
+  pub asks : old.is_ready ≡ true → AsksEach calls ticks (resumed old.has_room old.listeners.listeners.items) new.listeners.listeners.items
   pub queue : QueuesBehind old.clients.queue.items new.clients
   pub closed : old.is_ready ≡ false → new.service ≡ old.service
-  pub only : OnlyClients old new
+  pub only : OnlyAdmitted old new
 
--- Each client that was in the queue had one turn, in its order.
+-- Each client that was in the queue had one turn, in its order. One that may do more is in the queue again, behind those that were.
 pub record ServesQueue {S T : Type 0} (holds : ℕ → Instance → S → Type 0) (remaining contents : T → Option (List ℕ)) (answers : T → Option (List Call)) (old new : Daemon S T) : Type 0 where
   pub turns : ServesEach holds remaining contents answers old.clients.queue.items old.clients old.service.server new.clients new.service.server
   pub only : OnlyClients old new
 
 -- A turn, in this order: it waits for the sockets, drops versions if that is due, accepts connections, serves clients, and does what is due by the
 -- clock.
-pub record TakesTurn {S T W : Type 0} (answers : DiskAnswers W) (calls : SocketCalls W) (clock ticks : ℕ → Type 0) (holds : ℕ → Instance → S → Type 0) (remaining contents : T → Option (List ℕ)) (stream : T → Option (List Call)) (old new : Daemon S T) : Type 0 where
+pub record TakesTurn {S T W : Type 0} (answers : DiskAnswers W) (calls : SocketCalls W) (reads : W → ℕ → W → Type 0) (clock ticks : ℕ → Type 0) (holds : ℕ → Instance → S → Type 0) (remaining contents : T → Option (List ℕ))
+    (stream : T → Option (List Call)) (start : W) (old new : Daemon S T) : Type 0 where
   pub awake : Daemon S T
   pub left : Daemon S T
   pub admitted : Daemon S T
   pub served : Daemon S T
-  pub awakes : Awakes calls ticks old awake
+  pub awakes : Awakes calls reads ticks start old awake
   pub drops : DropsIfLate ticks holds remaining contents awake left
-  pub accepts : Accepts left admitted
+  pub accepts : Accepts calls ticks left admitted
   pub serves : ServesQueue holds remaining contents stream admitted served
   pub due : DoesWhatIsDue answers clock ticks served new
+
+-- this many turns, one after the other
+abbrev pub TakesTurns : {S T W : Type 0} → DiskAnswers W → SocketCalls W → (W → ℕ → W → Type 0) → (ℕ → Type 0) → (ℕ → Type 0) → (ℕ → Instance → S → Type 0) → (T → Option (List ℕ)) → (T → Option (List ℕ)) → (T → Option (List Call)) → ℕ → Daemon S T → Daemon S T → Type 0
+TakesTurns answers calls reads clock ticks holds remaining contents stream zero old new = new ≡ old
+TakesTurns {S} {T} {W} answers calls reads clock ticks holds remaining contents stream (suc n) old new =
+    (last : Daemon S T) × TakesTurns answers calls reads clock ticks holds remaining contents stream n old last × (start : W) × TakesTurn answers calls reads clock ticks holds remaining contents stream start last new

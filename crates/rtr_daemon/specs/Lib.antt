@@ -1,3 +1,4 @@
+pub mod Accepting
 pub mod Ages
 pub mod AnchorPeaks
 pub mod Calls
@@ -24,4 +25,5 @@ pub mod ShrinkingRows
 pub mod SocketCalls
 pub mod Stamps
 pub mod Starting
+pub mod Times
 pub mod Turns

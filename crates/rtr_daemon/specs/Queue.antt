@@ -8,6 +8,8 @@ use Rattle.vrps.specs.declared.store.Published.TheVariants.{New, Unchanged}
 use Rattle.rtr_server.specs.declared.server.Client.{Client}
 use Rattle.rtr_server.specs.declared.server.Server.{Server}
 use Rattle.rtr_server.specs.declared.stream.Call.{Call}
+use Rattle.rtr_server.specs.declared.turn.Turn.{Turn}
+use Rattle.rtr_server.specs.declared.turn.Turn.TheVariants.{Busy, Gone}
 use Rattle.rtr_daemon.specs.Turns.{HasTurn}
 use Rattle.rtr_daemon.specs.declared.client_entry.ClientEntry.{ClientEntry}
 use Rattle.rtr_daemon.specs.declared.client_table.ClientTable.{ClientTable}
@@ -73,18 +75,34 @@ abbrev pub TakesNext : List ℕ → Option (ℕ × Client) → ClientTable → C
 TakesNext [] next old new = (next ≡ None) × (new.queue.items ≡ []) × SameClients old new
 TakesNext (token ∷ tokens) next old new = (next ≡ under token (client_at old token)) × (new.queue.items ≡ tokens) × SameClients old new
 
--- The client had a turn of at most 8 calls. If there is none, nothing changes.
-abbrev pub TurnOf : {S T : Type 0} → (ℕ → Instance → S → Type 0) → (T → Option (List ℕ)) → (T → Option (List ℕ)) → (T → Option (List Call)) → Option Client → Server S T → Server S T → Type 0
-TurnOf holds remaining contents answers None old new = new ≡ old
-TurnOf holds remaining contents answers (Some client) old new = HasTurn holds remaining contents answers 8 client.0.0 old new
+-- After its turn a client is known as long as it has not gone. If it made all calls that it may, it is in the queue again.
+abbrev pub IsKeptAfter : Option Turn → ℕ → ClientTable → ClientTable → Type 0
+IsKeptAfter (Some (Gone how)) token old new = client_at new token ≡ None
+IsKeptAfter (Some Busy) token old new = (client_at new token ≡ client_at old token) × IsQueued new token
+IsKeptAfter turn token old new = client_at new token ≡ client_at old token
 
--- The client at the front of the queue had its turn, and left the front. All others are unchanged.
+-- The client of a token had a turn of at most 8 calls. If there is none, nothing changes.
+abbrev pub TurnOf : {S T : Type 0} → (ℕ → Instance → S → Type 0) → (T → Option (List ℕ)) → (T → Option (List ℕ)) → (T → Option (List Call)) → Option Client → ℕ → ClientTable → Server S T → ClientTable → Server S T → Type 0
+TurnOf holds remaining contents answers None token table old served new = (client_at served token ≡ None) × (new ≡ old)
+TurnOf holds remaining contents answers (Some client) token table old served new = (had : HasTurn holds remaining contents answers 8 client.0.0 old new) × IsKeptAfter had.turn token table served
+
+-- The front of the queue has left it. What came was queued behind the others.
+abbrev pub LeavesFront : ℕ → ClientTable → ClientTable → Type 0
+LeavesFront token old new = (others : List ℕ) × (more : List ℕ) × (old.queue.items ≡ token ∷ others) × (new.queue.items ≡ others ++ more)
+
+-- The client of a token at the front of the queue had its turn. All others are unchanged.
+pub record ServesOne {S T : Type 0} (holds : ℕ → Instance → S → Type 0) (remaining contents : T → Option (List ℕ)) (answers : T → Option (List Call)) (token : ℕ) (table : ClientTable) (old : Server S T) (served : ClientTable) (new : Server S T) : Type 0 where
+  pub turn : TurnOf holds remaining contents answers (client_at table token) token table old served new
+  pub others : OtherClients token table served
+  pub queue : LeavesFront token table served
+
+-- The client at the front of the queue had its turn, if there is one.
 abbrev pub ServesNext : {S T : Type 0} → (ℕ → Instance → S → Type 0) → (T → Option (List ℕ)) → (T → Option (List ℕ)) → (T → Option (List Call)) → List ℕ → ClientTable → Server S T → ClientTable → Server S T → Type 0
 ServesNext holds remaining contents answers [] table old served new = SameClients table served × (new ≡ old)
-ServesNext holds remaining contents answers (token ∷ tokens) table old served new = TurnOf holds remaining contents answers (client_at table token) old new × OtherClients token table served × QueuesBehind tokens served
+ServesNext holds remaining contents answers (token ∷ tokens) table old served new = ServesOne holds remaining contents answers token table old served new
 
 -- The client of each of these tokens had its turn, in this order.
 abbrev pub ServesEach : {S T : Type 0} → (ℕ → Instance → S → Type 0) → (T → Option (List ℕ)) → (T → Option (List ℕ)) → (T → Option (List Call)) → List ℕ → ClientTable → Server S T → ClientTable → Server S T → Type 0
 ServesEach holds remaining contents answers [] table old served new = (served ≡ table) × (new ≡ old)
 ServesEach {S} {T} holds remaining contents answers (token ∷ tokens) table old served new =
-    (between : ClientTable) × (mid : Server S T) × TurnOf holds remaining contents answers (client_at table token) old mid × OtherClients token table between × ServesEach holds remaining contents answers tokens between mid served new
+    (between : ClientTable) × (mid : Server S T) × ServesOne holds remaining contents answers token table old between mid × ServesEach holds remaining contents answers tokens between mid served new

@@ -1,5 +1,5 @@
 -- The run of the daemon's program: what it waits for, what it may open, and how it ends (rpkirtrd(8)).
-use Rattle.std.specs.Prelude.{◌≡◌, ◌≤◌, ℕ, zero, suc, ◌-◌, min, max, List, codes, Option, Result, Ok, Err}
+use Rattle.std.specs.Prelude.{◌≡◌, ◌⊎◌, ◌≤◌, ℕ, zero, suc, ◌-◌, min, max, List, codes, Option, Result, Ok, Err}
 use Rattle.std.specs.IoError.{error_kind}
 use Rattle.std.specs.declared.io.Error.{Error}
 use Rattle.std.specs.declared.io.ErrorKind.{ErrorKind}
@@ -7,6 +7,7 @@ use Rattle.std.specs.declared.io.ErrorKind.TheVariants as kinds
 use Rattle.vrps.specs.Instance.{Instance}
 use Rattle.vrps.specs.declared.set.SetFault.TheVariants.{Memory}
 use Rattle.rtr_daemon.specs.Serving.{Advances}
+use Rattle.rtr_daemon.specs.SocketCalls.{SocketCalls, WaitFails}
 use Rattle.rtr_daemon.specs.declared.daemon.StopReason.{StopReason}
 use Rattle.rtr_daemon.specs.declared.daemon.StopReason.TheVariants.{Once, Old, Checked}
 use Rattle.rtr_daemon.specs.declared.refusal.Refusal.{Refusal}
@@ -31,6 +32,10 @@ abbrev pub GoesThrough : {S T : Type 0} → (ℕ → Type 0) → (ℕ → Instan
 GoesThrough clock holds remaining contents zero old new = new ≡ old
 GoesThrough {S} {T} clock holds remaining contents (suc n) old new =
     (now : Service S T) × GoesThrough clock holds remaining contents n old now × Advances clock holds remaining contents now new
+
+-- A run of this many turns ends by no reason of the daemon: a wait failed, or no turn more can be counted in 64 bits.
+abbrev pub EndsForced : {W : Type 0} → SocketCalls W → ℕ → Type 0
+EndsForced calls turns = WaitFails calls ⊎ (turns ≡ 18446744073709551615)
 
 -- The exit status: 0 if the run ended well, and 1 if a file is too old. If the system failed it is 3, or 4 without memory.
 abbrev pub failure_status : ErrorKind → ℕ

@@ -1,12 +1,13 @@
 -- How a daemon begins: at a moment that the clocks answered, with all its files read.
-use Rattle.std.specs.Prelude.{◌≡◌, ℕ, suc, Bool, true, List, [], ◌∷◌, length, map, replicate, None, Some}
+use Rattle.std.specs.Prelude.{◌≡◌, ℕ, suc, Bool, true, false, List, [], ◌∷◌, length, map, replicate, None, Some}
 use Rattle.std.specs.String.{string_bytes}
 use Rattle.std.specs.declared.string.String.{String}
 use Rattle.points.specs.InUse.{no_points}
 use Rattle.sources.specs.Served.{NoneTaken}
 use Rattle.sources.specs.declared.sources.Sources.{Sources}
+use Rattle.rtr_daemon.specs.Ages.{AreJudged, IsOldAfter, ages_of}
 use Rattle.rtr_daemon.specs.DiskAnswers.{DiskAnswers}
-use Rattle.rtr_daemon.specs.Due.{later_by}
+use Rattle.rtr_daemon.specs.Times.{later_by}
 use Rattle.rtr_daemon.specs.Files.{LoadsEach, ReadsSlurms, loads_of, marks_of, names_of, paths_of}
 use Rattle.rtr_daemon.specs.PointOffers.{OffersEach, points_of}
 use Rattle.rtr_daemon.specs.declared.accepting.Listener.{Listener}
@@ -19,7 +20,7 @@ abbrev pub open_listener : Listener
 open_listener = record { pending = true; paused_until = None }
 
 -- A daemon begins at a moment of both clocks. The pace begins with its second. Publication is due at once, the first poll of the files one interval
--- later. There are as many listeners as planned, all of them open.
+-- later. There are as many listeners as planned, all of them open. The ages of the exports were judged.
 pub record Begins {S T : Type 0} (clock ticks : ℕ → Type 0) (plan : Plan) (d : Daemon S T) : Type 0 where
   pub second : clock d.started
   pub millis : ticks d.opened
@@ -30,6 +31,8 @@ pub record Begins {S T : Type 0} (clock ticks : ℕ → Type 0) (plan : Plan) (d
   pub failing : d.failing ≡ None
   pub idle : d.clients.queue.items ≡ []
   pub listeners : d.listeners.listeners.items ≡ replicate plan.listeners open_listener
+  pub judged : AreJudged clock plan.max_age d.service.sources (ages_of d.exports.items)
+  pub is_old : IsOldAfter plan.max_age false (ages_of d.exports.items) d.is_old
 
 -- the bytes of each path
 abbrev pub texts : {C : Type 0} → List (String C) → List (List ℕ)

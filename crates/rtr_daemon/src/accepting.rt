@@ -1,6 +1,7 @@
 //! Listeners, and the connections that are accepted from them.
-ghost use Rattle.std.specs.Prelude.{◌≡◌, false, IfOk, replicate};
-ghost use Rattle.rtr_daemon.specs.Due.{OnlyClients};
+ghost use Rattle.std.specs.Prelude.{◌≡◌, false, true, IfOk, replicate, slice_get, unwrap_or};
+ghost use Rattle.rtr_daemon.specs.Accepting.{AcceptsOnce, AsksEach, AsksOne, PausesOne, can_accept, changed_at, is_asked, resumed, with_pause, with_pending};
+ghost use Rattle.rtr_daemon.specs.Due.{OnlyAdmitted, OnlyClients};
 ghost use Rattle.rtr_daemon.specs.Queue.{QueuesBehind};
 ghost use Rattle.rtr_daemon.specs.Serving.{Continues};
 ghost use Rattle.rtr_daemon.specs.Starting.{open_listener};
@@ -38,12 +39,16 @@ pub(crate) struct Listeners {
 
 impl Listener {
     /// Whether a connection may be pending and the listener is not paused.
-    fn can_accept(&self, now: u64) -> bool {
+    fn can_accept(&self, now: u64) -> bool
+        ensures { result ≡ can_accept self.now now }
+    {
         self.pending && self.next_try() <= now
     }
 
     /// The earliest time at which a connection is accepted.
-    fn next_try(&self) -> u64 {
+    fn next_try(&self) -> u64
+        ensures { result ≡ unwrap_or self.now.paused_until 0 }
+    {
         match self.paused_until {
             Some(until) => until,
             None => 0,
@@ -70,21 +75,30 @@ impl Listeners {
     }
 
     /// Notes whether a connection may be pending at a listener.
-    pub(crate) fn note(&mut self, listener: usize, pending: bool) {
+    pub(crate) fn note(&mut self, listener: usize, pending: bool)
+        ensures items { self.new.listeners.items ≡ changed_at self.old.listeners.items listener (with_pending pending) }
+        ensures rest { self.new ≡ record self.old { listeners = self.new.listeners } }
+    {
         if let Some(it) = self.listeners.get_mut(listener) {
             it.pending = pending;
         }
     }
 
     /// Pauses a listener until this time.
-    fn pause(&mut self, listener: usize, until: u64) {
+    fn pause(&mut self, listener: usize, until: u64)
+        ensures items { self.new.listeners.items ≡ changed_at self.old.listeners.items listener (with_pause until) }
+        ensures rest { self.new ≡ record self.old { listeners = self.new.listeners } }
+    {
         if let Some(it) = self.listeners.get_mut(listener) {
             it.paused_until = Some(until);
         }
     }
 
-    /// Ends all pauses: a client was closed, so there may be room again.
-    pub(crate) fn resume_all(&mut self) {
+    /// Ends all pauses.
+    fn resume_all(&mut self)
+        ensures items { self.new.listeners.items ≡ resumed true self.old.listeners.items }
+        ensures rest { self.new ≡ record self.old { listeners = self.new.listeners } }
+    {
         for listener in self.listeners.iter_mut() {
             listener.paused_until = None;
         }
@@ -96,14 +110,19 @@ impl Listeners {
         pending.map(|it| it.next_try()).min()
     }
 
-    fn can_accept(&self, listener: usize, now: u64) -> bool {
-        self.listeners
-            .get(listener)
-            .is_some_and(|it| it.can_accept(now))
+    fn can_accept(&self, listener: usize, now: u64) -> bool
+        ensures { result ≡ is_asked (slice_get self.now.listeners.items listener) now }
+    {
+        match self.listeners.get(listener) {
+            Some(it) => it.can_accept(now),
+            None => false,
+        }
     }
 
     /// Marks a failure to accept as reported. Returns true if none was reported since a connection was accepted last.
-    fn mark_reported(&mut self) -> bool {
+    fn mark_reported(&mut self) -> bool
+        ensures { self.new ≡ record self.old { is_reported = self.new.is_reported } }
+    {
         let is_news = !self.is_reported;
         self.is_reported = true;
         is_news
@@ -111,26 +130,54 @@ impl Listeners {
 }
 
 impl<S: VersionStore, T: Stream + Drop> Daemon<S, T> {
-    /// Accepts the pending connections of all listeners, once a version is published.
+    /// When a listener with a pending connection can be tried, in milliseconds of the monotonic clock, once a version is published.
+    pub(crate) fn next_accept(&self) -> Option<u64> {
+        if !self.is_ready {
+            return None;
+        }
+        let next_try = self.listeners.next_try()?;
+        if self.has_room {
+            Some(0)
+        } else {
+            Some(next_try)
+        }
+    }
+
+    /// Accepts the pending connections of all listeners, once a version is published. If a client was closed, no listener is paused any longer: there
+    /// may be room again.
     pub(crate) fn accept_pending<W: Sockets<T> + Time + EventLog>(&mut self, env: &mut W)
         ensures goes { Continues S.holds T.remaining T.contents self.old.service self.new.service }
-        ensures rest { OnlyClients self.old self.new }
+        ensures rest { OnlyAdmitted self.old self.new }
         ensures queue { QueuesBehind self.old.clients.queue.items self.new.clients }
         ensures before { self.old.is_ready ≡ false → self.new.service ≡ self.old.service }
+        ensures asks { self.old.is_ready ≡ true → AsksEach W.calls W.can_tick (resumed self.old.has_room self.old.listeners.listeners.items) self.new.listeners.listeners.items }
     {
         if !self.is_ready {
             return;
         }
+        self.resume();
         for listener in 0..self.listeners.listeners.len() {
             self.accept_from(listener, env);
+        }
+    }
+
+    /// Ends all pauses, if a client was closed.
+    fn resume(&mut self)
+        ensures items { self.new.listeners.listeners.items ≡ resumed self.old.has_room self.old.listeners.listeners.items }
+        ensures rest { self.new ≡ record self.old { listeners = self.new.listeners; has_room = false } }
+    {
+        if self.has_room {
+            self.listeners.resume_all();
+            self.has_room = false;
         }
     }
 
     /// Accepts the pending connections of one listener.
     fn accept_from<W: Sockets<T> + Time + EventLog>(&mut self, listener: usize, env: &mut W)
         ensures goes { Continues S.holds T.remaining T.contents self.old.service self.new.service }
-        ensures rest { OnlyClients self.old self.new }
+        ensures rest { OnlyAdmitted self.old self.new }
         ensures queue { QueuesBehind self.old.clients.queue.items self.new.clients }
+        ensures asks { AsksOne W.calls W.can_tick listener self.old.listeners.listeners.items self.new.listeners.listeners.items }
     {
         for _connection in 0..AT_ONCE {
             if !self.listeners.can_accept(listener, env.millis()) {
@@ -143,8 +190,9 @@ impl<S: VersionStore, T: Stream + Drop> Daemon<S, T> {
     /// Accepts one connection, if one is pending.
     fn accept_one<W: Sockets<T> + Time + EventLog>(&mut self, listener: usize, env: &mut W)
         ensures goes { Continues S.holds T.remaining T.contents self.old.service self.new.service }
-        ensures rest { OnlyClients self.old self.new }
+        ensures rest { OnlyAdmitted self.old self.new }
         ensures queue { QueuesBehind self.old.clients.queue.items self.new.clients }
+        ensures asks { AcceptsOnce W.calls W.can_tick listener self.old.listeners.listeners.items self.new.listeners.listeners.items }
     {
         match env.accept(listener) {
             AcceptResult::Connection {
@@ -211,9 +259,8 @@ impl<S: VersionStore, T: Stream + Drop> Daemon<S, T> {
 
     /// Pauses a listener after a failed accept. The failure is reported once, until a connection is accepted.
     fn pause<W: Time + EventLog>(&mut self, listener: usize, event: &LogEvent<'_>, env: &mut W)
-        ensures service { self.new.service ≡ self.old.service }
-        ensures rest { OnlyClients self.old self.new }
-        ensures clients { self.new.clients ≡ self.old.clients }
+        ensures rest { self.new ≡ record self.old { listeners = self.new.listeners } }
+        ensures paused { PausesOne W.can_tick listener self.old.listeners.listeners.items self.new.listeners.listeners.items }
     {
         self.listeners
             .pause(listener, env.millis().saturating_add(PAUSE));
@@ -230,9 +277,8 @@ impl<S: VersionStore, T: Stream + Drop> Daemon<S, T> {
         error: &io::Error,
         env: &mut W,
     )
-        ensures service { self.new.service ≡ self.old.service }
-        ensures rest { OnlyClients self.old self.new }
-        ensures clients { self.new.clients ≡ self.old.clients }
+        ensures rest { self.new ≡ record self.old { listeners = self.new.listeners } }
+        ensures paused { PausesOne W.can_tick listener self.old.listeners.listeners.items self.new.listeners.listeners.items }
     {
         match error.to_string(self.alloc) {
             Ok(reason) => self.pause(

@@ -1,8 +1,8 @@
 //! What time does to the sources: records expire, exports become old, and the clock may be set back.
-ghost use Rattle.std.specs.Prelude.{◌≡◌};
-ghost use Rattle.rtr_daemon.specs.Ages.{data_time, made_at};
+ghost use Rattle.std.specs.Prelude.{◌≡◌, ◌||◌, map};
+ghost use Rattle.std.specs.List.{list_any};
+ghost use Rattle.rtr_daemon.specs.Ages.{aged, data_time, made_at, with_expired};
 ghost use Rattle.rtr_daemon.specs.Due.{JudgesAges, JudgesExpiry, second_of_pace};
-ghost use Rattle.rtr_daemon.specs.Files.{mark_of, marks_of, names_of};
 ghost use Rattle.rtr_daemon.specs.Serving.{Continues, IsFresh};
 
 use crate::daemon::Daemon;
@@ -57,15 +57,14 @@ impl<S: VersionStore + Drop, T: Stream + Drop> Daemon<S, T> {
 
     /// Reports which exports have become older than the maximum age, and which are no longer.
     pub(crate) fn judge_ages<W: Time + EventLog>(&mut self, env: &mut W)
-        ensures { JudgesAges self.old self.new }
+        ensures { JudgesAges W.can_be self.old self.new }
     {
         let Some(most) = self.plan.max_age else {
             return;
         };
         let now = env.seconds();
-        if is_any_old(&mut self.exports, self.service.sources(), most, now, env) {
-            self.is_old = true;
-        }
+        judge_each_age(&mut self.exports, self.service.sources(), most, now, env);
+        self.is_old = is_old_after(self.is_old, self.exports.as_slice());
     }
 }
 
@@ -76,8 +75,7 @@ fn note_all_expired<W: EventLog>(
     now: u64,
     env: &mut W,
 )
-    ensures names { names_of exports.new.items ≡ names_of exports.old.items }
-    ensures marks { marks_of exports.new.items ≡ marks_of exports.old.items }
+    ensures { exports.new.items ≡ map (with_expired now sources.now) exports.old.items }
 {
     for export in exports.iter_mut() {
         note_expired(export, sources, now, env);
@@ -87,9 +85,7 @@ fn note_all_expired<W: EventLog>(
 /// Notes how many records of a file have expired since it was loaded, and reports it if there are more than before. Expired records are not
 /// served, even if the file is refused.
 fn note_expired<W: EventLog>(export: &mut WatchedExport, sources: &Sources, now: u64, env: &mut W)
-    ensures path { export.new.file.path ≡ export.old.file.path }
-    ensures number { export.new.number ≡ export.old.number }
-    ensures mark { mark_of export.new ≡ mark_of export.old }
+    ensures { export.new ≡ with_expired now sources.now export.old }
 {
     let expired = sources.expired(export.number, now);
     let before = export.expired_since;
@@ -99,46 +95,52 @@ fn note_expired<W: EventLog>(export: &mut WatchedExport, sources: &Sources, now:
     }
 }
 
-/// Whether an export is older than this many seconds. Each change is reported.
-fn is_any_old<W: EventLog>(
+/// Whether an export is old, as was found last.
+fn is_any_old(exports: &[WatchedExport]) -> bool
+    ensures { result ≡ list_any (λ e. e.is_old) exports.now }
+{
+    exports.iter().any(|export| export.is_old)
+}
+
+/// Whether an export is or was old.
+fn is_old_after(was_old: bool, exports: &[WatchedExport]) -> bool
+    ensures { result ≡ (was_old || list_any (λ e. e.is_old) exports.now) }
+{
+    was_old || is_any_old(exports)
+}
+
+/// Finds for each export whether it is older than this many seconds. Each change is reported.
+fn judge_each_age<W: EventLog>(
     exports: &mut Vec<WatchedExport>,
     sources: &Sources,
     most: u64,
     now: u64,
     env: &mut W,
-) -> bool
-    ensures names { names_of exports.new.items ≡ names_of exports.old.items }
-    ensures marks { marks_of exports.new.items ≡ marks_of exports.old.items }
+)
+    ensures { exports.new.items ≡ map (aged most now sources.now) exports.old.items }
 {
-    let mut is_old = false;
     for export in exports.iter_mut() {
-        if judge_age(export, sources, most, now, env) {
-            is_old = true;
-        }
+        judge_age(export, sources, most, now, env);
     }
-    is_old
 }
 
-/// Whether an export is older than this many seconds. A change is reported.
+/// Finds whether an export is older than this many seconds. A change is reported.
 fn judge_age<W: EventLog>(
     export: &mut WatchedExport,
     sources: &Sources,
     most: u64,
     now: u64,
     env: &mut W,
-) -> bool
-    ensures path { export.new.file.path ≡ export.old.file.path }
-    ensures number { export.new.number ≡ export.old.number }
-    ensures mark { mark_of export.new ≡ mark_of export.old }
+)
+    ensures { export.new ≡ aged most now sources.now export.old }
 {
     let Some(built) = built_of(export, sources, now) else {
-        return false;
+        return;
     };
     let age = now.saturating_sub(built);
     if export.set_old(age > most) {
         log_age(export.path(), age, most, now, env);
     }
-    age > most
 }
 
 /// When the data of an export were made. If the export gives no time, or one too far ahead, the file's modification time counts, or the time of

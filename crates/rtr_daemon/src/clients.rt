@@ -1,9 +1,11 @@
 //! Serving clients, and closing those that are stalled, slow or silent.
 ghost use Rattle.std.specs.Prelude.{◌≡◌, [], ◌∷◌, ◌||◌, IfSome, None, false, is_some, true, ℕ};
-ghost use Rattle.rtr_daemon.specs.Due.{OnlyClients};
+ghost use Rattle.rtr_daemon.specs.Accepting.{noted};
+ghost use Rattle.rtr_daemon.specs.Due.{OnlyAdmitted, OnlyClients};
 ghost use Rattle.rtr_server.specs.Clients.{has_asked, slot_at};
 ghost use Rattle.rtr_daemon.specs.Parting.{agreed_version, has_agreed, is_served, refused_version};
-ghost use Rattle.rtr_daemon.specs.Queue.{OtherClients, QueuesBehind, ServesEach, ServesNext, client_at, known_at};
+ghost use Rattle.rtr_daemon.specs.Queue.{IsKeptAfter, IsQueued, OtherClients, QueuesBehind, ServesEach, ServesNext, client_at, known_at};
+ghost use Rattle.rtr_server.specs.declared.turn.Turn.TheVariants.{Busy};
 ghost use Rattle.rtr_daemon.specs.Serving.{Continues};
 ghost use Rattle.rtr_daemon.specs.Overdue.{AnswersNoted, ClosesOverdue, OutcomeOf, unless_overdue};
 ghost use Rattle.rtr_daemon.specs.Readiness.{QueuesReady, TakesReady};
@@ -44,8 +46,8 @@ impl<S: VersionStore, T: Stream + Drop> Daemon<S, T> {
     /// Asks the sockets what is ready. Clients that are ready are queued.
     pub(crate) fn take_ready<W: Sockets<T>>(&mut self, env: &mut W)
         ensures service { self.new.service ≡ self.old.service }
-        ensures rest { OnlyClients self.old self.new }
-        ensures ready { TakesReady W.calls env.old self.old.clients self.new.clients env.new }
+        ensures rest { OnlyAdmitted self.old self.new }
+        ensures ready { TakesReady W.calls env.old self.old.clients self.old.listeners.listeners.items self.new.clients self.new.listeners.listeners.items env.new }
     {
         for _ready in 0..READY {
             let Some(ready) = env.next() else {
@@ -58,8 +60,9 @@ impl<S: VersionStore, T: Stream + Drop> Daemon<S, T> {
     /// Notes that a listener or a connection is ready.
     fn note_ready(&mut self, ready: Ready)
         ensures service { self.new.service ≡ self.old.service }
-        ensures rest { OnlyClients self.old self.new }
+        ensures rest { OnlyAdmitted self.old self.new }
         ensures queues { QueuesReady (ready ∷ []) self.old.clients self.new.clients }
+        ensures heard { self.new.listeners.listeners.items ≡ noted ready self.old.listeners.listeners.items }
     {
         match ready {
             Ready::Listener(listener) => self.listeners.note(listener, true),
@@ -126,18 +129,22 @@ impl<S: VersionStore, T: Stream + Drop> Daemon<S, T> {
         ensures rest { OnlyClients self.old self.new }
         ensures others { OtherClients token self.old.clients self.new.clients }
         ensures queue { QueuesBehind self.old.clients.queue.items self.new.clients }
-        ensures turn { HasTurn S.holds T.remaining T.contents T.answers 8 client.0.0 self.old.service.server self.new.service.server }
+        ensures turn { (had : HasTurn S.holds T.remaining T.contents T.answers 8 client.0.0 self.old.service.server self.new.service.server) × IsKeptAfter had.turn token self.old.clients self.new.clients }
         ensures notes { AnswersNoted W.can_tick (known_at self.old.clients token) (slot_at self.new.service.server.slots.items client.0.0) (known_at self.new.clients token) }
     {
         match self.service.serve(client, BUDGET) {
             None => {}
             Some(Turn::Gone(how)) => self.part(token, why(how), env),
-            Some(turn) => self.note_turn(token, client, turn, env),
+            Some(Turn::Busy) => self.note_turn(token, client, Turn::Busy, env),
+            Some(Turn::WaitsToRead) => self.note_turn(token, client, Turn::WaitsToRead, env),
+            Some(Turn::WaitsToWrite) => self.note_turn(token, client, Turn::WaitsToWrite, env),
         }
     }
 
     /// Notes a turn of a client that stays. It is queued again if it made all calls that it may.
     fn note_turn<W: Time>(&mut self, token: usize, client: Client, turn: Turn, env: &mut W)
+        ensures stays { client_at self.new.clients token ≡ client_at self.old.clients token }
+        ensures busy { turn ≡ Busy → IsQueued self.new.clients token }
         ensures service { self.new.service ≡ self.old.service }
         ensures rest { OnlyClients self.old self.new }
         ensures others { OtherClients token self.old.clients self.new.clients }
@@ -181,7 +188,7 @@ impl<S: VersionStore, T: Stream + Drop> Daemon<S, T> {
         };
         let counters = self.last_counters();
         let carried = counters.carried.unwrap_or(entry.carried);
-        self.listeners.resume_all();
+        self.has_room = true;
         self.has_parted = self.has_parted || counters.version.is_some();
         self.statistics
             .count_reports(self.service.server().parted());

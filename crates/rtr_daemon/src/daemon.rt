@@ -1,7 +1,9 @@
 //! The daemon: a loop that serves what is ready, and does what is due by the clock.
-ghost use Rattle.std.specs.Prelude.{◌≡◌, ◌≤◌, ◌<◌, ℕ, IfOk};
-ghost use Rattle.rtr_daemon.specs.Due.{DoesWhatIsDue, IsChecked, IsInTime, IsWait, KeepsFiles, NextPoll, OnlyFiles, PollsAll, PublishesIfDue, SamePaths, TakesTurn, WakesIfPublished, later_by};
+ghost use Rattle.std.specs.Prelude.{◌≡◌, ◌≤◌, ◌<◌, ℕ, IfErr, IfOk};
+ghost use Rattle.rtr_daemon.specs.Due.{DoesWhatIsDue, IsChecked, IsInTime, IsWait, KeepsFiles, NextPoll, OnlyPolled, PollsAll, PublishesIfDue, SamePaths, TakesTurn, WakesIfPublished, end_of};
+ghost use Rattle.rtr_daemon.specs.Times.{later_by};
 ghost use Rattle.rtr_daemon.specs.Queue.{QueuesBehind};
+ghost use Rattle.rtr_daemon.specs.SocketCalls.{WaitFails};
 ghost use Rattle.rtr_daemon.specs.Origins.{SourcesComeFrom};
 ghost use Rattle.rtr_daemon.specs.Serving.{Advances, Continues, GoesOn, IsFresh};
 ghost use Rattle.rtr_daemon.specs.Overdue.{ClosesOverdue, LeavesNoneOverdue};
@@ -112,6 +114,8 @@ pub struct Daemon<S, T> {
     pub(crate) is_ready: bool,
     /// Whether a client was closed that had agreed on a version.
     pub(crate) has_parted: bool,
+    /// Whether a client was closed since the listeners were asked last.
+    pub(crate) has_room: bool,
     /// Whether an export is older than the maximum age.
     pub(crate) is_old: bool,
     /// The reasons why it is not well, as they were logged last.
@@ -138,8 +142,10 @@ impl<S: StepStore + Drop, T: Stream + Drop> Daemon<S, T> {
         env: &mut W,
     ) -> io::Result<Option<StopReason>>
         ensures goes { Advances W.can_be S.holds T.remaining T.contents self.old.service self.new.service }
-        ensures turn { IfOk result (λ _. TakesTurn W.answers W.calls W.can_be W.can_tick S.holds T.remaining T.contents T.answers self.old self.new) }
+        ensures turn { IfOk result (λ _. TakesTurn W.answers W.calls W.reads W.can_be W.can_tick S.holds T.remaining T.contents T.answers env.old self.old self.new) }
         ensures comes { SourcesComeFrom W.answers W.can_be self.old → SourcesComeFrom W.answers W.can_be self.new }
+        ensures ends { IfOk result (λ end. end ≡ end_of self.new) }
+        ensures fails { IfErr result (λ _. WaitFails W.calls × (self.new ≡ self.old)) }
     {
         let wait = self.longest_wait(env.millis());
         env.wait(wait)?;
@@ -178,9 +184,9 @@ impl<S: StepStore + Drop, T: Stream + Drop> Daemon<S, T> {
         if let Some(reading) = self.next_reading() {
             next = next.min(reading);
         }
-        match self.listeners.next_try() {
-            Some(next_try) if self.is_ready => next.min(next_try),
-            _ => next,
+        match self.next_accept() {
+            Some(next_try) => next.min(next_try),
+            None => next,
         }
     }
 
@@ -219,7 +225,7 @@ impl<S: StepStore + Drop, T: Stream + Drop> Daemon<S, T> {
         ensures goes { Continues S.holds T.remaining T.contents self.old.service self.new.service }
         ensures polls { PollsAll W.answers W.can_be W.can_tick self.old self.new }
         ensures paths { SamePaths self.old self.new }
-        ensures rest { OnlyFiles self.old self.new }
+        ensures rest { OnlyPolled self.old self.new }
     {
         self.judge_clock(now, env);
         self.follow_all(env);
@@ -277,7 +283,9 @@ impl<S: StepStore + Drop, T: Stream + Drop> Daemon<S, T> {
     }
 
     /// Why the daemon stops, if it does.
-    fn end(&self) -> Option<StopReason> {
+    fn end(&self) -> Option<StopReason>
+        ensures { result ≡ end_of self.now }
+    {
         if self.plan.once && self.has_parted {
             return Some(StopReason::Once);
         }

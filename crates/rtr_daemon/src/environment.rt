@@ -41,26 +41,28 @@ pub enum AcceptResult<L> {
 
 /// The listeners and connections of a daemon. `L` is the type of a connection's stream.
 pub trait Sockets<L> {
-    ghost use Rattle.std.specs.Prelude.{IfOk, List, ℕ};
-    ghost use Rattle.rtr_daemon.specs.SocketCalls.{SocketCalls, any_calls};
+    ghost use Rattle.std.specs.Prelude.{IfErr, IfOk, List, ℕ};
+    ghost use Rattle.rtr_daemon.specs.SocketCalls.{SocketCalls, accepted_as, any_calls};
 
     /// The contents that [`Sockets::connections`] may return, for use in contracts. An implementation chooses it. The default allows all.
     ghost can_have: { List ℕ → Type 0 } = { λ table. Unit {0} };
 
-    /// The ways in which [`Sockets::wait`] and [`Sockets::next`] may return, for use in contracts. An implementation chooses it.
+    /// The ways in which [`Sockets::wait`], [`Sockets::next`] and [`Sockets::accept`] may return, for use in contracts. An implementation chooses it.
     ghost calls: { SocketCalls Self } = { any_calls };
 
     /// Waits until a listener or connection is ready, for at most `millis` milliseconds. Then [`Sockets::next`] returns what is ready.
     /// `Ok`: something may be ready, or the time has passed. `Err`: the wait failed.
     fn wait(&mut self, millis: u64) -> io::Result<()>
-        ensures { IfOk result (λ _. calls.waits self.old millis self.new) };
+        ensures waits { IfOk result (λ _. calls.waits self.old millis self.new) }
+        ensures fails { IfErr result (λ _. calls.wait_fails self.old millis self.new) };
 
     /// Returns the next listener or connection that became ready. `None`: none is left.
     fn next(&mut self) -> Option<Ready>
         ensures { calls.tells self.old result self.new };
 
     /// Accepts a pending connection from the listener of this index, from 0. It does not block.
-    fn accept(&mut self, listener: usize) -> AcceptResult<L>;
+    fn accept(&mut self, listener: usize) -> AcceptResult<L>
+        ensures { calls.accepts self.old listener (accepted_as result) self.new };
 
     /// Returns the system's tables of TCP connections in one text: `/proc/self/net/tcp`, then `/proc/self/net/tcp6` (proc(5)). A system without
     /// IPv6 has only the first. `Err`: they cannot be read, or memory ran out.
@@ -132,13 +134,18 @@ pub trait Time {
     /// The values that [`Time::millis`] may return, for use in contracts. An implementation chooses it. The default allows all.
     ghost can_tick: { ℕ → Type 0 } = { λ millis. Unit {0} };
 
+    /// The ways in which [`Time::millis`] may return, from a state to the next one, for use in contracts. An implementation chooses it. The default
+    /// allows all.
+    ghost reads: { Self → ℕ → Self → Type 0 } = { λ before millis after. Unit {0} };
+
     /// Returns the time of the wall clock, in seconds since 1970.
     fn seconds(&mut self) -> u64
         ensures { can_be result };
 
     /// Returns the time of a monotonic clock, in milliseconds. Only differences between two of its times have a meaning.
     fn millis(&mut self) -> u64
-        ensures { can_tick result };
+        ensures ticks { can_tick result }
+        ensures reads { reads self.old result self.new };
 }
 
 /// The event log.

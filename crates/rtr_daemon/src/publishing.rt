@@ -1,6 +1,6 @@
 //! Publishing a pending version, and what is noted of it.
 ghost use Rattle.std.specs.Prelude.{◌≡◌, IfErr, IfOk, None};
-ghost use Rattle.rtr_daemon.specs.Due.{FailureNoted, KeepsFiles, NextAfter, NextPoll, OnlyNotes, PublishesIfDue, WakesIfPublished};
+ghost use Rattle.rtr_daemon.specs.Due.{FailureNoted, IsReadyAfter, KeepsFiles, NextAfter, NextPoll, OnlyNotes, PublishesIfDue, WakesIfPublished};
 ghost use Rattle.rtr_daemon.specs.Queue.{QueuesBehind, SameClients, WakesIfNew};
 ghost use Rattle.rtr_daemon.specs.Serving.{GoesOn, IsFresh};
 
@@ -73,6 +73,8 @@ impl<S: StepStore + Drop, T: Stream + Drop> Daemon<S, T> {
         ensures published { IfOk tried (λ _. self.new.failing ≡ None) }
         ensures later { IfOk tried (λ report. NextAfter W.can_tick began report.published self.old self.new) }
         ensures same { IfErr tried (λ _. self.new.next_check ≡ self.old.next_check) }
+        ensures ready { IfOk tried (λ report. IsReadyAfter report.published self.old.is_ready self.new.is_ready) }
+        ensures unready { IfErr tried (λ _. self.new.is_ready ≡ self.old.is_ready) }
         ensures wakes { IfOk tried (λ report. WakesIfNew report.published self.old.clients self.new.clients) }
         ensures clients { SameClients self.old.clients self.new.clients }
         ensures queue { QueuesBehind self.old.clients.queue.items self.new.clients }
@@ -94,6 +96,7 @@ impl<S: StepStore + Drop, T: Stream + Drop> Daemon<S, T> {
     )
         ensures rest { OnlyNotes self.old self.new }
         ensures done { self.new.failing ≡ None }
+        ensures ready { IsReadyAfter report.published self.old.is_ready self.new.is_ready }
         ensures later { NextAfter W.can_tick began report.published self.old self.new }
         ensures wakes { WakesIfNew report.published self.old.clients self.new.clients }
         ensures clients { SameClients self.old.clients self.new.clients }
@@ -165,6 +168,7 @@ impl<S: StepStore + Drop, T: Stream + Drop> Daemon<S, T> {
         ensures rest { OnlyNotes self.old self.new }
         ensures noted { FailureNoted refusal began self.old self.new }
         ensures same { self.new.next_check ≡ self.old.next_check }
+        ensures ready { self.new.is_ready ≡ self.old.is_ready }
         ensures clients { self.new.clients ≡ self.old.clients }
     {
         self.held_until = self.next_check;

@@ -15,7 +15,7 @@ returns-clause-follows g c =
       seconds,
       millis,
       c.seconds-now.ensures,
-      c.millis-millis.ensures,
+      c.millis-millis.ensures.ticks,
       subst (λ mark. Follows g.W.Disk.answers (percent_at c.args.plan.shrink before.short_since millis) before seconds millis mark old new)
           (sym (ap mark_of c.note_anchors.ensures ∙ mark_is since since c.note_slow.new.self.loaded c.follow-polled.new.export.file.loaded refl (ap (λ f. f.loaded) c.note_slow.ensures)))
           (subst (λ percent. Follows g.W.Disk.answers percent before seconds millis (mark_of c.follow-polled.new.export) old new) c.percent_at-percent.ensures c.follow-polled.ensures.follows),

@@ -13,7 +13,7 @@ pub returns-clause-fresh : goal.returns-clause-fresh
 returns-clause-fresh g c = λ due. c.judge_expiry.ensures.fresh
 
 pub returns-clause-polls : goal.returns-clause-polls
-returns-clause-polls g c = λ due. polled_then g.W.Disk.answers g.W.Time.can_be g.W.Time.can_tick c.args.self.now _ c.poll_all.new.self c.judge_expiry.new.self refl c.poll_all.ensures.polls (ap (λ d. d.service.sources) c.judge_expiry.ensures.rest.rest) c.judge_expiry.ensures.rest.marks (ap (λ d. loads_of d.slurms.items) c.judge_expiry.ensures.rest.rest)
+returns-clause-polls g c = λ due. polled_then g.W.Disk.answers g.W.Time.can_be g.W.Time.can_tick c.args.self.now _ c.poll_all.new.self c.judge_expiry.new.self refl c.poll_all.ensures.polls (ap (λ d. d.service.sources) c.judge_expiry.ensures.rest.rest) c.judge_expiry.ensures.rest.marks c.judge_expiry.ensures.rest.ages (ap (λ d. loads_of d.slurms.items) c.judge_expiry.ensures.rest.rest) (ap (λ d. d.is_old) c.judge_expiry.ensures.rest.rest)
 
 pub returns-clause-paths : goal.returns-clause-paths
 returns-clause-paths g c =
@@ -35,6 +35,8 @@ returns-clause-times g c =
       pace = ap (λ d. d.service.pace) rest ∙ ap (λ d. d.service.pace) only;
       settings = ap (λ d. d.service.settings) rest ∙ ap (λ d. d.service.settings) only;
       failing = ap (λ d. d.failing) rest ∙ ap (λ d. d.failing) only;
+      ready = ap (λ d. d.is_ready) rest ∙ ap (λ d. d.is_ready) only;
+      listeners = ap (λ d. d.listeners) rest ∙ ap (λ d. d.listeners) only;
       rest = (ap (λ d. d.plan) rest ∙ ap (λ d. d.plan) only, ap (λ d. d.started) rest ∙ ap (λ d. d.started) only, ap (λ d. d.opened) rest ∙ ap (λ d. d.opened) only);
       between = λ early. absurd (omega (arith, early, c.if-now-self.false));
     }

@@ -12,6 +12,6 @@ returns-clause-goes g c =
 
 pub returns-clause-due : goal.returns-clause-due
 returns-clause-due g c =
-    due_of g.W.Disk.answers g.W.Time.can_be g.W.Time.can_tick c.millis-now.result c.args.self.now c.check.new.self c.drop_lost.new.self c.go_round.new.self c.millis-now.ensures c.check.ensures.polls c.check.ensures.fresh c.check.ensures.paths c.check.ensures.times
+    due_of g.W.Disk.answers g.W.Time.can_be g.W.Time.can_tick c.millis-now.result c.args.self.now c.check.new.self c.drop_lost.new.self c.go_round.new.self c.millis-now.ensures.ticks c.check.ensures.polls c.check.ensures.fresh c.check.ensures.paths c.check.ensures.times
     (only_on c.check.new.self c.drop_silent.new.self c.drop_lost.new.self c.drop_silent.ensures.rest c.drop_lost.ensures.rest)
     (record { fresh = c.go_round.ensures.fresh; due = c.go_round.ensures.due; round = c.go_round.ensures.round; early = c.go_round.ensures.early; kept = c.go_round.ensures.kept; next = c.go_round.ensures.next; overdue = c.go_round.ensures.overdue; wakes = c.go_round.ensures.wakes })

@@ -15,7 +15,7 @@ returns-then-saturating_sub-expire_millis g c =
     let a = c.args.self.now in
     let less : c.millis-now.result - c.in-Some.since < expire_millis a = omega (arith, c.if-saturating_sub-expire_millis.true, c.saturating_sub.ensures, c.expire_millis.ensures) in
     keeps g.W.Time.can_tick g.S.VersionStore.holds g.T.Stream.remaining g.T.Stream.contents a
-    (late_early g.W.Time.can_tick g.S.VersionStore.holds g.T.Stream.remaining g.T.Stream.contents a.failing c.in-Some.since c.millis-now.result a c.in-Some.is c.millis-now.ensures less)
+    (late_early g.W.Time.can_tick g.S.VersionStore.holds g.T.Stream.remaining g.T.Stream.contents a.failing c.in-Some.since c.millis-now.result a c.in-Some.is c.millis-now.ensures.ticks less)
 
 pub returns-in-Some-current : goal.returns-in-Some-current
 returns-in-Some-current g c =
@@ -23,7 +23,7 @@ returns-in-Some-current g c =
     let long : expire_millis a ≤ c.millis-now.result - c.in-Some.since = omega (arith, c.if-saturating_sub-expire_millis.false, c.saturating_sub.ensures, c.expire_millis.ensures) in
     record {
       goes = c.drop_versions.ensures.goes;
-      late = late_long g.W.Time.can_tick g.S.VersionStore.holds g.T.Stream.remaining g.T.Stream.contents a.failing c.in-Some.since c.millis-now.result a c.drop_versions.new.self c.in-Some.is c.millis-now.ensures long (inr c.drop_versions.ensures.clients);
+      late = late_long g.W.Time.can_tick g.S.VersionStore.holds g.T.Stream.remaining g.T.Stream.contents a.failing c.in-Some.since c.millis-now.result a c.drop_versions.new.self c.in-Some.is c.millis-now.ensures.ticks long (inr c.drop_versions.ensures.clients);
       clients = inr c.drop_versions.ensures.clients;
       rest = c.drop_versions.ensures.rest;
     }
@@ -33,7 +33,7 @@ returns-in_default-current g c =
     let a = c.args.self.now in
     let long : expire_millis a ≤ c.millis-now.result - c.in-Some.since = omega (arith, c.if-saturating_sub-expire_millis.false, c.saturating_sub.ensures, c.expire_millis.ensures) in
     keeps g.W.Time.can_tick g.S.VersionStore.holds g.T.Stream.remaining g.T.Stream.contents a
-    (late_long g.W.Time.can_tick g.S.VersionStore.holds g.T.Stream.remaining g.T.Stream.contents a.failing c.in-Some.since c.millis-now.result a a c.in-Some.is c.millis-now.ensures long
+    (late_long g.W.Time.can_tick g.S.VersionStore.holds g.T.Stream.remaining g.T.Stream.contents a.failing c.in-Some.since c.millis-now.result a a c.in-Some.is c.millis-now.ensures.ticks long
     (inl
     (λ p shows. (
       p,

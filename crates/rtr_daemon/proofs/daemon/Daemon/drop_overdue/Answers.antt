@@ -11,7 +11,7 @@ returns-clause-closed g c =
     let old = c.args.self.now in
     let new = c.loop-at.self in
     let to = unless_overdue c.millis-now.result old.plan in
-    (c.millis-now.result, c.millis-now.ensures, all_changed to old.clients new.clients (subst (ChangesBefore to old.clients new.clients) c.in_default.is c.loop-at.invariant.closed))
+    (c.millis-now.result, c.millis-now.ensures.ticks, all_changed to old.clients new.clients (subst (ChangesBefore to old.clients new.clients) c.in_default.is c.loop-at.invariant.closed))
 
 pub loop-at-init : goal.loop-at-init
 loop-at-init g c = record {

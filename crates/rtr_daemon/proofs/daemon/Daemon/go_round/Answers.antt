@@ -26,11 +26,11 @@ returns-clause-kept g c =
     let start = record c.args.self.now { next_round = c.saturating_add-self.result } in
     let served = record c.drop_overdue.new.self { clients = c.wake_blocked.new.self } in
     let k = clients_kept start served c.publish_and_judge.new.self (then_queued start c.drop_overdue.new.self c.wake_blocked.new.self c.drop_overdue.ensures.rest) c.publish_and_judge.ensures.kept in
-    record { sources = k.sources; exports = k.exports; slurms = k.slurms; points = k.points; rest = k.rest }
+    record { sources = k.sources; exports = k.exports; slurms = k.slurms; points = k.points; is_old = k.is_old; listeners = k.listeners; rest = k.rest }
 
 pub returns-clause-wakes : goal.returns-clause-wakes
 returns-clause-wakes g c =
-    wakes_from c.args.self.now (record c.drop_overdue.new.self { clients = c.wake_blocked.new.self }) c.publish_and_judge.new.self (ap (λ d. d.service.pace) c.drop_overdue.ensures.rest) c.publish_and_judge.ensures.wakes
+    wakes_from c.args.self.now (record c.drop_overdue.new.self { clients = c.wake_blocked.new.self }) c.publish_and_judge.new.self (ap (λ d. d.service.pace) c.drop_overdue.ensures.rest) (ap (λ d. d.is_ready) c.drop_overdue.ensures.rest) c.publish_and_judge.ensures.wakes
 
 pub returns-clause-closed : goal.returns-clause-closed
 returns-clause-closed g c = λ due.

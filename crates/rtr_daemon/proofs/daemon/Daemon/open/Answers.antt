@@ -3,7 +3,8 @@ use Rattle.std.specs.Prelude.{All, None, Some}
 use Rattle.std.proofs.lemmas.List.{length-map}
 use Rattle.rtr_server.specs.Clients.{Begun}
 use Rattle.sources.specs.Served.{IsNothing}
-use Rattle.rtr_daemon.specs.Due.{later_by}
+use Rattle.rtr_daemon.specs.Ages.{AreJudged, ages_of}
+use Rattle.rtr_daemon.specs.Times.{later_by}
 use Rattle.rtr_daemon.specs.Files.{AreContents, LoadsEach, loads_of, marks_of, names_of, paths_of}
 use Rattle.rtr_daemon.specs.PointOffers.{OffersEach, points_of}
 use Rattle.rtr_daemon.specs.Serving.{LeadsToService, past_of}
@@ -32,7 +33,7 @@ returns-clause-begins g c =
     let paced : c.read_points.new.service.pace ≡ Some c.seconds-now.result = (all p (c.in_ok-service.ensures.shows c.in_ok-held.ensures.1 begun)).4 ∙ c.in_ok-service.ensures.pace in
     record {
       second = subst g.W.Time.can_be (sym (ap (λ d. d.started) only)) c.seconds-now.ensures;
-      millis = subst g.W.Time.can_tick (sym (ap (λ d. d.opened) only)) c.millis-millis.ensures;
+      millis = subst g.W.Time.can_tick (sym (ap (λ d. d.opened) only)) c.millis-millis.ensures.ticks;
       pace = ap (λ d. d.service.pace) only ∙ paced ∙ ap (λ second. Some second) (sym (ap (λ d. d.started) only));
       next_check = ap (λ d. d.next_check) only ∙ c.saturating_add.ensures ∙ ap (later_by c.args.plan.check) (sym (ap (λ d. d.opened) only));
       next_round = ap (λ d. d.next_round) only ∙ sym (ap (λ d. d.opened) only);
@@ -40,6 +41,8 @@ returns-clause-begins g c =
       failing = ap (λ d. d.failing) only;
       idle = ap (λ d. d.clients.queue.items) only ∙ c.new-3.ensures;
       listeners = ap (λ d. d.listeners.listeners.items) only ∙ c.in_ok-listeners.ensures;
+      judged = subst (λ s. AreJudged g.W.Time.can_be c.args.plan.max_age s.sources (ages_of c.judge_ages.new.self.exports.items)) (sym (ap (λ d. d.service) only)) c.judge_ages.ensures.judged;
+      is_old = c.judge_ages.ensures.is_old;
     }
 
 pub returns-clause-watches : goal.returns-clause-watches

@@ -1,6 +1,6 @@
 use Rattle.std.proofs.Common.{subst, sym, ap}
 use Rattle.rtr_daemon.specs.Serving.{Continues}
-use Rattle.rtr_daemon.proofs.DueLaws.{ages_only, clock_only, files_on, polls_of, same_paths_of}
+use Rattle.rtr_daemon.proofs.DueLaws.{clock_only, files_on, polled_on, polls_of, same_paths_of}
 use Rattle.rtr_daemon.proofs.ServiceLaws.{then_on}
 use Rattle.rtr_daemon.proofs.daemon.Daemon.poll_all.Goals as goal
 
@@ -13,6 +13,12 @@ returns-clause-goes g c =
 
 pub returns-clause-polls : goal.returns-clause-polls
 returns-clause-polls g c =
+    let only =
+    files_on c.args.self.now c.follow_slurms.new.self c.offer_all.new.self
+    (files_on c.args.self.now c.follow_all.new.self c.follow_slurms.new.self
+    (files_on c.args.self.now c.judge_clock.new.self c.follow_all.new.self (clock_only c.args.self.now c.judge_clock.new.self c.judge_clock.ensures) c.follow_all.ensures.rest)
+    c.follow_slurms.ensures.rest)
+    c.offer_all.ensures.rest in
     polls_of g.W.Disk.answers g.W.Time.can_be g.W.Time.can_tick c.args.self.now c.judge_clock.new.self c.follow_all.new.self c.follow_slurms.new.self c.offer_all.new.self c.judge_ages.new.self
     (record {
       judged = c.judge_clock.ensures;
@@ -25,11 +31,18 @@ returns-clause-polls g c =
       points = c.offer_all.ensures.offers;
       point_paths = c.offer_all.ensures.paths;
       after_points = c.offer_all.ensures.kept;
+      only = only;
       ages = c.judge_ages.ensures;
     })
 
 pub returns-clause-paths : goal.returns-clause-paths
 returns-clause-paths g c =
+    let only =
+    files_on c.args.self.now c.follow_slurms.new.self c.offer_all.new.self
+    (files_on c.args.self.now c.follow_all.new.self c.follow_slurms.new.self
+    (files_on c.args.self.now c.judge_clock.new.self c.follow_all.new.self (clock_only c.args.self.now c.judge_clock.new.self c.judge_clock.ensures) c.follow_all.ensures.rest)
+    c.follow_slurms.ensures.rest)
+    c.offer_all.ensures.rest in
     same_paths_of g.W.Disk.answers g.W.Time.can_be g.W.Time.can_tick c.args.self.now c.judge_clock.new.self c.follow_all.new.self c.follow_slurms.new.self c.offer_all.new.self c.judge_ages.new.self
     (record {
       judged = c.judge_clock.ensures;
@@ -42,15 +55,16 @@ returns-clause-paths g c =
       points = c.offer_all.ensures.offers;
       point_paths = c.offer_all.ensures.paths;
       after_points = c.offer_all.ensures.kept;
+      only = only;
       ages = c.judge_ages.ensures;
     })
 
 pub returns-clause-rest : goal.returns-clause-rest
 returns-clause-rest g c =
-    files_on c.args.self.now c.offer_all.new.self c.judge_ages.new.self
+    polled_on g.W.Time.can_be c.args.self.now c.offer_all.new.self c.judge_ages.new.self
     (files_on c.args.self.now c.follow_slurms.new.self c.offer_all.new.self
     (files_on c.args.self.now c.follow_all.new.self c.follow_slurms.new.self
     (files_on c.args.self.now c.judge_clock.new.self c.follow_all.new.self (clock_only c.args.self.now c.judge_clock.new.self c.judge_clock.ensures) c.follow_all.ensures.rest)
     c.follow_slurms.ensures.rest)
     c.offer_all.ensures.rest)
-    (ages_only c.offer_all.new.self c.judge_ages.new.self c.judge_ages.ensures)
+    c.judge_ages.ensures

@@ -14,7 +14,7 @@ returns-in-Some-clause-goes g c =
 
 pub returns-in-Some-clause-due : goal.returns-in-Some-clause-due
 returns-in-Some-clause-due g c =
-    tried_due g.W.Time.can_be g.W.Time.can_tick c.args.self.now.held_until c.args.self.now c.note_tried.new.self c.publish_paced.new.self c.seconds-now.result c.millis-began.result c.in-Some.tried c.seconds-now.ensures c.millis-began.ensures c.publish_paced.ensures.sources c.in-Some.ensures.done c.in-Some.ensures.fails c.note_tried.ensures.rest c.note_tried.ensures.failed
+    tried_due g.W.Time.can_be g.W.Time.can_tick c.args.self.now.held_until c.args.self.now c.note_tried.new.self c.publish_paced.new.self c.seconds-now.result c.millis-began.result c.in-Some.tried c.seconds-now.ensures c.millis-began.ensures.ticks c.publish_paced.ensures.sources c.in-Some.ensures.done c.in-Some.ensures.fails c.note_tried.ensures.rest c.note_tried.ensures.failed
     c.note_tried.ensures.published
 
 pub returns-in-Some-clause-fresh : goal.returns-in-Some-clause-fresh
@@ -25,8 +25,8 @@ returns-in-Some-clause-kept g c = published_kept c.args.self.now c.note_tried.ne
 
 pub returns-in-Some-clause-wakes : goal.returns-in-Some-clause-wakes
 returns-in-Some-clause-wakes g c =
-    woken_by c.args.self.now c.note_tried.new.self c.publish_paced.new.self c.paced-second.result c.in-Some.tried c.in-Some.ensures.pace c.note_tried.ensures.wakes c.note_tried.ensures.rest
+    woken_by c.args.self.now c.note_tried.new.self c.publish_paced.new.self c.paced-second.result c.in-Some.tried c.in-Some.ensures.pace c.note_tried.ensures.wakes c.note_tried.ensures.ready c.note_tried.ensures.unready c.note_tried.ensures.rest
 
 pub returns-in-Some-clause-next : goal.returns-in-Some-clause-next
 returns-in-Some-clause-next g c =
-    postponed_by g.W.Time.can_tick c.args.self.now c.note_tried.new.self c.publish_paced.new.self c.millis-began.result c.paced-second.result c.in-Some.tried c.millis-began.ensures c.paced-second.ensures c.in-Some.ensures.pace c.note_tried.ensures.later c.note_tried.ensures.same c.note_tried.ensures.rest
+    postponed_by g.W.Time.can_tick c.args.self.now c.note_tried.new.self c.publish_paced.new.self c.millis-began.result c.paced-second.result c.in-Some.tried c.millis-began.ensures.ticks c.paced-second.ensures c.in-Some.ensures.pace c.note_tried.ensures.later c.note_tried.ensures.same c.note_tried.ensures.rest

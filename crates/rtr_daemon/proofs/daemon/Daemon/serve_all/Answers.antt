@@ -26,6 +26,6 @@ loop-client-preserved g c =
       turns =
           subst (λ n. ServesEach g.S.VersionStore.holds g.T.Stream.remaining g.T.Stream.contents g.T.Stream.answers (take n queue) c.args.self.now.clients c.args.self.now.service.server c.serve_next.new.self.clients c.serve_next.new.self.service.server) more
           (subst (λ q. ServesEach g.S.VersionStore.holds g.T.Stream.remaining g.T.Stream.contents g.T.Stream.answers q c.args.self.now.clients c.args.self.now.service.server c.serve_next.new.self.clients c.serve_next.new.self.service.server) (sym (take-suc queue i 0 less))
-          (serves_more g.S.VersionStore.holds g.T.Stream.remaining g.T.Stream.contents g.T.Stream.answers (take i queue) (get_or queue i 0) c.args.self.now.clients c.loop-client.self.clients c.serve_next.new.self.clients c.args.self.now.service.server c.loop-client.self.service.server c.serve_next.new.self.service.server c.loop-client.invariant.turns next.turn next.others));
+          (serves_more g.S.VersionStore.holds g.T.Stream.remaining g.T.Stream.contents g.T.Stream.answers (take i queue) (get_or queue i 0) c.args.self.now.clients c.loop-client.self.clients c.serve_next.new.self.clients c.args.self.now.service.server c.loop-client.self.service.server c.serve_next.new.self.service.server c.loop-client.invariant.turns next.one));
       queue = subst (λ n. QueuesBehind (drop n queue) c.serve_next.new.self.clients) more next.behind;
     }

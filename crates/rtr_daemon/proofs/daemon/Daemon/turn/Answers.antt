@@ -1,6 +1,6 @@
 use Rattle.std.proofs.Common.{◌⊎◌, inl, subst}
 use Rattle.rtr_daemon.specs.Serving.{Continues, Drops}
-use Rattle.rtr_daemon.proofs.OriginLaws.{clients_come, served_comes, turn_comes}
+use Rattle.rtr_daemon.proofs.OriginLaws.{admitted_comes, clients_come, served_comes, turn_comes}
 use Rattle.rtr_daemon.proofs.ServiceLaws.{goes, stays, then_goes, then_on}
 use Rattle.rtr_daemon.proofs.daemon.Daemon.turn.Goals as goal
 
@@ -22,19 +22,20 @@ returns-clause-turn g c = record {
   served = c.serve_all.new.self;
   awakes = record {
     millis = c.millis.result;
-    ticked = c.millis.ensures;
+    ticked = c.millis.ensures.ticks;
     wait = c.longest_wait-wait.result;
     is = c.longest_wait-wait.ensures;
     before = c.millis.new.self;
+    read = c.millis.ensures.reads;
     woken = c.wait.new.self;
     after = c.take_ready.new.env;
-    waits = c.in_ok-wait.ensures;
+    waits = c.in_ok-wait.ensures.waits;
     ready = c.take_ready.ensures.ready;
     service = c.take_ready.ensures.service;
     only = c.take_ready.ensures.rest;
   };
   drops = c.drop_if_failing.ensures;
-  accepts = record { queue = c.accept_pending.ensures.queue; closed = c.accept_pending.ensures.before; only = c.accept_pending.ensures.rest };
+  accepts = record { asks = c.accept_pending.ensures.asks; queue = c.accept_pending.ensures.queue; closed = c.accept_pending.ensures.before; only = c.accept_pending.ensures.rest };
   serves = record { turns = c.serve_all.ensures.turns; only = c.serve_all.ensures.rest };
   due = c.do_what_is_due.ensures.due;
 }
@@ -43,9 +44,9 @@ pub returns-clause-comes : goal.returns-clause-comes
 returns-clause-comes g c = λ before.
     turn_comes g.W.Disk.answers g.W.Time.can_be g.W.Time.can_tick c.serve_all.new.self c.do_what_is_due.new.self c.do_what_is_due.ensures.due
     (clients_come g.W.Disk.answers g.W.Time.can_be c.accept_pending.new.self c.serve_all.new.self c.serve_all.ensures.rest
-    (clients_come g.W.Disk.answers g.W.Time.can_be c.drop_if_failing.new.self c.accept_pending.new.self c.accept_pending.ensures.rest
+    (admitted_comes g.W.Disk.answers g.W.Time.can_be c.drop_if_failing.new.self c.accept_pending.new.self c.accept_pending.ensures.rest
     (served_comes g.W.Disk.answers g.W.Time.can_be c.take_ready.new.self c.drop_if_failing.new.self c.drop_if_failing.ensures.rest
-    (clients_come g.W.Disk.answers g.W.Time.can_be c.args.self.now c.take_ready.new.self c.take_ready.ensures.rest before))))
+    (admitted_comes g.W.Disk.answers g.W.Time.can_be c.args.self.now c.take_ready.new.self c.take_ready.ensures.rest before))))
 
 pub returns-in_err-wait-clause-goes : goal.returns-in_err-wait-clause-goes
 returns-in_err-wait-clause-goes g c =

@@ -1,9 +1,0 @@
-use Rattle.std.proofs.Common.{◌∙◌}
-use Rattle.rtr_daemon.proofs.ContentLaws.{names_kept, marks_kept}
-use Rattle.rtr_daemon.proofs.ages.is_any_old.Goals as goal
-
-pub loop-export-preserved : goal.loop-export-preserved
-loop-export-preserved g c = record {
-  names = names_kept c.loop-export.export-items c.loop-export.export-index c.export-item.result c.judge_age.new.export c.judge_age.ensures.path c.judge_age.ensures.number ∙ c.loop-export.invariant.names;
-  marks = marks_kept c.loop-export.export-items c.loop-export.export-index c.export-item.result c.judge_age.new.export c.judge_age.ensures.mark ∙ c.loop-export.invariant.marks;
-}
