@@ -9,3 +9,4 @@ pub mod LongLengths
 pub mod BerLaws
 pub mod Going
 pub mod BerSteps
+pub mod SameDer

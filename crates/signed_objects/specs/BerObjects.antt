@@ -64,3 +64,11 @@ abbrev pub OneFault : Type 0
 OneFault =
     ((bytes : List ℕ) (offset other number second : ℕ) → FaultAt bytes offset number → FaultAt bytes other second → (offset ≡ other) × (number ≡ second))
     × ((bytes : List ℕ) (offset number : ℕ) (value : ObjectValue) → FaultAt bytes offset number → IsObject bytes value → ⊥)
+
+-- What is written for an object in DER is the object unchanged.
+abbrev pub DerIsKept : Type 0
+DerIsKept = (der : List ℕ) (value : ObjectValue) → IsDerObject der value → SameContent der der
+
+-- An object in DER is an object, with the same value.
+abbrev pub DerIsObject : Type 0
+DerIsObject = (der : List ℕ) (value : ObjectValue) → IsDerObject der value → IsObject der value

@@ -13,3 +13,4 @@ pub mod PartReading
 pub mod Ber
 pub mod BerReading
 pub mod BerObjects
+pub mod BerRows

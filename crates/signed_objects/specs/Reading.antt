@@ -1,6 +1,6 @@
 -- Reading a signed object in DER over what the reads of a cursor give.
 use Rattle.std.specs.Prelude.{ℕ, zero, suc, Bool, true, false, List, [], ◌∷◌, drop, Option, Some, None, is_some, is_none, Result}
-use Rattle.der_lite.specs.Place.{Place, Fault, place_of}
+use Rattle.der_lite.specs.Place.{Fault, place_of}
 use Rattle.der_lite.specs.Der.{BIT_STRING, INTEGER, OBJECT_IDENTIFIER, OCTET_STRING, SEQUENCE, EXPLICIT_0}
 use Rattle.der_lite.specs.DerReading.{content_at, element_at, integer_at, octets_at, oid_at}
 use Rattle.der_lite.specs.Decoding.{Read, ReadAll, ReadContent, read_primitive, read_constructed, read_member, read_each}
@@ -8,7 +8,7 @@ use Rattle.der_lite.specs.Fields.{field_at, last_at}
 use Rattle.signed_objects.specs.declared.attribute.AttributeType.{AttributeType}
 use Rattle.signed_objects.specs.declared.attribute.AttributeType.TheVariants.{ContentType, MessageDigest, SigningTime, BinarySigningTime}
 use Rattle.der_forms.specs.Combinators.{no_rules, needed, barred, first_part, fixed_rules}
-use Rattle.der_forms.specs.CombinatorReading.{fixed_field, all_octets, needed_octets_at, octets_of, found_at, opened_at, nothing_at, anything_at, told_at, told_content_at, with_octets_at, standing_at, one_of, either_at, or_fault, read_value}
+use Rattle.der_forms.specs.CombinatorReading.{fixed_field, needed_octets_at, octets_of, found_at, opened_at, nothing_at, anything_at, told_at, told_content_at, with_octets_at, standing_at, one_of, either_at, or_fault, read_value}
 use Rattle.signed_objects.specs.Oids.{oid_rules}
 use Rattle.signed_objects.specs.Attributes.{SET, UTC_TIME, GENERAL_TIME, Attribute, value_of, type_in, attribute_rules, Said, said_by}
 use Rattle.signed_objects.specs.Certificates.{EXPLICIT_3, zero_rules, rsa_key_algorithm, second_part, names_key, Extension, has_identifier, id_rules, identifier_rules, identifier_told, key_of_parts, version_3, Key}

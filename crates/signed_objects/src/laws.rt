@@ -1,7 +1,7 @@
 //! Laws of the definitions of signed objects. These functions do nothing: their contracts are the laws.
 
 ghost use Rattle.signed_objects.specs.ObjectLaws.{OneDerFault, OneDerObject};
-ghost use Rattle.signed_objects.specs.BerObjects.{OneContent, OneObject, OneFault};
+ghost use Rattle.signed_objects.specs.BerObjects.{OneContent, OneObject, OneFault, DerIsKept, DerIsObject};
 
 /// Law: if everything must be in DER, bytes have at most one fault (its offset and its kind). Bytes that are a signed object have none.
 pub fn one_fault()
@@ -26,4 +26,10 @@ pub fn one_object_in_ber()
 /// Law: if lengths and OCTET STRINGs may be in BER, bytes have at most one fault (its offset and its kind). Bytes that are a signed object have none.
 pub fn one_fault_in_ber()
     ensures { OneFault }
+{}
+
+/// Law: `to_der` leaves a signed object in DER as it is. So `read_signed_object` reads what `read_der_object` reads, with the same value.
+pub fn der_is_kept()
+    ensures kept { DerIsKept }
+    ensures read { DerIsObject }
 {}
