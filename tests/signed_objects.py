@@ -3,7 +3,8 @@
 
 usage: tests/signed_objects.py PROGRAM [--seed N] [--count N] [--openssl N] [--bytes]
 
-PROGRAM is rpkiobject. COUNT objects have random contents, keys and attributes, and are to be accepted. Half of them are in BER: lengths are
+PROGRAM is rpkiobject. Objects at the bounds of lengths, levels, INTEGERs, OBJECT IDENTIFIERs and key identifiers come first, with the fault that
+the standards give, or none: `judge` and the program must say the same. COUNT objects have random contents, keys and attributes, and are to be accepted. Half of them are in BER: lengths are
 indefinite or long, and OCTET STRINGs in pieces. COUNT others have something wrong: a rule of RFC 6488 that is broken by name, or random
 octets that are changed. Each is judged by `judge`, which knows the rules and nothing of the program: the fault's number and offset must be
 the same, with --strict too. Of both, N are also given to `openssl cms -verify -noverify`: what the program accepts, it accepts too. With
@@ -92,6 +93,7 @@ class Object:
         self.crls, self.unsigned, self.behind = b"", b"", b""
         self.content_tag, self.certificates_tag, self.sid_tag, self.attributes_tag, self.extensions_tag = 0xA0, 0xA0, 0x80, 0xA0, 0xA3
         self.sid = self.identifier
+        self.serial, self.explicit = integer(7), None
         self.signed_tag = 0x31
         self.signature = None
         self.with_content = True
@@ -112,7 +114,7 @@ class Object:
         version = element(0xA0, integer(self.certificate_version))
         extensions = element(self.extensions_tag, sequence(*self.extensions))
         algorithm = sequence(oid(SHA_256_RSA), NULL)
-        return sequence(sequence(version, integer(7), algorithm, name, times, name, info, extensions), algorithm, element(3, b"\0" + bytes(256)))
+        return sequence(sequence(version, self.serial, algorithm, name, times, name, info, extensions), algorithm, element(3, b"\0" + bytes(256)))
 
     def signer(self):
         attributes = b"".join(self.attributes)
@@ -122,7 +124,7 @@ class Object:
             self.signature_algorithm, element(4, signature), self.unsigned)
 
     def octets(self):
-        content = element(self.content_tag, element(4, self.content)) if self.with_content else b""
+        content = element(self.content_tag, self.explicit or element(4, self.content)) if self.with_content else b""
         data = sequence(
             integer(self.version), element(0x31, b"".join(self.digest_algorithms)), sequence(oid(self.content_type), content),
             element(self.certificates_tag, self.certificate() * self.certificates), self.crls, element(0x31, self.signer() * self.signers))
@@ -203,6 +205,104 @@ def spoil(it, what):
         return list(others)
     others[what]()
     return it
+
+
+# ---- objects at the bounds
+
+
+def fixed(key, times=(), **changes):
+    """An object that is right, with these values of binary-signing-time, and these fields in place of others."""
+    it = Object(random.Random(1), key)
+    it.content, it.content_type, it.identifier = b"content", ROA, bytes(range(20))
+    for name, value in changes.items():
+        setattr(it, name, value)
+    it.attributes = changes.get("attributes") or [it.attribute(CONTENT_TYPE, oid(it.content_type)), it.attribute(MESSAGE_DIGEST, element(4, hashlib.sha256(it.content).digest()))]
+    it.attributes += [it.attribute(BINARY_TIME, value) for value in times]
+    it.extensions = changes.get("extensions", []) + [it.extension(KEY_IDENTIFIER, element(4, it.identifier))]
+    it.sid = changes.get("sid", it.identifier)
+    return it.octets()
+
+
+def fault_at(octets, number, front, behind):
+    """The fault of the element that is between these octets, which are in the object once."""
+    if octets.count(front + behind) != 1:
+        raise SystemExit(f"{(front + behind).hex()} is in the object {octets.count(front + behind)} times")
+    return number, octets.index(front + behind) + len(front)
+
+
+def pinned_lengths():
+    """X.690 section 8.1.3.5: a length is below 2^32, and so many octets are not there. In DER it is in the fewest octets, at most four."""
+    lengths = [
+        ("2^32 - 1", b"\x84\xff\xff\xff\xff", 1, 1), ("2^32 - 1 behind a zero", b"\x85\0\xff\xff\xff\xff", 1, 3), ("2^32", b"\x85\1\0\0\0\0", 39, 3),
+        ("2^40 - 1", b"\x85\xff\xff\xff\xff\xff", 39, 3), ("2^40", b"\x86\1\0\0\0\0\0", 39, 3), ("of a first octet of 255", b"\xff", 39, 3)]
+    return [(f"the length {name}", b"\x30" + length + b"\4\0", (plain, 0), (strict, 0)) for name, length, plain, strict in lengths]
+
+
+def pinned_levels(key):
+    """16 levels are read. The content of an object is at the sixth; in DER the object ends at the third octet, which is no OBJECT IDENTIFIER."""
+    def sequences(levels):
+        return element(0x30, sequences(levels - 1)) if levels else b""
+
+    def pieces(levels):
+        return element(0x24, pieces(levels - 1)) if levels else element(4, b"content")
+
+    rows = [(f"{levels} SEQUENCEs", sequences(levels), fault, (2, 2)) for levels, fault in ((16, (2, 2)), (17, (43, 32)))]
+    for levels in (10, 11):
+        octets = fixed(key, explicit=pieces(levels))
+        fault = None if levels == 10 else fault_at(octets, 43, b"", element(4, b"content"))
+        rows.append((f"{levels} levels of pieces", octets, fault, fault_at(octets, 2, b"", pieces(levels))))
+    return rows
+
+
+def pinned_integers(key):
+    """X.690 section 8.3.2: the first nine bits of an INTEGER are neither all 0 nor all 1. binary-signing-time is one (RFC 6019 section 3)."""
+    rows = []
+    contents = [(b"", 4), (b"\0", None), (b"\xff", None), (b"\0\x7f", 4), (b"\0\x80", None), (b"\xff\x7f", None), (b"\xff\x80", 4)]
+    others = [(element(4, b"\0"), 2), (element(23, b"260101000000Z"), 2)]
+    for value, number in [(element(2, content), number) for content, number in contents] + others:
+        octets = fixed(key, serial=value)
+        fault = number and fault_at(octets, number, element(0xA0, integer(2)), value)
+        rows.append((f"the serial number {value.hex()}", octets, fault, fault))
+        octets = fixed(key, times=[value])
+        fault = number and fault_at(octets, number, oid(BINARY_TIME) + element(0x31, value)[:2], value)
+        rows.append((f"binary-signing-time {value.hex()}", octets, fault, fault))
+    return rows
+
+
+def pinned_identifiers(key):
+    """X.690 section 8.19: which contents are OBJECT IDENTIFIERs, at each of the three places of any value. 2.100.3 is its example."""
+    rows = []
+    for content in (b"\x81\x34\3", b"\0", b"\x7f", b"\x81\0", b"\x81\x80\0", b"\x2a\x81\0"):
+        rows.append((f"the OBJECT IDENTIFIER {content.hex()}", fixed(key, content_type=content, extensions=[Object.extension(content, b"")]), None, None))
+    for content in (b"", b"\x80", b"\xff", b"\x81", b"\x80\1", b"\x80\x2a\3", b"\x2a\x80\3", b"\x2a\3\x83"):
+        digest = Object.attribute(MESSAGE_DIGEST, element(4, hashlib.sha256(b"content").digest()))
+        for octets, front, behind in (
+            (fixed(key, content_type=content), b"", oid(content) + element(0xA0, element(4, b"content"))),
+            (fixed(key, extensions=[Object.extension(content, b"value")]), b"", oid(content) + element(4, b"value")),
+            (fixed(key, attributes=[Object.attribute(CONTENT_TYPE, oid(content)), digest]), oid(CONTENT_TYPE) + element(0x31, oid(content))[:2], oid(content)),
+        ):
+            fault = fault_at(octets, 4, front, behind)
+            rows.append((f"{content.hex()}, which is no OBJECT IDENTIFIER", octets, fault, fault))
+    return rows
+
+
+def pinned_keys(key):
+    """RFC 6488 section 3, 1.c: sid is the subjectKeyIdentifier of the certificate. How long that is, the certificate's profile says."""
+    whole = bytes(range(20))
+    wrong = [(f"a sid of {len(sid)} octets", fixed(key, sid=sid), (31, 0), (31, 0)) for sid in (whole[:19], whole + b"\x14", b"")]
+    return wrong + [(f"a key identifier of {len(it)} octets", fixed(key, identifier=it), None, None) for it in (whole[:19], whole, whole + b"\x14")]
+
+
+def pin(program, key):
+    """Judges objects at the bounds. Their faults are those of the standards: `judge` and the program must give them."""
+    rows = pinned_lengths() + pinned_levels(key) + pinned_integers(key) + pinned_identifiers(key) + pinned_keys(key)
+    for name, octets, *wanted in rows:
+        found = [judge(octets, is_strict) for is_strict in (False, True)]
+        if found != wanted:
+            raise SystemExit(f"{name}: judge says {found} in place of {wanted}")
+        program.add(octets, name, None)
+    program.flush()
+    print(f"{len(rows)} objects at the bounds")
 
 
 def is_oid(content):
@@ -549,6 +649,8 @@ def main():
     if set(good) != {0}:
         raise SystemExit(f"objects that were made well are none: {good}")
     program.openssl = words.openssl
+    pin(program, keys[0])
+    accepted = program.faults[0]
     ways = spoil(Object(rng, keys[0]), None)
     for at in range(words.count):
         it = Object(rng, rng.choice(keys[:3]))
@@ -565,7 +667,7 @@ def main():
         replace_each_octet(program, rng, keys[0])
     program.flush()
     print(f"{good[0]} objects accepted; of the others by fault (0: accepted):")
-    print(", ".join(f"{number}: {count - (good[0] if number == 0 else 0)}" for number, count in sorted(program.faults.items())))
+    print(", ".join(f"{number}: {count - (accepted if number == 0 else 0)}" for number, count in sorted(program.faults.items())))
 
 
 if __name__ == "__main__":
