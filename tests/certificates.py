@@ -4,8 +4,8 @@
 usage: tests/certificates.py PROGRAM [--table] [--sets N]
 
 PROGRAM is certificate_scripts. Each row of tests/lib/certificate_rows.py is a certificate or a list with one thing that is another, and what
-PROGRAM has to say of it. The keys are made here. With --table, `openssl verify` and `rpki-client -f` are asked too, as far as they are
-here, and what each says is printed beside it. N pairs of random sets of resources (10,000 unless said otherwise) are compared with sets of
+PROGRAM has to say of it. The keys are made here. With --table, `openssl verify`, `rpki-client -f` and `fort` are asked too, as far as they
+are here, and what each says is printed beside it: `-` if it cannot be asked. N pairs of random sets of resources (10,000 unless said otherwise) are compared with sets of
 Python."""
 import argparse
 import ipaddress
@@ -18,6 +18,7 @@ import tempfile
 
 sys.path.insert(0, f"{os.path.dirname(os.path.abspath(__file__))}/lib")
 import certificate_rows as rows
+import fort
 import repository
 from certificate_rows import Bench
 from der import element, integer
@@ -41,12 +42,12 @@ def openssl_says(kind, der):
     with open("asked.der", "wb") as it:
         it.write(der)
     if kind == "crl":
-        words = ["openssl", "crl", "-inform", "DER", "-in", "asked.der", "-noout", "-CAfile", "anchor.pem", "-verify"]
+        words = ["openssl", "crl", "-inform", "DER", "-in", "asked.der", "-noout", "-CAfile", "trusted.pem", "-verify"]
         done = subprocess.run(words, capture_output=True, text=True)
         return done.returncode == 0 and "verify OK" in done.stderr + done.stdout
     if subprocess.run(["openssl", "x509", "-inform", "DER", "-in", "asked.der", "-out", "asked.pem"], capture_output=True).returncode:
         return False
-    anchor = "asked.pem" if kind == "anchor" else "anchor.pem"
+    anchor = "asked.pem" if kind == "anchor" else "trusted.pem"
     return subprocess.run(["openssl", "verify", "-CAfile", anchor, "asked.pem"], capture_output=True).returncode == 0
 
 
@@ -61,14 +62,13 @@ def client_says(bench, row):
 
 def table(bench, program_says):
     """Prints who accepts each row."""
-    with open("anchor.der", "wb") as it:
+    with open("trusted.der", "wb") as it:
         it.write(bench.anchor)
-    subprocess.run(["openssl", "x509", "-inform", "DER", "-in", "anchor.der", "-out", "anchor.pem"], check=True)
-    has_client = shutil.which("rpki-client") is not None
+    subprocess.run(["openssl", "x509", "-inform", "DER", "-in", "trusted.der", "-out", "trusted.pem"], check=True)
+    peers = {"openssl": lambda row: openssl_says(row.kind, row.der), "rpki-client": lambda row: client_says(bench, row), "fort": lambda row: fort.says(bench, row)}
+    words = {True: "yes", False: "no", None: "-"}
     for row, said in zip(bench.rows, program_says):
-        others = [f"openssl {'yes' if openssl_says(row.kind, row.der) else 'no'}"]
-        if has_client:
-            others.append(f"rpki-client {'yes' if client_says(bench, row) else 'no'}")
+        others = [f"{peer} {words[says(row)]}" for peer, says in peers.items() if shutil.which(peer)]
         print(f"{row.name:44}| {said[:40]:40}| {' | '.join(others)}", flush=True)
 
 

@@ -10,6 +10,8 @@ from der import element, integer
 from repository import NULL, RSA, SHA_256, SHA_256_WITH_RSA, Key, access, bits, extension, oid, sequence, tagged
 
 URI = "rsync://h.example/r/"
+# where the anchor publishes
+ISSUED = f"{URI}anchor/"
 SHA_1_WITH_RSA = sequence(oid("1.2.840.113549.1.1.5"), NULL)
 NO_PARAMETERS = sequence(oid("1.2.840.113549.1.1.11"))
 SKI, AKI, USAGE, BASIC, POINTS = "2.5.29.14", "2.5.29.35", "2.5.29.15", "2.5.29.19", "2.5.29.31"
@@ -69,6 +71,7 @@ def as_numbers(*contents):
 
 
 NET = bits(0, b"\xc0\x00\x02")
+ROA, MANIFEST = "1.2.840.113549.1.9.16.1.24", "1.2.840.113549.1.9.16.1.26"
 
 
 class Row:
@@ -142,9 +145,9 @@ class Bench:
             found[AKI] = sequence(element(128, self.key.identifier))
         found[USAGE] = bits(7, b"\x80") if role == "entity" else bits(1, b"\x06")
         if role != "anchor":
-            found[POINTS] = points(f"{URI}ta.crl")
+            found[POINTS] = points(f"{ISSUED}ta.crl")
             found[AIA] = sequence(place(2, "rsync://h.example/ta.cer"))
-        found[SIA] = sequence(place(11, f"{URI}a.roa")) if role == "entity" else sequence(place(5, f"{URI}{role}/"), place(10, f"{URI}{role}/x.mft"))
+        found[SIA] = sequence(place(11, f"{ISSUED}a.roa")) if role == "entity" else sequence(place(5, f"{URI}{role}/"), place(10, f"{URI}{role}/x.mft"))
         found[POLICIES] = sequence(sequence(POLICY))
         found[IP] = prefixes(bits(0, b"")) if role == "anchor" else prefixes(NET)
         if role == "anchor":
@@ -165,10 +168,13 @@ class Bench:
         body = sequence(*(parts[it] for it in order), b"" if parts.get("bare") else listed)
         return sequence(body, parts["outer"], bits(parts["unused"], parts["signer"].sign(body) if not parts["unused"] else bytes(256)))
 
-    def object(self, certificate):
-        """A ROA of 192.0.2.0/24 with this certificate."""
-        payload = sequence(integer(64496), sequence(sequence(element(4, b"\0\1"), sequence(sequence(NET)))))
-        content_type = "1.2.840.113549.1.9.16.1.24"
+    def object(self, certificate, net=NET):
+        """A ROA of 192.0.2.0/24, or another prefix, with this certificate."""
+        payload = sequence(integer(64496), sequence(sequence(element(4, b"\0\1"), sequence(sequence(net)))))
+        return self.signed_object(certificate, ROA, payload)
+
+    def signed_object(self, certificate, content_type, payload):
+        """A signed object with this certificate of an end entity."""
         digest = hashlib.sha256(payload).digest()
         attributes = sorted([sequence(oid("1.2.840.113549.1.9.3"), element(49, oid(content_type))), sequence(oid("1.2.840.113549.1.9.4"), element(49, element(4, digest)))])
         signature = self.once.sign(element(49, b"".join(attributes)))
@@ -269,7 +275,7 @@ class Bench:
         self.row("zeros at the end of keyUsage", "entity", 23, {USAGE: bits(0, b"\x80")})
 
     def place_rows(self):
-        good, web = f"{URI}ta.crl", "https://h.example/ta.crl"
+        good, web = f"{ISSUED}ta.crl", "https://h.example/ta.crl"
         self.row("no cRLDistributionPoints", "entity", 24, {POINTS: None})
         self.row("a CRL by https alone", "entity", 24, {POINTS: points(web)})
         self.row("a CRL by https and then by rsync", "entity", "ok", {POINTS: points(web, good)})
@@ -283,7 +289,7 @@ class Bench:
         self.row("an issuer by https and by rsync", "entity", "ok", {AIA: sequence(https, rsync)})
         self.row("OCSP beside the issuer", "entity", "ok", {AIA: sequence(place(1, "http://h.example/"), rsync)})
         self.row("authorityInfoAccess", "anchor", 25, {AIA: sequence(rsync)})
-        own, notify = place(11, f"{URI}a.roa"), place(13, "https://h.example/n.xml")
+        own, notify = place(11, f"{ISSUED}a.roa"), place(13, "https://h.example/n.xml")
         self.row("no subjectInfoAccess", "entity", 26, {SIA: None})
         self.row("an object by https", "entity", 26, {SIA: sequence(place(11, "https://h.example/a.roa"))})
         self.row("rpkiNotify beside the object", "entity", "ok", {SIA: sequence(own, notify)})
@@ -342,11 +348,11 @@ class Bench:
     def listed(self, **changes):
         """A revocation list with these parts in place of others."""
         identifier, number = extension(AKI, sequence(element(128, self.key.identifier))), extension("2.5.29.20", integer(7))
-        parts = {"version": integer(1), "inner": SHA_256_WITH_RSA, "issuer": common("anchor"), "this": utc("250101000000Z"), "next": utc("490101000000Z"), "revoked": b"", "extensions": [identifier, number], "outer": SHA_256_WITH_RSA, "unused": 0}
+        parts = {"version": integer(1), "inner": SHA_256_WITH_RSA, "issuer": common("anchor"), "this": utc("250101000000Z"), "next": utc("490101000000Z"), "revoked": b"", "extensions": [identifier, number], "outer": SHA_256_WITH_RSA, "unused": 0, "signer": self.key}
         parts.update(changes)
         order = ("version", "inner", "issuer", "this", "next", "revoked")
         body = sequence(*(parts[it] for it in order), tagged(0, sequence(*parts["extensions"])) if parts["extensions"] is not None else b"")
-        return sequence(body, parts["outer"], bits(parts["unused"], self.key.sign(body) if not parts["unused"] else bytes(256)))
+        return sequence(body, parts["outer"], bits(parts["unused"], parts["signer"].sign(body) if not parts["unused"] else bytes(256)))
 
     def crl_rows(self):
         def entry(number, more=b""):
