@@ -1,35 +1,43 @@
--- Kinds of signed objects: by the type of the content, and by the extension of a file's name.
-use Rattle.std.specs.Prelude.{◌≡◌, ℕ, bytes_eq, if◌then◌else◌, List, [], ◌∷◌, ⊤, codes, Option, Some, None}
-use Rattle.rpkiobject.specs.declared.kinds.ObjectKind.{ObjectKind}
-use Rattle.rpkiobject.specs.declared.kinds.ObjectKind.TheVariants.{Roa, Manifest, Ghostbusters, Checklist, Aspa, TrustAnchorKey, Other}
+-- Kinds of files that the program knows: which kind a file must hold, and the word for the kind of a content.
+use Rattle.std.specs.Prelude.{◌≡◌, ℕ, Bool, true, false, if◌then◌else◌, List, codes, ⊤, Option, Some, None}
+use Rattle.file_kinds.specs.declared.kind.FileKind.{FileKind}
+use Rattle.file_kinds.specs.declared.kind.FileKind.TheVariants.{Certificate, RevocationList, Roa, Manifest, Ghostbusters, Checklist, Aspa, TrustAnchorKey, PrefixList}
 
--- id-ct, 1.2.840.113549.1.9.16.1, and one number below it
-abbrev pub id_ct : ℕ → List ℕ
-id_ct below = 0x2a ∷ 0x86 ∷ 0x48 ∷ 0x86 ∷ 0xf7 ∷ 0x0d ∷ 0x01 ∷ 0x09 ∷ 0x10 ∷ 0x01 ∷ below ∷ []
+-- The program knows the kind. A file whose name is of another kind may hold any content.
+abbrev pub is_known : FileKind → Bool
+is_known Certificate = false
+is_known RevocationList = false
+is_known Roa = true
+is_known Manifest = true
+is_known Ghostbusters = true
+is_known Checklist = true
+is_known Aspa = true
+is_known TrustAnchorKey = true
+is_known PrefixList = false
 
--- The kind whose eContentType this is. The numbers are those of the registry "SMI Security for S/MIME CMS Content Type".
-unfoldable pub kind_of : List ℕ → ObjectKind
-kind_of content_type =
-    if bytes_eq content_type (id_ct 24) then Roa
-    else if bytes_eq content_type (id_ct 26) then Manifest
-    else if bytes_eq content_type (id_ct 35) then Ghostbusters
-    else if bytes_eq content_type (id_ct 48) then Checklist
-    else if bytes_eq content_type (id_ct 49) then Aspa
-    else if bytes_eq content_type (id_ct 50) then TrustAnchorKey
-    else Other
+-- the kind, if the program knows it
+abbrev pub known_of : Option FileKind → Option FileKind
+known_of None = None
+known_of (Some kind) = if is_known kind then Some kind else None
 
--- The kind that a file of this extension holds. The extensions are those of the registry "RPKI Repository Name Schemes" (RFC 6481 section 7).
-unfoldable pub extension_kind : List ℕ → Option ObjectKind
-extension_kind extension =
-    if bytes_eq extension (codes "roa") then Some Roa
-    else if bytes_eq extension (codes "mft") then Some Manifest
-    else if bytes_eq extension (codes "gbr") then Some Ghostbusters
-    else if bytes_eq extension (codes "sig") then Some Checklist
-    else if bytes_eq extension (codes "asa") then Some Aspa
-    else if bytes_eq extension (codes "tak") then Some TrustAnchorKey
-    else None
+-- The program knows the kind, and the fact holds of it.
+abbrev pub Known : (FileKind → Type 0) → FileKind → Type 0
+Known Fact kind = (is_known kind ≡ true) × Fact kind
 
 -- A content of this kind fits a file, if it or no kind is wanted there.
-abbrev pub Fits : Option ObjectKind → ObjectKind → Type 0
+abbrev pub Fits : Option FileKind → Option FileKind → Type 0
 Fits None kind = ⊤
-Fits (Some wanted) kind = kind ≡ wanted
+Fits (Some wanted) kind = kind ≡ Some wanted
+
+-- the word for the kind of a content
+abbrev pub word_of : Option FileKind → List ℕ
+word_of (Some Roa) = codes "roa"
+word_of (Some Manifest) = codes "manifest"
+word_of (Some Ghostbusters) = codes "ghostbusters"
+word_of (Some Checklist) = codes "checklist"
+word_of (Some Aspa) = codes "aspa"
+word_of (Some TrustAnchorKey) = codes "trust-anchor-key"
+word_of (Some Certificate) = codes "other"
+word_of (Some RevocationList) = codes "other"
+word_of (Some PrefixList) = codes "other"
+word_of None = codes "other"

@@ -1,5 +1,6 @@
 //! What the program prints of a file, as a JSON object in a line.
 use crate::judging::{ContentRefusal, JudgedObject, ObjectRefusal, Payload, Report};
+use crate::kinds::word;
 use crate::names::write_escaped;
 use crate::printing::TOO_LONG;
 use command_parts::print_hex;
@@ -87,7 +88,7 @@ fn write_content<W: Write>(object: &JudgedObject, out: &mut W) -> io::Result<()>
         Ok(Payload::Manifest(manifest)) => write_manifest(manifest, out),
         Ok(Payload::Unread) => Ok(()),
         Err(ContentRefusal::Kind(wanted)) => {
-            let kind = object.kind;
+            let (kind, wanted) = (word(object.kind.as_ref()), word(Some(wanted)));
             write!(
                 out,
                 ",\"reason\":\"the content is of type {kind}, but {wanted} is required\""
@@ -109,7 +110,8 @@ fn write_object<W: Write>(object: &JudgedObject, out: &mut W) -> io::Result<()> 
     write!(
         out,
         ",\"der\":{},\"type\":\"{}\"",
-        object.object.is_der, object.kind
+        object.object.is_der,
+        word(object.kind.as_ref())
     )?;
     write_hex("contentType", &object.object.content_type, out)?;
     write_hex("key", &object.object.key_identifier, out)?;

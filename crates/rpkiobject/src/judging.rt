@@ -3,7 +3,7 @@ ghost use Rattle.std.specs.Prelude.{IfOk};
 ghost use Rattle.rpkiobject.specs.Kinds.{Fits};
 
 use crate::fault::ProgramFault;
-use crate::kinds::ObjectKind;
+use file_kinds::FileKind;
 use payloads::{GrammarFault, Manifest, PayloadFault, Roa, decode_manifest, decode_roa};
 use signed_objects::{
     CmsFault, ObjectFault, OwnedObject, read_der_object, read_signed_object, to_der,
@@ -35,8 +35,8 @@ pub(crate) struct ObjectRefusal {
 pub(crate) struct JudgedObject {
     /// The object.
     pub(crate) object: OwnedObject,
-    /// Its kind.
-    pub(crate) kind: ObjectKind,
+    /// Its kind. `None`: signed objects of a repository have another eContentType.
+    pub(crate) kind: Option<FileKind>,
     /// What its content says, or why it is refused.
     pub(crate) content: Result<Payload, ContentRefusal>,
 }
@@ -56,7 +56,7 @@ pub(crate) enum Payload {
 #[derive(Debug, Drop)]
 pub(crate) enum ContentRefusal {
     /// It is of another kind than this, which the file must hold.
-    Kind(ObjectKind),
+    Kind(FileKind),
     /// It is none of its kind: the first fault.
     Fault(GrammarFault),
 }
@@ -110,20 +110,20 @@ fn judge_manifest(
 /// What a content of this kind says, if the file may hold it.
 fn judge_content(
     alloc: Global,
-    wanted: Option<ObjectKind>,
-    kind: ObjectKind,
+    wanted: Option<FileKind>,
+    kind: &Option<FileKind>,
     content: &[u8],
 ) -> Result<Result<Payload, ContentRefusal>, ProgramFault>
-    ensures { IfOk result (λ judged. IfOk judged (λ payload. Fits wanted kind)) }
+    ensures { IfOk result (λ judged. IfOk judged (λ payload. Fits wanted kind.now)) }
 {
     if let Some(wanted) = wanted {
-        if wanted != kind {
+        if *kind != Some(wanted) {
             return Ok(Err(ContentRefusal::Kind(wanted)));
         }
     }
     match kind {
-        ObjectKind::Roa => judge_roa(alloc, content),
-        ObjectKind::Manifest => judge_manifest(alloc, content),
+        Some(FileKind::Roa) => judge_roa(alloc, content),
+        Some(FileKind::Manifest) => judge_manifest(alloc, content),
         _ => Ok(Ok(Payload::Unread)),
     }
 }
@@ -131,11 +131,11 @@ fn judge_content(
 /// What an object is found to be.
 fn judge_object(
     alloc: Global,
-    wanted: Option<ObjectKind>,
+    wanted: Option<FileKind>,
     object: OwnedObject,
 ) -> Result<Report, ProgramFault> {
-    let kind = ObjectKind::of(&object.content_type);
-    let content = judge_content(alloc, wanted, kind, &object.content)?;
+    let kind = FileKind::of_content_type(&object.content_type);
+    let content = judge_content(alloc, wanted, &kind, &object.content)?;
     Ok(Report::Object(JudgedObject {
         object,
         kind,
@@ -167,7 +167,7 @@ fn is_rewritten(alloc: Global, bytes: &[u8]) -> Result<bool, ProgramFault> {
 /// What the bytes of a file are found to be. It must hold this kind, if one is named, and be in DER, if this is strict.
 pub(crate) fn judge(
     alloc: Global,
-    wanted: Option<ObjectKind>,
+    wanted: Option<FileKind>,
     is_strict: bool,
     bytes: &[u8],
 ) -> Result<Report, ProgramFault> {

@@ -1,115 +1,66 @@
-//! Kinds of signed objects.
-ghost use Rattle.std.specs.Prelude.{◌≡◌};
-ghost use Rattle.rpkiobject.specs.Kinds.{kind_of, extension_kind};
+//! Kinds of files that the program knows.
+ghost use Rattle.std.specs.Prelude.{◌≡◌, option_copied};
+ghost use Rattle.file_kinds.specs.Kinds.{HasExtension, HasName, IsKindWith};
+ghost use Rattle.rpkiobject.specs.Kinds.{is_known as knows, known_of, Known, word_of};
 
-use std::fmt::{self, Display, Formatter, Write};
+use file_kinds::FileKind;
+use file_kinds::laws::one_kind;
 
-/// The kind of a signed object, by its eContentType.
-#[derive(Clone, Copy, Debug, PartialEq, Eq)]
-pub(crate) enum ObjectKind {
-    /// A route origin authorization (RFC 9582).
-    Roa,
-    /// A manifest (RFC 9286).
-    Manifest,
-    /// A Ghostbusters record (RFC 6493).
-    Ghostbusters,
-    /// A signed checklist (RFC 9323).
-    Checklist,
-    /// An autonomous system provider authorization.
-    Aspa,
-    /// A trust anchor key (RFC 9691).
-    TrustAnchorKey,
-    /// Any other.
-    Other,
-}
-
-/// The eContentTypes: id-ct, 1.2.840.113549.1.9.16.1, and one number for each kind.
-const ROA: [u8; 11] = [
-    0x2a, 0x86, 0x48, 0x86, 0xf7, 0x0d, 0x01, 0x09, 0x10, 0x01, 24,
-];
-
-const MANIFEST: [u8; 11] = [
-    0x2a, 0x86, 0x48, 0x86, 0xf7, 0x0d, 0x01, 0x09, 0x10, 0x01, 26,
-];
-
-const GHOSTBUSTERS: [u8; 11] = [
-    0x2a, 0x86, 0x48, 0x86, 0xf7, 0x0d, 0x01, 0x09, 0x10, 0x01, 35,
-];
-
-const CHECKLIST: [u8; 11] = [
-    0x2a, 0x86, 0x48, 0x86, 0xf7, 0x0d, 0x01, 0x09, 0x10, 0x01, 48,
-];
-
-const ASPA: [u8; 11] = [
-    0x2a, 0x86, 0x48, 0x86, 0xf7, 0x0d, 0x01, 0x09, 0x10, 0x01, 49,
-];
-
-const TRUST_ANCHOR_KEY: [u8; 11] = [
-    0x2a, 0x86, 0x48, 0x86, 0xf7, 0x0d, 0x01, 0x09, 0x10, 0x01, 50,
-];
-
-impl ObjectKind {
-    /// The kind of this content of the OBJECT IDENTIFIER eContentType.
-    #[tactic(auto, unfolding(crate::specs::Kinds::kind_of))]
-    pub(crate) fn of(content_type: &[u8]) -> ObjectKind
-        ensures { result ≡ kind_of content_type.now }
-    {
-        if content_type == ROA.as_slice() {
-            ObjectKind::Roa
-        } else if content_type == MANIFEST.as_slice() {
-            ObjectKind::Manifest
-        } else if content_type == GHOSTBUSTERS.as_slice() {
-            ObjectKind::Ghostbusters
-        } else if content_type == CHECKLIST.as_slice() {
-            ObjectKind::Checklist
-        } else if content_type == ASPA.as_slice() {
-            ObjectKind::Aspa
-        } else if content_type == TRUST_ANCHOR_KEY.as_slice() {
-            ObjectKind::TrustAnchorKey
-        } else {
-            ObjectKind::Other
-        }
-    }
-
-    /// The kind that files of this extension hold, if it is one of a signed object (RFC 6481 section 7).
-    #[tactic(auto, unfolding(crate::specs::Kinds::extension_kind))]
-    pub(crate) fn with_extension(extension: &str) -> Option<ObjectKind>
-        ensures { result ≡ extension_kind extension.now }
-    {
-        if extension == "roa" {
-            Some(ObjectKind::Roa)
-        } else if extension == "mft" {
-            Some(ObjectKind::Manifest)
-        } else if extension == "gbr" {
-            Some(ObjectKind::Ghostbusters)
-        } else if extension == "sig" {
-            Some(ObjectKind::Checklist)
-        } else if extension == "asa" {
-            Some(ObjectKind::Aspa)
-        } else if extension == "tak" {
-            Some(ObjectKind::TrustAnchorKey)
-        } else {
-            None
-        }
-    }
-
-    /// The kind that a file of this name holds, by its extension.
-    pub(crate) fn of_file(name: &str) -> Option<ObjectKind> {
-        let (_, extension) = name.rsplit_once('.')?;
-        ObjectKind::with_extension(extension)
+/// Whether the program knows the kind. Certificates and revocation lists are no signed objects, and lists of prefixes are not judged.
+fn is_known(kind: &FileKind) -> bool
+    ensures { result ≡ knows kind.now }
+{
+    match kind {
+        FileKind::Roa
+        | FileKind::Manifest
+        | FileKind::Ghostbusters
+        | FileKind::Checklist
+        | FileKind::Aspa
+        | FileKind::TrustAnchorKey => true,
+        FileKind::Certificate | FileKind::RevocationList | FileKind::PrefixList => false,
     }
 }
 
-impl Display for ObjectKind {
-    fn fmt<W: Write>(&self, f: &mut Formatter<W>) -> fmt::Result {
-        f.write_str(match self {
-            ObjectKind::Roa => "roa",
-            ObjectKind::Manifest => "manifest",
-            ObjectKind::Ghostbusters => "ghostbusters",
-            ObjectKind::Checklist => "checklist",
-            ObjectKind::Aspa => "aspa",
-            ObjectKind::TrustAnchorKey => "trust-anchor-key",
-            ObjectKind::Other => "other",
-        })
+/// The kind, if the program knows it.
+fn known(kind: Option<FileKind>) -> Option<FileKind>
+    ensures { result ≡ known_of kind }
+{
+    let kind = kind?;
+    if is_known(&kind) { Some(kind) } else { None }
+}
+
+/// The kind that files of this extension must hold, if the program knows one.
+#[tactic(auto, using(crate::proofs::KindLaws::known_with_extension))]
+pub(crate) fn kind_with_extension(extension: &str) -> Option<FileKind>
+    ensures { IsKindWith (Known (HasExtension extension.now)) result }
+{
+    one_kind();
+    known(FileKind::with_extension(extension))
+}
+
+/// The kind that a file of this name must hold, if the program knows one.
+#[tactic(auto, using(crate::proofs::KindLaws::known_of_file))]
+pub(crate) fn kind_of_file(name: &str) -> Option<FileKind>
+    ensures { IsKindWith (Known (HasName name.now)) result }
+{
+    one_kind();
+    known(FileKind::of_file(name))
+}
+
+/// The word for the kind of a content. Other kinds, and those of which there is no file, have one word.
+pub(crate) fn word(kind: Option<&FileKind>) -> &'static str
+    ensures { result.now ≡ word_of (option_copied kind.entry) }
+{
+    match kind {
+        Some(FileKind::Roa) => "roa",
+        Some(FileKind::Manifest) => "manifest",
+        Some(FileKind::Ghostbusters) => "ghostbusters",
+        Some(FileKind::Checklist) => "checklist",
+        Some(FileKind::Aspa) => "aspa",
+        Some(FileKind::TrustAnchorKey) => "trust-anchor-key",
+        Some(FileKind::Certificate) => "other",
+        Some(FileKind::RevocationList) => "other",
+        Some(FileKind::PrefixList) => "other",
+        None => "other",
     }
 }

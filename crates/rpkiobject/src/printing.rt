@@ -1,8 +1,9 @@
 //! What the program prints of a file, in lines.
 use crate::judging::{ContentRefusal, JudgedObject, ObjectRefusal, Payload, Report};
-use crate::kinds::ObjectKind;
+use crate::kinds::word;
 use crate::names::write_escaped;
 use command_parts::print_hex;
+use file_kinds::FileKind;
 use payload_commands::{print_manifest, print_roa};
 use std::io::{self, Write};
 
@@ -32,7 +33,7 @@ fn print_front<W: Write>(object: &JudgedObject, out: &mut W) -> io::Result<()> {
     if !object.object.is_der {
         writeln!(out, "not DER: lengths or OCTET STRINGs are in BER")?;
     }
-    write!(out, "type {} ", object.kind)?;
+    write!(out, "type {} ", word(object.kind.as_ref()))?;
     print_hex(&object.object.content_type, out)?;
     write!(out, "\nkey ")?;
     print_hex(&object.object.key_identifier, out)?;
@@ -51,12 +52,13 @@ fn print_payload<W: Write>(payload: &Payload, out: &mut W) -> io::Result<()> {
 
 /// Prints why a content is refused, of which this is the kind.
 fn print_content_refusal<W: Write>(
-    kind: ObjectKind,
+    kind: Option<&FileKind>,
     refusal: &ContentRefusal,
     out: &mut W,
 ) -> io::Result<()> {
     match refusal {
         ContentRefusal::Kind(wanted) => {
+            let (kind, wanted) = (word(kind), word(Some(wanted)));
             writeln!(
                 out,
                 "refused: the content is of type {kind}, but {wanted} is required"
@@ -78,7 +80,7 @@ fn print_object<W: Write>(object: &JudgedObject, out: &mut W) -> io::Result<()> 
     print_front(object, out)?;
     match &object.content {
         Ok(payload) => print_payload(payload, out),
-        Err(refusal) => print_content_refusal(object.kind, refusal, out),
+        Err(refusal) => print_content_refusal(object.kind.as_ref(), refusal, out),
     }
 }
 

@@ -1,8 +1,9 @@
 //! The words of the program.
 use crate::fault::ProgramFault;
-use crate::kinds::ObjectKind;
+use crate::kinds::{kind_of_file, kind_with_extension};
 use clap::error::ErrorKind;
 use clap::{Arg, ArgAction, ArgMatches, Command, Error};
+use file_kinds::FileKind;
 use std::alloc::{AllocError, Global};
 
 /// What the program is asked for.
@@ -24,7 +25,7 @@ pub(crate) struct Words<'a> {
     /// Whether JSON is printed.
     pub(crate) is_json: bool,
     /// The kind that each file must hold, if it is named.
-    pub(crate) kind: Option<ObjectKind>,
+    pub(crate) kind: Option<FileKind>,
     /// The file to which the content is written, if one is named.
     pub(crate) content: Option<&'a str>,
     /// The file to which the certificate is written, if one is named.
@@ -35,10 +36,10 @@ pub(crate) struct Words<'a> {
 
 impl<'a> Words<'a> {
     /// The kind that a file must hold: that of `--type`, otherwise that of its extension, if it is known.
-    pub(crate) fn wanted(&self, file: &str) -> Option<ObjectKind> {
+    pub(crate) fn wanted(&self, file: &str) -> Option<FileKind> {
         match self.kind {
             Some(kind) => Some(kind),
-            None => ObjectKind::of_file(file),
+            None => kind_of_file(file),
         }
     }
 }
@@ -81,10 +82,10 @@ fn fault_of(error: Error) -> ProgramFault {
 }
 
 /// The kind of `--type`, if it is given.
-fn kind_of(found: &ArgMatches<'_>) -> Result<Option<ObjectKind>, ProgramFault> {
+fn kind_of(found: &ArgMatches<'_>) -> Result<Option<FileKind>, ProgramFault> {
     match found.get_str("type") {
         None => Ok(None),
-        Some(name) => match ObjectKind::with_extension(name) {
+        Some(name) => match kind_with_extension(name) {
             Some(kind) => Ok(Some(kind)),
             None => Err(ProgramFault::Words),
         },
