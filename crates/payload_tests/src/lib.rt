@@ -1,5 +1,5 @@
-//! Examples of elements, prefixes, payloads, publication points, sets, changes, route states, logs of versions, signatures and signed
-//! objects, which are the tests of the public items of these libraries. They use values of the standards, keys and objects of `openssl`,
+//! Examples of elements, prefixes, payloads, publication points, sets, changes, route states, logs of versions, signatures, signed objects and
+//! kinds of files. They are the tests of the public items of these libraries. They use values of the standards, keys and objects of `openssl`,
 //! printed texts, and each public call once on its happy path. They are apart, because a crate with tests is proved twice.
 #![tactic(auto)]
 
@@ -9,6 +9,8 @@ mod ber;
 mod der_lite_example;
 #[cfg(test)]
 mod elements;
+#[cfg(test)]
+mod file_kinds_example;
 #[cfg(test)]
 mod keys;
 #[cfg(test)]

@@ -11,7 +11,7 @@ type Case = (&'static str, u32, OriginState, u32);
 
 /// Records, and routes over them.
 const PROBED: &[(Rows, &[Case])] = &[
-    // No group is read where there is none, and one for each length that is tried.
+    // No group is read if there is none, and one for each length that is tried.
     (
         &[],
         &[
