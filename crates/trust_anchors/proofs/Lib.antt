@@ -1,0 +1,4 @@
+pub mod Cutting
+pub mod Framing
+pub mod Once
+pub mod Locating

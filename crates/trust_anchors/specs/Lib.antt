@@ -1,0 +1,5 @@
+pub mod Lines
+pub mod Keys
+pub mod Locators
+pub mod Laws
+mod LocatorRows
