@@ -4,7 +4,7 @@
 usage: tests/trust_anchors.py PROGRAM [--table]
 
 PROGRAM is anchor_scripts. Each row is a locator with one thing that is another, and what PROGRAM has to say of it. The key is made here by
-`openssl`. The locators of the RIRs are read too, where Debian's package rpki-client or another has left them. With --table, `rpki-client`
+`openssl`. Locators of the RIRs are read too, if a package such as Debian's rpki-client has left them. With --table, `rpki-client`
 and `fort` are asked as well, as far as they are here, and what each says is printed beside it."""
 import argparse
 import base64

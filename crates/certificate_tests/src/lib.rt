@@ -1,5 +1,5 @@
-//! Examples of certificates, revocation lists and resources, which are the tests of the public items of `resource_certificates`, `issuing`,
-//! `ee_keys` and `resources`. They use certificates and CRLs of `openssl`, and each public call once on its happy path.
+//! Examples of certificates, revocation lists, resources and trust anchors, which are the tests of the public items of `resource_certificates`,
+//! `issuing`, `ee_keys`, `resources` and `trust_anchors`. They use certificates and CRLs of `openssl`, and each public call once on its happy path.
 #![tactic(auto)]
 
 #[cfg(test)]
@@ -11,10 +11,14 @@ mod ee_keys_example;
 #[cfg(test)]
 mod issued;
 #[cfg(test)]
+mod locators;
+#[cfg(test)]
 mod resource_certificates_example;
 #[cfg(test)]
 mod resource_values;
 #[cfg(test)]
 mod resources_example;
+#[cfg(test)]
+mod trust_anchors_example;
 #[cfg(test)]
 mod vectors;

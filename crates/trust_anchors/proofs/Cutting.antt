@@ -32,7 +32,7 @@ grows_on P lines new line rest after bytes grows is p grown later end l =
 pub grows_all : (P : List ℕ → Type 0) (lines : List (List ℕ)) (rest bytes : List ℕ) → Grows P lines rest bytes → Lines P lines rest bytes
 grows_all P lines rest bytes grows = subst (λ (ls : List (List ℕ)). Lines P ls rest bytes) (append-nil lines) (grows [] rest refl)
 
--- the section ends, where no line break is left
+-- the section ends, if no further line has the property
 pub grows_out : (P : List ℕ → Type 0) (lines : List (List ℕ)) (rest bytes : List ℕ) → Grows P lines rest bytes → ((line after : List ℕ) → IsLine line after rest → P line → ⊥)
     → Section P lines rest bytes
 grows_out P lines rest bytes grows ends = record { all = grows_all P lines rest bytes grows; ends = ends }

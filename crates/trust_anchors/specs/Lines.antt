@@ -26,7 +26,7 @@ pub record Section (P : List ℕ → Type 0) (lines : List (List ℕ)) (rest byt
 abbrev pub IsAny : List ℕ → Type 0
 IsAny line = Unit {0}
 
--- The bytes are this text with line breaks in it, or behind it.
+-- The bytes are this text, with line breaks in it or at its end.
 pub record Joins (text bytes : List ℕ) : Type 0 where
   pub lines : List (List ℕ)
   pub last : List ℕ

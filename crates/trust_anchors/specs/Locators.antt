@@ -63,7 +63,7 @@ pub record Spells (tal : Tal) (bytes : List ℕ) : Type 0 where
   pub begins : Begins comments tal.uris rest bytes
   pub ends : Ends tal rest
 
--- what is wrong behind these URIs, and how many lines after them it is
+-- what is wrong after these URIs, and how many lines after them it is
 pub data Wrong (uris : List (List ℕ)) (rest : List ℕ) : TalFaultKind → ℕ → Type 0 where
   no_break : LacksByte 10 rest → Wrong uris rest NoBreak 1
   no_uri : (after : List ℕ) → uris ≡ [] → IsLine [] after rest → Wrong uris rest NoUri 1

@@ -15,19 +15,19 @@ const HEAD: [u8; 33] = [
     0x00,
 ];
 
-/// Behind the modulus: the exponent 65537.
+/// What follows the modulus: the exponent 65537.
 const TAIL: [u8; 5] = [0x02, 0x03, 0x01, 0x00, 0x01];
 
-/// Where the modulus begins.
+/// The offset of the modulus.
 const MODULUS_START: usize = 33;
 
-/// Where the modulus ends.
+/// The offset of what follows it.
 const MODULUS_END: usize = 289;
 
 /// The bytes of a subjectPublicKeyInfo.
 const KEY_LENGTH: usize = 294;
 
-/// Whether these are in front of a modulus and behind it.
+/// Whether these are what comes before a modulus and what follows it.
 fn is_frame(head: &[u8], tail: &[u8]) -> bool
     ensures { IsTrue result ↔ ((head.now ≡ key_head) × (tail.now ≡ key_tail)) }
 {

@@ -11,7 +11,7 @@ use crate::{TalFault, TalFaultKind};
 use std::alloc::{AllocError, Global};
 use std::marker::Model;
 
-/// A trust anchor locator: where the certificate of a trust anchor is found, and which key it has.
+/// A trust anchor locator: the URIs of the certificate of a trust anchor, and its key.
 #[derive(Debug, Drop)]
 pub struct Tal<'a> {
     /// The URIs, at least one, in the file's order. Each begins with `rsync://` or `https://`, has visible characters of ASCII alone, and does not end
