@@ -21,4 +21,6 @@ mod resources_example;
 #[cfg(test)]
 mod trust_anchors_example;
 #[cfg(test)]
+mod validities;
+#[cfg(test)]
 mod vectors;

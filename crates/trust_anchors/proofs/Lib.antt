@@ -2,3 +2,4 @@ pub mod Cutting
 pub mod Framing
 pub mod Once
 pub mod Locating
+pub mod Better

@@ -1,5 +1,6 @@
 pub mod Lines
 pub mod Keys
 pub mod Locators
+pub mod Choice
 pub mod Laws
 mod LocatorRows

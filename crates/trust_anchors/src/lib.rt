@@ -21,6 +21,8 @@ pub mod laws;
 mod line;
 mod tal;
 mod uri;
+mod validity;
 
 pub use fault::{TalFault, TalFaultKind};
 pub use tal::{Tal, read_tal};
+pub use validity::{AnchorValidity, choose};
