@@ -1,6 +1,5 @@
 -- A locator, or its first fault, and never both.
-use Rattle.std.proofs.Common.{◌≡◌, ◌≢◌, ℕ, ◌+◌, ◌≤◌, List, [], ◌∷◌, length, map, refl, sym, ap, subst, ◌∙◌, Ok, Err, arith}
-use Rattle.std.specs.Str.Iter.{LacksByte}
+use Rattle.std.proofs.Common.{◌≡◌, ◌≢◌, ℕ, ◌+◌, ◌≤◌, List, [], length, refl, sym, ap, subst, ◌∙◌, Ok, Err, arith}
 use Rattle.base64.specs.Engines.{standard}
 use Rattle.base64.specs.GeneralPurpose.{IsBytes, decode_of, encode_of}
 use Rattle.base64.proofs.EngineFacts.{decode_of-encode_of}
@@ -8,8 +7,8 @@ use Rattle.trust_anchors.specs.declared.fault.TalFaultKind.{TalFaultKind}
 use Rattle.trust_anchors.specs.declared.fault.TalFaultKind.TheVariants.{NoBreak, NoUri, Uri, Base64, Key}
 use Rattle.trust_anchors.specs.declared.fault.TalFault.{TalFault}
 use Rattle.trust_anchors.specs.declared.fault.TalFault.TheVariants.{At, Memory}
-use Rattle.trust_anchors.specs.Lines.{IsLine, Lines, Section, Joins}
-use Rattle.trust_anchors.specs.Keys.{base64, IsKeyInfo, IsKeyText, IsNoBase64, IsNoKeyText, ReadsKey}
+use Rattle.trust_anchors.specs.Lines.{IsLine, Section, Joins}
+use Rattle.trust_anchors.specs.Keys.{base64, IsKeyInfo, IsNoBase64, IsNoKeyText, ReadsKey}
 use Rattle.trust_anchors.specs.Locators.{Tal, IsComment, IsTaUri, Begins, Ends, Spells, Wrong, FaultAt, ReadsTal, no_break, no_uri, bad_uri, bad_base64, bad_key}
 use Rattle.trust_anchors.specs.Laws.{OneLocator}
 use Rattle.trust_anchors.proofs.Cutting.{lines_shorter}

@@ -1,5 +1,5 @@
 -- Trust anchor locators, worked out.
-use Rattle.std.specs.Prelude.{◌≡◌, ℕ, true, false, List, [], ◌∷◌, ◌++◌, map, length, replicate, refl, codes}
+use Rattle.std.specs.Prelude.{◌≡◌, true, false, [], ◌∷◌, ◌++◌, map, length, replicate, refl, codes}
 use Rattle.std.specs.Str.Lines.{strip_carriage_return}
 use Rattle.base64.specs.Rfc4648.{encode_symbols}
 use Rattle.trust_anchors.specs.Keys.{base64, key_head, key_tail}

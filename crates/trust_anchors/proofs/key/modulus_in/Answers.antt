@@ -1,6 +1,5 @@
-use Rattle.std.proofs.Common.{◌≡◌, ◌≤◌, ℕ, List, length, take, get_or, sym, ap, ◌∙◌, arith}
+use Rattle.std.proofs.Common.{ℕ, List, get_or, sym, ap, ◌∙◌, arith}
 use Rattle.std.proofs.lemmas.List.{length-take-le, take_rest}
-use Rattle.trust_anchors.specs.Keys.{IsKeyInfo}
 use Rattle.trust_anchors.proofs.Framing.{is_key, parts}
 use Rattle.trust_anchors.proofs.key.modulus_in.Goals as goal
 use Rattle.trust_anchors.proofs.key.modulus_in.Goals.{then-not-is_frame-via-then-not-is_frame, then-not-is_frame-via-else-not-is_frame+then-modulus-lt128}

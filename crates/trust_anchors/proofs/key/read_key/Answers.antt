@@ -1,5 +1,5 @@
-use Rattle.std.proofs.Common.{◌≡◌, List, ℕ, sym, subst, ◌∙◌}
-use Rattle.trust_anchors.specs.Keys.{IsKeyInfo, IsKeyText}
+use Rattle.std.proofs.Common.{◌≡◌, List, ℕ, sym, subst}
+use Rattle.trust_anchors.specs.Keys.{IsKeyInfo}
 use Rattle.trust_anchors.proofs.key.read_key.Goals as goal
 
 pub returns-in-Some : goal.returns-in-Some

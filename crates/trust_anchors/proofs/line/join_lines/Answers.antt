@@ -1,4 +1,4 @@
-use Rattle.std.proofs.Common.{◌≡◌, List, ℕ, [], sym, subst}
+use Rattle.std.proofs.Common.{List, ℕ, sym, subst}
 use Rattle.trust_anchors.proofs.Cutting.{Joined, joined_none, joined_on, joined_all}
 use Rattle.trust_anchors.proofs.line.join_lines.Goals as goal
 

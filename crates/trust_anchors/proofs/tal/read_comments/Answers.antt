@@ -1,4 +1,4 @@
-use Rattle.std.proofs.Common.{◌≡◌, List, ℕ, [], ◌∷◌, ◌++◌, ◌+◌, refl, sym, ap, subst, ◌∙◌, arith, length-append, length}
+use Rattle.std.proofs.Common.{[], ◌∷◌, ◌++◌, ◌+◌, refl, ap, subst, ◌∙◌, arith, length-append}
 use Rattle.trust_anchors.specs.Locators.{IsComment}
 use Rattle.trust_anchors.proofs.Cutting.{grows_none, grows_on, grows_all, grows_out, lines_shorter, line_shorter}
 use Rattle.trust_anchors.proofs.Once.{same_line, has_break}

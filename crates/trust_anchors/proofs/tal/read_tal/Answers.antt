@@ -1,13 +1,12 @@
-use Rattle.std.proofs.Common.{◌≡◌, ◌≤◌, ◌==◌, true, false, ◌+◌, ◌≢◌, List, ℕ, [], length, map, refl, sym, ap, subst, ◌∙◌, arith, Err, Vec, Global}
+use Rattle.std.proofs.Common.{◌≡◌, ◌==◌, true, ◌+◌, ◌≢◌, List, ℕ, [], length, map, refl, sym, ap, subst, ◌∙◌, arith, Vec, Global}
 use Rattle.std.proofs.lemmas.List.{length-map, nil_from_length}
 use Rattle.std.specs.Vec.{vec_len}
 use Rattle.std.proofs.lemmas.Bool.{eqb-true}
 use Rattle.trust_anchors.specs.Lines.{IsLine, Joins}
-use Rattle.trust_anchors.specs.Keys.{IsKeyText, ReadsKey}
+use Rattle.trust_anchors.specs.Keys.{IsKeyText}
 use Rattle.std.proofs.lemmas.Result.{err_from_is_err_and}
-use Rattle.trust_anchors.specs.declared.fault.TalFaultKind.TheVariants.{NoBreak, NoUri, Uri, Base64, Key}
-use Rattle.trust_anchors.specs.declared.fault.TalFault.TheVariants.{At, Memory}
-use Rattle.trust_anchors.specs.Locators.{Tal, Ends, Begins, FaultAt, ReadsTal, no_break, no_uri, bad_uri, bad_base64, bad_key}
+use Rattle.trust_anchors.specs.declared.fault.TalFaultKind.TheVariants.{NoBreak, NoUri, Uri}
+use Rattle.trust_anchors.specs.Locators.{Tal, Ends, no_break, no_uri, bad_uri}
 use Rattle.trust_anchors.proofs.Locating.{begins_with, begins_shorter, fault_at, key_fault}
 use Rattle.trust_anchors.proofs.tal.read_tal.Goals as goal
 

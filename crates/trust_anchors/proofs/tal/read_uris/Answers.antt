@@ -1,7 +1,7 @@
-use Rattle.std.proofs.Common.{◌≡◌, List, ℕ, [], ◌∷◌, ◌++◌, map, refl, sym, ap, subst, ◌∙◌}
+use Rattle.std.proofs.Common.{◌≡◌, List, ℕ, [], ◌∷◌, ◌++◌, map, sym, ap, subst, ◌∙◌}
 use Rattle.std.proofs.lemmas.List.{map-append}
 use Rattle.trust_anchors.specs.Locators.{IsTaUri}
-use Rattle.trust_anchors.proofs.Cutting.{Grows, grows_none, grows_on, grows_all, grows_out}
+use Rattle.trust_anchors.proofs.Cutting.{Grows, grows_none, grows_on, grows_out}
 use Rattle.trust_anchors.proofs.Once.{same_line, has_break}
 use Rattle.trust_anchors.proofs.tal.read_uris.Goals as goal
 

@@ -1,4 +1,4 @@
-use Rattle.std.proofs.Common.{◌≡◌, ◌≤◌, ◌<◌, ◌+◌, ℕ, length, sym, subst, ◌∙◌, arith}
+use Rattle.std.proofs.Common.{◌<◌, ◌+◌, ℕ, length, sym, subst, ◌∙◌, arith}
 use Rattle.trust_anchors.proofs.Better.{IsBestOf, best_first, best_stays, best_changes, best_of_all, better_at, not_better_at, some_there}
 use Rattle.trust_anchors.proofs.validity.choose.Goals as goal
 use Rattle.trust_anchors.proofs.validity.choose.Goals.{then-is_better, else-is_better}
