@@ -13,14 +13,14 @@ all_same part change [] same = refl
 all_same part change (x ∷ xs) same = let first : part (change x) ≡ part x = same x in let rest = all_same part change xs same in cc
 
 -- An age that was judged is judged rightly.
-pub is_aged : (most now : ℕ) (made : Option ℕ) (before : Bool) → IsAged most now made (is_older most now made before)
-is_aged most now None before = tt
-is_aged most now (Some at) before = refl
+pub age_is_judged : (most now : ℕ) (made : Option ℕ) (before : Bool) → IsAged most now made (is_older most now made before)
+age_is_judged most now None before = tt
+age_is_judged most now (Some at) before = refl
 
 pub all_judged : (most now : ℕ) (sources : Sources) (exports : List WatchedExport) → All (IsJudged most now sources) (ages_of (map (aged most now sources) exports))
 all_judged most now sources exports =
     All-map (IsJudged most now sources) aging_of (map (aged most now sources) exports)
-    (All-map (λ e. IsJudged most now sources (aging_of e)) (aged most now sources) exports (λ k d less. is_aged most now (data_time now sources (get_or exports k d)) (get_or exports k d).is_old))
+    (All-map (λ e. IsJudged most now sources (aging_of e)) (aged most now sources) exports (λ k d less. age_is_judged most now (data_time now sources (get_or exports k d)) (get_or exports k d).is_old))
 
 -- Whether an export is old is found of the exports, or of their ages.
 pub any_old : (exports : List WatchedExport) → list_any (λ e. e.is_old) exports ≡ list_any (λ a. a.is_old) (ages_of exports)

@@ -45,7 +45,7 @@ abbrev with_served : {S T : Type 0} → Daemon S T → Daemon S T → Daemon S T
 with_served old new = record old {
   service = record old.service { server = new.service.server; is_pending = new.service.is_pending };
   clients = new.clients;
-  has_room = new.has_room;
+  has_closed = new.has_closed;
   readings = new.readings;
   statistics = new.statistics;
   has_parted = new.has_parted;

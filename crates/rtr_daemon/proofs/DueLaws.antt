@@ -22,7 +22,7 @@ use Rattle.rtr_daemon.specs.declared.service.Service.{Service}
 
 -- old with the clients of new
 abbrev pub with_clients : {S T : Type 0} → Daemon S T → Daemon S T → Daemon S T
-with_clients old new = record old { service = record old.service { server = new.service.server }; clients = new.clients; has_room = new.has_room; readings = new.readings; statistics = new.statistics; has_parted = new.has_parted }
+with_clients old new = record old { service = record old.service { server = new.service.server }; clients = new.clients; has_closed = new.has_closed; readings = new.readings; statistics = new.statistics; has_parted = new.has_parted }
 
 -- One part after another changes only clients.
 pub only_on : {S T : Type 0} (a b c : Daemon S T) → OnlyClients a b → OnlyClients b c → OnlyClients a c
@@ -36,7 +36,7 @@ pub admitted_on : {S T : Type 0} (a b c : Daemon S T) → OnlyAdmitted a b → O
 admitted_on a b c first second = subst (λ z. c ≡ with_admitted z c) first second
 
 -- Pauses were ended.
-pub resumed_only : {S T : Type 0} (a b : Daemon S T) → b ≡ record a { listeners = b.listeners; has_room = false } → OnlyAdmitted a b
+pub resumed_only : {S T : Type 0} (a b : Daemon S T) → b ≡ record a { listeners = b.listeners; has_closed = false } → OnlyAdmitted a b
 resumed_only a b h = subst (λ z. z ≡ with_admitted a z) (sym h) refl
 
 -- Then clients are queued.

@@ -1,6 +1,6 @@
 -- Which listeners are asked for connections, and how often. Times are milliseconds of the monotonic clock.
 use Rattle.std.specs.Prelude.{◌≡◌, ◌⊎◌, ℕ, zero, suc, nat_le, ◌&&◌, Bool, true, false, List, map, length, slice_get, slice_set, Option, None, Some, unwrap_or, if◌then◌else◌}
-use Rattle.rtr_daemon.specs.SocketCalls.{Accepted, Fails, NonePending, SocketCalls}
+use Rattle.rtr_daemon.specs.SocketCalls.{AcceptOutcome, Fails, NonePending, SocketCalls}
 use Rattle.rtr_daemon.specs.Times.{later_by}
 use Rattle.rtr_daemon.specs.declared.accepting.Listener.{Listener}
 use Rattle.rtr_daemon.specs.declared.environment.Ready.{Ready}
@@ -41,14 +41,14 @@ resume l = record l { paused_until = None }
 
 -- No listener is paused any longer if a client was closed: there may be room again.
 abbrev pub resumed : Bool → List Listener → List Listener
-resumed has_room listeners = if has_room then map resume listeners else listeners
+resumed has_closed listeners = if has_closed then map resume listeners else listeners
 
 -- An accept of a listener came to this.
-abbrev pub HadAccepted : {W : Type 0} → SocketCalls W → ℕ → Accepted → Type 0
+abbrev pub HadAccepted : {W : Type 0} → SocketCalls W → ℕ → AcceptOutcome → Type 0
 HadAccepted {W} calls i came = (before : W) × (after : W) × calls.accepts before i came after
 
 -- A listener after an accept: it is paused for a second if that failed, and nothing is pending if none was.
-abbrev pub IsAfter : (ℕ → Type 0) → Accepted → Listener → Listener → Type 0
+abbrev pub IsAfter : (ℕ → Type 0) → AcceptOutcome → Listener → Listener → Type 0
 IsAfter ticks Fails l new = (millis : ℕ) × ticks millis × (new ≡ with_pause (later_by 1000 millis) l)
 IsAfter ticks NonePending l new = new ≡ with_pending false l
 IsAfter ticks came l new = new ≡ l
@@ -59,11 +59,11 @@ AsksUntil calls ticks i zero l new = new ≡ l
 AsksUntil calls ticks i (suc n) l new =
     (now : ℕ) × ticks now
     × (((can_accept l now ≡ false) × (new ≡ l))
-    ⊎ ((can_accept l now ≡ true) × (came : Accepted) × HadAccepted calls i came × (next : Listener) × IsAfter ticks came l next × AsksUntil calls ticks i n next new))
+    ⊎ ((can_accept l now ≡ true) × (came : AcceptOutcome) × HadAccepted calls i came × (next : Listener) × IsAfter ticks came l next × AsksUntil calls ticks i n next new))
 
 -- The listener of an index was asked once. All others are unchanged.
 abbrev pub AcceptsOnce : {W : Type 0} → SocketCalls W → (ℕ → Type 0) → ℕ → List Listener → List Listener → Type 0
-AcceptsOnce calls ticks i old new = (l : Listener) → slice_get old i ≡ Some l → (came : Accepted) × HadAccepted calls i came × (next : Listener) × IsAfter ticks came l next × (new ≡ slice_set old i next)
+AcceptsOnce calls ticks i old new = (l : Listener) → slice_get old i ≡ Some l → (came : AcceptOutcome) × HadAccepted calls i came × (next : Listener) × IsAfter ticks came l next × (new ≡ slice_set old i next)
 
 -- It is paused for a second from a time that the clock answered.
 abbrev pub PausesOne : (ℕ → Type 0) → ℕ → List Listener → List Listener → Type 0

@@ -26,7 +26,7 @@ use Rattle.rtr_daemon.specs.declared.statistics.Failure.{Failure}
 -- Only clients have changed, what is counted of them, and whether one was closed.
 abbrev pub OnlyClients : {S T : Type 0} → Daemon S T → Daemon S T → Type 0
 OnlyClients old new =
-    new ≡ record old { service = record old.service { server = new.service.server }; clients = new.clients; has_room = new.has_room; readings = new.readings; statistics = new.statistics; has_parted = new.has_parted }
+    new ≡ record old { service = record old.service { server = new.service.server }; clients = new.clients; has_closed = new.has_closed; readings = new.readings; statistics = new.statistics; has_parted = new.has_parted }
 
 -- So it is, and listeners have changed.
 abbrev pub OnlyAdmitted : {S T : Type 0} → Daemon S T → Daemon S T → Type 0
@@ -36,7 +36,7 @@ OnlyAdmitted old new =
       service = record old.service { server = new.service.server };
       clients = new.clients;
       listeners = new.listeners;
-      has_room = new.has_room;
+      has_closed = new.has_closed;
       readings = new.readings;
       statistics = new.statistics;
       has_parted = new.has_parted;
@@ -205,7 +205,7 @@ pub record OnlyServed {S T : Type 0} (old new : Daemon S T) : Type 0 where
       ≡ record old {
         service = record old.service { server = new.service.server; is_pending = new.service.is_pending };
         clients = new.clients;
-        has_room = new.has_room;
+        has_closed = new.has_closed;
         readings = new.readings;
         statistics = new.statistics;
         has_parted = new.has_parted;
@@ -314,7 +314,7 @@ pub record Awakes {S T W : Type 0} (calls : SocketCalls W) (reads : W → ℕ �
 
 -- Each listener was asked for connections, and their clients are queued after those that were. Before the first version none is asked.
 pub record Accepts {S T W : Type 0} (calls : SocketCalls W) (ticks : ℕ → Type 0) (old new : Daemon S T) : Type 0 where
-  pub asks : old.is_ready ≡ true → AsksEach calls ticks (resumed old.has_room old.listeners.listeners.items) new.listeners.listeners.items
+  pub asks : old.is_ready ≡ true → AsksEach calls ticks (resumed old.has_closed old.listeners.listeners.items) new.listeners.listeners.items
   pub queue : QueuesBehind old.clients.queue.items new.clients
   pub closed : old.is_ready ≡ false → new.service ≡ old.service
   pub only : OnlyAdmitted old new

@@ -5,13 +5,13 @@ use Rattle.rtr_daemon.specs.declared.environment.AcceptResult.TheVariants as res
 use Rattle.rtr_daemon.specs.declared.environment.Ready.{Ready}
 
 -- What an accept came to: a connection of this poll token, none pending, none this time, or a failure
-pub data Accepted : Type 0 where
-  Came : (token : ℕ) → Accepted
-  NonePending : Accepted
-  TryAgain : Accepted
-  Fails : Accepted
+pub data AcceptOutcome : Type 0 where
+  Came : (token : ℕ) → AcceptOutcome
+  NonePending : AcceptOutcome
+  TryAgain : AcceptOutcome
+  Fails : AcceptOutcome
 
-abbrev pub accepted_as : {L : Type 0} → AcceptResult L → Accepted
+abbrev pub accepted_as : {L : Type 0} → AcceptResult L → AcceptOutcome
 accepted_as (result.Connection stream token address local) = Came token
 accepted_as result.WouldBlock = NonePending
 accepted_as result.Again = TryAgain
@@ -24,7 +24,7 @@ pub record SocketCalls (W : Type 0) : Type 1 where
   pub waits : W → ℕ → W → Type 0
   pub wait_fails : W → ℕ → W → Type 0
   pub tells : W → Option Ready → W → Type 0
-  pub accepts : W → ℕ → Accepted → W → Type 0
+  pub accepts : W → ℕ → AcceptOutcome → W → Type 0
 
 -- Nothing is known of them.
 abbrev pub any_calls : {W : Type 0} → SocketCalls W

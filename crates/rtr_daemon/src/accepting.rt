@@ -136,7 +136,7 @@ impl<S: VersionStore, T: Stream + Drop> Daemon<S, T> {
             return None;
         }
         let next_try = self.listeners.next_try()?;
-        if self.has_room {
+        if self.has_closed {
             Some(0)
         } else {
             Some(next_try)
@@ -150,7 +150,7 @@ impl<S: VersionStore, T: Stream + Drop> Daemon<S, T> {
         ensures rest { OnlyAdmitted self.old self.new }
         ensures queue { QueuesBehind self.old.clients.queue.items self.new.clients }
         ensures before { self.old.is_ready ≡ false → self.new.service ≡ self.old.service }
-        ensures asks { self.old.is_ready ≡ true → AsksEach W.calls W.can_tick (resumed self.old.has_room self.old.listeners.listeners.items) self.new.listeners.listeners.items }
+        ensures asks { self.old.is_ready ≡ true → AsksEach W.calls W.can_tick (resumed self.old.has_closed self.old.listeners.listeners.items) self.new.listeners.listeners.items }
     {
         if !self.is_ready {
             return;
@@ -163,12 +163,12 @@ impl<S: VersionStore, T: Stream + Drop> Daemon<S, T> {
 
     /// Ends all pauses, if a client was closed.
     fn resume(&mut self)
-        ensures items { self.new.listeners.listeners.items ≡ resumed self.old.has_room self.old.listeners.listeners.items }
-        ensures rest { self.new ≡ record self.old { listeners = self.new.listeners; has_room = false } }
+        ensures items { self.new.listeners.listeners.items ≡ resumed self.old.has_closed self.old.listeners.listeners.items }
+        ensures rest { self.new ≡ record self.old { listeners = self.new.listeners; has_closed = false } }
     {
-        if self.has_room {
+        if self.has_closed {
             self.listeners.resume_all();
-            self.has_room = false;
+            self.has_closed = false;
         }
     }
 

@@ -188,7 +188,7 @@ impl<S: VersionStore, T: Stream + Drop> Daemon<S, T> {
         };
         let counters = self.last_counters();
         let carried = counters.carried.unwrap_or(entry.carried);
-        self.has_room = true;
+        self.has_closed = true;
         self.has_parted = self.has_parted || counters.version.is_some();
         self.statistics
             .count_reports(self.service.server().parted());

@@ -115,7 +115,7 @@ pub struct Daemon<S, T> {
     /// Whether a client was closed that had agreed on a version.
     pub(crate) has_parted: bool,
     /// Whether a client was closed since the listeners were asked last.
-    pub(crate) has_room: bool,
+    pub(crate) has_closed: bool,
     /// Whether an export is older than the maximum age.
     pub(crate) is_old: bool,
     /// The reasons why it is not well, as they were logged last.

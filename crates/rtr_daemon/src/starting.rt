@@ -86,7 +86,7 @@ impl<S: StepStore + Drop, T: Stream + Drop> Daemon<S, T> {
             opened: millis,
             is_ready: false,
             has_parted: false,
-            has_room: false,
+            has_closed: false,
             is_old: false,
             unwell: UnwellReasons::new(alloc),
             clock_behind: 0,

@@ -3,7 +3,7 @@
 ghost use Rattle.signed_objects.specs.ObjectLaws.{OneDerFault, OneDerObject};
 ghost use Rattle.signed_objects.specs.BerObjects.{OneContent, OneObject, OneFault, DerIsKept, DerIsObject};
 
-/// Law: if everything must be in DER, bytes have at most one fault (its offset and its kind). Bytes that are a signed object have none.
+/// Law: if everything must be in DER, bytes have at most one first fault: one offset and one kind. Bytes that are a signed object have none.
 pub fn one_fault()
     ensures { OneDerFault }
 {}
@@ -23,7 +23,8 @@ pub fn one_object_in_ber()
     ensures { OneObject }
 {}
 
-/// Law: if lengths and OCTET STRINGs may be in BER, bytes have at most one fault (its offset and its kind). Bytes that are a signed object have none.
+/// Law: if lengths and OCTET STRINGs may be in BER, bytes have at most one first fault: one offset and one kind. Bytes that are a signed object have
+/// none.
 pub fn one_fault_in_ber()
     ensures { OneFault }
 {}
