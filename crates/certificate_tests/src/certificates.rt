@@ -1,6 +1,7 @@
 //! Certificates that are read, and the same with an octet that is another.
 use crate::vectors::{ANCHOR, AUTHORITY, END_ENTITY, LONG_KEY, LONG_SERIAL, REDUCING};
 use der_lite::Moment;
+use issuing::is_of_object;
 use resource_certificates::{Certificate, Role, read_certificate, read_elements};
 use rsa_sha256::PublicKey;
 use std::alloc::Global;
@@ -84,6 +85,8 @@ fn has_object_places(der: &[u8]) -> bool {
             certificate.crl_uri() == Some(b"rsync://h.example/r/ta.crl".as_slice())
                 && certificate.issuer_uri() == Some(b"rsync://h.example/ta.cer".as_slice())
                 && certificate.object_uri() == Some(b"rsync://h.example/r/a.roa".as_slice())
+                && is_of_object(&certificate, b"rsync://h.example/r/a.roa")
+                && !is_of_object(&certificate, b"rsync://h.example/r/b.roa")
                 && certificate.repository_uri().is_none()
         }
         Err(_) => false,
@@ -97,6 +100,7 @@ fn has_authority_places(der: &[u8]) -> bool {
             certificate.repository_uri() == Some(b"rsync://h.example/r/s/".as_slice())
                 && certificate.manifest_uri() == Some(b"rsync://h.example/r/s/s.mft".as_slice())
                 && certificate.object_uri().is_none()
+                && !is_of_object(&certificate, b"rsync://h.example/r/s/s.mft")
         }
         Err(_) => false,
     }

@@ -1,1 +1,2 @@
 pub mod Issued
+pub mod Objects
