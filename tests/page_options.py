@@ -60,9 +60,9 @@ READ = [
     ("-h --once", "Usage: rpkirtrd "),
     ("--help --keep 0", "Usage: rpkirtrd "),
     ("--version --help", "Usage: rpkirtrd "),
-    ("--version --vrps a", "rpkirtrd 1.1.0\nproved with rattle-kit-13b logic dac8208d650f15bf"),
-    ("--version", "rpkirtrd 1.1.0\nproved with rattle-kit-13b logic dac8208d650f15bf"),
-    ("-V", "rpkirtrd 1.1.0\nproved with rattle-kit-13b logic dac8208d650f15bf"),
+    ("--version --vrps a", "rpkirtrd 1.1.0\nproved with rattle-kit-13f logic dac8208d650f15bf"),
+    ("--version", "rpkirtrd 1.1.0\nproved with rattle-kit-13f logic dac8208d650f15bf"),
+    ("-V", "rpkirtrd 1.1.0\nproved with rattle-kit-13f logic dac8208d650f15bf"),
 ]
 
 NOT_URL = 'a path, not a URL (see "A list from another machine, over HTTPS" in OPERATING.md), is required'

@@ -39,5 +39,5 @@ out. Of several files it is the greatest.
 /// What `--version` prints.
 pub(crate) const VERSION: &str = "\
 rpkiobject 1.1.0
-proved with rattle-kit-13b logic dac8208d650f15bf
+proved with rattle-kit-13f logic dac8208d650f15bf
 ";

@@ -31,7 +31,7 @@ A cache for the routers of a network, on the host of rpki-client:
 pub const VERSION: &str = "1.1.0";
 
 /// The kit that the program is proved with, as `rt version` prints it.
-const KIT: &str = "rattle-kit-13b logic dac8208d650f15bf";
+const KIT: &str = "rattle-kit-13f logic dac8208d650f15bf";
 
 /// What `--version` prints: the name of the program and its version, and the kit that it is proved with.
 pub(crate) fn version(alloc: Global) -> Result<String, AllocError> {
