@@ -8,8 +8,8 @@ pub fn reads_exactly()
     ensures { ReadsExactly }
 {}
 
-/// Law: a read opens an element as a cursor over its content if and only if the element is at its place.
-/// It gives a fault if and only if that fault is the first one of the element's tag and length.
+/// Law, for each tag. A read gives a cursor over a content, and the place after it, if and only if an element with that tag and that content is
+/// there. It gives a fault if and only if that fault is the first one of tag and length at this place. The content is not judged.
 pub fn opens_exactly()
     ensures { OpensExactly }
 {}
@@ -48,8 +48,8 @@ pub fn one_spelling_of_times()
     ensures { OneSpellingOfTimes }
 {}
 
-/// Law: a date and time has one text, and a text has at most one date and time.
-/// Reading the text of a date and time gives the same date and time.
+/// Law: each date and time has exactly one text `YYYYMMDDHHMMSSZ`, and a text has at most one date and time.
+/// To read a text gives the date and time that it spells, or none if it spells none.
 pub fn one_text()
     ensures { OneText }
 {}

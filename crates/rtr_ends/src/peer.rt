@@ -226,8 +226,8 @@ impl Peer {
         self.sender.is_due()
     }
 
-    /// Returns whether the connection continues. `false`: it has ended, by an Error Report that came, faulty or not, or by one that is sent. No
-    /// Data Available ends nothing, and an Error Report gets no answer (RFC 8210 sections 5.11 and 12). Bytes that are due can still be pulled.
+    /// Returns whether the connection continues. `false`: the router sent an Error Report, of any code, faulty or not. Or one of another code than 2
+    /// (No Data Available) is due to the router or was pulled (RFC 8210 sections 5.11 and 12). Bytes that are due can still be pulled.
     pub fn is_open(&self) -> bool
         ensures { (t : Intervals) (i : Instance) (o : Conn) → ShowsPeer t i o self.now → result ≡ not o.state.ended }
     {

@@ -3,11 +3,12 @@ ghost use Rattle.rtr_world.specs.CaughtUp.{RefusedCuts};
 ghost use Rattle.rtr_world.specs.CatchUp.{EachCatchesUp, IdleIsCurrent, RoundsAreSteps, RoundsEnd};
 ghost use Rattle.rtr_world.specs.Claims.{ActExactlyOnce, AnswersNow, ConnsRun, EachLeads, EachSpeaks, EndsKept, EndsNoted, Headline, LawfulEnds, MovesNoMore, NoWayBack, NoneByMemory, OneAnswerAlways, OneWorld, OthersStay, PlacesNoted, RefusesRightly, RouteStates, RoutersRun, Settles, Tables};
 
-/// Law: a history of events and outcomes leads to exactly one world, and every list of events has possible outcomes.
-/// After each event and its clean-up, another clean-up would change nothing. Publishing the current set is never refused.
-/// If a refusal is due, there is no other outcome. If memory runs out for an event at a router, so that it is refused, its connection is
-/// cut and nothing more arrives.
-/// An event at one router leaves the others unchanged. It moves at most as many bytes as it says, and no more than it would with enough memory.
+/// Law, in seven clauses. `one`: events with their outcomes lead to exactly one world. `each`: every list of events has possible outcomes.
+/// `settles`: after each event and its clean-up, another clean-up changes nothing.
+/// `refuses`: if an event must be refused, that is its only outcome. To publish the current set is never refused.
+/// `cuts`: if memory runs out for an event at a router, the connection of this router is cut, and nothing more arrives over it.
+/// `others`: an event at one router leaves the others unchanged.
+/// `moves`: an event moves at most the number of bytes that it names, and no more than it would with enough memory.
 pub fn steps()
     ensures one { OneWorld }
     ensures each { EachLeads }

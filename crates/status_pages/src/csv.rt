@@ -27,7 +27,7 @@ fn write_csv_lines<W: Write>(out: &mut W, records: &[Vrp], end: &str) -> io::Res
 }
 
 /// Writes VRPs as CSV: the header line `ASN,IP Prefix,Max Length`, then one line for each VRP in the order given, such as
-/// `AS64496,192.0.2.0/24,26`. `Err`: the writer failed.
+/// `AS64496,192.0.2.0/24,26`. `Err`: the writer failed, and a part of the text may be written.
 pub fn write_csv<W: Write>(out: &mut W, records: &[Vrp]) -> io::Result<()>
     ensures { OnOk result (Appends (W.contents out.old) (W.contents out.new) (csv_text records.now)) }
 {
@@ -35,8 +35,9 @@ pub fn write_csv<W: Write>(out: &mut W, records: &[Vrp]) -> io::Result<()>
     write_csv_lines(out, records, "\n")
 }
 
-/// Writes VRPs as CSV with the columns of Routinator: those of [`write_csv`] and `Trust Anchor`. That column is empty, as a cache does not know
-/// the trust anchor. `Err`: the writer failed.
+/// Writes VRPs as CSV with the columns of Routinator: the header line `ASN,IP Prefix,Max Length,Trust Anchor`, then one line for each VRP in the
+/// order given, such as `AS64496,192.0.2.0/24,26,`. The last column is empty, as a cache does not know the trust anchor.
+/// `Err`: the writer failed, and a part of the text may be written.
 pub fn write_routinator_csv<W: Write>(out: &mut W, records: &[Vrp]) -> io::Result<()>
     ensures { OnOk result (Appends (W.contents out.old) (W.contents out.new) (routinator_csv_text records.now)) }
 {

@@ -48,8 +48,9 @@ fn write_joined<W: Write>(out: &mut W, records: &[Vrp]) -> io::Result<()>
     write_more(out, others)
 }
 
-/// Writes VRPs as a JSON array of objects in the order given, as Routinator and StayRTR do. The member `ta` is empty, as a cache does not know
-/// the trust anchor. `Err`: the writer failed.
+/// Writes VRPs as a JSON array in the order given, as Routinator and StayRTR do. Each VRP is an object with the members `asn`, `prefix`,
+/// `maxLength` and `ta`. The member `ta` is empty, as a cache does not know the trust anchor. Without VRPs it writes `[]`.
+/// `Err`: the writer failed, and a part of the text may be written.
 #[tactic(auto, unfolding(crate::specs::Roas::roas_text))]
 pub fn write_roas<W: Write>(out: &mut W, records: &[Vrp]) -> io::Result<()>
     ensures { OnOk result (Appends (W.contents out.old) (W.contents out.new) (roas_text records.now)) }
