@@ -196,7 +196,7 @@ impl<'a> Cursor<'a> {
         Ok(content)
     }
 
-    /// The tag of the next element: the byte at the cursor, which does not move. `None` at the end of the enclosing element.
+    /// Returns the tag of the next element: the byte at the cursor, which does not move. `None`: the cursor is at the end of the enclosing element.
     pub fn peek_tag(&self) -> Option<u8>
         ensures { result ≡ slice_get self.now.rest 0 }
     {
@@ -224,8 +224,8 @@ impl<'a> Cursor<'a> {
         self.at
     }
 
-    /// Checks that the cursor is at the end of the enclosing element. Otherwise the error is `Trailing`, with the offset of the first byte
-    /// that remains.
+    /// Checks that the cursor is at the end of the enclosing element. `Ok`: it is. `Err`: bytes remain. The fault is `Trailing`, with the offset of
+    /// the first byte that remains.
     #[tactic(auto, unfolding(crate::specs::DerReading::end_at))]
     pub fn finish(self) -> Result<(), DerFault>
         ensures { EndsElement result (end_at self.entry) }

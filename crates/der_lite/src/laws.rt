@@ -1,26 +1,29 @@
-//! Laws of DER elements. The functions do nothing: each states a law, which is proved.
+//! Laws of DER elements. The functions do nothing: each states a law, which is proved. A place is an offset in the input, with the bytes from there
+//! on.
 
 ghost use Rattle.der_lite.specs.DerLaws.{OneDerFault, OneFaultOfTimes, OneIsBefore, OneDerSpelling, OneSpellingOfTimes, OneText, OpensExactly, ReadsExactly, ReadsTimesExactly, SpellsBits};
 
-/// Law, for each tag and any rules about the content. A read gives a content, and the place after it, if and only if an element with that tag and
-/// that content is there and the content keeps the rules. It gives a fault if and only if that fault is the first one at this place.
+/// Law of reading one element, for each tag, any rules about the content, and each place. The read gives a content if and only if an element with
+/// that tag and content is at the place, and the content keeps the rules. It also gives the place after the element.
+/// The read gives a fault if and only if that fault is the first one at the place.
 pub fn reads_exactly()
     ensures { ReadsExactly }
 {}
 
-/// Law, for each tag. A read gives a cursor over a content, and the place after it, if and only if an element with that tag and that content is
-/// there. It gives a fault if and only if that fault is the first one of tag and length at this place. The content is not judged.
+/// Law of opening one element, for each tag and each place. The result is a cursor over the content, and the place after the element, if and only if
+/// an element with that tag is there. The result is a fault if and only if that fault is the first one of tag and length there.
+/// No rule about the content is checked.
 pub fn opens_exactly()
     ensures { OpensExactly }
 {}
 
-/// Law: at each place there is either an element with the expected tag whose content keeps the rules, or exactly one fault. This holds for any tag
-/// and any rules about the content.
+/// Law, for any tag, any rules about the content, and each place: exactly one of two cases holds. Either an element with that tag is there and its
+/// content keeps the rules. Or the place has a fault, and only one.
 pub fn one_fault()
     ensures { OneDerFault }
 {}
 
-/// Law: for each tag, a content has at most one encoding as an element. No encoding is a proper beginning of another.
+/// Law, for each tag and any rules about the content: a content has at most one encoding as an element. No encoding is a proper beginning of another.
 pub fn one_spelling()
     ensures { OneDerSpelling }
 {}
@@ -31,25 +34,26 @@ pub fn spells_bits()
     ensures { SpellsBits }
 {}
 
-/// Law: a read gives a date and time if and only if the GeneralizedTime element of it is at its place.
-/// It gives a fault if and only if that fault is the first one at this place.
+/// Law of reading a GeneralizedTime, for each place. The read gives a date and time, and the place after the element, if and only if the element of
+/// that date and time is there. The read gives a fault if and only if that fault is the first one at the place.
 pub fn reads_times_exactly()
     ensures { ReadsTimesExactly }
 {}
 
-/// Law: a place in the input has either a GeneralizedTime element that keeps the rules, or exactly one fault.
-/// This holds with any further rules about the date and time.
+/// Law, for each place and any further rules about the date and time: exactly one of two cases holds. Either a GeneralizedTime element is there that
+/// keeps all rules. Or the place has a fault, and only one.
 pub fn one_fault_of_times()
     ensures { OneFaultOfTimes }
 {}
 
-/// Law: a date and time has at most one encoding as an element. No encoding is a proper beginning of another.
+/// Law: a date and time has at most one encoding as a GeneralizedTime element. No encoding is a proper beginning of another.
+/// This holds for any further rules about the date and time.
 pub fn one_spelling_of_times()
     ensures { OneSpellingOfTimes }
 {}
 
-/// Law: each date and time has exactly one text `YYYYMMDDHHMMSSZ`, and a text has at most one date and time.
-/// To read a text gives the date and time that it spells, or none if it spells none.
+/// Law: each date and time from 1970 to 9999 has exactly one text `YYYYMMDDHHMMSSZ`, and a text is of at most one date and time.
+/// Reading a text gives its date and time. If the text is of none, reading gives `None`.
 pub fn one_text()
     ensures { OneText }
 {}

@@ -121,7 +121,8 @@ impl Moment {
         ]
     }
 
-    /// The number of seconds since the beginning of 1970 UTC, with 86,400 seconds in each day.
+    /// Returns the number of seconds from the beginning of 1970 in UTC to this date and time. Each day has 86,400 seconds: leap seconds are not
+    /// counted.
     pub fn seconds(&self) -> u64
         ensures { result ≡ seconds_of self.now }
     {
@@ -132,7 +133,8 @@ impl Moment {
         minutes * 60 + u64::from(second)
     }
 
-    /// The text, `YYYYMMDDHHMMSSZ`, as ASCII bytes.
+    /// Returns the date and time in UTC as 15 bytes of ASCII text, `YYYYMMDDHHMMSSZ`. [`from_text`](Moment::from_text) reads the same date and time
+    /// from it.
     pub fn text(&self) -> [u8; 15]
         ensures value { result ≡ moment_text self.now }
         ensures real { IsTrue (is_moment self.now) }

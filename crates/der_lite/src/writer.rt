@@ -98,8 +98,8 @@ impl DerWriter {
         self.element(tag::SEQUENCE, &[], members)
     }
 
-    /// Writes an INTEGER (tag 2). `content` is its number in two's complement, in the fewest bytes, most significant byte first. `AllocError`:
-    /// out of memory, and nothing is written.
+    /// Writes an INTEGER (tag 2). `content` is its number in two's complement, in the fewest bytes, most significant byte first. This is not checked.
+    /// It must have less than 2^32 bytes. `AllocError`: out of memory, and nothing is written.
     pub fn integer(&mut self, content: &[u8]) -> Result<(), AllocError>
         requires { length content.now < 2 ^ 32 }
         ensures { Adds result INTEGER content.now self.old self.new }
@@ -138,7 +138,8 @@ impl DerWriter {
         self.element(tag::BIT_STRING, &[bits.unused], bits.bytes)
     }
 
-    /// Writes an OCTET STRING (tag 4) with this content. `AllocError`: out of memory, and nothing is written.
+    /// Writes an OCTET STRING (tag 4) with this content, of less than 2^32 bytes. It may be empty. `AllocError`: out of memory, and nothing is
+    /// written.
     pub fn octets(&mut self, content: &[u8]) -> Result<(), AllocError>
         requires { length content.now < 2 ^ 32 }
         ensures { Adds result OCTET_STRING content.now self.old self.new }
@@ -146,8 +147,8 @@ impl DerWriter {
         self.element(tag::OCTET_STRING, &[], content)
     }
 
-    /// Writes an OBJECT IDENTIFIER (tag 6). `content` is its encoded content, which is not checked. `AllocError`: out of memory, and nothing is
-    /// written.
+    /// Writes an OBJECT IDENTIFIER (tag 6). `content` is its encoded content, of less than 2^32 bytes, which is not checked. `AllocError`: out of
+    /// memory, and nothing is written.
     pub fn oid(&mut self, content: &[u8]) -> Result<(), AllocError>
         requires { length content.now < 2 ^ 32 }
         ensures { Adds result OBJECT_IDENTIFIER content.now self.old self.new }
@@ -155,7 +156,8 @@ impl DerWriter {
         self.element(tag::OBJECT_IDENTIFIER, &[], content)
     }
 
-    /// Writes an IA5String (tag 22). `text` must be ASCII, which is not checked. `AllocError`: out of memory, and nothing is written.
+    /// Writes an IA5String (tag 22). `text` must be ASCII, which is not checked, of less than 2^32 bytes. `AllocError`: out of memory, and nothing is
+    /// written.
     pub fn ia5(&mut self, text: &str) -> Result<(), AllocError>
         requires { length text.now < 2 ^ 32 }
         ensures { Adds result IA5_STRING text.now self.old self.new }
@@ -163,7 +165,8 @@ impl DerWriter {
         self.element(tag::IA5_STRING, &[], text.as_bytes())
     }
 
-    /// Writes a GeneralizedTime (tag 24) in the form `YYYYMMDDHHMMSSZ`. `AllocError`: out of memory, and nothing is written.
+    /// Writes a GeneralizedTime (tag 24) of `moment`, which is in UTC, in the form `YYYYMMDDHHMMSSZ`. `AllocError`: out of memory, and nothing is
+    /// written.
     pub fn time(&mut self, moment: &Moment) -> Result<(), AllocError>
         ensures added { Adds result GENERALIZED_TIME (moment_text moment.now) self.old self.new }
         ensures real { IsTrue (is_moment moment.now) }
@@ -171,7 +174,8 @@ impl DerWriter {
         self.element(tag::GENERALIZED_TIME, &moment.text(), &[])
     }
 
-    /// Writes an element with any one-byte tag (X.690 section 8.1.2.2) and this content. `AllocError`: out of memory, and nothing is written.
+    /// Writes an element with any one-byte tag (X.690 section 8.1.2.2) and this content, of less than 2^32 bytes. Neither is checked. `AllocError`:
+    /// out of memory, and nothing is written.
     pub fn tagged(&mut self, tag: u8, content: &[u8]) -> Result<(), AllocError>
         requires { length content.now < 2 ^ 32 }
         ensures { Adds result tag content.now self.old self.new }

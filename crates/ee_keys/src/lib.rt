@@ -11,7 +11,8 @@
 
 ghost use Rattle.ee_keys.specs.SameKey.{SameKey};
 
-/// Law: the modulus and the identifier that `signed_objects` reads of a certificate are those of the whole certificate.
+/// Law: let bytes be both a certificate as `signed_objects` reads it in a signed object, and one as `resource_certificates` reads it. Then both read
+/// the same modulus, and the identifier of the first is the value of subjectKeyIdentifier of the second.
 pub fn same_key()
     ensures { SameKey }
 {}

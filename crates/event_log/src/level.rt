@@ -60,7 +60,7 @@ impl Display for LogLevel {
 impl LogEvent<'_> {
     ghost use Rattle.event_log.specs.Levels.{is_of_client, level_of, severity};
 
-    /// The level of the event: how severe it is.
+    /// Returns the level of the event, which is fixed for each variant: error, warning, notice or info.
     pub fn level(&self) -> LogLevel
         ensures { result ≡ level_of self.now }
     {

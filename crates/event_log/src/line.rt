@@ -364,8 +364,8 @@ fn write_event_at<W: Write>(
     write_end(out, form)
 }
 
-/// Appends the line of an event to `out`, in the format `form`. `seconds` is the time of the event, in seconds since 1970.
-/// An error is one of `out`; a part of the line may be written then. It allocates nothing.
+/// Appends the line of an event to `out`, in the format `form`, with a newline at its end. `seconds` is the time of the event, in seconds since 1970.
+/// `Err`: a write to `out` failed. A part of the line may be written then. No memory is allocated.
 /// If `out` has no buffer, it is called for each piece of the line.
 pub fn write_event<W: Write>(
     out: &mut W,

@@ -5,7 +5,7 @@ ghost use Rattle.event_log.specs.ReportNames.{report_name};
 /// The code by which a protocol version is refused (RFC 8210 sections 7 and 12).
 pub(crate) const UNSUPPORTED_VERSION: u16 = 4;
 
-/// The name of an Error Report's code (RFC 8210 section 12), or `unknown`.
+/// Returns the name of the error code of an Error Report (RFC 8210 section 12), such as `Corrupt Data` for 0. Any other number gives `unknown`.
 pub fn report_name(code: u16) -> &'static str
     ensures { result.now ≡ report_name code }
 {

@@ -161,9 +161,10 @@ pub fn read_export(alloc: Global, bytes: &[u8], now: u64) -> Result<Export, Expo
     }
 }
 
-/// Reads an export by the rules of [`read_export`], with the same faults. Also returns the second, since 1970, until which it stays the same.
-/// From that second on, an entry that counts at `now` does not count. Before it the bytes need not be read again. `None`: it stays the same at
-/// each later second.
+/// Reads an export by the rules of [`read_export`], with the same faults. `now` is in seconds since 1970. Also returns `until`, the second since 1970
+/// until which the export stays the same.
+/// `Some(until)`: from that second on, at least one entry that counts at `now` does not count. Before it, the bytes need not be read again.
+/// `None`: the export stays the same at each later second.
 pub fn read_export_until(alloc: Global, bytes: &[u8], now: u64) -> Result<TimedExport, ExportFault>
     ensures ok { IfOk result (λ x. IsExportUntil bytes.now now x) }
     ensures lasts { IfOk result (λ x. (t : ℕ) → now ≤ t → IsBefore t x.until → IsExport bytes.now t x.export) }
@@ -178,10 +179,9 @@ pub fn read_export_until(alloc: Global, bytes: &[u8], now: u64) -> Result<TimedE
     }
 }
 
-/// Reads an export by the rules of [`read_export`], with the same faults. Also returns the last second at which each record counts, in the order
-/// of the set.
-/// So the records at a later second follow without the bytes. `now` and the last seconds are in seconds since 1970. A last second of `u64::MAX`:
-/// the record does not end.
+/// Reads an export by the rules of [`read_export`], with the same faults. Also returns the last second at which each record counts, in the order of
+/// the set. So the records that count at a later second follow without the bytes.
+/// `now` and the last seconds are in seconds since 1970. `u64::MAX`: the record counts at each later second.
 pub fn read_export_lasting(
     alloc: Global,
     bytes: &[u8],
@@ -202,7 +202,8 @@ pub fn read_export_lasting(
     }
 }
 
-/// Reads an export by the rules of [`read_export_lasting`]. Also counts the elements that are not served, and returns the trust anchors.
+/// Reads an export by the rules of [`read_export_lasting`], at `now`, in seconds since 1970. Also counts the elements that are not served, and
+/// returns the trust anchors.
 ///
 /// The elements counted are those of the arrays `aspas`, `bgpsec_keys` and `routerKeys` in the root object.
 /// A member that is not an array counts as empty, and a payload list has no such members.

@@ -4,7 +4,8 @@ ghost use Rattle.exports.specs.ExportLaws.{LaterExports, NoFaultOfExports, OneEx
 use prefix_texts::laws::one_saying;
 use prefixes::laws::one_reading;
 
-/// Law: bytes are at most one export at a given second, counted since 1970.
+/// Law, for any bytes and any second since 1970: at that second the bytes have at most one reading as an export. So the set of VRPs, the number of
+/// expired entries and the build time are determined.
 pub fn one_export()
     ensures { OneExport }
 {
@@ -12,7 +13,7 @@ pub fn one_export()
     one_saying();
 }
 
-/// Law: bytes that are an export at a given second have no fault but `Memory`.
+/// Law, for any bytes and any second since 1970: if the bytes are an export at that second, they have no fault but `Memory`.
 /// So `read_export` refuses them only if memory runs out.
 pub fn no_fault_of_exports()
     ensures { NoFaultOfExports }
@@ -21,7 +22,7 @@ pub fn no_fault_of_exports()
     one_saying();
 }
 
-/// Law: bytes have at most one fault other than `Memory` at a given second, counted since 1970.
+/// Law, for any bytes and any second since 1970: at that second the bytes have at most one fault other than `Memory`.
 pub fn one_fault()
     ensures { OneFault }
 {
@@ -29,8 +30,8 @@ pub fn one_fault()
     one_saying();
 }
 
-/// Law: let bytes be an export at one second, with an `until` as in `TimedExport`.
-/// They are the same export at each later second before `until`, and not from `until` on. If `until` is `None`, they stay the same.
+/// Law: let bytes be an export at one second, with an `until` as in `TimedExport`. They are the same export at each later second before `until`.
+/// From `until` on they are not the same export. If `until` is `None`, they always stay the same.
 pub fn same_until()
     ensures { SameUntil }
 {
@@ -39,7 +40,8 @@ pub fn same_until()
 }
 
 /// Law: bytes that are an export at one second are an export at each later second below 2^64, counted since 1970.
-/// The later set has exactly those VRPs of the first set whose last second is not past.
+/// Each VRP of the first set has a last second, as in `ExportLasting`. The later set has exactly those VRPs whose last second is the later second or
+/// after it.
 pub fn later_exports()
     ensures { LaterExports }
 {

@@ -182,10 +182,10 @@ fn joined(alloc: Global, place: &str, why: &str, fault: ExportFault) -> Result<S
     format!(in alloc; "{place}{why} (fault {})", fault.number())
 }
 
-/// Returns the text of a fault that a read of `bytes` reported. It names the entry, counted from 0, the member and its value, or the repeated
+/// Returns the text of a fault that a read of `bytes` reported. The text names the entry, counted from 0, the member and its value, or the repeated
 /// name. It ends in the fault number, such as `(fault 1)`.
 /// For `NotJson` it has the line and column, or says that the bytes are compressed or begin with a byte order mark or a zero byte.
-/// A value is shown as JSON, at most its first 80 bytes. An error means that memory runs out.
+/// A value is shown as JSON, at most its first 80 bytes. `Err`: memory ran out.
 ///
 /// The bytes are read again, token by token. At most one entry is built as a tree.
 pub fn fault_text(alloc: Global, bytes: &[u8], fault: ExportFault) -> Result<String, AllocError>

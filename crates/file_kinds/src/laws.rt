@@ -2,7 +2,8 @@
 
 ghost use Rattle.file_kinds.specs.Kinds.{OneExtension, OneName, OneType};
 
-/// Law: two kinds of files never have one extension, and a name never is one of both. Two kinds never have one eContentType.
+/// Law, for any two different kinds of files. `extensions`: they have no extension in common. `names`: no file name is of both kinds.
+/// `content_types`: they have no eContentType in common.
 pub fn one_kind()
     ensures extensions { OneExtension }
     ensures names { OneName }

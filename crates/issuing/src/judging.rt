@@ -27,8 +27,8 @@ fn is_signed_by(modulus: &[u8], octets: &[u8], signature: &[u8]) -> bool
     }
 }
 
-/// Judges whether `authority` issued a certificate that counts at `now` (RFC 6487 section 7.2). The first reason in the order of [`IssueFault`] is
-/// reported. notBefore and notAfter are included.
+/// Judges whether `authority` issued `certificate` and whether it counts at `now`, a time in UTC (RFC 6487 section 7.2). `Ok(())`: both hold. `Err`:
+/// the first reason in the order of [`IssueFault`]. At notBefore and at notAfter themselves the certificate counts.
 ///
 /// `authority` has to be judged itself, or be a trust anchor. `revoked` has to be from the CRL of this authority that [`judge_crl`] accepted. What
 /// the certificate says of resources is not judged. A trust anchor without authorityKeyIdentifier is not issued by itself: `Issuer`.
@@ -65,8 +65,9 @@ pub fn judge_certificate(
     Ok(())
 }
 
-/// Judges whether a CRL of `authority` counts at `now` (RFC 5280 section 6.3.3). The first reason in the order of [`IssueFault`] is reported, and
-/// never `Revoked`. thisUpdate and nextUpdate are included. `authority` has to be judged itself, or be a trust anchor.
+/// Judges whether `authority` issued `crl` and whether it counts at `now`, a time in UTC (RFC 5280 section 6.3.3). `Ok(())`: both hold. `Err`: the
+/// first reason in the order of [`IssueFault`], never `Revoked`. At thisUpdate and at nextUpdate themselves the CRL counts.
+/// `authority` has to be judged itself, or be a trust anchor.
 pub fn judge_crl(crl: &Crl, authority: &Certificate, now: &Moment) -> Result<(), IssueFault>
     ensures { JudgesCrl now.now authority.now crl.now result }
 {

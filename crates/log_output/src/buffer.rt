@@ -100,8 +100,8 @@ impl LogBuffer {
         self.lost
     }
 
-    /// The number of lost lines that are not yet reported. Lines are reported once the last byte of their report is written. A line that is lost
-    /// while a report is pending belongs to the next one. The number saturates at `u64::MAX`.
+    /// Returns the number of lost lines that are not yet reported. Lines are reported once the last byte of their report was written. A line that is
+    /// lost while a report is pending belongs to the next report. The number is at most `u64::MAX`.
     pub fn dropped(&self) -> u64
         ensures { result ≡ self.now.dropped }
     {
@@ -130,9 +130,9 @@ impl LogBuffer {
         self.dropped = self.dropped.saturating_add(lines);
     }
 
-    /// Adds a line, which ends in a newline. It returns whether the line was added. If not, the line is counted as lost.
+    /// Adds a line, which ends in a newline, and returns `true`. If it is not added, the result is `false`, and the line counts as lost.
     ///
-    /// The line is added if it fits, and if a pending report covers all lost lines before it or there are none.
+    /// The line is added if two things hold. It fits. And there are no unreported lost lines, or a pending report covers all of them.
     pub fn add_line(&mut self, line: &[u8]) -> bool
         ensures added { result ≡ is_accepted line.now self.old }
         ensures line { self.new ≡ after_line line.now self.old }
@@ -145,10 +145,10 @@ impl LogBuffer {
         true
     }
 
-    /// Adds a report of the lost lines, which is a line. It returns whether the report was added. It is refused if another report is pending or
-    /// it does not fit. Then nothing changes.
+    /// Adds a line that reports all lost lines that [`LogBuffer::dropped`] counts, and returns `true`. If another report is pending or the line does
+    /// not fit, returns `false`, and nothing changes.
     ///
-    /// The lines count as reported once the last byte of the report is written.
+    /// The lost lines count as reported once the last byte of the report was written.
     pub fn add_report(&mut self, line: &[u8]) -> bool
         ensures added { result ≡ takes_report line.now self.old }
         ensures line { self.new ≡ after_report line.now self.old }
@@ -203,8 +203,8 @@ impl LogBuffer {
         !self.is_newline(count - 1)
     }
 
-    /// Removes the first `count` bytes, which were written. `count` is at most the number of pending bytes. If a report ends within them, its
-    /// lines are reported.
+    /// Removes the first `count` pending bytes, which were written. `count` must be at most the number of pending bytes. If the end of a report is
+    /// among them, its lines count as reported.
     pub fn consume(&mut self, count: usize)
         requires { count ≤ length self.old.bytes }
         ensures { self.new ≡ after_written count self.old }
@@ -257,8 +257,8 @@ impl LogBuffer {
         self.ring.truncate_back(count);
     }
 
-    /// Removes the pending lines and counts them as lost. The rest of a line that was written in part is kept. A pending report is removed
-    /// without being lost. What it reported is due again.
+    /// Removes all pending lines and counts them as lost. Only the rest of a line that was written in part stays pending. A pending report that was
+    /// not begun is removed without counting as lost. The lines that it would have reported are then reported by the next report.
     pub fn give_up(&mut self)
         ensures { self.new ≡ after_loss self.old }
     {

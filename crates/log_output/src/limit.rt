@@ -41,8 +41,8 @@ impl ClientLineLimit {
         }
     }
 
-    /// Returns whether a window is open at `millis`: it began less than [`LIMIT_MILLIS`] before. A time before its beginning is in the window
-    /// too.
+    /// Returns whether a window is open at `millis`, in milliseconds of the monotonic clock: it began less than [`LIMIT_MILLIS`] before. A time
+    /// before its beginning counts as in the window. `false`: it began earlier, or no line was counted yet.
     pub fn is_open(&self, millis: u64) -> bool
         ensures { result ≡ is_open self.now millis }
     {
@@ -52,8 +52,9 @@ impl ClientLineLimit {
         }
     }
 
-    /// Counts a line about a client at `millis`. It returns whether the line is let through. If no window is open, the line begins one and
-    /// passes. In an open window, a line passes if fewer than [`LIMIT_LINES`] have passed. Otherwise it is counted as suppressed.
+    /// Counts a line about a client at `millis`, in milliseconds of the monotonic clock. Returns whether the line is let through. If no window is
+    /// open, the line begins one and is let through. In an open window, a line is let through if fewer than [`LIMIT_LINES`] were. Otherwise it is
+    /// suppressed, and counted as such.
     pub fn admit(&mut self, millis: u64) -> bool
         ensures passes { result ≡ is_let_through self.old millis }
         ensures counts { self.new ≡ after_client_line self.old millis }

@@ -107,8 +107,8 @@ impl Log {
         }
     }
 
-    /// Adds the reports that are due: of dropped lines if there is room, and of suppressed lines if their window has ended. `seconds` is since
-    /// 1970. `millis` is of a monotonic clock.
+    /// Adds the reports that are due: of dropped lines if there is room, and of suppressed lines if their window has ended. `seconds` is in seconds
+    /// since 1970, `millis` in milliseconds of a monotonic clock. If no report is due, nothing changes.
     pub fn tick(&mut self, seconds: u64, millis: u64)
         ensures reports { ReportsDue self.old self.new seconds millis }
         ensures counts { CountsLines 0 self.old self.new }
@@ -166,7 +166,7 @@ impl Log {
         self.buffer.is_empty()
     }
 
-    /// Returns whether no line is pending and no report is missing.
+    /// Returns whether nothing is left to write: no line is pending, and no dropped or suppressed lines have to be reported.
     pub fn is_empty(&self) -> bool
         ensures { result ≡ is_empty self.now }
     {
@@ -198,7 +198,8 @@ impl Log {
             .saturating_add(self.limit.suppressed())
     }
 
-    /// The number of times that there was no memory for a line. The line of an event is then dropped. A report of dropped lines is made later.
+    /// Returns the number of times that there was no memory for a line. The line of an event is then dropped. A report of dropped lines is made
+    /// later.
     pub fn memory_failures(&self) -> u64
         ensures { result ≡ self.now.memory_failures }
     {

@@ -2,7 +2,7 @@
 
 ghost use Rattle.payloads.specs.PayloadLaws.{OneFault, OneSpelling, OnePayload, RoaRefusesExactly, ManifestRefusesExactly};
 
-/// Law: bytes either encode a value or have exactly one fault. This holds for ROAs and for manifests.
+/// Law: bytes either encode a value or have a fault, and only one. This holds for the payloads of ROAs and for those of manifests.
 pub fn one_fault()
     ensures { OneFault }
 {}
@@ -19,12 +19,13 @@ pub fn one_payload()
     ensures { OnePayload }
 {}
 
-/// Law: `Roa::new` refuses a value if and only if no bytes encode it.
+/// Law, for each AS number and each list of ROA entries: `Roa::new` refuses them if and only if no bytes encode them as a ROA payload.
 pub fn roa_refuses_exactly()
     ensures { RoaRefusesExactly }
 {}
 
-/// Law: `Manifest::new` refuses a number, times and files if and only if no bytes encode them, unless memory runs out.
+/// Law, for each manifest number, two times and a list of files: `Manifest::new` refuses them if and only if no bytes encode them. One refusal is not
+/// part of the law: that memory ran out.
 pub fn manifest_refuses_exactly()
     ensures { ManifestRefusesExactly }
 {}

@@ -48,7 +48,7 @@ impl ListedFile {
         ListedFile { name, hash }
     }
 
-    /// The file name. It is checked only once the file is in a [`Manifest`] (RFC 9286 section 4.2.2).
+    /// Returns the file name. Before the file is in a [`Manifest`], the name may be invalid: [`Manifest::new`] checks it (RFC 9286 section 4.2.2).
     pub fn name(&self) -> &str
         ensures { result.now ≡ self.now.name }
     {
@@ -138,14 +138,14 @@ impl Manifest {
         &self.number
     }
 
-    /// thisUpdate: the time at which the manifest was made (RFC 9286 section 4.2.1).
+    /// Returns thisUpdate: the time in UTC at which the manifest was made (RFC 9286 section 4.2.1).
     pub fn this_update(&self) -> &Moment
         ensures { result.now ≡ self.now.this_update }
     {
         &self.this_update
     }
 
-    /// nextUpdate: the time by which the next manifest is issued (RFC 9286 section 4.2.1). It is later than thisUpdate.
+    /// Returns nextUpdate: the time in UTC by which the next manifest is issued (RFC 9286 section 4.2.1). It is later than thisUpdate.
     pub fn next_update(&self) -> &Moment
         ensures { result.now ≡ self.now.next_update }
     {

@@ -49,8 +49,8 @@ impl Repository {
         }
     }
 
-    /// Makes an offer to the point `name`, with the results of [`Point::offer`](crate::Point::offer). No other point changes. If the offer is
-    /// refused, no point changes.
+    /// Makes an offer to the point `name`, with the results of [`Point::offer`](crate::Point::offer). If there is no such point, the offer is judged
+    /// as by a point that has accepted nothing. On `New` the point then exists. No other point changes. On `Same` and on an error, no point changes.
     pub fn offer(
         &mut self,
         name: &str,
@@ -74,8 +74,9 @@ impl Repository {
         }
     }
 
-    /// Returns the VRPs in use at the time `now`, in UTC: those of the ROAs of each point whose nextUpdate is not before `now`.
-    /// They ascend strictly, so each is listed once. An error means that memory runs out.
+    /// Returns the VRPs in use at the time `now`, in UTC: those of the ROAs of each point whose nextUpdate is not before `now`. thisUpdate is not
+    /// looked at.
+    /// The VRPs ascend strictly, so each is listed once. `Err`: memory ran out.
     pub fn payloads(&self, now: Moment) -> Result<Vec<Vrp>, AllocError>
         ensures { IfOk result (λ vrps. Lists vrps.items self.now now) }
     {

@@ -1,15 +1,16 @@
-//! Laws of the definitions. These functions do nothing: their contracts are the laws.
+//! Laws of chains of relays. The functions do nothing: each states a law, which is proved. A world is one cache, its routers and their connections.
+//! A relay is a router of one world and the cache of the next. What it makes of a set, such as by local exceptions, is a function of that set.
 ghost use Rattle.relays.specs.Chains.{ChainInOrder, EachFromFirst, EachIsCurrent, EachIsPublished, EachKeepsRelaying, RelaysInOrder};
 
-/// Law: if a router holds a version, its table is a set that its world's cache published. Otherwise its table is empty.
-/// A world is one cache, its routers and their connections.
+/// Law, for each world after any events, and each of its routers: if the router holds a version, its table is a set that the cache of its world
+/// published. Otherwise its table is empty.
 pub fn held_is_published()
     ensures { EachIsPublished }
 {}
 
-/// Law: a relay keeps its promise if it publishes only what it makes of sets that its router held.
+/// Law: let a relay publish only what it makes of sets that its router held. Then it keeps its promise.
 /// The promise: each set that the relay ever published is made of a set that its router held at some time.
-/// It holds after further events in the relay's world, and in the world before it.
+/// The promise still holds after any further event in the relay's world, and after any further events in the world before it.
 pub fn keeps_relaying()
     ensures { EachKeepsRelaying }
 {}
@@ -29,7 +30,8 @@ pub fn caught_up()
     ensures { EachIsCurrent }
 {}
 
-/// Law: a relay's router never goes back. What it holds later was not published before what it held earlier, across restarts too.
+/// Law: a relay's router never goes back. The version that it holds later was not published before the version that it held earlier.
+/// This also holds if the cache or the router restarted in between.
 pub fn in_order()
     ensures { RelaysInOrder }
 {}

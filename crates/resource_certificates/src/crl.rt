@@ -293,9 +293,9 @@ fn broken(tbs: &TbsCrl) -> Option<CertificateFaultKind>
     }
 }
 
-/// Reads a CRL (RFC 6487 section 5). The result borrows from `bytes`. Memory is allocated for the list of serial numbers alone.
-/// `Err(At)`: the first fault: the elements from the first to the last, and then what the extensions say. Bytes after the CRL are a fault.
-/// `Err(Memory)`: memory ran out. Not judged are the signature, the time, and who issued the CRL.
+/// Reads a CRL (RFC 6487 section 5). The result borrows from `bytes`. Memory is allocated only for the list of serial numbers.
+/// `Err(At)`: the first fault. The elements come first, in their order, then what the extensions say, with offset 0. Bytes after the CRL are a fault.
+/// `Err(Memory)`: memory ran out. The signature, the time, and who issued the CRL are not judged.
 pub fn read_crl(alloc: Global, bytes: &[u8]) -> Result<Crl<'_>, CrlFault>
     ensures { ReadsCrl (λ c. c) result bytes.now }
 {

@@ -38,8 +38,9 @@ fn is_key_of(found: Option<&[u8]>, bits: &[u8]) -> bool
 }
 
 impl<'a> Certificate<'a> {
-    /// Whether this certificate names `authority` as its issuer: the issuer's name has the characters of the authority's subject, and
-    /// authorityKeyIdentifier is the SHA-1 of the authority's key. The signature is not verified.
+    /// Returns whether this certificate names `authority` as its issuer. The issuer's name must have the characters of the authority's subject, and
+    /// authorityKeyIdentifier must be the SHA-1 of the authority's key. If authorityKeyIdentifier is missing, the result is `false`.
+    /// The signature is not verified.
     pub fn is_issued_by(&self, authority: &Certificate) -> bool
         ensures { IsTrue result ↔ IsIssuedBy self.now.tbs authority.now.tbs }
     {
@@ -49,7 +50,8 @@ impl<'a> Certificate<'a> {
 }
 
 impl<'a> Crl<'a> {
-    /// Whether this CRL names `authority` as its issuer, as in [`Certificate::is_issued_by`]. The signature is not verified.
+    /// Returns whether this CRL names `authority` as its issuer: by the same rules for name and authorityKeyIdentifier as
+    /// [`Certificate::is_issued_by`]. The signature is not verified.
     pub fn is_issued_by(&self, authority: &Certificate) -> bool
         ensures { IsTrue result ↔ IsCrlOf self.now.tbs authority.now.tbs }
     {

@@ -192,8 +192,8 @@ fn broken(role: Role, tbs: &Tbs) -> Option<CertificateFaultKind>
 }
 
 /// Reads a resource certificate in this role (RFC 6487). The result borrows from `bytes`, and nothing is allocated.
-/// The error is the first fault: the elements from the first to the last, and then what the extensions say, in the order of RFC 6487
-/// section 4.8. Not judged are the signature, the time, who issued the certificate, and which resources it has.
+/// `Err`: the first fault. The elements come first, in their order, then what the extensions say, in the order of RFC 6487 section 4.8. Those have
+/// offset 0. The signature, the time, who issued the certificate, and which resources it has are not judged.
 pub fn read_certificate(role: Role, bytes: &[u8]) -> Result<Certificate<'_>, CertificateFault>
     ensures { ReadsCertificate (λ c. c) role result bytes.now }
 {
@@ -205,7 +205,8 @@ pub fn read_certificate(role: Role, bytes: &[u8]) -> Result<Certificate<'_>, Cer
 }
 
 impl<'a> Certificate<'a> {
-    /// Returns whether the extensions let the subject issue: cA is TRUE, and the key signs certificates and CRLs (RFC 5280 section 6.1.4).
+    /// Returns whether the extensions let the subject issue certificates. They do if cA is TRUE and the key may sign certificates and CRLs, and
+    /// nothing else (RFC 5280 section 6.1.4). `false`: one of the two extensions is missing or has another value.
     pub fn is_authority(&self) -> bool
         ensures { result ≡ is_authority_of self.now.tbs }
     {
@@ -215,49 +216,55 @@ impl<'a> Certificate<'a> {
         ) && is_value(self.tbs.extensions.key_usage, CA_USAGE.as_slice())
     }
 
-    /// The first rsync URI of cRLDistributionPoints, in ASCII, at which the CRL of the issuer is (RFC 6487 section 4.8.6).
+    /// Returns the first rsync URI of cRLDistributionPoints, in ASCII, at which the CRL of the issuer is (RFC 6487 section 4.8.6). `None`: there is
+    /// none.
     pub fn crl_uri(&self) -> Option<&'a [u8]>
         ensures { option_map (λ u. u.now) result ≡ crl_uri_of_value self.now.tbs.found.distribution_points }
     {
         crl_uri_of(self.tbs.extensions.distribution_points)
     }
 
-    /// The first rsync URI of caIssuers, in ASCII, at which the certificate of the issuer is (RFC 6487 section 4.8.7).
+    /// Returns the first rsync URI of caIssuers, in ASCII, at which the certificate of the issuer is (RFC 6487 section 4.8.7). `None`: there is none.
     pub fn issuer_uri(&self) -> Option<&'a [u8]>
         ensures { option_map (λ u. u.now) result ≡ (accesses_of_value self.now.tbs.found.authority_info).issuer }
     {
         accesses_of(self.tbs.extensions.authority_info).issuer
     }
 
-    /// The first rsync URI of caRepository, in ASCII, at which the files of an authority are (RFC 6487 section 4.8.8.1).
+    /// Returns the first rsync URI of caRepository, in ASCII, at which the files of an authority are (RFC 6487 section 4.8.8.1). `None`: there is
+    /// none.
     pub fn repository_uri(&self) -> Option<&'a [u8]>
         ensures { option_map (λ u. u.now) result ≡ (accesses_of_value self.now.tbs.found.subject_info).repository }
     {
         accesses_of(self.tbs.extensions.subject_info).repository
     }
 
-    /// The first rsync URI of rpkiManifest, in ASCII, at which the manifest of an authority is (RFC 6487 section 4.8.8.1).
+    /// Returns the first rsync URI of rpkiManifest, in ASCII, at which the manifest of an authority is (RFC 6487 section 4.8.8.1). `None`: there is
+    /// none.
     pub fn manifest_uri(&self) -> Option<&'a [u8]>
         ensures { option_map (λ u. u.now) result ≡ (accesses_of_value self.now.tbs.found.subject_info).manifest }
     {
         accesses_of(self.tbs.extensions.subject_info).manifest
     }
 
-    /// The value of the extension ipAddrBlocks: which IP addresses the subject has (RFC 3779 section 2). `None`: the certificate has none.
+    /// Returns the value of the extension ipAddrBlocks as DER: which IP addresses the subject has (RFC 3779 section 2). `None`: the certificate does
+    /// not have the extension.
     pub fn ip_blocks(&self) -> Option<&'a [u8]>
         ensures { option_map (λ v. v.now) result ≡ self.now.tbs.found.ip_blocks }
     {
         self.tbs.extensions.ip_blocks
     }
 
-    /// The value of the extension autonomousSysIds: which AS numbers the subject has (RFC 3779 section 3). `None`: the certificate has none.
+    /// Returns the value of the extension autonomousSysIds as DER: which AS numbers the subject has (RFC 3779 section 3). `None`: the certificate
+    /// does not have the extension.
     pub fn as_ids(&self) -> Option<&'a [u8]>
         ensures { option_map (λ v. v.now) result ≡ self.now.tbs.found.as_ids }
     {
         self.tbs.extensions.as_ids
     }
 
-    /// The first rsync URI of signedObject, in ASCII, at which the object of an end entity is (RFC 6487 section 4.8.8.2).
+    /// Returns the first rsync URI of signedObject, in ASCII, at which the object of an end entity is (RFC 6487 section 4.8.8.2). `None`: there is
+    /// none.
     pub fn object_uri(&self) -> Option<&'a [u8]>
         ensures { option_map (λ u. u.now) result ≡ (accesses_of_value self.now.tbs.found.subject_info).object }
     {

@@ -39,7 +39,7 @@ impl<'a> Serials<'a> {
         Ok(())
     }
 
-    /// The contents of the INTEGERs, each at most 20 bytes, in the order of the file.
+    /// Returns the serial numbers in the order of the file. Each is the content of its INTEGER, of at most 20 bytes, most significant byte first.
     pub fn as_slice(&self) -> &[&'a [u8]]
         ensures { map (λ serial. serial.now) result.now ≡ self.now }
     {
@@ -67,8 +67,8 @@ impl<'a> Model for Revocations<'a> {
 }
 
 impl<'a> Revocations<'a> {
-    /// Sorts the serial numbers of a CRL, for [`Revocations::has`]. Only references are copied: the octets stay in the file. A number that comes
-    /// twice stays twice. `Err`: out of memory.
+    /// Sorts the serial numbers of a CRL, for [`Revocations::has`]. Only references are copied: the bytes stay in the file. A number that is listed
+    /// twice stays twice. `Err`: memory ran out.
     pub fn of(alloc: Global, serials: &Serials<'a>) -> Result<Revocations<'a>, AllocError>
         ensures { IfOk result (λ r. SameMembers r serials.now) }
     {
@@ -78,7 +78,7 @@ impl<'a> Revocations<'a> {
         Ok(Revocations { sorted })
     }
 
-    /// Whether a certificate with this serial number is revoked. The number is the content of its INTEGER.
+    /// Returns whether the CRL lists this serial number. `serial` is the content of the certificate's INTEGER, compared byte by byte.
     pub fn has(&self, serial: &[u8]) -> bool
         ensures { IsTrue result ↔ Contains self.now serial.now }
     {

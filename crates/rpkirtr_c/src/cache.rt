@@ -138,11 +138,11 @@ fn make(alloc: Global, h: &mut CacheHandle, settings: &Settings, fault: &mut u32
     }
 }
 
-/// Makes a cache in the empty handle `h`. It has published nothing, and has no connection. `session` and `session0` are its sessions in versions
-/// 1 and 0 of the protocol. Its first version has the serial `start`, and it keeps `keep` versions before the current one, 1 to 65,536. It sends
-/// the intervals `refresh`, `retry` and `expire`, in seconds (RFC 8210 section 6). Returns the number of a `CallStatus`: `Done`, `Live`,
-/// `BadTiming`, `BadKeep` or `NoMemory`, judged in this order. `fault` is the number of a `TimingFault` after `BadTiming`, otherwise 0. On a
-/// refusal the handle stays as it was.
+/// Makes a cache in the empty handle `h`. It has published nothing, and has no connection. `session` and `session0` are its sessions in versions 1
+/// and 0 of the protocol. Its first version has the serial `start`, and it keeps `keep` versions before the current one, 1 to 65,536. It sends the
+/// intervals `refresh`, `retry` and `expire`, in seconds (RFC 8210 section 6).
+/// Returns the number of a `CallStatus`: `Done`, `Live` if `h` is not empty, `BadTiming`, `BadKeep` or `NoMemory`, judged in this order. `fault` is
+/// the number of a `TimingFault` after `BadTiming`, otherwise 0. On a refusal the handle stays as it was.
 #[unsafe(no_mangle)]
 pub extern "C" fn rpkirtr_cache_new(
     alloc: Global,
@@ -170,7 +170,8 @@ pub extern "C" fn rpkirtr_cache_new(
     make(alloc, h, &settings, fault).number()
 }
 
-/// Frees the cache with its connections, and empties the handle. Returns the number of a `CallStatus`: `Done` or `Empty`.
+/// Frees the cache with its connections, and empties the handle.
+/// Returns the number of a `CallStatus`: `Done`, or `Empty` if `h` holds no cache.
 #[unsafe(no_mangle)]
 pub extern "C" fn rpkirtr_cache_free(alloc: Global, h: &mut CacheHandle) -> i32
     ensures { Freed h.old.value h.new.value result }
@@ -205,10 +206,10 @@ fn publish(
     }
 }
 
-/// Publishes the set of records. A record that is listed twice counts once. `unchanged` is 1 if the set is that of the current version, and then
-/// no version is added. Otherwise it is 0. An answer that has begun keeps its version. No Serial Notify is sent: see `rpkirtr_cache_notify`.
-/// Returns the number of a `CallStatus`: `Done`, `Empty`, `BadRecord`, `OutOfRange` for more than 16,777,215 different records, or `NoMemory`.
-/// After `BadRecord`, `bad` is the index of the first malformed record, otherwise 0. On a refusal nothing is published.
+/// Publishes the set of records. A record that is listed twice counts once. `unchanged` is 1 if the set is that of the current version, and then no
+/// version is added. Otherwise it is 0. An answer that has begun keeps its version. No Serial Notify is sent: see `rpkirtr_cache_notify`.
+/// Returns the number of a `CallStatus`: `Done`, `Empty` if `h` holds no cache, `BadRecord`, `OutOfRange` for more than 16,777,215 different records,
+/// or `NoMemory`. After `BadRecord`, `bad` is the index of the first malformed record, otherwise 0. On a refusal nothing is published.
 #[unsafe(no_mangle)]
 pub extern "C" fn rpkirtr_cache_publish(
     alloc: Global,
@@ -230,8 +231,9 @@ pub extern "C" fn rpkirtr_cache_publish(
     answer.number()
 }
 
-/// Opens a connection to a router, and writes its number to `conn`: the least that no connection has. Returns the number of a `CallStatus`:
-/// `Done`, `Empty`, `NoMemory`, or `OutOfRange` if that number has more than 32 bits. On a refusal no connection is opened, and `conn` is 0.
+/// Opens a connection to a router, and writes its number to `conn`: the least that no connection has.
+/// Returns the number of a `CallStatus`: `Done`, `Empty` if `h` holds no cache, `NoMemory`, or `OutOfRange` if that number has more than 32 bits. On
+/// a refusal no connection is opened, and `conn` is 0.
 #[unsafe(no_mangle)]
 pub extern "C" fn rpkirtr_cache_open(alloc: Global, h: &mut CacheHandle, conn: &mut u32) -> i32
     ensures call { On h.old.value h.new.value result (λ s t. Serves s (λ m. Opens m result conn.new t)) }
@@ -246,8 +248,9 @@ pub extern "C" fn rpkirtr_cache_open(alloc: Global, h: &mut CacheHandle, conn: &
     answer.number()
 }
 
-/// Closes a connection, and drops the bytes that were due on it. Its number is then free. Returns the number of a `CallStatus`: `Done`, `Empty`,
-/// or `NoConnection` if no connection has the number `conn`. On a refusal nothing changes.
+/// Closes a connection, and drops the bytes that were due on it. Its number is then free.
+/// Returns the number of a `CallStatus`: `Done`, `Empty` if `h` holds no cache, or `NoConnection` if no connection has the number `conn`. On a
+/// refusal nothing changes.
 #[unsafe(no_mangle)]
 pub extern "C" fn rpkirtr_cache_close(alloc: Global, h: &mut CacheHandle, conn: u32) -> i32
     ensures { On h.old.value h.new.value result (λ s t. Serves s (λ m. AtConn (m.at conn) result (IsServing (with_conn conn None m) t) (t ≡ s))) }
@@ -260,10 +263,11 @@ pub extern "C" fn rpkirtr_cache_close(alloc: Global, h: &mut CacheHandle, conn: 
     answer.number()
 }
 
-/// Passes bytes that were received on a connection to the cache, and writes to `taken` how many it consumed. It consumes none if bytes are due
-/// (pull first) or the connection has ended. Otherwise it consumes up to the end of the first PDU, up to a fault, or all of `bytes`. If memory
-/// runs out for an answer, an Error Report of code 1 is due, and the connection ends (RFC 8210 section 12). The status is `Done` then too.
-/// Returns the number of a `CallStatus`: `Done`, `Empty`, or `NoConnection` if no connection has the number `conn`. On a refusal `taken` is 0.
+/// Passes bytes that were received on a connection to the cache, and writes to `taken` how many it consumed. It consumes none if bytes are due (pull
+/// first) or the connection has ended. Otherwise it consumes up to the end of the first PDU, up to a fault, or all of `bytes`. If memory runs out for
+/// an answer, an Error Report of code 1 is due, and the connection ends (RFC 8210 section 12). The status is `Done` then too.
+/// Returns the number of a `CallStatus`: `Done`, `Empty` if `h` holds no cache, or `NoConnection` if no connection has the number `conn`. On a
+/// refusal `taken` is 0.
 #[unsafe(no_mangle)]
 pub extern "C" fn rpkirtr_cache_receive(
     alloc: Global,
@@ -285,8 +289,9 @@ pub extern "C" fn rpkirtr_cache_receive(
     answer.number()
 }
 
-/// Moves bytes that are due on a connection into the front of `room`, as many as fit, and writes to `pulled` how many: 0 if none are due. The
-/// rest of `room` stays. Returns the number of a `CallStatus`: `Done`, `Empty`, or `NoConnection` if no connection has the number `conn`. On a
+/// Moves bytes that are due on a connection into the front of `room`, as many as fit, and writes to `pulled` how many: 0 if none are due. The rest of
+/// `room` stays.
+/// Returns the number of a `CallStatus`: `Done`, `Empty` if `h` holds no cache, or `NoConnection` if no connection has the number `conn`. On a
 /// refusal `pulled` is 0.
 #[unsafe(no_mangle)]
 pub extern "C" fn rpkirtr_cache_pull(
@@ -310,8 +315,9 @@ pub extern "C" fn rpkirtr_cache_pull(
 }
 
 /// Makes a Serial Notify of the current version ready to be pulled on a connection (RFC 8210 section 5.2), and writes 1 to `sent`. If nothing is
-/// published, if bytes are due, or if the connection has ended, `sent` is 0, and the status is `Done`. Returns the number of a `CallStatus`:
-/// `Done`, `Empty`, or `NoConnection` if no connection has the number `conn`. On a refusal `sent` is 0.
+/// published, if bytes are due, or if the connection has ended, `sent` is 0, and the status is `Done`.
+/// Returns the number of a `CallStatus`: `Done`, `Empty` if `h` holds no cache, or `NoConnection` if no connection has the number `conn`. On a
+/// refusal `sent` is 0.
 #[unsafe(no_mangle)]
 pub extern "C" fn rpkirtr_cache_notify(
     alloc: Global,
@@ -331,8 +337,9 @@ pub extern "C" fn rpkirtr_cache_notify(
     answer.number()
 }
 
-/// Writes whether bytes are due on a connection: 1 or 0. Returns the number of a `CallStatus`: `Done`, `Empty`, or `NoConnection` if no
-/// connection has the number `conn`. On a refusal `has` is 0.
+/// Writes whether bytes are due on a connection: 1 or 0.
+/// Returns the number of a `CallStatus`: `Done`, `Empty` if `h` holds no cache, or `NoConnection` if no connection has the number `conn`. On a
+/// refusal `has` is 0.
 #[unsafe(no_mangle)]
 pub extern "C" fn rpkirtr_cache_has_bytes(
     alloc: Global,
@@ -352,8 +359,9 @@ pub extern "C" fn rpkirtr_cache_has_bytes(
     answer.number()
 }
 
-/// Writes whether a connection continues: 1, or 0 if it has ended. What is due can be pulled after its end too. Returns the number of a
-/// `CallStatus`: `Done`, `Empty`, or `NoConnection` if no connection has the number `conn`. On a refusal `continues` is 0.
+/// Writes whether a connection continues: 1, or 0 if it has ended. What is due can be pulled after its end too.
+/// Returns the number of a `CallStatus`: `Done`, `Empty` if `h` holds no cache, or `NoConnection` if no connection has the number `conn`. On a
+/// refusal `continues` is 0.
 #[unsafe(no_mangle)]
 pub extern "C" fn rpkirtr_cache_is_open(
     alloc: Global,
@@ -373,8 +381,8 @@ pub extern "C" fn rpkirtr_cache_is_open(
     answer.number()
 }
 
-/// Writes the serial of the current version, and how many records it has. Returns the number of a `CallStatus`: `Done`, `Empty`, or `NoData` if
-/// nothing is published. On a refusal both are 0.
+/// Writes the serial of the current version, and how many records it has.
+/// Returns the number of a `CallStatus`: `Done`, `Empty` if `h` holds no cache, or `NoData` if nothing is published. On a refusal both are 0.
 #[unsafe(no_mangle)]
 pub extern "C" fn rpkirtr_cache_current(
     alloc: Global,

@@ -67,9 +67,10 @@ fn begin(
     CallStatus::Done
 }
 
-/// Compares the committed records with those of the change that was accepted last (none at first). It writes how many were withdrawn and
-/// announced. That change is kept until another begins or this one is accepted. Returns the number of a `CallStatus`: `Done`, `Empty` or
-/// `NoMemory`. On a refusal both numbers are 0, and an earlier change is kept.
+/// Begins a change: from the records that were accepted last, at first none, to the committed records. It writes how many records the change
+/// withdraws and announces. The change is kept until another begins or `rpkirtr_router_changes_taken` accepts it.
+/// Returns the number of a `CallStatus`: `Done`, `Empty` if `h` holds no router, or `NoMemory`. On a refusal both numbers are 0, and an earlier
+/// change is kept.
 #[unsafe(no_mangle)]
 pub extern "C" fn rpkirtr_router_changes_begin(
     alloc: Global,
@@ -90,8 +91,9 @@ pub extern "C" fn rpkirtr_router_changes_begin(
     answer.number()
 }
 
-/// Copies the withdrawn records of the change from index `first` on into `room`, in ascending order, as many as fit. It writes to `copied` how
-/// many: 0 if no change has begun. The rest of `room` stays. Returns the number of a `CallStatus`: `Done`, or `Empty`, and then `copied` is 0.
+/// Copies the withdrawn records of the change from index `first` on into `room`, in ascending order, as many as fit. It writes to `copied` how many:
+/// 0 if no change has begun. The rest of `room` stays.
+/// Returns the number of a `CallStatus`: `Done`, or `Empty` if `h` holds no router, and then `copied` is 0.
 #[unsafe(no_mangle)]
 pub extern "C" fn rpkirtr_router_withdrawn(
     alloc: Global,
@@ -112,8 +114,9 @@ pub extern "C" fn rpkirtr_router_withdrawn(
     CallStatus::Done.number()
 }
 
-/// Copies the announced records of the change from index `first` on into `room`, in ascending order, as many as fit. It writes to `copied` how
-/// many: 0 if no change has begun. The rest of `room` stays. Returns the number of a `CallStatus`: `Done`, or `Empty`, and then `copied` is 0.
+/// Copies the announced records of the change from index `first` on into `room`, in ascending order, as many as fit. It writes to `copied` how many:
+/// 0 if no change has begun. The rest of `room` stays.
+/// Returns the number of a `CallStatus`: `Done`, or `Empty` if `h` holds no router, and then `copied` is 0.
 #[unsafe(no_mangle)]
 pub extern "C" fn rpkirtr_router_announced(
     alloc: Global,
@@ -134,8 +137,9 @@ pub extern "C" fn rpkirtr_router_announced(
     CallStatus::Done.number()
 }
 
-/// Accepts the change: the next one begins at the records to which it led, even if the router has committed others since. If none has begun,
-/// nothing changes. Returns the number of a `CallStatus`: `Done` in both cases, or `Empty`.
+/// Accepts the change that has begun. The next change begins at the records to which this one led, even if the router has committed others since. If
+/// no change has begun, nothing changes.
+/// Returns the number of a `CallStatus`: `Done` in both cases, or `Empty` if `h` holds no router.
 #[unsafe(no_mangle)]
 pub extern "C" fn rpkirtr_router_changes_taken(alloc: Global, h: &mut RouterHandle) -> i32
     ensures { On h.old.value h.new.value result (λ s t. (result ≡ number Done) × Takes s t) }

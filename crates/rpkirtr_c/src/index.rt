@@ -231,9 +231,9 @@ fn boxed_over(alloc: Global, records: &[CRecord]) -> Result<Box<Judge>, IndexFau
     }
 }
 
-/// Makes an index over records in the empty handle `h`. A record that is listed twice counts once. Returns the number of a `CallStatus`: `Done`,
-/// `Live`, `BadRecord`, `OutOfRange` for more than 16,777,215 different records, or `NoMemory`. After `BadRecord`, `bad` is the index of the
-/// first malformed record, otherwise 0. On a refusal the handle stays as it was.
+/// Makes an index over records in the empty handle `h`. A record that is listed twice counts once.
+/// Returns the number of a `CallStatus`: `Done`, `Live` if `h` is not empty, `BadRecord`, `OutOfRange` for more than 16,777,215 different records, or
+/// `NoMemory`. After `BadRecord`, `bad` is the index of the first malformed record, otherwise 0. On a refusal the handle stays as it was.
 #[unsafe(no_mangle)]
 pub extern "C" fn rpkirtr_index_new(
     alloc: Global,
@@ -288,7 +288,8 @@ pub(crate) fn fill_index(alloc: Global, set: &VrpSet, h: &mut IndexHandle) -> Ca
     }
 }
 
-/// Frees the index, and empties the handle. Returns the number of a `CallStatus`: `Done` or `Empty`.
+/// Frees the index, and empties the handle.
+/// Returns the number of a `CallStatus`: `Done`, or `Empty` if `h` holds no index.
 #[unsafe(no_mangle)]
 pub extern "C" fn rpkirtr_index_free(alloc: Global, h: &mut IndexHandle) -> i32
     ensures { Freed h.old.value h.new.value result }
@@ -299,7 +300,8 @@ pub extern "C" fn rpkirtr_index_free(alloc: Global, h: &mut IndexHandle) -> i32
     }
 }
 
-/// Writes how many different records the index is over. Returns the number of a `CallStatus`: `Done`, or `Empty`, and then 0 is written.
+/// Writes how many different records the index is over.
+/// Returns the number of a `CallStatus`: `Done`, or `Empty` if `h` holds no index, and then 0 is written.
 #[unsafe(no_mangle)]
 pub extern "C" fn rpkirtr_index_count(alloc: Global, h: &mut IndexHandle, count: &mut usize) -> i32
     ensures call { On h.old.value h.new.value result (λ s t. (result ≡ number Done) × (t ≡ s) × (count.new ≡ size s.index)) }
@@ -314,8 +316,9 @@ pub extern "C" fn rpkirtr_index_count(alloc: Global, h: &mut IndexHandle, count:
     CallStatus::Done.number()
 }
 
-/// Writes the origin validation state of a route over the index (RFC 6811 section 2): 0 not found, 1 valid, 2 invalid. Returns the number of a
-/// `CallStatus`: `Done`, `Empty`, or `BadRoute` if the route has no valid prefix. On a refusal 0 is written.
+/// Writes the origin validation state of a route over the index (RFC 6811 section 2): 0 not found, 1 valid, 2 invalid.
+/// Returns the number of a `CallStatus`: `Done`, `Empty` if `h` holds no index, or `BadRoute` if the route has no valid prefix. On a refusal 0 is
+/// written.
 #[unsafe(no_mangle)]
 pub extern "C" fn rpkirtr_index_state(
     alloc: Global,
@@ -341,8 +344,9 @@ pub extern "C" fn rpkirtr_index_state(
     answer.number()
 }
 
-/// Copies the records of the index that cover a route into `room`, in ascending order, as many as fit. It writes to `count` how many cover the
-/// route, also if fewer fit. The rest of `room` stays. Returns the number of a `CallStatus`: `Done`, `Empty`, `BadRoute` or `NoMemory`. On a
+/// Copies the records of the index that cover a route into `room`, in ascending order, as many as fit. It writes to `count` how many cover the route,
+/// also if fewer fit. The rest of `room` stays.
+/// Returns the number of a `CallStatus`: `Done`, `Empty` if `h` holds no index, `BadRoute` if the route has no valid prefix, or `NoMemory`. On a
 /// refusal `count` is 0, and `room` stays.
 #[unsafe(no_mangle)]
 pub extern "C" fn rpkirtr_index_covering(

@@ -77,10 +77,10 @@ fn boxed_in(alloc: Global, lists: &[CList]) -> Result<Box<Judge>, ListFault>
     }
 }
 
-/// Makes an index over the records of several lists in the empty handle `h`. A record that is listed twice counts once. Returns the number of a
-/// `CallStatus`: `Done`, `Live`, `BadRecord`, `OutOfRange` for more than 16,777,215 different records, or `NoMemory`. After `BadRecord`, `list`
-/// is the index of the first list with a malformed record, and `bad` that of the first such record in it. Otherwise both are 0. On a refusal the
-/// handle stays as it was.
+/// Makes an index over the records of several lists in the empty handle `h`. A record that is listed twice counts once.
+/// Returns the number of a `CallStatus`: `Done`, `Live` if `h` is not empty, `BadRecord`, `OutOfRange` for more than 16,777,215 different records, or
+/// `NoMemory`. After `BadRecord`, `list` is the index of the first list with a malformed record, and `bad` that of the first such record in it.
+/// Otherwise both are 0. On a refusal the handle stays as it was.
 #[unsafe(no_mangle)]
 pub extern "C" fn rpkirtr_index_new_of(
     alloc: Global,

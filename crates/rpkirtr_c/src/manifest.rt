@@ -119,7 +119,8 @@ fn boxed(alloc: Global, bytes: &[u8]) -> Result<Box<Contents>, PayloadFault>
 }
 
 /// Decodes the payload of a manifest into the empty handle `h` (RFC 9286 section 4). The signed object around it is not checked, nor whether the
-/// manifest is stale. Returns the number of a `CallStatus`: `Done`, `Live`, `BadPayload` or `NoMemory`. After `BadPayload`, `fault` is the first
+/// manifest is stale.
+/// Returns the number of a `CallStatus`: `Done`, `Live` if `h` is not empty, `BadPayload` or `NoMemory`. After `BadPayload`, `fault` is the first
 /// fault and its byte offset, otherwise all of it is 0. On a refusal the handle stays as it was.
 #[unsafe(no_mangle)]
 pub extern "C" fn rpkirtr_manifest_new(
@@ -148,7 +149,8 @@ pub extern "C" fn rpkirtr_manifest_new(
     }
 }
 
-/// Frees the manifest, and empties the handle. Returns the number of a `CallStatus`: `Done` or `Empty`.
+/// Frees the manifest, and empties the handle.
+/// Returns the number of a `CallStatus`: `Done`, or `Empty` if `h` holds no manifest.
 #[unsafe(no_mangle)]
 pub extern "C" fn rpkirtr_manifest_free(alloc: Global, h: &mut ManifestHandle) -> i32
     ensures { Freed h.old.value h.new.value result }
@@ -159,8 +161,9 @@ pub extern "C" fn rpkirtr_manifest_free(alloc: Global, h: &mut ManifestHandle) -
     }
 }
 
-/// Copies the octets of the manifest number into `room`, the highest first, as many as fit. It writes to `len` how many the number has, 1 to 20,
-/// also if fewer fit. The rest of `room` stays. Returns the number of a `CallStatus`: `Done`, or `Empty`, and then `len` is 0.
+/// Copies the octets of the manifest number into `room`, the highest first, as many as fit. It writes to `len` how many the number has, 1 to 20, also
+/// if fewer fit. The rest of `room` stays.
+/// Returns the number of a `CallStatus`: `Done`, or `Empty` if `h` holds no manifest, and then `len` is 0.
 #[unsafe(no_mangle)]
 pub extern "C" fn rpkirtr_manifest_number(
     alloc: Global,
@@ -180,8 +183,8 @@ pub extern "C" fn rpkirtr_manifest_number(
     CallStatus::Done.number()
 }
 
-/// Writes thisUpdate and nextUpdate, in seconds since the beginning of 1970 in UTC. Returns the number of a `CallStatus`: `Done`, or `Empty`,
-/// and then both are 0.
+/// Writes thisUpdate and nextUpdate, in seconds since the beginning of 1970 in UTC.
+/// Returns the number of a `CallStatus`: `Done`, or `Empty` if `h` holds no manifest, and then both are 0.
 #[unsafe(no_mangle)]
 pub extern "C" fn rpkirtr_manifest_times(
     alloc: Global,
@@ -203,7 +206,8 @@ pub extern "C" fn rpkirtr_manifest_times(
     CallStatus::Done.number()
 }
 
-/// Writes how many files the manifest lists. Returns the number of a `CallStatus`: `Done`, or `Empty`, and then 0 is written.
+/// Writes how many files the manifest lists.
+/// Returns the number of a `CallStatus`: `Done`, or `Empty` if `h` holds no manifest, and then 0 is written.
 #[unsafe(no_mangle)]
 pub extern "C" fn rpkirtr_manifest_count(
     alloc: Global,
@@ -248,9 +252,10 @@ fn write_file(
     }
 }
 
-/// Copies the name of the file at `index`, from 0, into `room`, as much as fits, without a zero octet after it. It writes the length of the
-/// whole name to `len`, and the SHA-256 digest of the file to `digest`. Returns the number of a `CallStatus`: `Done`, `Empty`, or `OutOfRange`
-/// if `index` is the number of files or more. On a refusal `len` and `digest` are 0, and `room` stays.
+/// Copies the name of the file at `index`, from 0, into `room`, as much as fits, without a zero octet after it. It writes the length of the whole
+/// name to `len`, and the SHA-256 digest of the file to `digest`.
+/// Returns the number of a `CallStatus`: `Done`, `Empty` if `h` holds no manifest, or `OutOfRange` if `index` is the number of files or more. On a
+/// refusal `len` and `digest` are 0, and `room` stays.
 #[unsafe(no_mangle)]
 pub extern "C" fn rpkirtr_manifest_file(
     alloc: Global,

@@ -18,7 +18,8 @@ use crate::values::{
 use std::alloc::Global;
 use vrps::OriginState;
 
-/// Writes how many records are committed. Returns the number of a `CallStatus`: `Done`, or `Empty`, and then 0 is written.
+/// Writes how many records are committed.
+/// Returns the number of a `CallStatus`: `Done`, or `Empty` if `h` holds no router, and then 0 is written.
 #[unsafe(no_mangle)]
 pub extern "C" fn rpkirtr_router_count(
     alloc: Global,
@@ -37,9 +38,10 @@ pub extern "C" fn rpkirtr_router_count(
     CallStatus::Done.number()
 }
 
-/// Writes the origin validation state of a route over the committed records (RFC 6811 section 2): 0 not found, 1 valid, 2 invalid. Records that
-/// have expired count until the next call with a time. Returns the number of a `CallStatus`: `Done`, `Empty`, or `BadRoute` if the route has no
-/// valid prefix. On a refusal 0 is written.
+/// Writes the origin validation state of a route over the committed records (RFC 6811 section 2): 0 not found, 1 valid, 2 invalid. Records that have
+/// expired count until the next call with a time.
+/// Returns the number of a `CallStatus`: `Done`, `Empty` if `h` holds no router, or `BadRoute` if the route has no valid prefix. On a refusal 0 is
+/// written.
 #[unsafe(no_mangle)]
 pub extern "C" fn rpkirtr_router_state(
     alloc: Global,
@@ -65,8 +67,9 @@ pub extern "C" fn rpkirtr_router_state(
     answer.number()
 }
 
-/// Writes the record at `index`, from 0, of the committed records in ascending order. Returns the number of a `CallStatus`: `Done`, `Empty`, or
-/// `OutOfRange` if `index` is their number or more. On a refusal all fields of `out` are 0.
+/// Writes the record at `index`, from 0, of the committed records in ascending order.
+/// Returns the number of a `CallStatus`: `Done`, `Empty` if `h` holds no router, or `OutOfRange` if `index` is their number or more. On a refusal all
+/// fields of `out` are 0.
 #[unsafe(no_mangle)]
 pub extern "C" fn rpkirtr_router_record(
     alloc: Global,
@@ -86,8 +89,9 @@ pub extern "C" fn rpkirtr_router_record(
     answer.number()
 }
 
-/// Copies the committed records from index `first` on into `room`, in ascending order, as many as fit. It writes to `copied` how many: 0 if
-/// `first` is their number or more. The rest of `room` stays. Returns the number of a `CallStatus`: `Done`, or `Empty`, and then `copied` is 0.
+/// Copies the committed records from index `first` on into `room`, in ascending order, as many as fit. It writes to `copied` how many: 0 if `first`
+/// is their number or more. The rest of `room` stays.
+/// Returns the number of a `CallStatus`: `Done`, or `Empty` if `h` holds no router, and then `copied` is 0.
 #[unsafe(no_mangle)]
 pub extern "C" fn rpkirtr_router_records(
     alloc: Global,
@@ -108,8 +112,9 @@ pub extern "C" fn rpkirtr_router_records(
     CallStatus::Done.number()
 }
 
-/// Copies the committed records that cover a route into `room`, in ascending order, as many as fit. It writes to `count` how many cover the
-/// route, also if fewer fit. The rest of `room` stays. Returns the number of a `CallStatus`: `Done`, `Empty`, `BadRoute` or `NoMemory`. On a
+/// Copies the committed records that cover a route into `room`, in ascending order, as many as fit. It writes to `count` how many cover the route,
+/// also if fewer fit. The rest of `room` stays.
+/// Returns the number of a `CallStatus`: `Done`, `Empty` if `h` holds no router, `BadRoute` if the route has no valid prefix, or `NoMemory`. On a
 /// refusal `count` is 0, and `room` stays.
 #[unsafe(no_mangle)]
 pub extern "C" fn rpkirtr_router_covering(
@@ -141,9 +146,10 @@ pub extern "C" fn rpkirtr_router_covering(
     answer.number()
 }
 
-/// Makes an index over the committed records in the empty handle `index`. It does not change if the router changes or is freed, nor if the
-/// records expire. Returns the number of a `CallStatus`: `Done`, `Empty` if there is no router, `Live` if `index` is not empty, or `NoMemory`.
-/// On a refusal `index` stays as it was.
+/// Makes an index over the committed records in the empty handle `index`. The index does not change if the router changes or is freed, nor if the
+/// records expire.
+/// Returns the number of a `CallStatus`: `Done`, `Empty` if `h` holds no router, `Live` if `index` is not empty, or `NoMemory`. On a refusal `index`
+/// stays as it was.
 #[tactic(auto, using(crate::proofs::Calls::indexes))]
 #[unsafe(no_mangle)]
 pub extern "C" fn rpkirtr_router_index(

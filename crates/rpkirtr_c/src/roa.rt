@@ -131,9 +131,9 @@ fn boxed(alloc: Global, bytes: &[u8]) -> Result<Box<Authorization>, PayloadFault
     }
 }
 
-/// Decodes the payload of a ROA into the empty handle `h` (RFC 9582 section 4). The signed object around it is not checked. Returns the number
-/// of a `CallStatus`: `Done`, `Live`, `BadPayload` or `NoMemory`. After `BadPayload`, `fault` is the first fault and its byte offset, otherwise
-/// all of it is 0. On a refusal the handle stays as it was.
+/// Decodes the payload of a ROA into the empty handle `h` (RFC 9582 section 4). The signed object around it is not checked.
+/// Returns the number of a `CallStatus`: `Done`, `Live` if `h` is not empty, `BadPayload` or `NoMemory`. After `BadPayload`, `fault` is the first
+/// fault and its byte offset, otherwise all of it is 0. On a refusal the handle stays as it was.
 #[unsafe(no_mangle)]
 pub extern "C" fn rpkirtr_roa_new(
     alloc: Global,
@@ -161,7 +161,8 @@ pub extern "C" fn rpkirtr_roa_new(
     }
 }
 
-/// Frees the ROA, and empties the handle. Returns the number of a `CallStatus`: `Done` or `Empty`.
+/// Frees the ROA, and empties the handle.
+/// Returns the number of a `CallStatus`: `Done`, or `Empty` if `h` holds no ROA.
 #[unsafe(no_mangle)]
 pub extern "C" fn rpkirtr_roa_free(alloc: Global, h: &mut RoaHandle) -> i32
     ensures { Freed h.old.value h.new.value result }
@@ -172,7 +173,8 @@ pub extern "C" fn rpkirtr_roa_free(alloc: Global, h: &mut RoaHandle) -> i32
     }
 }
 
-/// Writes the AS that may originate the prefixes. Returns the number of a `CallStatus`: `Done`, or `Empty`, and then 0 is written.
+/// Writes the AS that may originate the prefixes.
+/// Returns the number of a `CallStatus`: `Done`, or `Empty` if `h` holds no ROA, and then 0 is written.
 #[unsafe(no_mangle)]
 pub extern "C" fn rpkirtr_roa_asn(alloc: Global, h: &mut RoaHandle, asn: &mut u32) -> i32
     ensures call { On h.old.value h.new.value result (λ s t. (result ≡ number Done) × (t ≡ s) × (asn.new ≡ s.asn.0)) }
@@ -187,7 +189,8 @@ pub extern "C" fn rpkirtr_roa_asn(alloc: Global, h: &mut RoaHandle, asn: &mut u3
     CallStatus::Done.number()
 }
 
-/// Writes how many prefixes the ROA lists. Returns the number of a `CallStatus`: `Done`, or `Empty`, and then 0 is written.
+/// Writes how many prefixes the ROA lists.
+/// Returns the number of a `CallStatus`: `Done`, or `Empty` if `h` holds no ROA, and then 0 is written.
 #[unsafe(no_mangle)]
 pub extern "C" fn rpkirtr_roa_count(alloc: Global, h: &mut RoaHandle, count: &mut usize) -> i32
     ensures call { On h.old.value h.new.value result (λ s t. (result ≡ number Done) × (t ≡ s) × (count.new ≡ length s.vrps.items)) }
@@ -202,9 +205,9 @@ pub extern "C" fn rpkirtr_roa_count(alloc: Global, h: &mut RoaHandle, count: &mu
     CallStatus::Done.number()
 }
 
-/// Copies the records that the ROA authorizes from index `first` on into `room`, in the order of the ROA, as many as fit. It writes to `copied`
-/// how many: 0 if `first` is their number or more. The rest of `room` stays. Returns the number of a `CallStatus`: `Done`, or `Empty`, and then
-/// `copied` is 0.
+/// Copies the records that the ROA authorizes from index `first` on into `room`, in the order of the ROA, as many as fit. It writes to `copied` how
+/// many: 0 if `first` is their number or more. The rest of `room` stays.
+/// Returns the number of a `CallStatus`: `Done`, or `Empty` if `h` holds no ROA, and then `copied` is 0.
 #[unsafe(no_mangle)]
 pub extern "C" fn rpkirtr_roa_records(
     alloc: Global,

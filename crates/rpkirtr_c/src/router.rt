@@ -121,8 +121,8 @@ impl RouterHandle {
     }
 }
 
-/// Makes a router in the empty handle `h`. It has committed nothing, has no connection, and speaks version 1 of the protocol. Returns the number
-/// of a `CallStatus`: `Done`, `Live` or `NoMemory`. On a refusal the handle stays as it was.
+/// Makes a router in the empty handle `h`. It has committed nothing, has no connection, and speaks version 1 of the protocol.
+/// Returns the number of a `CallStatus`: `Done`, `Live` if `h` is not empty, or `NoMemory`. On a refusal the handle stays as it was.
 #[unsafe(no_mangle)]
 pub extern "C" fn rpkirtr_router_new(alloc: Global, h: &mut RouterHandle) -> i32
     ensures { New h.old.value h.new.value result (λ s. IsShown rules.new_router s.router × (s.taken ≡ empty) × (s.pending ≡ None) × (s.traffic ≡ no_traffic)) }
@@ -146,7 +146,8 @@ pub extern "C" fn rpkirtr_router_new(alloc: Global, h: &mut RouterHandle) -> i32
     }
 }
 
-/// Frees the router with all that it holds, and empties the handle. Returns the number of a `CallStatus`: `Done` or `Empty`.
+/// Frees the router with all that it holds, and empties the handle.
+/// Returns the number of a `CallStatus`: `Done`, or `Empty` if `h` holds no router.
 #[unsafe(no_mangle)]
 pub extern "C" fn rpkirtr_router_free(alloc: Global, h: &mut RouterHandle) -> i32
     ensures { Freed h.old.value h.new.value result }
@@ -157,8 +158,8 @@ pub extern "C" fn rpkirtr_router_free(alloc: Global, h: &mut RouterHandle) -> i3
     }
 }
 
-/// Sets the version of the protocol, 0 or 1, for all later connections. An open connection keeps its version. Returns the number of a
-/// `CallStatus`: `Done`, `Empty`, or `BadVersion` for any other number. On a refusal nothing changes.
+/// Sets the version of the protocol, 0 or 1, for all later connections. An open connection keeps its version.
+/// Returns the number of a `CallStatus`: `Done`, `Empty` if `h` holds no router, or `BadVersion` for any other number. On a refusal nothing changes.
 #[unsafe(no_mangle)]
 pub extern "C" fn rpkirtr_router_speak(alloc: Global, h: &mut RouterHandle, version: u8) -> i32
     ensures { On h.old.value h.new.value result (λ s t. IsSpoken version result s t) }
@@ -177,9 +178,9 @@ pub extern "C" fn rpkirtr_router_speak(alloc: Global, h: &mut RouterHandle, vers
     answer.number()
 }
 
-/// Configures the router from now on. What is committed keeps its intervals. Returns the number of a `CallStatus`: `Done`, `Empty`,
-/// `BadStructure` or `BadTiming`, judged in this order. On a refusal nothing changes. `fault` is the number of a `TimingFault` after
-/// `BadTiming`, otherwise 0.
+/// Configures the router from now on. What is committed keeps its intervals.
+/// Returns the number of a `CallStatus`: `Done`, `Empty` if `h` holds no router, `BadStructure` or `BadTiming`, judged in this order. On a refusal
+/// nothing changes. `fault` is the number of a `TimingFault` after `BadTiming`, otherwise 0.
 #[unsafe(no_mangle)]
 pub extern "C" fn rpkirtr_router_configure(
     alloc: Global,
@@ -208,8 +209,8 @@ pub extern "C" fn rpkirtr_router_configure(
     answer.number()
 }
 
-/// Writes the configuration that was set last, or the default one if none was set. Returns the number of a `CallStatus`: `Done`, or `Empty`, and
-/// then the default one is written.
+/// Writes the configuration that was set last, or the default one if none was set.
+/// Returns the number of a `CallStatus`: `Done`, or `Empty` if `h` holds no router, and then the default one is written.
 #[unsafe(no_mangle)]
 pub extern "C" fn rpkirtr_router_config(
     alloc: Global,
@@ -229,7 +230,8 @@ pub extern "C" fn rpkirtr_router_config(
 }
 
 /// Starts a connection at second `now` of the caller's clock. Its first query is then ready to be pulled. An older connection is closed, and its
-/// traffic is forgotten. Returns the number of a `CallStatus`: `Done` or `Empty`.
+/// traffic is forgotten.
+/// Returns the number of a `CallStatus`: `Done`, or `Empty` if `h` holds no router.
 #[unsafe(no_mangle)]
 pub extern "C" fn rpkirtr_router_connect(alloc: Global, h: &mut RouterHandle, now: u64) -> i32
     ensures call { On h.old.value h.new.value result (λ s t. (result ≡ number Done) × Carries (model.Connects now) no_traffic s t) }
@@ -243,7 +245,8 @@ pub extern "C" fn rpkirtr_router_connect(alloc: Global, h: &mut RouterHandle, no
 }
 
 /// Notes that the transport closed the connection at second `now` of the caller's clock. Bytes that were not pulled and an unfinished answer are
-/// dropped. Committed records stay unless they have expired. Returns the number of a `CallStatus`: `Done` or `Empty`.
+/// dropped. Committed records stay unless they have expired.
+/// Returns the number of a `CallStatus`: `Done`, or `Empty` if `h` holds no router.
 #[unsafe(no_mangle)]
 pub extern "C" fn rpkirtr_router_connection_closed(
     alloc: Global,
@@ -260,10 +263,10 @@ pub extern "C" fn rpkirtr_router_connection_closed(
     CallStatus::Done.number()
 }
 
-/// Passes bytes that were received at second `now` of the caller's clock to the router, and writes to `taken` how many it consumed. It consumes
-/// none if bytes are pending (pull first) or no link is open. Otherwise it consumes up to the first PDU or fault that makes bytes pending or
-/// ends the link, or all of `bytes`. If memory runs out, the link ends with `End::Memory`, and the committed records stay. Returns the number of
-/// a `CallStatus`: `Done`, also in these cases, or `Empty`, and then `taken` is 0.
+/// Passes bytes that were received at second `now` of the caller's clock to the router, and writes to `taken` how many it consumed. It consumes none
+/// if bytes are pending (pull first) or no link is open. Otherwise it consumes up to the first PDU or fault that makes bytes pending or ends the
+/// link, or all of `bytes`. If memory runs out, the link ends with `End::Memory`, and the committed records stay.
+/// Returns the number of a `CallStatus`: `Done`, also in these cases, or `Empty` if `h` holds no router, and then `taken` is 0.
 #[unsafe(no_mangle)]
 pub extern "C" fn rpkirtr_router_receive(
     alloc: Global,
@@ -285,8 +288,9 @@ pub extern "C" fn rpkirtr_router_receive(
     CallStatus::Done.number()
 }
 
-/// Moves pending bytes for the cache into the front of `room`, as many as fit, and writes to `pulled` how many: 0 if none are pending. The rest
-/// of `room` stays. Returns the number of a `CallStatus`: `Done`, or `Empty`, and then `pulled` is 0.
+/// Moves pending bytes for the cache into the front of `room`, as many as fit, and writes to `pulled` how many: 0 if none are pending. The rest of
+/// `room` stays.
+/// Returns the number of a `CallStatus`: `Done`, or `Empty` if `h` holds no router, and then `pulled` is 0.
 #[unsafe(no_mangle)]
 pub extern "C" fn rpkirtr_router_pull(
     alloc: Global,
@@ -307,9 +311,9 @@ pub extern "C" fn rpkirtr_router_pull(
     CallStatus::Done.number()
 }
 
-/// Advances the clock to second `now` of the caller's clock. If the records have expired, they are dropped, and a link with an outstanding
-/// Serial Query ends. If the query of an idle link is due, it is then ready to be pulled. Returns the number of a `CallStatus`: `Done` or
-/// `Empty`.
+/// Advances the clock to second `now` of the caller's clock. If the records have expired, they are dropped, and a link with an outstanding Serial
+/// Query ends. If the query of an idle link is due, it is then ready to be pulled.
+/// Returns the number of a `CallStatus`: `Done`, or `Empty` if `h` holds no router.
 #[unsafe(no_mangle)]
 pub extern "C" fn rpkirtr_router_tick(alloc: Global, h: &mut RouterHandle, now: u64) -> i32
     ensures { On h.old.value h.new.value result (λ s t. (result ≡ number Done) × Makes (model.Ticks now) s t) }
@@ -322,8 +326,9 @@ pub extern "C" fn rpkirtr_router_tick(alloc: Global, h: &mut RouterHandle, now: 
     CallStatus::Done.number()
 }
 
-/// Makes a query ready to be pulled, if the link is idle. Returns the number of a `CallStatus`: `Done`, `Empty`, `Busy` if a query is
-/// outstanding, or `NotLinked` if no link is open. On a refusal nothing changes.
+/// Makes a query ready to be pulled, if the link is idle.
+/// Returns the number of a `CallStatus`: `Done`, `Empty` if `h` holds no router, `Busy` if a query is outstanding, or `NotLinked` if no link is open.
+/// On a refusal nothing changes.
 #[unsafe(no_mangle)]
 pub extern "C" fn rpkirtr_router_ask(alloc: Global, h: &mut RouterHandle) -> i32
     ensures { On h.old.value h.new.value result (λ s t. Makes model.AsksNow s t × Shows s (λ r. result ≡ number (ask_answer (asked_on r.link)))) }
@@ -340,9 +345,9 @@ pub extern "C" fn rpkirtr_router_ask(alloc: Global, h: &mut RouterHandle) -> i32
     answer.number()
 }
 
-/// Writes when the next query of an idle link is due, or the next attempt to connect a closed one (RFC 8210 section 6). The time is in seconds
-/// of the caller's clock. It is `NEVER` before the first commit, No Data or close. While a query is outstanding, it may be in the past. Returns
-/// the number of a `CallStatus`: `Done`, or `Empty`, and then `NEVER` is written.
+/// Writes when the next query of an idle link is due, or the next attempt to connect a closed one (RFC 8210 section 6). The time is in seconds of the
+/// caller's clock. It is `NEVER` before the first commit, No Data or close. While a query is outstanding, it may be in the past.
+/// Returns the number of a `CallStatus`: `Done`, or `Empty` if `h` holds no router, and then `NEVER` is written.
 #[unsafe(no_mangle)]
 pub extern "C" fn rpkirtr_router_next_query_at(
     alloc: Global,
@@ -361,9 +366,9 @@ pub extern "C" fn rpkirtr_router_next_query_at(
     CallStatus::Done.number()
 }
 
-/// Writes the time from which on a tick has something to do, in seconds of the caller's clock: `NEVER` if there is none. It is that of the next
-/// query of an idle link, or that of the expiry of what is committed. An attempt to connect does not count. Returns the number of a
-/// `CallStatus`: `Done`, or `Empty`, and then `NEVER` is written.
+/// Writes the time from which on a tick has something to do, in seconds of the caller's clock: `NEVER` if there is none. It is that of the next query
+/// of an idle link, or that of the expiry of what is committed. An attempt to connect does not count.
+/// Returns the number of a `CallStatus`: `Done`, or `Empty` if `h` holds no router, and then `NEVER` is written.
 #[unsafe(no_mangle)]
 pub extern "C" fn rpkirtr_router_wake_at(alloc: Global, h: &mut RouterHandle, at: &mut u64) -> i32
     ensures call { On h.old.value h.new.value result (λ s t. (result ≡ number Done) × (t ≡ s) × Wakes at.new s) }
@@ -378,8 +383,8 @@ pub extern "C" fn rpkirtr_router_wake_at(alloc: Global, h: &mut RouterHandle, at
     CallStatus::Done.number()
 }
 
-/// Writes all fields of `link`. `end` is 0 unless the link has ended. `code` is 0 unless the end has the code of an Error Report. Returns the
-/// number of a `CallStatus`: `Done`, or `Empty`, and then all fields are 0, as for a closed link.
+/// Writes all fields of `link`. `end` is 0 unless the link has ended. `code` is 0 unless the end has the code of an Error Report.
+/// Returns the number of a `CallStatus`: `Done`, or `Empty` if `h` holds no router, and then all fields are 0, as for a closed link.
 #[unsafe(no_mangle)]
 pub extern "C" fn rpkirtr_router_link(alloc: Global, h: &mut RouterHandle, link: &mut CLink) -> i32
     ensures call { On h.old.value h.new.value result (λ s t. (result ≡ number Done) × (t ≡ s) × Shows s (λ r. link.new ≡ link_of (told_link r.link))) }
@@ -394,8 +399,9 @@ pub extern "C" fn rpkirtr_router_link(alloc: Global, h: &mut RouterHandle, link:
     CallStatus::Done.number()
 }
 
-/// Writes the committed version, with the second of its commit and its intervals. All fields are 0 if nothing is committed, for example because
-/// it has expired. Returns the number of a `CallStatus`: `Done`, or `Empty`, and then all fields are 0.
+/// Writes the committed version, with the second of its commit and its intervals. All fields are 0 if nothing is committed, for example because it
+/// has expired.
+/// Returns the number of a `CallStatus`: `Done`, or `Empty` if `h` holds no router, and then all fields are 0.
 #[unsafe(no_mangle)]
 pub extern "C" fn rpkirtr_router_committed(
     alloc: Global,
@@ -414,9 +420,10 @@ pub extern "C" fn rpkirtr_router_committed(
     CallStatus::Done.number()
 }
 
-/// Writes what the latest connection carried, in each direction: the bytes that the router consumed, and those that were pulled. All is 0 before
-/// the first connection, and stays when the connection closes. Returns the number of a `CallStatus`: `Done`, `BadStructure`, or `Empty`, and
-/// then all is 0. If `size_` is not the size of the structure, nothing is written.
+/// Writes what the latest connection carried, in each direction: the bytes that the router consumed, and those that were pulled. All is 0 before the
+/// first connection, and stays when the connection closes.
+/// Returns the number of a `CallStatus`: `Done`, `BadStructure`, or `Empty` if `h` holds no router, and then all is 0. If `size_` is not the size of
+/// the structure, nothing is written.
 #[unsafe(no_mangle)]
 pub extern "C" fn rpkirtr_router_traffic(
     alloc: Global,

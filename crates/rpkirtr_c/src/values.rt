@@ -172,7 +172,7 @@ pub fn record_of(vrp: &Vrp) -> CRecord
     }
 }
 
-/// The record whose fields are all 0. It is written in place of a record that does not exist.
+/// Returns the record whose fields are all 0. It is written if a record does not exist.
 pub fn no_record() -> CRecord
     ensures { result ≡ no_record }
 {

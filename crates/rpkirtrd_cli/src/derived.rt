@@ -11,7 +11,7 @@ use std::net::SocketAddr;
 /// The least number of seconds between two notifies (RFC 8210 section 8.2).
 const NOTIFY_SECONDS: u32 = 60;
 
-/// The warning that the session is random at each start. `None` if `is_random` is false.
+/// Returns the warning that the session is random at each start, if `is_random` is true. Otherwise returns `None`.
 pub fn session_warning(is_random: bool) -> Option<&'static str>
     ensures { option_copied result ≡ session_warning is_random }
 {
@@ -24,28 +24,29 @@ pub fn session_warning(is_random: bool) -> Option<&'static str>
 }
 
 impl Settings {
-    /// The interval between two polls of the files, in milliseconds.
+    /// Returns the interval between two polls of the files, in milliseconds. The setting is in seconds.
     pub fn check_millis(&self) -> u64
         ensures { result ≡ millis_of self.now.check }
     {
         u64::from(self.check) * 1000
     }
 
-    /// After how many milliseconds without progress a client that is blocked on writing is closed.
+    /// Returns after how many milliseconds without progress a client is closed that is blocked on writing. The setting is in seconds.
     pub fn stall_millis(&self) -> u64
         ensures { result ≡ millis_of self.now.stall }
     {
         u64::from(self.stall) * 1000
     }
 
-    /// How many milliseconds after a query its client is closed, if it has not accepted the whole answer by then.
+    /// Returns how many milliseconds after a query its client is closed, if it has not accepted the whole answer by then. The setting is in seconds.
     pub fn slow_millis(&self) -> u64
         ensures { result ≡ millis_of self.now.slow }
     {
         u64::from(self.slow) * 1000
     }
 
-    /// The warning that routers may be notified more than once a minute (RFC 8210 section 8.2). `None` if `check` is 60 seconds or more.
+    /// Returns the warning that routers may be notified more than once a minute (RFC 8210 section 8.2), if `check` is below 60 seconds. Otherwise
+    /// returns `None`.
     pub fn notify_warning(&self) -> Option<&'static str>
         ensures { option_copied result ≡ notify_warning self.now.check }
     {

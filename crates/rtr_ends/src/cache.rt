@@ -220,7 +220,7 @@ impl<S: VersionStore> Cache<S> {
         }
     }
 
-    /// Opens a connection, which gets the lowest number that no connection has. Returns an error if memory runs out; nothing is changed then.
+    /// Opens a connection, which gets the lowest number that no connection has. `AllocError`: memory ran out, and nothing is changed.
     pub fn open(&mut self) -> Result<Conn, AllocError>
         ensures { (m : CacheState) → ShowsCache S.holds m self.old → Opens S.holds m result self.new }
     {

@@ -92,7 +92,8 @@ impl Machine {
         }
     }
 
-    /// Puts this query into `out`, in the version of the connection. Bytes that were pending before are dropped. The state becomes `Asked`.
+    /// Puts this query into `out`, in the version of the connection, and drops bytes that were pending before. The state becomes `Asked`. Nothing
+    /// else changes.
     pub fn send_query(&mut self, question: Question)
         ensures { self.new ≡ record self.old { state = states.Asked question; out = sent self.old.spoken (query (seen_question question)) } }
     {
@@ -183,7 +184,8 @@ impl Machine {
         self.state = State::Ended(End::Reported(code));
     }
 
-    /// Drops what is committed, and sends an Error Report of code 0, Corrupt Data, on `unit`, which ends the link with `End::Reported`.
+    /// Drops what is committed: the table, the table before it, the version and the mark. Then it puts an Error Report of code 0, Corrupt Data, on
+    /// `unit` into `out`, and ends the link with `End::Reported`. `unit` must fit the version of the connection.
     pub fn drop_and_report(&mut self, unit: &Unit)
         requires { fits self.old.spoken unit.now ≡ true }
         ensures { self.new ≡ record self.old { table = empty; before = empty; version = None; mark = false; state = states.Ended (ends.Reported CORRUPT_DATA); out = sent self.old.spoken (report CORRUPT_DATA (sent self.old.spoken unit.now)) } }
@@ -192,7 +194,8 @@ impl Machine {
         self.send_report(error_code::CORRUPT_DATA, unit);
     }
 
-    /// Returns whether bytes that are received next are consumed: the link has not ended, it is not closed, and nothing is left to pull.
+    /// Returns whether the next received bytes are consumed. `true`: a link is open and no bytes are pending. `false`: the link has ended or is
+    /// closed, or bytes are pending.
     pub fn takes(&self) -> bool
         ensures { result ≡ (linked.is_reading (seen_link self.now.state [] []) && is_none self.now.out) }
     {

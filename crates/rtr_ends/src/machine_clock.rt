@@ -76,8 +76,8 @@ impl Machine {
         }
     }
 
-    /// Advances the clock, closes an older connection, and makes one of the version that was set last. Puts its first query into `out`. The
-    /// state becomes `Asked`.
+    /// Advances the clock to `now`, in seconds, as `advance_clock` does. Closes an older connection, and makes one of the version that was set last.
+    /// Puts its first query into `out`. The state becomes `Asked`.
     pub fn connect(&mut self, now: u64)
         ensures { Does (λ r. (model.connects_at now r).router) self.old self.new }
     {
@@ -87,8 +87,8 @@ impl Machine {
         self.query();
     }
 
-    /// Advances the clock. If there is a connection, closes it: pending bytes and staged records are dropped, and a query is due after the retry
-    /// interval.
+    /// Advances the clock to `now`, in seconds, as `advance_clock` does. If there is a connection, closes it: pending bytes and staged records are
+    /// dropped, and a query is due after the retry interval. If there is none, nothing else changes.
     pub fn closed(&mut self, now: u64)
         ensures { Does (λ r. (model.closed_at now r).router) self.old self.new }
     {
@@ -111,8 +111,8 @@ impl Machine {
         self.due = Some(self.retry_moment());
     }
 
-    /// When to try again after a failure: the clock plus the retry interval of the committed version, or the configured one if nothing is
-    /// committed. The sum stops at `u64::MAX`.
+    /// Returns when to try again after a failure, in seconds: the clock plus the retry interval of the committed version. If nothing is committed, it
+    /// is the configured retry interval. The sum is at most `u64::MAX`.
     pub fn retry_moment(&self) -> u64
         ensures { result ≡ sum_of self.now.clock (retry_of self.now.config (seen_versions self.now.version)) }
     {
@@ -123,7 +123,7 @@ impl Machine {
         self.clock.saturating_add(u64::from(retry))
     }
 
-    /// Advances the clock to `now`, in seconds. An idle link sends a query if that is due.
+    /// Advances the clock to `now`, in seconds, as `advance_clock` does. If the link is idle and a query is due, puts the query into `out`.
     pub fn tick(&mut self, now: u64)
         ensures { Does (λ r. (model.ticks_at now r).router) self.old self.new }
     {
@@ -166,7 +166,7 @@ impl Machine {
         }
     }
 
-    /// The first time at which `tick` does more than advance the clock, in seconds. It may be past. `None`: there is no such time.
+    /// Returns the first time, in seconds, at which `tick` drops expired data or sends a query. The time may be past. `None`: there is no such time.
     pub fn wake_at(&self) -> Option<u64>
         ensures { (r : rules.Router) → ShowsRouter r self.now → WakesAt result r }
     {

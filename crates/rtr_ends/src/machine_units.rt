@@ -61,7 +61,8 @@ impl Machine {
         }
     }
 
-    /// Reads a Prefix as `read` does, with the same result. If it is staged, no `Unit` is made of it.
+    /// Reads a Prefix as `read` does, with the same result. `announce`: `true` for an announcement, `false` for a withdrawal. If the record is
+    /// staged, no `Unit` is made, which saves time.
     pub fn read_prefix(&mut self, announce: bool, vrp: &Vrp) -> bool
         ensures { ReadsOrLacks result (Unit.Prefix announce vrp.now) self.old self.new }
     {

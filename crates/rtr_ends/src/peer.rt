@@ -181,7 +181,8 @@ impl Peer {
         }
     }
 
-    /// Writes bytes that are due into the front of `out`, as many as fit, and returns how many: 0 if nothing is due.
+    /// Writes bytes that are due to the router into the front of `out`, as many as fit, and returns how many: 0 if nothing is due. The rest of `out`
+    /// stays.
     pub fn pull(&mut self, out: &mut [u8]) -> usize
         ensures pulls { (keep : ℕ) (t : Intervals) (i : Instance) (o : Conn) → ShowsPeer t i o self.old → Pulls keep t i o out.old result out.new self.new }
         ensures within { result ≤ length out.old }
@@ -219,7 +220,7 @@ impl Peer {
         self.sender.offer(share);
     }
 
-    /// Returns whether bytes are due to the router.
+    /// Returns whether bytes are due to the router: they are queued and not yet pulled. This may be so after the connection has ended.
     pub fn has_bytes(&self) -> bool
         ensures { (t : Intervals) (i : Instance) (o : Conn) → ShowsPeer t i o self.now → result ≡ not (is_none o.state.due) }
     {

@@ -81,9 +81,9 @@ impl Router {
         self.reader = UnitReader::for_router(self.machine.spoken);
     }
 
-    /// Notes that the transport connection is closed. Advances the clock to `now`, in seconds of the caller's clock. Drops the pending bytes and
-    /// the unfinished answer. Keeps the committed table unless it has expired at `now`.
-    /// If there was a connection, the next query is due after the retry interval. Allocates no memory.
+    /// Notes that the transport connection is closed. Advances the clock to `now`, in seconds of the caller's clock. Drops the pending bytes and the
+    /// unfinished answer. The committed table stays, unless it has expired at `now`.
+    /// If there was a connection, the next query is due after the retry interval. If there was none, `due` stays. Allocates no memory.
     pub fn closed(&mut self, now: u64)
         ensures calls { Calls (λ r. (called (model.Closes now) r).router) self.old self.new }
         ensures leads { LeadsOn (model.Closes now) self.old self.new }

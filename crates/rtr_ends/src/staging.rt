@@ -32,7 +32,7 @@ impl Staging {
     ghost use Rattle.rtr_ends.specs.Staging.{GoesTo, LeadsToSet};
     ghost use Rattle.rtr_ends.specs.Seen.{IsStaged, seen_question};
 
-    /// Nothing is staged over a base of this many records. It allocates no memory.
+    /// Returns a staging without records, over a base that has `count` records. It allocates no memory.
     pub fn over(alloc: Global, count: usize) -> Staging
         ensures { result ≡ record { withdrawn = empty; announced = empty; count = count } }
     {
@@ -89,7 +89,8 @@ impl Staging {
         }
     }
 
-    /// Stages a record, or says what is wrong with it: as `announce` does if `announce` is true, otherwise as `withdraw` does.
+    /// Stages a record, or returns what is wrong with it. If `announce` is true, the result is that of `announce`, otherwise that of `withdraw`. The
+    /// errors are theirs, too.
     pub fn take(
         &mut self,
         most: usize,
@@ -107,9 +108,9 @@ impl Staging {
         }
     }
 
-    /// Ends the answer: returns its base without the withdrawn records, together with the announced ones. The base is empty if `question` is a
-    /// Reset Query. Otherwise it is `table`, the router's table. All records have to be staged over this base. Then out of memory is the only
-    /// error.
+    /// Ends the answer: returns the base without the withdrawn records, together with the announced ones. The base is empty if `question` is a Reset
+    /// Query, otherwise `table`, the router's table. All records must have been staged over this base. Then `Memory` is the only error. `table` does
+    /// not change.
     pub fn end(self, alloc: Global, question: Question, table: &Table) -> Result<Table, SetFault>
         ensures { (b : Begun) → IsStaged (base_of (seen_question question) table.now) b.withdrawn b.announced self
             → LeadsToSet (base_of (seen_question question) table.now) b result }

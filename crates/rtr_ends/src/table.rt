@@ -80,7 +80,8 @@ impl Table {
         self.set.contains(vrp)
     }
 
-    /// The records that cover a route, in ascending order. `AllocError`: no memory for the list.
+    /// Returns the records whose prefix covers that of the route, in ascending order. If there are none, the list is empty. The origin and the
+    /// maximum lengths do not matter. `AllocError`: no memory for the list.
     pub fn covering(&self, alloc: Global, route: &Route) -> Result<Vec<Vrp>, AllocError>
         ensures { IfOk result (λ records. records.items ≡ covering self.now route.now) }
     {

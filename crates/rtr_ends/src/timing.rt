@@ -49,8 +49,9 @@ impl Model for Timing {
 }
 
 impl Timing {
-    /// Checks three intervals in seconds. Refresh is from 1 to 86,400, retry from 1 to 7,200, expire from 600 to 172,800. Otherwise returns
-    /// `OutOfRange`. Returns `ExpireTooSmall` if the ranges hold, but expire is not larger than both others.
+    /// Checks three intervals in seconds. `OutOfRange`: refresh is not from 1 to 86,400, retry not from 1 to 7,200, or expire not from 600 to
+    /// 172,800.
+    /// `ExpireTooSmall`: all are in range, but expire is not larger than both others. `Ok`: the intervals keep these rules (RFC 8210 section 6).
     pub fn new(refresh: u32, retry: u32, expire: u32) -> Result<Timing, TimingFault>
         ensures ok { IfOk result (λ timing. (timing ≡ intervals refresh retry expire) × IsTiming timing) }
         ensures out_of_range { (result ≡ Err TimingFault.OutOfRange) ↔ (¬ (InRange (intervals refresh retry expire))) }

@@ -162,8 +162,8 @@ impl UnitReader {
         }
     }
 
-    /// Notes that both ends agreed on the version. From the next PDU on, a Serial Notify of another version is a fault.
-    /// A PDU whose 8-byte header is already held keeps the old rule.
+    /// Notes that both ends agreed on the version. From the next PDU on, a Serial Notify of another version is a fault. If all 8 bytes of a header
+    /// are already held, that PDU keeps the old rule. A reader that was not made by `for_router`, or a second call, changes nothing.
     pub fn agreed(&mut self)
         ensures { self.new ≡ after_agreed self.old }
     {
@@ -242,8 +242,8 @@ impl UnitReader {
         self.fault
     }
 
-    /// The consumed bytes that are in no returned PDU: the beginning of the current PDU. After a header fault they are the 8 bytes of the
-    /// header, after a body fault the whole PDU.
+    /// Returns the consumed bytes that are in no returned PDU: the beginning of the current PDU, or nothing. After a header fault they are the 8
+    /// bytes of the header, after a body fault the whole PDU.
     pub fn held(&self) -> &[u8]
         ensures held { result.now ≡ self.now.held }
         ensures reader { IsReader (version_in self.now.version self.now.held) self.now }

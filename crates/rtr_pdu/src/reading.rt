@@ -54,9 +54,9 @@ fn shown_version(version: Version, any: bool, shown: u8, kind: u8, len: u32) -> 
     }
 }
 
-/// The first fault of the header in the first 8 bytes, in the order `Version`, `Type`, `Length`, `TooLong`. `None`: it has none of these.
-/// `bytes` must have at least 8 bytes.
-/// `any`: a Serial Notify of 12 bytes may show any version (RFC 8210 section 7).
+/// Returns the first fault of the header in the first 8 bytes, in the order `Version`, `Type`, `Length`, `TooLong`. `None`: the header has no fault.
+/// `bytes` must have at least 8 bytes. The bytes after the header are not looked at.
+/// If `any` is true, a Serial Notify of 12 bytes may show any version (RFC 8210 section 7).
 pub fn judge(version: Version, any: bool, bytes: &[u8]) -> Option<UnitFault>
     requires { 8 ≤ length bytes.now }
     ensures { result ≡ header_fault version (as_read version any bytes.now) }
@@ -192,9 +192,9 @@ fn end_of_data(version: Version, bytes: &[u8]) -> Unit
     }
 }
 
-/// Reads the PDU in `bytes`, which must be one whole PDU whose header has no fault by `judge`.
-/// `Record`: a Prefix does not hold a valid VRP. `ErrorReport`: the lengths in an Error Report do not add up, or its text is not UTF-8. There
-/// are no other faults.
+/// Reads the PDU in `bytes`. They must be one whole PDU whose header has no fault by `judge`, with the same `version` and `any`.
+/// `Record`: a Prefix does not hold a valid VRP. `ErrorReport`: the lengths in an Error Report do not add up, or its text is not UTF-8. There are no
+/// other faults.
 pub fn read(version: Version, any: bool, bytes: &[u8]) -> Result<Unit, UnitFault>
     requires { IsBody version any bytes.now }
     ensures ok { IfOk result (λ unit. IsRead version any bytes.now unit) }
@@ -237,9 +237,9 @@ pub fn read(version: Version, any: bool, bytes: &[u8]) -> Result<Unit, UnitFault
     }
 }
 
-/// Reads the Prefix in `bytes`, which must be one whole PDU whose header has no fault by `judge`. It returns `true` for an announcement or
-/// `false` for a withdrawal, and the VRP.
-/// `None`: it is another PDU, or a Prefix that does not hold a valid VRP.
+/// Reads the Prefix in `bytes`. They must be one whole PDU whose header has no fault by `judge`, with the same `version` and `any`. The result is
+/// `true` for an announcement or `false` for a withdrawal, and the VRP.
+/// `None`: the PDU is of another type, or is a Prefix that does not hold a valid VRP.
 pub fn read_prefix(version: Version, any: bool, bytes: &[u8]) -> Option<(bool, Vrp)>
     requires { IsBody version any bytes.now }
     ensures some { IfSome result (λ found. IsRead version any bytes.now (Unit.Prefix found.0 found.1)) }

@@ -7,38 +7,40 @@ use crate::server::Server;
 use crate::stream::Stream;
 use vrps::VersionStore;
 
-/// Law: the bytes on the stream of each client of a server are those of its connection's history. What was written is a beginning of the replies
-/// to what was read. A notify is pending if and only if a new version was published since the router asked, and none was sent since. A client
-/// holds at most 4,096 bytes read and not consumed, and at most 32,768 pulled and not written.
+/// Law, for each client of a server: the bytes read from its stream are those of its connection's history. The bytes written are a beginning of the
+/// replies to them. A notify is pending if and only if two things hold. A new version was published after the router asked, and no notify was put
+/// into its connection since.
+/// A client holds at most 4,096 bytes read and not consumed, and at most 32,768 bytes pulled and not written.
 pub fn each_client_is_served<S: VersionStore, T: Stream>(server: &Server<S, T>)
     ensures { EachClientIsServed S.holds T.remaining T.contents server.now }
 {}
 
-/// Law: if memory runs out at a PDU of a client, its connection ends with an Error Report of code 1 (RFC 8210 section 12).
+/// Law: if memory runs out at a PDU that a client sent, its connection ends. Exactly an Error Report of code 1 is then due on it (RFC 8210 section
+/// 12).
 pub fn memory_ends_its_client()
     ensures { MemoryEnds }
 {}
 
-/// Law: a `Tally` of whole PDUs, and the beginning of one more, has the number of whole PDUs of each type. Its serial is that of the last End of
-/// Data. Its report is the last Error Report.
+/// Law, for the bytes of any whole PDUs and the beginning of one more: a `Tally` of them has the number of whole PDUs of each type, at most
+/// `u64::MAX`. Its serial is that of the last End of Data, or `None`. Its report is the last Error Report, or `None`.
 pub fn counts_units()
     ensures { CountsUnits }
 {}
 
-/// Law: if a stream splits into PDUs without a fault, a `Tally` of it has the number of PDUs of each type. This holds at a cache and at a
-/// router. A router reads a Serial Notify of any version before it agrees on one with the cache (RFC 8210 section 7).
+/// Law: if a stream splits into PDUs without a fault, a `Tally` of it has the number of PDUs of each type, at most `u64::MAX`. This holds at a cache
+/// and at a router. A router reads a Serial Notify of any version before it agrees on one with the cache (RFC 8210 section 7).
 pub fn counts_splits()
     ensures { CountsSplits }
 {}
 
-/// Law: after a whole Error Report, a `Tally` keeps its code and the beginning of its text, even if the report has a fault. The text is empty if
-/// the lengths inside the report do not add up to its total length.
+/// Law: if the last PDU of the counted bytes is a whole Error Report, a `Tally` keeps its code and at most the first 200 bytes of its text.
+/// This holds even if the report has a fault. If the lengths inside the report do not add up to its total length, the text is empty.
 pub fn counts_reports()
     ensures { CountsReports }
 {}
 
-/// Law: `PdusByKind::has_query` is true if and only if a Serial Query or a Reset Query is among the PDUs that were read. A query that has come
-/// only in part does not count.
+/// Law, for the bytes of any whole PDUs and the beginning of one more. `PdusByKind::has_query` of their count is true if and only if one of the whole
+/// PDUs is a Serial Query or a Reset Query. A query of which only a part has come does not count.
 pub fn counts_queries()
     ensures { CountsQueries }
 {}

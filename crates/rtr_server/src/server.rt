@@ -125,8 +125,9 @@ impl<S: VersionStore, T: Stream + Drop> Server<S, T> {
     }
 
     /// Runs one turn of a client, with at most `budget` calls of its stream, and returns how the turn ended. `None`: there is no such client.
-    /// Pulled bytes are written before more are pulled. If nothing is due, the cache receives the bytes that were read. If no read bytes are
-    /// left, more are read. After `Turn::Gone` the client is closed, `parted` has its counts, and its number is free for another client.
+    /// Pulled bytes are written before more are pulled. If nothing is due, the cache receives the bytes that were read. If no read bytes are left,
+    /// more are read. After `Turn::Gone` the client is closed, `parted` has its counts, and its number is free for another client. No other client
+    /// changes.
     pub fn serve(&mut self, client: Client, budget: u32) -> Option<Turn>
         ensures others { KeepsOthers client.0.0 self.old.slots.items self.new.slots.items }
         ensures serves { Serves S.holds T.remaining T.contents T.answers budget client.0.0 (slot_at self.old.slots.items client.0.0) self.old.cache result (slot_at self.new.slots.items client.0.0) self.new.cache self.new.parted }
@@ -214,7 +215,7 @@ impl<S: VersionStore, T: Stream + Drop> Server<S, T> {
         }
     }
 
-    /// How many bytes were read from and written to a client since it was admitted. `None`: there is no such client.
+    /// Returns the numbers of bytes read from a client and written to it since it was admitted. `None`: there is no such client.
     pub fn carried(&self, client: Client) -> Option<ByteCounts>
         ensures { result ≡ option_map (λ slot. slot.traffic.carried) (slot_at self.now.slots.items client.0.0) }
     {
@@ -224,8 +225,8 @@ impl<S: VersionStore, T: Stream + Drop> Server<S, T> {
         }
     }
 
-    /// The PDUs that came from a client, by type. `None`: there is no such client. A PDU counts once its connection has consumed as many bytes
-    /// as its header says, and at least 8. It counts even if it has a fault after its header.
+    /// Returns the numbers of PDUs that came from a client since it was admitted, by type. `None`: there is no such client. A PDU counts once the
+    /// cache has consumed as many bytes as its header says, and at least 8. A PDU with a fault after its header counts too.
     pub fn received(&self, client: Client) -> Option<PdusByKind>
         ensures { result ≡ option_map (λ slot. slot.traffic.received.pdus) (slot_at self.now.slots.items client.0.0) }
     {
@@ -235,7 +236,8 @@ impl<S: VersionStore, T: Stream + Drop> Server<S, T> {
         }
     }
 
-    /// The PDUs that were sent to a client, by type. `None`: there is no such client. A PDU counts once it is written whole to the stream.
+    /// Returns the numbers of PDUs sent to a client since it was admitted, by type. `None`: there is no such client. A PDU counts once all of it is
+    /// written to the stream.
     pub fn sent(&self, client: Client) -> Option<PdusByKind>
         ensures { result ≡ option_map (λ slot. slot.traffic.sent.pdus) (slot_at self.now.slots.items client.0.0) }
     {
@@ -245,8 +247,8 @@ impl<S: VersionStore, T: Stream + Drop> Server<S, T> {
         }
     }
 
-    /// Returns whether a whole Serial Query or Reset Query came from a client and was consumed. The header of a query alone does not count.
-    /// `false` if there is no such client.
+    /// Returns whether a whole Serial Query or Reset Query came from a client and was consumed by the cache. `false`: no query came, or only a part
+    /// of one, or there is no such client.
     pub fn has_asked(&self, client: Client) -> bool
         ensures counted { result ≡ has_asked (slot_at self.now.slots.items client.0.0) }
         ensures past { (p : Past) → ShowsServer S.holds T.remaining T.contents p self.now → result ≡ router_asked (life p.calls (made p) client.0.0) }
@@ -284,7 +286,7 @@ impl<S: VersionStore, T: Stream + Drop> Server<S, T> {
         self.cache.current()
     }
 
-    /// The store of versions of the cache.
+    /// Returns the store that holds the versions of the cache.
     pub fn version_store(&self) -> &S
         ensures { result.now ≡ self.now.cache.store }
     {

@@ -126,10 +126,11 @@ impl Tally {
         }
     }
 
-    /// Counts the next bytes of the direction. They may begin or end inside a PDU. Only headers are judged: a PDU ends after as many bytes as its
-    /// length says, and at least 8. It then counts under its type, even if it has a fault. Types that are not in RFC 8210 are not shown. The last
-    /// serial and the last Error Report are kept. For
-    /// whole PDUs see [`counts_units`](crate::laws::counts_units), for Error Reports [`counts_reports`](crate::laws::counts_reports).
+    /// Counts the next bytes of one direction of a connection. They may begin or end inside a PDU. Only headers are judged: a PDU ends after as many
+    /// bytes as its length says, and at least 8. It then counts under its type, even if it has a fault. No call shows the count of a type that is not
+    /// in RFC 8210.
+    /// The last serial and the last Error Report are kept.
+    /// For whole PDUs see [`counts_units`](crate::laws::counts_units), for Error Reports [`counts_reports`](crate::laws::counts_reports).
     pub fn count(&mut self, piece: &[u8])
         ensures { self.new ≡ counted_on self.old piece.now }
     {

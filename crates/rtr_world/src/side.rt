@@ -45,7 +45,7 @@ impl Side {
         }
     }
 
-    /// Closes the connection at the cache, if one is open. Bytes in transit are kept.
+    /// Closes the connection at the cache. If none is open, nothing changes. Bytes in transit are kept.
     pub fn close(&mut self, cache: &mut Cache<VersionLog>)
         ensures { Goes (λ w s. record s { conn = Option.None }) cache.old self.old cache.new self.new }
     {

@@ -22,8 +22,8 @@ fn chunk(most: u64) -> usize
 }
 
 impl Side {
-    /// Moves at most `most` bytes from the router to the wire to the cache, and at most the rest of one PDU. `Err`: memory ran out, and the
-    /// bytes are lost.
+    /// Moves at most `most` pending bytes of the router to the wire to the cache, and at most the rest of one PDU. `Err`: memory ran out, and the
+    /// bytes that were pulled are lost.
     pub fn router_sends(&mut self, most: u64) -> Result<(), AllocError>
         ensures { (w : model.World) (at : ℕ → Option Conned) (s : model.Side) → ShowsSide w at s self.old →
             BeginsEvent w at (model.RouterSends most) s (λ t. AloneAt w at t self.old self.new) result }
@@ -38,8 +38,8 @@ impl Side {
         self.up.put(room, count)
     }
 
-    /// Delivers at most `most` bytes from the wire to the cache. Bytes that the cache does not consume stay. Without a connection nothing
-    /// happens.
+    /// Delivers at most `most` bytes from the wire to the cache. Bytes that the cache does not consume stay on the wire. If there is no connection,
+    /// nothing changes.
     pub fn cache_gets(&mut self, cache: &mut Cache<VersionLog>, most: u64)
         ensures { (w : model.World) (at : ℕ → Option Conned) (s : model.Side) → ShowsBoth w at s cache.old self.old →
             Passes w at (model.CacheGets most) s (λ t. Moves w at self.old.conn t cache.new self.new) }
@@ -93,7 +93,7 @@ impl Side {
         Ok(())
     }
 
-    /// Moves at most `most` bytes from the cache's connection to the wire to the router. Without a connection nothing happens.
+    /// Moves at most `most` due bytes from the cache's connection to the wire to the router. If there is no connection, nothing changes.
     /// `Err`: memory ran out. Bytes that were pulled before may be lost.
     pub fn cache_sends(
         &mut self,
@@ -109,7 +109,8 @@ impl Side {
         }
     }
 
-    /// Delivers at most `most` bytes from the wire to the router, at second 0 of its clock. Bytes that the router does not consume stay.
+    /// Delivers at most `most` bytes from the wire to the router, at second 0 of its clock. So its clock does not advance. Bytes that the router does
+    /// not consume stay on the wire.
     pub fn router_gets(&mut self, most: u64)
         ensures { (w : model.World) (at : ℕ → Option Conned) (s : model.Side) → ShowsSide w at s self.old →
             Passes w at (model.RouterGets most) s (λ t. AloneAt w at t self.old self.new) }

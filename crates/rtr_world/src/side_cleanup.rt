@@ -84,7 +84,8 @@ impl Side {
         }
     }
 
-    /// Cleans up after an event: closes what has ended, drops bytes in transit to a closed end, and notifies the router.
+    /// Cleans up after an event. It closes what has ended, and drops bytes in transit to a closed end. A router whose connection is gone learns that
+    /// it is closed, once no bytes are in transit to it. A second call changes nothing.
     pub fn settle(&mut self, cache: &mut Cache<VersionLog>)
         ensures { Goes (λ w s. model.settle (model.instances w) s) cache.old self.old cache.new self.new }
     {

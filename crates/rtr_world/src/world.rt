@@ -309,7 +309,7 @@ impl World {
         }
     }
 
-    /// The committed table of a router, empty if it holds no session. `None`: there is no such router.
+    /// Returns the committed table of a router, which is empty if it holds no session. `router` is its index from 0. `None`: there is no such router.
     pub fn table(&self, router: u16) -> Option<&VrpSet>
         ensures { (w : model.World) → ShowsWorld w self.now → option_map (λ t. t.now) result ≡ option_map (λ s. s.router.table) (side_at router w.sides) }
     {
@@ -317,7 +317,8 @@ impl World {
         Some(side.router.table())
     }
 
-    /// Protocol version, session and serial of the data that a router holds. `None`: it holds no session, or there is no such router.
+    /// Returns protocol version, session and serial of the data that a router holds. `router` is its index from 0. `None`: the router holds no
+    /// session, or there is no such router.
     pub fn committed(&self, router: u16) -> Option<(Version, u16, Serial)>
         ensures { (w : model.World) → ShowsWorld w self.now → option_map (λ name. (name.0, name.1, name.2.0)) result ≡ option_and_then (λ s. name_of s.router.version) (side_at router w.sides) }
     {
@@ -325,7 +326,8 @@ impl World {
         side.router.committed()
     }
 
-    /// The origin validation state of a route at a router (RFC 6811 section 2). `None`: there is no such router.
+    /// Returns the origin validation state of a route over the committed table of a router (RFC 6811 section 2). `router` is its index from 0.
+    /// `None`: there is no such router.
     pub fn route_state(&self, router: u16, route: &Route) -> Option<OriginState>
         ensures { (w : model.World) → ShowsWorld w self.now → result ≡ option_map (λ s. state s.router.table route.now) (side_at router w.sides) }
     {

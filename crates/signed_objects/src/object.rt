@@ -110,7 +110,7 @@ pub struct OwnedObject {
 }
 
 impl OwnedObject {
-    /// A view of this object that borrows its parts.
+    /// Returns the same object as a view: content type, content, certificate and key identifier are borrowed from this one, not copied.
     pub fn as_object(&self) -> SignedObject<'_>
         ensures its_type { result.content_type.now ≡ self.now.content_type.items }
         ensures content { result.content.now ≡ self.now.content.items }

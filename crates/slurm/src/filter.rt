@@ -18,8 +18,8 @@ pub struct PrefixFilter {
 impl PrefixFilter {
     ghost use Rattle.slurm.specs.Exceptions.{is_of_as, is_within, matches};
 
-    /// Returns whether the filter matches the VRP. If it has a prefix, that must equal or cover the VRP's prefix. If it has an AS, that must be
-    /// the VRP's. A filter with neither matches every VRP.
+    /// Returns whether the filter matches the VRP. If the filter has a prefix, that must equal or cover the VRP's prefix. If it has an AS, that must
+    /// be the AS of the VRP. A filter with both needs both. A filter with neither matches every VRP.
     pub fn matches(&self, vrp: &Vrp) -> bool
         ensures { result ≡ matches self.now vrp.now }
     {

@@ -16,7 +16,7 @@ pub fn assertions_stay()
     ensures { AssertionsStay }
 {}
 
-/// Law: bytes have at most one result of reading. Two readings give the same exceptions, or the same first fault.
+/// Law: for any bytes, two readings give the same exceptions, or the same first fault.
 pub fn one_reading()
     ensures { OneReading }
 {}
@@ -33,22 +33,24 @@ pub fn reads_scoped_exactly()
     ensures { ReadsScopedExactly }
 {}
 
-/// Law: bytes have at most one result of reading with the scope. Two readings give the same file with its scope, or the same first fault.
+/// Law: for any bytes, two readings with the scope give the same file with its scope, or the same first fault.
 pub fn one_scoped_reading()
     ensures { OneScopedReading }
 {}
 
-/// Law: reading with the scope and reading without it give the same exceptions, or the same fault.
+/// Law, for any bytes: reading with the scope gives the same exceptions, or the same fault, as reading without it.
 pub fn scopes_are_kept()
     ensures { ScopesAreKept }
 {}
 
-/// Law: the scope of a file counts the entries that are not applied. These are the elements of its two BGPsec arrays.
+/// Law, for each file: the scope has one AS or `None` for each element of its two BGPsec arrays. So the lengths of the lists count the entries that
+/// are not applied to VRPs.
 pub fn scopes_count()
     ensures { ScopesCount }
 {}
 
-/// Law: the united files remove from a set what a filter of any file matches. They add what any file asserts.
+/// Law, for any files, any set and any VRP. The VRP is in the result if and only if some file asserts it, or the set has it and no filter of any file
+/// matches it. So an assertion of one file is in the result even if a filter of another file matches it.
 pub fn united_applied()
     ensures { UnitedApplied }
 {}
@@ -58,7 +60,7 @@ pub fn any_order()
     ensures { AnyOrder }
 {}
 
-/// Law: if there is only one file, there is no overlap between files.
+/// Law: a single file has no overlap with another file. Entries of one file are not compared with each other.
 pub fn one_is_apart()
     ensures { OneIsApart }
 {}

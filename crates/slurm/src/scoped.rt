@@ -38,7 +38,7 @@ impl ScopedSlurm {
         slurm
     }
 
-    /// The numbers of entries that are not applied. It allocates no memory.
+    /// Returns the numbers of BGPsec filters and BGPsec assertions in the file, which are not applied. It allocates no memory.
     pub fn ignored(&self) -> Ignored
         ensures { result ≡ ignored_of (scoped_of self.now) }
     {

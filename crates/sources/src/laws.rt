@@ -1,32 +1,35 @@
-//! Laws of sources. The functions do nothing: each states a law, which is proved.
+//! Laws of sources. The functions do nothing: each states a law, which is proved. A record is a VRP of a file with its last second.
+//! It counts at a second if its last second is that one or a later one. Seconds are counted since 1970.
 ghost use Rattle.sources.specs.TakenLaws.{CountsExpired, NothingCounts, NothingEnds, OneSlurm, StaysTaken};
 
 use exports::laws::later_exports;
 
-/// Law: at each later second, the records of a file that count are exactly the set that its bytes export at that second.
+/// Law: let a file be read at one second. At each later second below 2^64, its records that count are exactly the set that its bytes export then.
 pub fn stays_taken()
     ensures { StaysTaken }
 {
     later_exports();
 }
 
-/// Law: at each second, a record of a file either counts or is one of those that `expired` counts.
+/// Law, for a file that was read, and each second below 2^64. The number of its records that count, and the number that `expired` counts, add up to
+/// the number of all its records.
 pub fn counts_expired()
     ensures { CountsExpired }
 {}
 
-/// Law: if a list has no records, none of them counts at any second and none has expired.
+/// Law: if a list has no records, then at any second the set of those that count is empty, and the number of expired ones is 0.
 pub fn nothing_counts()
     ensures { NothingCounts }
 {}
 
-/// Law: if no record of a file ends between two seconds, the number of expired records is the same at each second from the first to the last.
+/// Law, for two seconds: if no record of a file has its last second at the first or between them, the number of expired records stays the same.
+/// It is the same at each second from the first to the second of them.
 pub fn nothing_ends()
     ensures { NothingEnds }
 {}
 
-/// Law: `take_slurms` with one file does what `take_slurm` does with it. It gives the same exceptions, or the same fault, as that of file 0. Of the
-/// faults of uniting files only `Memory` can come.
+/// Law: `take_slurms` with one file does what `take_slurm` does with it. Both read the same exceptions, or both give the same fault. `take_slurms`
+/// names it as the fault of file 0. Of the faults of uniting files, only `Memory` is possible with one file.
 pub fn one_slurm()
     ensures { OneSlurm }
 {}

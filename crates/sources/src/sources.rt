@@ -71,17 +71,15 @@ impl Sources {
         self.leaves_out = true;
     }
 
-    /// The number of files, as given to `new`. It includes the lists for sets of other caches.
+    /// Returns the number of files, as given to `new`. The lists for sets of other caches are included.
     pub fn files(&self) -> usize
         ensures { result ≡ length self.now.lists.items }
     {
         self.lists.len()
     }
 
-    /// The number of records of a file that have expired since the file was read. Entries that had expired before are not counted. `now` is in
-    /// seconds since 1970.
-    ///
-    /// It is 0 if there is no such file.
+    /// Returns the number of records of a file that have expired since the file was read: their last second is before `now`, in seconds since 1970.
+    /// `file` is its index, from 0. Entries that had expired before the read are not counted. 0: none has expired, or there is no such file.
     pub fn expired(&self, file: usize, now: u64) -> u64
         ensures { result ≡ expired_of now (slice_get self.now.lists.items file) }
     {
@@ -91,10 +89,8 @@ impl Sources {
         }
     }
 
-    /// Returns whether a record of a file ends between two seconds: it still counts at `from` and no longer at `to`. Both are in seconds since
-    /// 1970.
-    ///
-    /// It is false if there is no such file.
+    /// Returns whether a record of a file ends between two seconds since 1970. `true`: a record counts at `from` and does not count at `to`. `file`
+    /// is its index, from 0. `false`: there is no such record, or no such file.
     pub fn ends_between(&self, file: usize, from: u64, to: u64) -> bool
         ensures { result ≡ ends_between from to (slice_get self.now.lists.items file) }
     {
@@ -104,8 +100,9 @@ impl Sources {
         }
     }
 
-    /// The number of records of a file that counted when it was read. It includes those that have expired since. It is 0 if there is no such
-    /// file.
+    /// Returns the number of records of a file that counted when it was read. Those that have expired since are included. `file` is its index, from
+    /// 0.
+    /// The result is 0 if there were none or there is no such file.
     pub fn records(&self, file: usize) -> u64
         ensures { result ≡ records_of (slice_get self.now.lists.items file) }
     {
@@ -115,8 +112,8 @@ impl Sources {
         }
     }
 
-    /// When the last export of a file was made, in seconds since 1970. `None`: the export does not say so, the file has no export or a set of
-    /// another cache, or there is no such file.
+    /// Returns when the last export of a file was made, in seconds since 1970. `file` is its index, from 0. `None`: the export does not say so, the
+    /// file has no export or a set of another cache, or there is no such file.
     pub fn built(&self, file: usize) -> Option<u64>
         ensures { result ≡ built_at (slice_get self.now.lists.items file) }
     {
@@ -126,8 +123,8 @@ impl Sources {
         }
     }
 
-    /// The numbers of elements of a file's last export that are not served: ASPAs and router keys. They are 0 for a set of another cache, or if
-    /// there is no such file.
+    /// Returns the numbers of elements of a file's last export that are not served: ASPAs and router keys. `file` is its index, from 0. They are 0 if
+    /// the file has no export or a set of another cache, or if there is no such file.
     pub fn ignored(&self, file: usize) -> Ignored
         ensures { result ≡ ignored_at (slice_get self.now.lists.items file) }
     {
@@ -140,8 +137,8 @@ impl Sources {
         }
     }
 
-    /// The names of the trust anchors in a file's last export, in the order of their first entries. It is empty for a set of another cache, or
-    /// if there is no such file.
+    /// Returns the names of the trust anchors in a file's last export, in the order of their first entries. `file` is its index, from 0. The list is
+    /// empty if the file has no export or a set of another cache, or if there is no such file.
     pub fn anchors(&self, file: usize) -> &[String]
         ensures { map string_bytes result.now ≡ anchors_at (slice_get self.now.lists.items file) }
     {
@@ -176,11 +173,12 @@ impl Sources {
         self.take_export_within(None, file, bytes, now)
     }
 
-    /// Replaces the export of `file` as [`Sources::take_export`] does, but refuses one with far fewer records. `guard` is the largest part that
-    /// may be gone, in percent.
+    /// Replaces the export of `file` (from 0) as [`Sources::take_export`] does, but refuses one with far fewer records. `now` is in seconds since
+    /// 1970.
+    /// `guard` is the largest part that may be gone, in percent.
     ///
-    /// `Err(Shrank)`: the last export has 1,000 or more records, and more than `guard` percent of them are gone. Records that have expired at
-    /// `now` count on neither side.
+    /// `Err(Shrank)`: the last export has 1,000 or more records, and more than `guard` percent of them are gone. Records that have expired at `now`
+    /// count on neither side.
     ///
     /// `guard` of `None`, or of 100 or more: no export is refused for this reason. On an error nothing changes.
     pub fn take_export_within(
@@ -242,7 +240,8 @@ impl Sources {
         Ok(())
     }
 
-    /// Empties `list` (from 0): it then has no records. It returns whether there is such a list. If not, nothing changes. It allocates nothing.
+    /// Empties `list` (from 0), which then has no records, and returns `true`. If there is no such list, returns `false`, and nothing changes.
+    /// Allocates no memory.
     pub fn drop_set(&mut self, list: usize) -> bool
         ensures lists { DropsSet list result self.old.lists.items self.new.lists.items }
         ensures rest { (self.new.exceptions ≡ self.old.exceptions) × (self.new.repository ≡ self.old.repository) × (self.new.leaves_out ≡ self.old.leaves_out) }

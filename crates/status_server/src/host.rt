@@ -129,8 +129,8 @@ fn is_served_name(host: &[u8], name: Option<&str>) -> bool
     is_ipv4(host) || is_ipv6(host) || is_named(host, b"localhost") || is_configured(host, name)
 }
 
-/// Returns whether a host is served, with or without a port: an IPv4 address, an IPv6 address in brackets, `localhost` (RFC 6761 section 6.3) or
-/// `name`.
+/// Returns whether requests for `host` are served. `true`: it is an IPv4 address, an IPv6 address in brackets, `localhost` (RFC 6761 section 6.3) or
+/// `name`, with or without a port. `false`: it is anything else.
 ///
 /// `name` is the configured host name. `None`: there is no such name. Names are compared without regard to ASCII case and to one dot at the end.
 pub fn is_served_host(host: &[u8], name: Option<&str>) -> bool

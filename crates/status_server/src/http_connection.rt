@@ -23,7 +23,7 @@ pub enum HttpProgress {
 }
 
 impl HttpProgress {
-    /// Returns whether the next turn serves the connection: it used up its calls, or its stream became ready.
+    /// Returns whether the next turn serves the connection. `true`: it is new, it used up its calls in the last turn, or its stream became ready.
     pub fn is_busy(self) -> bool
         ensures { result ≡ is_busy self }
     {

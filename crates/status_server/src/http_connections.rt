@@ -173,7 +173,8 @@ fn serve_in<T: Read + Write, S: StatusSource>(
 }
 
 impl<T: Read + Write + Drop> HttpConnections<T> {
-    /// Creates an empty list of connections. Clients choose the names of headers, so `keys` must be random.
+    /// Creates an empty list of connections. Clients choose the names of headers. So `keys` must be random, or a client could choose names that
+    /// collide.
     pub fn new(alloc: Global, keys: RandomState) -> HttpConnections<T>
         ensures { result ≡ [] }
     {
@@ -199,8 +200,9 @@ impl<T: Read + Write + Drop> HttpConnections<T> {
         self.entries.is_empty()
     }
 
-    /// Adds a connection with this poll token, at `now`. It is busy, so it is served next. `Err`: the stream is dropped, and the others do not
-    /// change. `TooManyConnections`: [`MAX_CONNECTIONS`] are open. `Memory`: fewer are open, and memory ran out.
+    /// Adds a connection with this poll token at `now`, in milliseconds of a monotonic clock. The connection is busy, so the next turn serves it.
+    /// `Err`: the stream is dropped, and the others do not change. `TooManyConnections`: [`MAX_CONNECTIONS`] are open. `Memory`: fewer are open, and
+    /// memory ran out.
     pub fn admit(&mut self, token: usize, stream: T, now: u64) -> Result<(), HttpAdmitFault>
         ensures ok { OnOk result (Admits token now stream self.old self.new) }
         ensures full { result ≡ Err HttpAdmitFault.TooManyConnections ↔ (64 ≤ length self.old) }
@@ -259,7 +261,7 @@ impl<T: Read + Write + Drop> HttpConnections<T> {
         any_busy(&self.entries)
     }
 
-    /// Makes the connection with the poll token busy. If there is none, nothing changes.
+    /// Makes the connection with the poll token busy, so the next turn serves it. If there is none, nothing changes.
     pub fn wake(&mut self, token: usize)
         ensures { self.new ≡ wake token self.old }
     {
@@ -287,11 +289,12 @@ impl<T: Read + Write + Drop> HttpConnections<T> {
         self.entries.retain(|entry| !entry.progress.is_closed());
     }
 
-    /// Serves each busy connection at `now`, until its stream would block or `budget` calls of the stream were made. Closed connections are
-    /// removed.
+    /// Serves each busy connection at `now`, in milliseconds of a monotonic clock, until its stream would block or `budget` calls of the stream were
+    /// made.
+    /// Connections that are then closed are removed.
     ///
-    /// It refuses a request if [`is_served_host`](crate::is_served_host) is false for the host that it names. `name` is the configured host
-    /// name. `None`: only IP addresses and `localhost` are served.
+    /// A request is refused if [`is_served_host`](crate::is_served_host) is false for the host that it names. `name` is the configured host name.
+    /// `None`: only IP addresses and `localhost` are served.
     pub fn serve<S: StatusSource>(
         &mut self,
         now: u64,
@@ -305,8 +308,8 @@ impl<T: Read + Write + Drop> HttpConnections<T> {
         self.remove_closed();
     }
 
-    /// Removes the connections that timed out at `now`. No byte was sent on them for [`IDLE_MILLIS`], or they were admitted
-    /// [`CONNECTION_MILLIS`] ago or earlier.
+    /// Removes the connections that timed out at `now`, in milliseconds of a monotonic clock. No byte was sent on them for [`IDLE_MILLIS`], or they
+    /// were admitted [`CONNECTION_MILLIS`] ago or earlier. Their streams are dropped.
     pub fn expire(&mut self, now: u64)
         ensures { self.new ≡ in_time now self.old }
     {

@@ -49,7 +49,8 @@ impl<T> Debug for HttpEndpoint<T> {
 }
 
 impl<T: Read + Write + Drop> HttpEndpoint<T> {
-    /// Creates an endpoint without connections. One may be pending. Clients choose the names of headers, so `keys` must be random.
+    /// Creates an endpoint without connections. Its first turn may find connections to accept, so `wait_limit` is 1,000 before it.
+    /// Clients choose the names of headers, so `keys` must be random.
     pub fn new(alloc: Global, keys: RandomState) -> HttpEndpoint<T>
         ensures { result ≡ ([], true) }
     {
@@ -66,12 +67,12 @@ impl<T: Read + Write + Drop> HttpEndpoint<T> {
         &self.connections
     }
 
-    /// Runs one turn at `now`, in milliseconds of a monotonic clock. It accepts connections and serves those that are busy or ready. If the most
-    /// connections are open, it closes the one that has waited longest for its request, or the new one if all are being answered.
+    /// Runs one turn at `now`, in milliseconds of a monotonic clock. It accepts connections and serves those that are busy or ready. Connections that
+    /// are closed or timed out are removed. If [`MAX_CONNECTIONS`](crate::MAX_CONNECTIONS) are open, a new one replaces the one that has waited
+    /// longest for its request. If all are being answered, the new one is closed.
     ///
-    /// It removes connections that are closed or timed out. It refuses a request if `is_served_host` is false for the host that it names.
-    ///
-    /// `name` is the configured host name. `None`: only IP addresses and `localhost` are served.
+    /// A request is refused if `is_served_host` is false for the host that it names. `name` is the configured host name. `None`: only IP addresses
+    /// and `localhost` are served.
     pub fn turn<N: HttpSockets<T>, S: StatusSource>(
         &mut self,
         now: u64,
@@ -86,8 +87,9 @@ impl<T: Read + Write + Drop> HttpEndpoint<T> {
         self.serve(now, source, name);
     }
 
-    /// How long the next turn may wait, in milliseconds. It is 0 if a connection is busy, and 1,000 if one is open or pending. Otherwise it is
-    /// `u64::MAX`.
+    /// Returns how long the next turn may wait, in milliseconds. 0: a connection is busy. 1,000: a connection is open, or another may have to be
+    /// accepted.
+    /// Otherwise `u64::MAX`.
     pub fn wait_limit(&self) -> u64
         ensures { result ≡ wait_of self.now.0 self.now.1 }
     {

@@ -143,8 +143,10 @@ impl<T: Read + Write + Drop> StatusEndpoint<T> {
         }
     }
 
-    /// Runs one turn of the endpoint. The pages show `view`. `now` is in seconds since 1970, and `millis` in milliseconds of a monotonic clock.
-    /// `lost` has the numbers of lines that the log dropped and suppressed.
+    /// Runs one turn of the endpoint: accepts connections, serves requests, and removes connections that are closed or timed out. The pages show
+    /// `view`.
+    /// `now` is in seconds since 1970, and `millis` in milliseconds of a monotonic clock. `lost` has the numbers of lines that the log dropped and
+    /// suppressed.
     pub fn turn<N: HttpSockets<T>, V: CacheView>(
         &mut self,
         now: u64,
@@ -171,8 +173,9 @@ impl<T: Read + Write + Drop> StatusEndpoint<T> {
         self.http.turn(millis, sockets, &mut snapshot, name);
     }
 
-    /// How long the next turn may wait, in milliseconds. It is 0 if a connection is busy, and 1,000 if one is open or pending. Otherwise it is
-    /// `u64::MAX`.
+    /// Returns how long the next turn may wait, in milliseconds. 0: a connection is busy. 1,000: a connection is open, or another may have to be
+    /// accepted.
+    /// Otherwise `u64::MAX`.
     pub fn wait_limit(&self) -> u64
         ensures { result ≡ wait_of self.now.http.0 self.now.http.1 }
     {

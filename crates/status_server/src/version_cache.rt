@@ -48,7 +48,8 @@ impl VersionCache {
         }
     }
 
-    /// Drops what was made of a version with another serial than `version`. `None`: drops all that was made.
+    /// Drops what was made of a version with another serial than that of `version`. If `version` is `None`, drops all that was made. If the serial is
+    /// the same, nothing changes.
     pub fn drop_old(&mut self, version: Option<(Serial, &VrpSet)>)
         ensures { self.new ≡ kept_for (version_of version.entry) self.old }
     {
@@ -63,7 +64,9 @@ impl VersionCache {
         }
     }
 
-    /// Returns the VRPs of `version` in a format. `Ok(None)`: `version` is `None`. `Err`: out of memory.
+    /// Returns the VRPs of `version` as text in a format. The text is made at the first call for a version, and kept. `Ok(None)`: `version` is
+    /// `None`.
+    /// `Err`: memory ran out. Before, it does what `drop_old` does.
     pub fn list(
         &mut self,
         version: Option<(Serial, &VrpSet)>,
@@ -93,7 +96,8 @@ impl VersionCache {
         Ok(text)
     }
 
-    /// Returns the validity of a route under `version`. `Ok(None)`: `version` is `None`. `Err`: out of memory.
+    /// Returns the validity of a route under `version`. The index over its set is made at the first call for a version, and kept. `Ok(None)`:
+    /// `version` is `None`. `Err`: memory ran out. Before, it does what `drop_old` does.
     pub fn validity(
         &mut self,
         version: Option<(Serial, &VrpSet)>,

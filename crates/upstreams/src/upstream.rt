@@ -58,7 +58,8 @@ impl<T: Stream + Drop> Upstream<T> {
         }
     }
 
-    /// Sets the protocol version for all later connections (RFC 8210 section 7). An open connection keeps its version.
+    /// Sets the protocol version for all later connections (RFC 8210 section 7). An open connection keeps its version. After Error Report 4, `poll`
+    /// sets version 0.
     pub fn set_version(&mut self, version: Version)
         ensures calls { CallsOn T.remaining T.contents (model.Speaks version) self.old self.new }
         ensures rest { self.new ≡ record self.old { router = self.new.router } }
@@ -66,8 +67,8 @@ impl<T: Stream + Drop> Upstream<T> {
         self.router.speak(version);
     }
 
-    /// Begins a connection over `stream`, which was made at second `now`. A query becomes due on it.
-    /// An older connection is dropped, and the byte and PDU counts start anew.
+    /// Begins a connection over `stream`, which was made at second `now` of the caller's clock. A query becomes due on it: call `poll` to send it.
+    /// If there is an older connection, it is dropped. The byte and PDU counts start at 0.
     pub fn connect(&mut self, stream: T, now: u64)
         ensures calls { (calls : List model.RouterCall) (b : Begun) → ShowsUpstream T.remaining T.contents calls b self.old →
             ShowsUpstream T.remaining T.contents (model.Connects now ∷ calls) (record { before = T.remaining stream; had = T.contents stream }) self.new }
@@ -79,8 +80,8 @@ impl<T: Stream + Drop> Upstream<T> {
         self.connection = Some(Connection::new(stream, now));
     }
 
-    /// Notes that an attempt to connect failed at second `at`. An older connection is dropped. The next attempt is due after the retry interval
-    /// (RFC 8210 section 6). `carried`, `received` and `sent` keep the counts of the latest connection.
+    /// Notes that an attempt to connect failed at second `at` of the caller's clock. If there is an older connection, it is dropped. The next attempt
+    /// is due after the retry interval (RFC 8210 section 6). `carried`, `received` and `sent` keep the counts of the latest connection.
     pub fn connect_failed(&mut self, at: u64)
         ensures calls { (calls : List model.RouterCall) (b : Begun) → ShowsUpstream T.remaining T.contents calls b self.old →
             ShowsUpstream T.remaining T.contents (model.Closes at ∷ model.Connects at ∷ calls) b self.new }
@@ -187,21 +188,23 @@ impl<T: Stream + Drop> Upstream<T> {
         }
     }
 
-    /// Whether `next_due` is reached at second `now`. `false` if nothing is due at all.
+    /// Returns whether the second of `next_due` has come at second `now`. `false`: it is later, or `next_due` is `None`. Both are of the caller's
+    /// clock.
     pub fn is_due(&self, now: u64) -> bool
         ensures { (calls : List model.RouterCall) (b : Begun) → ShowsUpstream T.remaining T.contents calls b self.now → result ≡ is_past (next_due self.now.stall calls) now }
     {
         is_past(self.next_due(), now)
     }
 
-    /// Whether, at second `now`, a query is outstanding and no byte came for `stall` seconds. A `tick` at that second drops the connection.
+    /// Returns whether, at second `now` of the caller's clock, a query is outstanding and no byte came for `stall` seconds. If so, a `tick` at that
+    /// second drops the connection. This call drops nothing.
     pub fn is_stalled(&self, now: u64) -> bool
         ensures { (calls : List model.RouterCall) (b : Begun) → ShowsUpstream T.remaining T.contents calls b self.now → result ≡ is_stalled self.now.stall now calls }
     {
         is_asking(&self.router) && self.is_due(now)
     }
 
-    /// Whether there is a connection. If its link has ended, `poll` drops it once all is written.
+    /// Returns whether there is a connection. It counts even if its link has ended: `poll` drops it once all pending bytes are written.
     pub fn is_connected(&self) -> bool
         ensures { result ≡ is_some self.now.connection }
     {
@@ -218,7 +221,7 @@ impl<T: Stream + Drop> Upstream<T> {
         }
     }
 
-    /// The numbers of bytes read and written on the latest connection, also after it was dropped. Both are 0 before the first one.
+    /// Returns the numbers of bytes read and written on the latest connection, even after it was dropped. Both are 0 before the first connection.
     pub fn carried(&self) -> ByteCounts
         ensures { result ≡ carried_by self.now.connection self.now.carried }
     {
@@ -228,7 +231,8 @@ impl<T: Stream + Drop> Upstream<T> {
         }
     }
 
-    /// The number of PDUs of each type received on the latest connection, also after it was dropped. Only PDUs that the router consumed count.
+    /// Returns the number of PDUs of each type received on the latest connection, even after it was dropped. Only PDUs that the router consumed
+    /// count.
     /// All are 0 before the first connection.
     pub fn received(&self) -> PdusByKind
         ensures { result ≡ received_by self.now.connection self.now.received }
@@ -239,7 +243,8 @@ impl<T: Stream + Drop> Upstream<T> {
         }
     }
 
-    /// The number of PDUs of each type sent on the latest connection, also after it was dropped. Only PDUs that were written completely count.
+    /// Returns the number of PDUs of each type sent on the latest connection, even after it was dropped. Only PDUs that were written completely
+    /// count.
     /// All are 0 before the first connection.
     pub fn sent(&self) -> PdusByKind
         ensures { result ≡ sent_by self.now.connection self.now.sent }

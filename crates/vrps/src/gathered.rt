@@ -98,7 +98,7 @@ impl Gathered {
         }
     }
 
-    /// Makes a `VrpSet` of the VRPs. `TooMany`: there are over 16,777,215. `Memory`: out of memory.
+    /// Makes a `VrpSet` of the VRPs. `TooMany`: there are over 16,777,215. `Memory`: memory ran out. On an error the VRPs are dropped.
     /// If the VRPs came in ascending order, no memory is allocated. Otherwise the time is linear in their number.
     pub fn into_set(self, alloc: Global) -> Result<VrpSet, SetFault>
         ensures ok { IfOk result (λ s. s ≡ self) }

@@ -4,12 +4,12 @@ ghost use Rattle.vrps.specs.Origin.{CoveringMembers, OneState, StateByCovering, 
 ghost use Rattle.vrps.specs.Store.{IsBeforeNewer, KeptIsItself, NamesItself, PublishedIsInstance, SameExactly};
 ghost use Rattle.vrps.specs.VrpSet.{ListedAgain, SameMembers};
 
-/// Law: a set made of the listing of a set is that same set.
+/// Law: the set made of the list of a set's members is that same set.
 pub fn listed_again()
     ensures { ListedAgain }
 {}
 
-/// Law: two sets with the same members are equal.
+/// Law: two sets that have the same VRPs are equal.
 pub fn same_members()
     ensures { SameMembers }
 {}
@@ -24,8 +24,8 @@ pub fn changes_merge()
     ensures { ChangesMerge }
 {}
 
-/// Law: a route is Valid if some VRP of the set matches it, Invalid if some VRP covers it and none matches, and NotFound if none covers it (RFC
-/// 6811 section 2).
+/// Law, for any set and any route: the route is Valid if some VRP of the set matches it. It is Invalid if some VRP covers it and none matches it. It
+/// is NotFound if no VRP covers it (RFC 6811 section 2).
 pub fn state_by_members()
     ensures { StateByMembers }
 {}
@@ -35,7 +35,7 @@ pub fn one_state()
     ensures { OneState }
 {}
 
-/// Law: `covering` lists exactly the VRPs of the set that cover the route, in strictly ascending order.
+/// Law, for any set and any route: `covering` lists exactly the VRPs of the set that cover the route, in strictly ascending order.
 pub fn covering_members()
     ensures { CoveringMembers }
 {}
@@ -51,14 +51,16 @@ pub fn same_exactly()
     ensures { SameExactly }
 {}
 
-/// Law: publishing a set keeps the invariants of an instance. Session and first serial keep their range, all sets are valid, and no set equals
-/// the one published before it.
+/// Law: publishing a valid set keeps the invariants of an instance. Its session and first serial keep their range, all its sets are valid, and no set
+/// equals the one published directly before it.
 pub fn published_is_instance()
     ensures { PublishedIsInstance }
 {}
 
-/// Law: a serial names its version while fewer than 2^31 versions are newer (RFC 1982 section 3.2; RFC 8210 section 2). Among all versions, it
-/// finds this version. Among the kept versions, it finds this version or nothing. It is before the serials of the newer versions.
+/// Law, for a version that has fewer than 2^31 newer ones (RFC 1982 section 3.2; RFC 8210 section 2). `names`: if its serial is looked up among all
+/// versions, the newest version with that serial is this version.
+/// `kept`: among the kept versions, the same look-up finds this version or nothing.
+/// `before`: its serial is before the serial of each newer version.
 pub fn serials_name_versions()
     ensures names { NamesItself }
     ensures kept { KeptIsItself }

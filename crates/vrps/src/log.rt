@@ -60,8 +60,8 @@ impl VersionLog {
         })
     }
 
-    /// The kept change at place `i`. Place 0 is the oldest, and each leads from one version to the next. `None`: there are at most `i` kept
-    /// changes.
+    /// Returns the kept change at place `i`, from 0. Place 0 is the oldest, and each change leads from one version to the next. `None`: at most `i`
+    /// changes are kept.
     pub fn kept(&self, i: usize) -> Option<&Change>
         ensures { (keep : ℕ) (instance : Instance) → HoldsSteps keep instance self.now → option_map (λ step. step.now) result ≡ kept_step keep instance.sets i }
     {

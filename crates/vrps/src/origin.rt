@@ -91,9 +91,9 @@ impl OriginIndex {
         self.state_counted(route).0
     }
 
-    /// The validation state of a route, and the number of groups that the lookup read. It allocates no memory.
-    /// The number is at most (prefix length of the route + 1) times the binary digits of the number of groups. It is at least 1 if there is a
-    /// group.
+    /// Returns the validation state of a route, and the number of groups that the lookup read. A group has the VRPs of one prefix. It allocates no
+    /// memory.
+    /// The number is at most (prefix length of the route + 1) times the binary digits of the number of groups. It is at least 1 if there is a group.
     pub fn state_counted(&self, route: &Route) -> (OriginState, u32)
         ensures state { result.0 ≡ state self.now route.now }
         ensures probes { result.1 ≤ ((block_of route.now.prefix).len + 1) * digit_count (group_count self.now) }
