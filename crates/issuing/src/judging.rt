@@ -17,8 +17,9 @@ fn is_before(one: &Moment, other: &Moment) -> bool
     one < other
 }
 
-/// Whether the octets are signed by the key of this modulus.
-fn is_signed_by(modulus: &[u8], octets: &[u8], signature: &[u8]) -> bool
+/// Returns whether `signature` is that of `octets` by the RSA key of this modulus and the exponent 65537 (RSASSA-PKCS1-v1_5 with SHA-256, RFC 7935
+/// section 2). `modulus` has the most significant octet first. `false` also if that is no modulus that the RPKI uses.
+pub fn is_signed_by(modulus: &[u8], octets: &[u8], signature: &[u8]) -> bool
     ensures { IsTrue result ↔ IsSignedBy modulus.now octets.now signature.now }
 {
     match PublicKey::new(modulus) {

@@ -2,7 +2,7 @@
 //!
 //! [`judge_certificate`] and [`judge_crl`] ask whether the issuer is an authority, compare names and keys, the time and the revoked serial
 //! numbers, and then verify the signature. What the certificate says of resources is not judged here. [`is_of_object`] says whether a certificate is
-//! for the object at a URI.
+//! for the object at a URI. [`is_signed_by`] alone verifies a signature.
 #![tactic(auto)]
 
 mod fault;
@@ -10,5 +10,5 @@ mod judging;
 mod objects;
 
 pub use fault::IssueFault;
-pub use judging::{judge_certificate, judge_crl};
+pub use judging::{is_signed_by, judge_certificate, judge_crl};
 pub use objects::is_of_object;

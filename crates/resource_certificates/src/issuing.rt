@@ -38,6 +38,14 @@ fn is_key_of(found: Option<&[u8]>, bits: &[u8]) -> bool
 }
 
 impl<'a> Certificate<'a> {
+    /// Returns whether this certificate is self-issued (RFC 5280 section 3.2): its issuer has the characters of its own subject, attribute by
+    /// attribute. Neither keys nor the signature are compared.
+    pub fn is_self_issued(&self) -> bool
+        ensures { IsTrue result ↔ (self.now.tbs.issuer ≡ self.now.tbs.subject) }
+    {
+        same_name(&self.tbs.issuer, &self.tbs.subject)
+    }
+
     /// Returns whether this certificate names `authority` as its issuer. The issuer's name must have the characters of the authority's subject, and
     /// authorityKeyIdentifier must be the SHA-1 of the authority's key. If authorityKeyIdentifier is missing, the result is `false`.
     /// The signature is not verified.
