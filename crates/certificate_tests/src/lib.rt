@@ -3,6 +3,8 @@
 #![tactic(auto)]
 
 #[cfg(test)]
+mod anchors;
+#[cfg(test)]
 mod certificates;
 #[cfg(test)]
 mod crls;

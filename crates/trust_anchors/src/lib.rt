@@ -12,9 +12,11 @@
 //! ```
 //!
 //! [`read_tal`] reads a trust anchor locator: the URIs at which the certificate of a trust anchor is found, and the key that the certificate has.
-//! The first fault is reported, with its line.
+//! The first fault is reported, with its line. [`judge_anchor`] says whether a certificate is a trust anchor for that key at a moment.
 #![tactic(auto)]
 
+mod anchor;
+mod anchor_fault;
 mod fault;
 mod key;
 pub mod laws;
@@ -23,6 +25,8 @@ mod tal;
 mod uri;
 mod validity;
 
+pub use anchor::judge_anchor;
+pub use anchor_fault::AnchorFault;
 pub use fault::{TalFault, TalFaultKind};
 pub use tal::{Tal, read_tal};
 pub use validity::{AnchorValidity, choose};

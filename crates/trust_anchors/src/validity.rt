@@ -26,7 +26,7 @@ impl Model for AnchorValidity {
 
 /// Whether one moment is before another.
 #[tactic(auto, unfolding(der_lite::specs::Moments::moment_before))]
-fn is_before(one: &Moment, other: &Moment) -> bool
+pub(crate) fn is_before(one: &Moment, other: &Moment) -> bool
     ensures { result ≡ moment_before one.now other.now }
 {
     one < other
