@@ -23,8 +23,9 @@ pub struct Pages {
 }
 
 impl Pages {
-    /// Opens the listener of the status pages if the settings have an address for them. Otherwise the pages do nothing.
-    /// `Err` with an address: the listener could not be opened. `Err` without one: the random source failed, or memory ran out.
+    /// Opens the listener of the status pages in `system`. If the settings have no address for it, nothing is opened.
+    /// `Err` with an address: the listener there could not be opened, or memory ran out. `Err` without one: the random source failed, or memory ran
+    /// out before a listener was opened.
     pub fn open<R: Files + Net + Clock + RandomSource + AllocGlobal, E: Write>(
         rt: &R,
         settings: &Settings,

@@ -28,7 +28,8 @@ pub fn payload(text: &str, max_len: u8, asn: u32) -> Result<Vrp, Fail> {
     }
 }
 
-/// The set of these rows, if they are payloads and there is memory.
+/// The set of these rows: each has a prefix as text, a maximum length and an AS number. Equal rows count once. `None`: a row is not a VRP, there
+/// are over 16,777,215, or memory ran out.
 pub fn set_in(alloc: Global, rows: &[(&str, u8, u32)]) -> Option<VrpSet> {
     let mut list = Vec::new(alloc);
     for &(text, max_len, asn) in rows {
