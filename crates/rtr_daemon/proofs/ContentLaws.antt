@@ -11,6 +11,7 @@ use Rattle.std.proofs.Common.{inl, inr, ◌⊎◌}
 use Rattle.std.proofs.lemmas.Bool.{cases_lt}
 use Rattle.std.proofs.lemmas.List.{append-nil, drop_all, get_or_default, length-map, take_all}
 use Rattle.std.proofs.lemmas.List.Edits.{map_over_more}
+use Rattle.rtr_daemon.specs.declared.refusals.Refused.{Refused}
 use Rattle.rtr_daemon.specs.declared.shrink_guard.ShrinkGuard.{ShrinkGuard}
 use Rattle.rtr_daemon.specs.Files.{AreContents, AreNumbered, FollowsEach, FollowsOne, LoadsEach, LoadsOne, Mark, SameLoad, SameLoads, loads_of, mark_of, marks_of, names_of, path_of, paths_of, stamp_or}
 use Rattle.rtr_daemon.specs.PointOffers.{OffersEach, OffersPoint, points_of}
@@ -112,19 +113,20 @@ pub marks_kept : (exports : List WatchedExport) (i : ℕ) (d new : WatchedExport
 marks_kept exports i d new same = map-set_same mark_of exports i new d same
 
 -- the same marks
-pub mark_is : (a b : Option ℕ) (s t : Option Stamp) → a ≡ b → s ≡ t → ◌≡◌ {A = Mark} (a, s) (b, t)
-mark_is a b s t since loaded = subst (λ x. ◌≡◌ {A = Mark} (a, s) (x, t)) since (subst (λ y. ◌≡◌ {A = Mark} (a, s) (a, y)) loaded refl)
+pub mark_is : (a b : Option ℕ) (s t : Option Stamp) (q r : Option Refused) → a ≡ b → s ≡ t → q ≡ r → ◌≡◌ {A = Mark} (a, s, q) (b, t, r)
+mark_is a b s t q r since loaded refused =
+    subst (λ x. ◌≡◌ {A = Mark} (a, s, q) (x, t, r)) since (subst (λ y. ◌≡◌ {A = Mark} (a, s, q) (a, y, r)) loaded (subst (λ z. ◌≡◌ {A = Mark} (a, s, q) (a, s, z)) refused refl))
 
 -- One export more was loaded.
-loads_then : {W : Type 0} (answers : DiskAnswers W) (now : ℕ) (exports : List WatchedExport) (last : WatchedExport) (marks : List Mark) (mark : Mark) (old mid new : Sources) (expired : ℕ) → LoadsEach answers now exports marks old mid → LoadsOne answers last now expired mark.1 mid new
+loads_then : {W : Type 0} (answers : DiskAnswers W) (now : ℕ) (exports : List WatchedExport) (last : WatchedExport) (marks : List Mark) (mark : Mark) (old mid new : Sources) (expired : ℕ) → LoadsEach answers now exports marks old mid → LoadsOne answers last now expired mark mid new
     → LoadsEach answers now (exports ++ last ∷ []) (marks ++ mark ∷ []) old new
-loads_then answers now [] last [] mark old mid new expired so_far loads = (expired, new, subst (λ s. LoadsOne answers last now expired mark.1 s new) so_far loads, refl)
+loads_then answers now [] last [] mark old mid new expired so_far loads = (expired, new, subst (λ s. LoadsOne answers last now expired mark s new) so_far loads, refl)
 loads_then answers now [] last (first ∷ marks) mark old mid new expired so_far loads = absurd so_far
 loads_then answers now (first ∷ exports) last [] mark old mid new expired so_far loads = absurd so_far
 loads_then answers now (first ∷ exports) last (one ∷ marks) mark old mid new expired so_far loads = (so_far.0, so_far.1, so_far.2, loads_then answers now exports last marks mark so_far.1 mid new expired so_far.3 loads)
 
 pub loads_more : {W : Type 0} (answers : DiskAnswers W) (now : ℕ) (exports written : List WatchedExport) (i : ℕ) (d new_export : WatchedExport) (old mid new : Sources) (expired : ℕ) → i < length exports → i < length written
-    → LoadsEach answers now (take i exports) (take i (marks_of written)) old mid → LoadsOne answers (get_or exports i d) now expired (mark_of new_export).1 mid new → LoadsEach answers now (take (suc i) exports) (take (suc i) (marks_of (set written i new_export))) old new
+    → LoadsEach answers now (take i exports) (take i (marks_of written)) old mid → LoadsOne answers (get_or exports i d) now expired (mark_of new_export) mid new → LoadsEach answers now (take (suc i) exports) (take (suc i) (marks_of (set written i new_export))) old new
 loads_more answers now exports written i d new_export old mid new expired less within so_far loads =
     subst (λ all. LoadsEach answers now all (take (suc i) (marks_of (set written i new_export))) old new) (sym (take-suc exports i d less))
     (subst (λ all. LoadsEach answers now (take i exports ++ get_or exports i d ∷ []) all old new) (sym (marks_more written i new_export within))

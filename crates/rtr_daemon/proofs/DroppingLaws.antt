@@ -43,7 +43,7 @@ then_drops holds remaining contents a b c on drops p is =
 -- old with what is served of new
 abbrev with_served : {S T : Type 0} → Daemon S T → Daemon S T → Daemon S T
 with_served old new = record old {
-  service = record old.service { server = new.service.server; is_pending = new.service.is_pending };
+  service = record old.service { server = new.service.server; families = new.service.families; is_pending = new.service.is_pending };
   clients = new.clients;
   has_closed = new.has_closed;
   readings = new.readings;
@@ -57,7 +57,7 @@ then_either holds remaining contents a b c on (inl more) = inl (then_on holds re
 then_either holds remaining contents a b c on (inr drops) = inr (then_drops holds remaining contents a b c on drops)
 
 -- Clients are closed, and then only the server, what is pending and the statistics change.
-pub served_by : {S T : Type 0} (a b e : Daemon S T) (s : Service S T) → OnlyClients a b → b.statistics.failure ≡ a.statistics.failure → b.clients.queue ≡ a.clients.queue → s ≡ record b.service { server = s.server; is_pending = s.is_pending }
+pub served_by : {S T : Type 0} (a b e : Daemon S T) (s : Service S T) → OnlyClients a b → b.statistics.failure ≡ a.statistics.failure → b.clients.queue ≡ a.clients.queue → s ≡ record b.service { server = s.server; families = s.families; is_pending = s.is_pending }
     → (b.service.is_pending ≡ true → s.is_pending ≡ true) → e ≡ record b { service = s; statistics = e.statistics } → e.statistics.failure ≡ b.statistics.failure → OnlyServed a e
 served_by {S} {T} a b e s only failure queue s_is pending e_is e_failure = record {
   rest = subst (λ z. e ≡ with_served z e) only (subst (λ z. z ≡ with_served b z) (sym e_is) (ap (λ t. record b { service = t; statistics = e.statistics }) s_is));

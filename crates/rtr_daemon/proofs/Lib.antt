@@ -4,14 +4,17 @@ pub mod ContentLaws
 pub mod DroppingLaws
 pub mod DueLaws
 pub mod Expiry
+pub mod FamilyLaws
 pub mod OriginLaws
 pub mod OverdueLaws
 pub mod PacingLaws
 pub mod QueueLaws
 pub mod ReadyLaws
 pub mod Reasons
+pub mod RefusalLaws
 pub mod ServiceLaws
 pub mod StampLaws
 pub mod StartLaws
 pub mod StateLaws
+pub mod StatusLaws
 pub mod WakeLaws

@@ -28,7 +28,7 @@ use Rattle.sources.specs.declared.sources.Sources.{Sources}
 use Rattle.rtr_daemon.specs.DiskAnswers.{DiskAnswers}
 use Rattle.rtr_daemon.specs.Due.{DoesWhatIsDue, OnlyAdmitted, OnlyClients, OnlyServed, PollsAll}
 use Rattle.rtr_daemon.specs.Files.{AreNumbered, Follows, FollowsEach, FollowsSlurms, Loads, LoadsEach, Mark, loads_of, marks_of, names_of, path_of, paths_of}
-use Rattle.rtr_daemon.specs.Origins.{ComesAt, ExceptionsComeFrom, ExportComesFrom, ExportsComeFrom, Place, PointComesFrom, PointsComeFrom, SourcesComeFrom, places_of}
+use Rattle.rtr_daemon.specs.Origins.{ComesAt, ExceptionsComeFrom, ExportComesFrom, ExportsComeFrom, Place, PointComesFrom, PointsComeFrom, RefusalsCome, SourcesComeFrom, places_of}
 use Rattle.rtr_daemon.specs.PointOffers.{IsOffered, OffersEach, OffersPoint, points_of}
 use Rattle.rtr_daemon.specs.Shrinking.{percent_at}
 use Rattle.rtr_daemon.specs.Starting.{ReadsAll}
@@ -38,6 +38,7 @@ use Rattle.rtr_daemon.specs.declared.point_polling.WatchedPoint.{WatchedPoint}
 use Rattle.rtr_daemon.specs.declared.shrink_guard.ShrinkGuard.{ShrinkGuard}
 use Rattle.rtr_daemon.specs.declared.watched_file.WatchedExport.{WatchedExport}
 use Rattle.rtr_daemon.specs.declared.watched_file.WatchedFile.{WatchedFile}
+use Rattle.rtr_daemon.proofs.RefusalLaws.{each_refused, none_refused, refusals_as}
 
 names_equal : (a b : List ℕ) → (a ≡ b) ⊎ (¬ (a ≡ b))
 names_equal a b = by (bytes_eq a b) refl where
@@ -134,10 +135,10 @@ follow_rest answers percent export now millis mark old new (inr (news, same)) = 
 follow_comes : {W : Type 0} (answers : DiskAnswers W) (clock : ℕ → Type 0) (done rest : List Place) (percent : Option ℕ) (export : WatchedExport) (now millis : ℕ) (mark : Mark) (old new : Sources) → clock now → Follows answers percent export now millis mark old new
     → ExportsComeFrom answers clock (done ++ place export export.file.loaded ∷ rest) old.lists.items → ExportsComeFrom answers clock (done ++ place export mark.1 ∷ rest) new.lists.items
 follow_comes answers clock done rest percent export now millis mark old new at (inl (Ok expired, stamp, loads, noted)) before = λ i.
-    subst (λ l. ComesAt answers clock (done ++ place export l ∷ rest) new.lists.items i) (sym (ap (λ m. m.1) noted)) (loaded_comes answers clock done rest percent export now expired stamp old new at loads i (λ other. before i))
-follow_comes answers clock done rest percent export now millis mark old new at (inl (Err fault, stamp, (bytes, whole, taken), noted)) before = kept_comes answers clock done rest export mark.1 old.lists.items new.lists.items (ap (λ m. m.1) noted) taken.0.1 before
+    subst (λ l. ComesAt answers clock (done ++ place export l ∷ rest) new.lists.items i) (sym noted.loaded) (loaded_comes answers clock done rest percent export now expired stamp old new at loads i (λ other. before i))
+follow_comes answers clock done rest percent export now millis mark old new at (inl (Err fault, stamp, (bytes, whole, taken), noted)) before = kept_comes answers clock done rest export mark.1 old.lists.items new.lists.items noted.loaded taken.0.1 before
 follow_comes answers clock done rest percent export now millis mark old new at (inr (inl (unchanged, noted), same)) before = kept_comes answers clock done rest export mark.1 old.lists.items new.lists.items (ap (λ m. m.1) noted) (ap (λ s. s.lists.items) same) before
-follow_comes answers clock done rest percent export now millis mark old new at (inr (inr (cannot, noted), same)) before = kept_comes answers clock done rest export mark.1 old.lists.items new.lists.items (ap (λ m. m.1) noted) (ap (λ s. s.lists.items) same) before
+follow_comes answers clock done rest percent export now millis mark old new at (inr (inr (cannot, short, loaded, refused), same)) before = kept_comes answers clock done rest export mark.1 old.lists.items new.lists.items loaded (ap (λ s. s.lists.items) same) before
 
 each_rest : {W : Type 0} (answers : DiskAnswers W) (clock ticks : ℕ → Type 0) (guard : Option ShrinkGuard) (exports : List WatchedExport) (marks : List Mark) (old new : Sources) → FollowsEach answers clock ticks guard exports marks old new → KeepsRest old new
 each_rest answers clock ticks guard [] [] old new h = record { exceptions = ap (λ s. s.exceptions) h; repository = ap (λ s. s.repository) h }
@@ -256,6 +257,9 @@ polled_comes answers clock ticks old new p names slurms points before =
       exports =
           subst (λ places. ExportsComeFrom answers clock places new.service.sources.lists.items) (placed_as old.exports.items new.exports.items names)
           (subst (ExportsComeFrom answers clock (placed old.exports.items (marks_of new.exports.items))) (sym (ap (λ l. l.items) offered.lists ∙ excepted.lists)) exports);
+      refusals =
+          refusals_as answers clock old.exports.items new.exports.items names
+          (each_refused answers clock ticks old.plan.shrink old.exports.items (marks_of new.exports.items) old.service.sources p.followed p.exports before.refusals);
       exceptions =
           subst (λ n. ExceptionsComeFrom answers n loads new.service.sources.exceptions) (sym slurms)
           (subst (ExceptionsComeFrom answers (paths_of old.slurms.items) loads) (sym offered.exceptions) exceptions);
@@ -264,14 +268,14 @@ polled_comes answers clock ticks old new p names slurms points before =
 
 -- Only clients have changed.
 pub clients_come : {S T W : Type 0} (answers : DiskAnswers W) (clock : ℕ → Type 0) (old new : Daemon S T) → OnlyClients old new → SourcesComeFrom answers clock old → SourcesComeFrom answers clock new
-clients_come answers clock old new only before = subst (SourcesComeFrom answers clock) (sym only) (record { exports = before.exports; exceptions = before.exceptions; points = before.points })
+clients_come answers clock old new only before = subst (SourcesComeFrom answers clock) (sym only) (record { exports = before.exports; refusals = before.refusals; exceptions = before.exceptions; points = before.points })
 
 pub admitted_comes : {S T W : Type 0} (answers : DiskAnswers W) (clock : ℕ → Type 0) (old new : Daemon S T) → OnlyAdmitted old new → SourcesComeFrom answers clock old → SourcesComeFrom answers clock new
-admitted_comes answers clock old new only before = subst (SourcesComeFrom answers clock) (sym only) (record { exports = before.exports; exceptions = before.exceptions; points = before.points })
+admitted_comes answers clock old new only before = subst (SourcesComeFrom answers clock) (sym only) (record { exports = before.exports; refusals = before.refusals; exceptions = before.exceptions; points = before.points })
 
 -- Versions may have been dropped.
 pub served_comes : {S T W : Type 0} (answers : DiskAnswers W) (clock : ℕ → Type 0) (old new : Daemon S T) → OnlyServed old new → SourcesComeFrom answers clock old → SourcesComeFrom answers clock new
-served_comes answers clock old new only before = subst (SourcesComeFrom answers clock) (sym only.rest) (record { exports = before.exports; exceptions = before.exceptions; points = before.points })
+served_comes answers clock old new only before = subst (SourcesComeFrom answers clock) (sym only.rest) (record { exports = before.exports; refusals = before.refusals; exceptions = before.exceptions; points = before.points })
 
 -- A turn
 pub turn_comes : {S T W : Type 0} (answers : DiskAnswers W) (clock ticks : ℕ → Type 0) (old new : Daemon S T) → DoesWhatIsDue answers clock ticks old new → SourcesComeFrom answers clock old → SourcesComeFrom answers clock new
@@ -282,6 +286,7 @@ turn_comes answers clock ticks old new does before = by_time (cases_lt does.now 
       let k = (does.between early).kept in
       record {
         exports = subst (λ e. ExportsComeFrom answers clock (places_of e.items) new.service.sources.lists.items) (sym k.exports) (subst (λ s. ExportsComeFrom answers clock (places_of old.exports.items) s.lists.items) (sym k.sources) before.exports);
+        refusals = subst (λ e. RefusalsCome answers clock e.items) (sym k.exports) before.refusals;
         exceptions =
             subst (λ e. ExceptionsComeFrom answers (paths_of e.items) (loads_of e.items) new.service.sources.exceptions) (sym k.slurms)
             (subst (λ s. ExceptionsComeFrom answers (paths_of old.slurms.items) (loads_of old.slurms.items) s.exceptions) (sym k.sources) before.exceptions);
@@ -354,6 +359,7 @@ opened_comes answers clock leaves_out d at numbered r =
     let held : PointsComeFrom answers (points_of d.points.items) r.excepted.repository = λ name last got. absurd (let never : None ≡ Some last = sym (get-empty (slice_cmp nat_cmp) name) ∙ sym (ap (λ z. accepted_at z name) none) ∙ got in cc) in
     record {
       exports = subst (ExportsComeFrom answers clock (places_of exports)) (sym (ap (λ l. l.items) third.lists ∙ second.lists)) lists;
+      refusals = refusals_as answers clock exports exports refl (none_refused answers clock d.started exports marks r.first r.loaded r.exports);
       exceptions =
           subst (ExceptionsComeFrom answers (paths_of d.slurms.items) loads) (sym third.exceptions)
           (record { stamps = r.slurms.stamps; contents = r.slurms.contents; read = r.slurms.read; noted = r.slurms.noted; united = r.slurms.taken.0 });

@@ -5,13 +5,26 @@ use Rattle.std.proofs.lemmas.List.{append_assoc, append-nil}
 use Rattle.vrps.specs.Instance.{Instance}
 use Rattle.std.specs.Prelude.{Option, Some, None, option_map}
 use Rattle.rtr_server.specs.declared.server.Client.{Client}
-use Rattle.rtr_daemon.specs.Turns.{HasTurn}
+use Rattle.rtr_server.specs.Clients.{KeepsOthers}
+use Rattle.rtr_daemon.specs.Turns.{HasTurn, ServesClient}
 use Rattle.rtr_server.specs.declared.server.Server.{Server}
 use Rattle.rtr_server.specs.declared.stream.Call.{Call}
 use Rattle.rtr_server.specs.declared.turn.Turn.{Turn}
 use Rattle.rtr_server.specs.declared.turn.Turn.TheVariants.{Busy, Gone, WaitsToRead, WaitsToWrite}
 use Rattle.rtr_daemon.specs.Queue.{IsKeptAfter, OtherClients, QueuesBehind, ServesEach, ServesNext, ServesOne, TakesNext, TurnOf, client_at, under}
 use Rattle.rtr_daemon.specs.declared.client_table.ClientTable.{ClientTable}
+
+-- A client had its turn, after which only other parts of the daemon change than its server.
+pub had_turn : {S T : Type 0} (holds : ℕ → Instance → S → Type 0) (remaining contents : T → Option (List ℕ)) (answers : T → Option (List Call)) (client : Client) (token : ℕ) (turn found : Turn) (table served : ClientTable) (old mid new : Server S T) → found ≡ turn → new ≡ mid
+    → ServesClient holds remaining contents answers 8 client.0.0 (Some found) old mid → KeepsOthers client.0.0 old.slots.items mid.slots.items → IsKeptAfter (Some turn) token table served → TurnOf holds remaining contents answers (Some client) token table old served new
+had_turn holds remaining contents answers client token turn found table served old mid new is same serves others kept = (
+  record {
+    turn = Some turn;
+    serves = subst (λ s. ServesClient holds remaining contents answers 8 client.0.0 (Some turn) old s) (sym same) (subst (λ t. ServesClient holds remaining contents answers 8 client.0.0 (Some t) old mid) is serves);
+    others = subst (λ s. KeepsOthers client.0.0 old.slots.items s.slots.items) (sym same) others;
+  },
+  kept,
+)
 
 -- One turn more
 pub serves_more : {S T : Type 0} (holds : ℕ → Instance → S → Type 0) (remaining contents : T → Option (List ℕ)) (answers : T → Option (List Call)) (tokens : List ℕ) (token : ℕ) (table mid last : ClientTable) (old between new : Server S T)

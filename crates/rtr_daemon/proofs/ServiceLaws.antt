@@ -26,6 +26,7 @@ use Rattle.der_lite.specs.Moments.{CivilMoment}
 use Rattle.der_lite.specs.Seconds.{seconds_of}
 use Rattle.points.specs.InUse.{no_points}
 use Rattle.session_names.specs.Runs.{may_publish}
+use Rattle.rtr_daemon.specs.Families.{families_in, families_of}
 use Rattle.rtr_daemon.specs.Serving.{Adds, Continues, GoesOn, IsFresh, IsLater, IsMadeWith, IsNewestAt, IsServedAt, IsOfSecond, Issues, KeepsVersions, LeadsToService, OpensNone, PublishesAt, PublishesOnce, SameExpired, SameSources, ShowsService, with_version}
 use Rattle.rtr_daemon.specs.declared.cache_settings.CacheSettings.{CacheSettings}
 use Rattle.rtr_daemon.specs.declared.service.Service.{Service}
@@ -194,10 +195,10 @@ published_on holds remaining contents p set (Ok Unchanged) old new h = (p, no_la
 published_on holds remaining contents p set (Err e) old new h = (p, no_later p, h.0, refl)
 
 -- A version becomes pending.
-pub pending_on : {S T : Type 0} (holds : ℕ → Instance → S → Type 0) (remaining contents : T → Option (List ℕ)) (old new : Service S T) → new.server ≡ old.server → new.is_pending ≡ true → new.pace ≡ old.pace
+pub pending_on : {S T : Type 0} (holds : ℕ → Instance → S → Type 0) (remaining contents : T → Option (List ℕ)) (old new : Service S T) → new.server ≡ old.server → new.is_pending ≡ true → new.pace ≡ old.pace → new.families ≡ old.families
     → ((old.has_points ≡ false → old.sources.repository ≡ no_points) → new.has_points ≡ false → new.sources.repository ≡ no_points) → ((p : Past) → IsMadeWith old.settings old.session0 p → IsMadeWith new.settings new.session0 p) → Continues holds remaining contents old new
-pending_on holds remaining contents old new same pending pace points made p h =
-    (p, no_later p, record { server = subst (λ s. ShowsServer holds remaining contents p s) (sym same) h.server; newest = λ e. absurd (let never : true ≡ false = sym pending ∙ e in cc); points = points h.points; made_with = made p h.made_with }, refl, pace)
+pending_on holds remaining contents old new same pending pace families points made p h =
+    (p, no_later p, record { server = subst (λ s. ShowsServer holds remaining contents p s) (sym same) h.server; newest = λ e. absurd (let never : true ≡ false = sym pending ∙ e in cc); families = families ∙ h.families; points = points h.points; made_with = made p h.made_with }, refl, pace)
 
 same_newest : (now : ℕ) (i : Instance) (a b : Sources) → SameSources a b → IsNewestAt now i a → IsNewestAt now i b
 same_newest now i a b e h = record {
@@ -209,20 +210,20 @@ same_newest now i a b e h = record {
 -- The sources are unchanged.
 pub same_on : {S T : Type 0} (holds : ℕ → Instance → S → Type 0) (remaining contents : T → Option (List ℕ)) (old : Service S T) (sources : Sources) → SameSources old.sources sources → Continues holds remaining contents old (record old { sources = sources })
 same_on holds remaining contents old sources same p h =
-    (p, no_later p, record { server = h.server; newest = λ e. same_newest old.current_at (present p).cache old.sources sources same (h.newest e); points = λ e. same.repository ∙ h.points e; made_with = h.made_with }, refl, refl)
+    (p, no_later p, record { server = h.server; newest = λ e. same_newest old.current_at (present p).cache old.sources sources same (h.newest e); families = h.families; points = λ e. same.repository ∙ h.points e; made_with = h.made_with }, refl, refl)
 
 -- The server continues, and nothing is published.
 pub server_on : {S T : Type 0} (holds : ℕ → Instance → S → Type 0) (remaining contents : T → Option (List ℕ)) (old : Service S T) (server : Server S T)
     → ((p : Past) → ShowsServer holds remaining contents p old.server → (q : Past) × IsLater p q × ShowsServer holds remaining contents q server × KeepsVersions p q) → Continues holds remaining contents old (record old { server = server })
 server_on holds remaining contents old server goes p h =
     let on = goes p h.server in
-    (on.0, on.1, record { server = on.2; newest = λ e. subst (λ i. IsNewestAt old.current_at i old.sources) (sym on.3) (h.newest e); points = h.points; made_with = made_on old.settings old.session0 p on.0 on.1 h.made_with }, on.3, refl)
+    (on.0, on.1, record { server = on.2; newest = λ e. subst (λ i. IsNewestAt old.current_at i old.sources) (sym on.3) (h.newest e); families = h.families ∙ ap (λ i. families_in (newest (versions i))) (sym on.3); points = h.points; made_with = made_on old.settings old.session0 p on.0 on.1 h.made_with }, on.3, refl)
 
 -- The newest version is the set of the sources at another second too.
 pub current_on : {S T : Type 0} (holds : ℕ → Instance → S → Type 0) (remaining contents : T → Option (List ℕ)) (old : Service S T) (now : ℕ) (m : CivilMoment) → seconds_of m ≡ now → old.has_points ≡ false → SameExpired old.current_at now old.sources.lists.items
     → Continues holds remaining contents old (record old { current_at = now; judged_at = now })
 current_on holds remaining contents old now m seconds none same p h =
-    (p, no_later p, record { server = h.server; newest = λ e. let was = h.newest e in record { version = was.version; is = was.is; served = served_later old.current_at now old.sources was.version.set (h.points none) m seconds same was.served }; points = h.points; made_with = h.made_with }, refl, refl)
+    (p, no_later p, record { server = h.server; newest = λ e. let was = h.newest e in record { version = was.version; is = was.is; served = served_later old.current_at now old.sources was.version.set (h.points none) m seconds same was.served }; families = h.families; points = h.points; made_with = h.made_with }, refl, refl)
 
 differs : (a b : ℕ) → ¬ (b ≡ a) → (a == b) ≡ false
 differs a b h = false_if_never (a == b) (λ e. h (sym (eq_of a b e)))
@@ -244,12 +245,12 @@ newest_served : (now : ℕ) (s : Sources) (set : VrpSet) (i : Instance) → IsSe
 newest_served now s set i h n = record { version = n.version; is = n.is; served = subst (λ t. IsServedAt now s t) (sym n.set_is) h }
 
 -- The set of the sources is published.
-pub issues : {S T : Type 0} (holds : ℕ → Instance → S → Type 0) (remaining contents : T → Option (List ℕ)) (old new : Service S T) (now : ℕ) (set : VrpSet) (x : Published) → IsServedAt now old.sources set → new.sources ≡ old.sources
+pub issues : {S T : Type 0} (holds : ℕ → Instance → S → Type 0) (remaining contents : T → Option (List ℕ)) (old new : Service S T) (now : ℕ) (set : VrpSet) (x : Published) → IsServedAt now old.sources set → new.sources ≡ old.sources → new.families ≡ families_of set
     → ((p : Past) → ShowsServer holds remaining contents p old.server → PublishesTo holds remaining contents p set (Ok x) old.server new.server) → Issues holds remaining contents now x old new
-issues holds remaining contents old new now set x served same publishes p h =
+issues holds remaining contents old new now set x served same families publishes p h =
     let on = published_on holds remaining contents p set (Ok x) old.server new.server (publishes p h) in
     let serves = subst (λ s. IsServedAt now s set) (sym same) served in
-    (on.0, on.1, on.2, newest_served now new.sources set (present on.0).cache serves on.3.0, record { set = set; served = serves; adds = on.3.1 })
+    (on.0, on.1, on.2, newest_served now new.sources set (present on.0).cache serves on.3.0, record { set = set; served = serves; adds = on.3.1 }, families ∙ sym (ap families_in on.3.0.is ∙ ap families_of on.3.0.set_is))
 
 publishes_once : {S T : Type 0} (now second : ℕ) (x : Published) (old new : Service S T) (p q : Past) → PublishesAt now new.sources x p q → may_publish old.pace second ≡ true → IsOfSecond x second old.pace new.pace → PublishesOnce (λ at. at ≡ now) old new p q
 publishes_once now second (New serial) old new p q h later pace =
@@ -263,7 +264,7 @@ issued_on holds remaining contents old new now second x h same at points setting
     let on = h p is.server in (
       on.0,
       on.1,
-      record { server = on.2; newest = λ e. subst (λ second. IsNewestAt second (present on.0).cache new.sources) (sym at) on.3; points = λ e. ap (λ s. s.repository) same ∙ is.points (sym points ∙ e); made_with = subst (λ s. IsMadeWith s new.session0 on.0) (sym settings) (subst (λ n. IsMadeWith old.settings n on.0) (sym session0) (made_on old.settings old.session0 p on.0 on.1 is.made_with)) },
+      record { server = on.2; newest = λ e. subst (λ second. IsNewestAt second (present on.0).cache new.sources) (sym at) on.3; families = on.5; points = λ e. ap (λ s. s.repository) same ∙ is.points (sym points ∙ e); made_with = subst (λ s. IsMadeWith s new.session0 on.0) (sym settings) (subst (λ n. IsMadeWith old.settings n on.0) (sym session0) (made_on old.settings old.session0 p on.0 on.1 is.made_with)) },
       publishes_once now second x old new p on.0 on.4 later pace,
     )
 

@@ -1,6 +1,6 @@
 -- What is watched from the start on, and what was read of it.
 use Rattle.std.proofs.Common.{◌≡◌, ℕ, zero, suc, ◌+◌, List, [], ◌∷◌, length, map, Some, Ok, arith, ap, refl, subst, sym, ◌∙◌}
-use Rattle.std.specs.Prelude.{None, Option, slice_get}
+use Rattle.std.specs.Prelude.{None, slice_get}
 use Rattle.std.specs.String.{string_bytes}
 use Rattle.std.proofs.lemmas.List.{length-map}
 use Rattle.sources.specs.Shrinking.{ExportTakenWithin}
@@ -9,7 +9,6 @@ use Rattle.rtr_daemon.specs.DiskAnswers.{DiskAnswers, ReadsWhole}
 use Rattle.rtr_daemon.specs.Files.{AreNumbered, LoadsEach, LoadsOne, Mark, names_of, path_of, paths_of}
 use Rattle.rtr_daemon.specs.PointOffers.{OffersEach, OffersPoint, points_of}
 use Rattle.rtr_daemon.specs.Starting.{numbered_from, texts}
-use Rattle.rtr_daemon.specs.declared.environment.Stamp.{Stamp}
 use Rattle.rtr_daemon.specs.declared.point_polling.WatchedPoint.{WatchedPoint}
 use Rattle.rtr_daemon.specs.declared.watched_file.WatchedExport.{WatchedExport}
 use Rattle.rtr_daemon.specs.declared.watched_file.WatchedFile.{WatchedFile}
@@ -64,11 +63,12 @@ numbers_at n (first ∷ exports) (path ∷ paths) same (suc i) export got =
 pub numbered_at : (exports : List WatchedExport) (paths : List (List ℕ)) → names_of exports ≡ numbered_from 0 paths → AreNumbered exports
 numbered_at exports paths same i export got = let at : export.number ≡ 0 + i = numbers_at 0 exports paths same i export got in omega (arith, at)
 
-load_named : {W : Type 0} (answers : DiskAnswers W) (now expired : ℕ) (a b : WatchedExport) (loaded : Option Stamp) (old new : Sources) → path_of a.file ≡ path_of b.file → a.number ≡ b.number → LoadsOne answers a now expired loaded old new → LoadsOne answers b now expired loaded old new
-load_named answers now expired a b loaded old new paths numbers (stamp, (bytes, whole, taken), noted) = (
+load_named : {W : Type 0} (answers : DiskAnswers W) (now expired : ℕ) (a b : WatchedExport) (mark : Mark) (old new : Sources) → path_of a.file ≡ path_of b.file → a.number ≡ b.number → LoadsOne answers a now expired mark old new → LoadsOne answers b now expired mark old new
+load_named answers now expired a b mark old new paths numbers (stamp, (bytes, whole, taken), noted, refused) = (
   stamp,
   (bytes, subst (λ path. ReadsWhole answers path stamp bytes) paths whole, subst (λ number. ExportTakenWithin None bytes now number (Ok expired) old new) numbers taken),
   noted,
+  refused,
 )
 
 -- Loads of exports of the same paths and numbers
@@ -84,7 +84,7 @@ loads_named answers now (a ∷ before) (b ∷ after) (mark ∷ marks) old new sa
     let other : List ℕ × ℕ = (path_of b.file, b.number) in
     let head : one ≡ other = cc in
     let tails : names_of before ≡ names_of after = cc in
-    (h.0, h.1, load_named answers now h.0 a b mark.1 old h.1 (ap (λ name. name.0) head) (ap (λ name. name.1) head) h.2, loads_named answers now before after marks h.1 new tails h.3)
+    (h.0, h.1, load_named answers now h.0 a b mark old h.1 (ap (λ name. name.0) head) (ap (λ name. name.1) head) h.2, loads_named answers now before after marks h.1 new tails h.3)
 
 -- Offers of directories at the same paths
 pub offers_named : {W : Type 0} (answers : DiskAnswers W) (clock : ℕ → Type 0) (before after : List WatchedPoint) (old new : Sources) → points_of before ≡ points_of after → OffersEach answers clock before old new → OffersEach answers clock after old new

@@ -203,7 +203,7 @@ pub record OnlyServed {S T : Type 0} (old new : Daemon S T) : Type 0 where
   pub rest :
       new
       ≡ record old {
-        service = record old.service { server = new.service.server; is_pending = new.service.is_pending };
+        service = record old.service { server = new.service.server; families = new.service.families; is_pending = new.service.is_pending };
         clients = new.clients;
         has_closed = new.has_closed;
         readings = new.readings;

@@ -95,12 +95,12 @@ IsUnchanged answers file = (stamp : Stamp) × HadStamp answers (path_of file) st
 abbrev pub CannotLoad : {W : Type 0} → DiskAnswers W → WatchedFile → Type 0
 CannotLoad answers file = ((stamp : Stamp) × HadStamp answers (path_of file) stamp × WasRefused file stamp) ⊎ ChangesWhileRead answers (path_of file) ⊎ FileFails answers (path_of file)
 
--- What is noted of an export: since when its contents are refused as too short, and the stamp of the contents that were loaded last
+-- What is noted of an export: since when its contents are refused as too short, the stamp of the contents that were loaded last, and the last refusal
 abbrev pub Mark : Type 0
-Mark = Option ℕ × Option Stamp
+Mark = Option ℕ × Option Stamp × Option Refused
 
 abbrev pub mark_of : WatchedExport → Mark
-mark_of export = (export.short_since, export.file.loaded)
+mark_of export = (export.short_since, export.file.loaded, export.file.refusals.last)
 
 abbrev pub marks_of : List WatchedExport → List Mark
 marks_of exports = map mark_of exports
@@ -110,13 +110,37 @@ abbrev pub loaded_after : Result ℕ TakeFault → Stamp → Option Stamp → Op
 loaded_after (Ok expired) stamp before = Some stamp
 loaded_after (Err fault) stamp before = before
 
--- what is noted of an export then, at a time of the monotonic clock
-abbrev pub mark_after : Result ℕ TakeFault → Stamp → WatchedExport → ℕ → Mark
-mark_after result stamp export millis = (since_after result export.short_since millis, loaded_after result stamp export.file.loaded)
+-- A refusal is for a fault of an export.
+abbrev pub IsForFault : TakeFault → Refusal → Type 0
+IsForFault fault (reason.Export file) = file.fault ≡ fault
+IsForFault fault refusal = ⊥
 
--- Nothing is loaded of an export. If it is again as it was loaded, it is no longer too short.
+-- After contents of a stamp were loaded no refusal is noted. After they were refused, their stamp and their fault are noted.
+abbrev pub RefusedAfter : Result ℕ TakeFault → Stamp → Option Refused → Type 0
+RefusedAfter (Ok expired) stamp noted = noted ≡ None
+RefusedAfter (Err fault) stamp noted = (refused : Refused) × (noted ≡ Some refused) × (refused.stamp ≡ Some stamp) × IsForFault fault refused.why
+
+-- What is noted of an export then, at a time of the monotonic clock
+pub record IsMarkAfter (result : Result ℕ TakeFault) (stamp : Stamp) (export : WatchedExport) (millis : ℕ) (mark : Mark) : Type 0 where
+  pub short : mark.0 ≡ since_after result export.short_since millis
+  pub loaded : mark.1 ≡ loaded_after result stamp export.file.loaded
+  pub refused : RefusedAfter result stamp mark.2
+
+-- The last refusal is as before, or of no contents.
+abbrev pub KeepsRefusal : Option Refused → Option Refused → Type 0
+KeepsRefusal old new = (new ≡ old) ⊎ ((refused : Refused) × (new ≡ Some refused) × (refused.stamp ≡ None))
+
+-- An export is again as it was loaded: it is no longer too short, nor refused.
+abbrev pub IsAsLoaded : {W : Type 0} → DiskAnswers W → WatchedExport → Mark → Type 0
+IsAsLoaded answers export mark = IsUnchanged answers export.file × (mark ≡ (None, export.file.loaded, None))
+
+-- It cannot be loaded.
+abbrev pub IsNotLoaded : {W : Type 0} → DiskAnswers W → WatchedExport → Mark → Type 0
+IsNotLoaded answers export mark = CannotLoad answers export.file × (mark.0 ≡ export.short_since) × (mark.1 ≡ export.file.loaded) × KeepsRefusal export.file.refusals.last mark.2
+
+-- Nothing is loaded of an export.
 abbrev pub HasNoNews : {W : Type 0} → DiskAnswers W → WatchedExport → Mark → Type 0
-HasNoNews answers export mark = (IsUnchanged answers export.file × (mark ≡ (None, export.file.loaded))) ⊎ (CannotLoad answers export.file × (mark ≡ mark_of export))
+HasNoNews answers export mark = IsAsLoaded answers export mark ⊎ IsNotLoaded answers export mark
 
 -- Bytes that were read whole of the path of an export with this stamp are loaded as this export, or refused. No more than this percentage of its
 -- records may be gone.
@@ -127,7 +151,7 @@ Loads answers percent export now stamp result old new = (bytes : List ℕ) × Re
 -- What is noted of it then is that.
 abbrev pub Follows : {W : Type 0} → DiskAnswers W → Option ℕ → WatchedExport → ℕ → ℕ → Mark → Sources → Sources → Type 0
 Follows answers percent export now millis mark old new =
-    ((result : Result ℕ TakeFault) × (stamp : Stamp) × Loads answers percent export now stamp result old new × (mark ≡ mark_after result stamp export millis)) ⊎ (HasNoNews answers export mark × (new ≡ old))
+    ((result : Result ℕ TakeFault) × (stamp : Stamp) × Loads answers percent export now stamp result old new × IsMarkAfter result stamp export millis mark) ⊎ (HasNoNews answers export mark × (new ≡ old))
 
 -- A poll of an export with a guard, at times that the clocks answered
 abbrev pub FollowsOne : {W : Type 0} → DiskAnswers W → (ℕ → Type 0) → (ℕ → Type 0) → Option ShrinkGuard → WatchedExport → Mark → Sources → Sources → Type 0
@@ -140,14 +164,14 @@ FollowsEach answers clock ticks guard (export ∷ exports) (mark ∷ marks) old 
     (between : Sources) × FollowsOne answers clock ticks guard export mark old between × FollowsEach answers clock ticks guard exports marks between new
 FollowsEach answers clock ticks guard exports marks old new = ⊥
 
--- An export was loaded without a guard, and its stamp is noted.
-abbrev pub LoadsOne : {W : Type 0} → DiskAnswers W → WatchedExport → ℕ → ℕ → Option Stamp → Sources → Sources → Type 0
-LoadsOne answers export now expired loaded old new = (stamp : Stamp) × Loads answers None export now stamp (Ok expired) old new × (loaded ≡ Some stamp)
+-- An export was loaded without a guard. Its stamp is noted, and no refusal.
+abbrev pub LoadsOne : {W : Type 0} → DiskAnswers W → WatchedExport → ℕ → ℕ → Mark → Sources → Sources → Type 0
+LoadsOne answers export now expired mark old new = (stamp : Stamp) × Loads answers None export now stamp (Ok expired) old new × (mark.1 ≡ Some stamp) × (mark.2 ≡ None)
 
 -- Each export was loaded, at the second of the start. There is no guard then.
 abbrev pub LoadsEach : {W : Type 0} → DiskAnswers W → ℕ → List WatchedExport → List Mark → Sources → Sources → Type 0
 LoadsEach answers now [] [] old new = new ≡ old
-LoadsEach answers now (export ∷ exports) (mark ∷ marks) old new = (expired : ℕ) × (between : Sources) × LoadsOne answers export now expired mark.1 old between × LoadsEach answers now exports marks between new
+LoadsEach answers now (export ∷ exports) (mark ∷ marks) old new = (expired : ℕ) × (between : Sources) × LoadsOne answers export now expired mark old between × LoadsEach answers now exports marks between new
 LoadsEach answers now exports marks old new = ⊥
 
 -- The path and the number of each export

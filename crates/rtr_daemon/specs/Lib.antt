@@ -5,6 +5,7 @@ pub mod Calls
 pub mod DaemonRows
 pub mod DiskAnswers
 pub mod Due
+pub mod Families
 pub mod Files
 pub mod Losing
 pub mod Notes
@@ -25,5 +26,6 @@ pub mod ShrinkingRows
 pub mod SocketCalls
 pub mod Stamps
 pub mod Starting
+pub mod Statuses
 pub mod Times
 pub mod Turns

@@ -1,13 +1,17 @@
 -- The run of the daemon's program: what it waits for, what it may open, and how it ends (rpkirtrd(8)).
-use Rattle.std.specs.Prelude.{◌≡◌, ◌⊎◌, ◌≤◌, ℕ, zero, suc, ◌-◌, min, max, List, codes, Option, Result, Ok, Err}
+use Rattle.std.specs.Prelude.{◌≡◌, ◌⊎◌, ◌≤◌, ℕ, zero, suc, ◌-◌, min, max, List, codes, IfErr, Option, Result, Ok, Err}
 use Rattle.std.specs.IoError.{error_kind}
 use Rattle.std.specs.declared.io.Error.{Error}
 use Rattle.std.specs.declared.io.ErrorKind.{ErrorKind}
 use Rattle.std.specs.declared.io.ErrorKind.TheVariants as kinds
+use Rattle.rtr_server.specs.declared.stream.Call.{Call}
 use Rattle.vrps.specs.Instance.{Instance}
 use Rattle.vrps.specs.declared.set.SetFault.TheVariants.{Memory}
+use Rattle.rtr_daemon.specs.DiskAnswers.{DiskAnswers}
+use Rattle.rtr_daemon.specs.Due.{TakesTurns}
 use Rattle.rtr_daemon.specs.Serving.{Advances}
 use Rattle.rtr_daemon.specs.SocketCalls.{SocketCalls, WaitFails}
+use Rattle.rtr_daemon.specs.declared.daemon.Daemon.{Daemon}
 use Rattle.rtr_daemon.specs.declared.daemon.StopReason.{StopReason}
 use Rattle.rtr_daemon.specs.declared.daemon.StopReason.TheVariants.{Once, Old, Checked}
 use Rattle.rtr_daemon.specs.declared.refusal.Refusal.{Refusal}
@@ -36,6 +40,11 @@ GoesThrough {S} {T} clock holds remaining contents (suc n) old new =
 -- A run of this many turns ends by no reason of the daemon: a wait failed, or no turn more can be counted in 64 bits.
 abbrev pub EndsForced : {W : Type 0} → SocketCalls W → ℕ → Type 0
 EndsForced calls turns = WaitFails calls ⊎ (turns ≡ 18446744073709551615)
+
+-- A run is its turns, one after the other. If its result is an error, it was forced to end.
+abbrev pub IsRun : {S T W : Type 0} → DiskAnswers W → SocketCalls W → (W → ℕ → W → Type 0) → (ℕ → Type 0) → (ℕ → Type 0) → (ℕ → Instance → S → Type 0) → (T → Option (List ℕ)) → (T → Option (List ℕ)) → (T → Option (List Call)) → Result StopReason Error → Daemon S T → Daemon S T → Type 0
+IsRun answers calls reads clock ticks holds remaining contents stream result old new =
+    (turns : ℕ) × TakesTurns answers calls reads clock ticks holds remaining contents stream turns old new × IfErr result (λ _. EndsForced calls turns)
 
 -- The exit status: 0 if the run ended well, and 1 if a file is too old. If the system failed it is 3, or 4 without memory.
 abbrev pub failure_status : ErrorKind → ℕ

@@ -22,6 +22,7 @@ use Rattle.sources.specs.declared.listed.Listed.{Listed}
 use Rattle.session_names.specs.Runs.{may_publish}
 use Rattle.session_names.specs.declared.names.SessionIds.{SessionIds}
 use Rattle.sources.specs.declared.sources.Sources.{Sources}
+use Rattle.rtr_daemon.specs.Families.{families_in}
 use Rattle.rtr_daemon.specs.declared.cache_settings.CacheSettings.{CacheSettings}
 use Rattle.rtr_daemon.specs.declared.refusal.Refusal.{Refusal}
 use Rattle.rtr_daemon.specs.declared.refusal.Refusal.TheVariants as refused
@@ -87,9 +88,10 @@ pub record IsMadeWith (settings : CacheSettings) (session0 : ℕ) (p : Past) : T
   pub session0_is : p.first.session0 ≡ session0
 
 -- This past led to the server of a service. If no version is pending, the newest version is the set of the sources at the second of the service.
--- If the service says that it has no publication points, it has none.
+-- The service knows how many VRPs of each address family that version has. If it says that it has no publication points, it has none.
 pub record ShowsService {S T : Type 0} (holds : ℕ → Instance → S → Type 0) (remaining contents : T → Option (List ℕ)) (p : Past) (service : Service S T) : Type 0 where
   pub server : ShowsServer holds remaining contents p service.server
+  pub families : service.families ≡ families_in (newest (versions (present p).cache))
   pub newest : service.is_pending ≡ false → IsNewestAt service.current_at (present p).cache service.sources
   pub points : service.has_points ≡ false → service.sources.repository ≡ no_points
   pub made_with : IsMadeWith service.settings service.session0 p
@@ -214,11 +216,12 @@ pub record PublishesAt (now : ℕ) (s : Sources) (published : Published) (p q : 
   pub served : IsServedAt now s set
   pub adds : Adds published set (present p).cache (present q).cache
 
--- The set of the sources at a time is published. The server continues, and its newest version is that set.
+-- The set of the sources at a time is published. The server continues, and its newest version is that set. Its VRPs are counted.
 abbrev pub Issues : {S T : Type 0} → (ℕ → Instance → S → Type 0) → (T → Option (List ℕ)) → (T → Option (List ℕ)) → ℕ → Published → Service S T → Service S T → Type 0
 Issues holds remaining contents now published old new =
     (p : Past) → ShowsServer holds remaining contents p old.server
     → (q : Past) × IsLater p q × ShowsServer holds remaining contents q new.server × IsNewestAt now (present q).cache new.sources × PublishesAt now new.sources published p q
+    × (new.families ≡ families_in (newest (versions (present q).cache)))
 
 -- The pace begins with a second that the clock answered.
 abbrev pub BeginsPace : {S T : Type 0} → (ℕ → Type 0) → Service S T → Type 0

@@ -1,15 +1,14 @@
 //! Serving clients, and closing those that are stalled, slow or silent.
-ghost use Rattle.std.specs.Prelude.{◌≡◌, [], ◌∷◌, ◌||◌, IfSome, None, false, is_some, true, ℕ};
+ghost use Rattle.std.specs.Prelude.{◌≡◌, [], ◌∷◌, ◌||◌, IfSome, None, Some, false, is_some, true, ℕ};
 ghost use Rattle.rtr_daemon.specs.Accepting.{noted};
 ghost use Rattle.rtr_daemon.specs.Due.{OnlyAdmitted, OnlyClients};
 ghost use Rattle.rtr_server.specs.Clients.{has_asked, slot_at};
 ghost use Rattle.rtr_daemon.specs.Parting.{agreed_version, has_agreed, is_served, refused_version};
-ghost use Rattle.rtr_daemon.specs.Queue.{IsKeptAfter, IsQueued, OtherClients, QueuesBehind, ServesEach, ServesNext, client_at, known_at};
+ghost use Rattle.rtr_daemon.specs.Queue.{IsQueued, OtherClients, QueuesBehind, ServesEach, ServesNext, TurnOf, client_at, known_at};
 ghost use Rattle.rtr_server.specs.declared.turn.Turn.TheVariants.{Busy};
 ghost use Rattle.rtr_daemon.specs.Serving.{Continues};
 ghost use Rattle.rtr_daemon.specs.Overdue.{AnswersNoted, ClosesOverdue, OutcomeOf, unless_overdue};
 ghost use Rattle.rtr_daemon.specs.Readiness.{QueuesReady, TakesReady};
-ghost use Rattle.rtr_daemon.specs.Turns.{HasTurn};
 
 use crate::client_entry::TurnOutcome;
 use crate::daemon::Daemon;
@@ -129,7 +128,7 @@ impl<S: VersionStore, T: Stream + Drop> Daemon<S, T> {
         ensures rest { OnlyClients self.old self.new }
         ensures others { OtherClients token self.old.clients self.new.clients }
         ensures queue { QueuesBehind self.old.clients.queue.items self.new.clients }
-        ensures turn { (had : HasTurn S.holds T.remaining T.contents T.answers 8 client.0.0 self.old.service.server self.new.service.server) × IsKeptAfter had.turn token self.old.clients self.new.clients }
+        ensures turn { TurnOf S.holds T.remaining T.contents T.answers (Some client) token self.old.clients self.old.service.server self.new.clients self.new.service.server }
         ensures notes { AnswersNoted W.can_tick (known_at self.old.clients token) (slot_at self.new.service.server.slots.items client.0.0) (known_at self.new.clients token) }
     {
         match self.service.serve(client, BUDGET) {

@@ -48,6 +48,7 @@ mod clients;
 mod daemon;
 mod dropping;
 mod environment;
+mod families;
 pub mod laws;
 mod losing;
 mod outstanding;

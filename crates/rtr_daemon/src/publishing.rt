@@ -8,7 +8,6 @@ use crate::daemon::Daemon;
 use crate::environment::{EventLog, Time};
 use crate::refusal::Refusal;
 use crate::set_changes::StepStore;
-use crate::statistics::Families;
 use crate::versions::PublishReport;
 use event_log::{LogEvent, Publication};
 use rtr_server::Stream;
@@ -150,16 +149,9 @@ impl<S: StepStore + Drop, T: Stream + Drop> Daemon<S, T> {
     )
         ensures { self.new ≡ record self.old { statistics = self.new.statistics } }
     {
-        if let Some((_serial, set)) = self.service.server().current() {
-            let families = Families::of(set);
-            if self
-                .statistics
-                .add_version(serial.0, now, report, families)
-                .is_err()
-            {
-                let what = "the sizes of the last versions";
-                env.log(now, &LogEvent::Memory { what });
-            }
+        if self.statistics.add_version(serial.0, now, report).is_err() {
+            let what = "the sizes of the last versions";
+            env.log(now, &LogEvent::Memory { what });
         }
     }
 

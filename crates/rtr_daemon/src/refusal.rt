@@ -81,10 +81,12 @@ pub(crate) enum RefusalKind {
 }
 
 impl Refusal {
-    ghost use Rattle.rtr_daemon.specs.Files.{IsOfBytes};
+    ghost use Rattle.rtr_daemon.specs.Files.{IsForFault, IsOfBytes};
 
     /// The refusal of an export, with the text for these bytes.
-    pub(crate) fn of_export(alloc: Global, bytes: &[u8], fault: TakeFault) -> Refusal {
+    pub(crate) fn of_export(alloc: Global, bytes: &[u8], fault: TakeFault) -> Refusal
+        ensures { IsForFault fault result }
+    {
         let words = match fault {
             TakeFault::Export(of) => exports::fault_text(alloc, bytes, of).ok(),
             TakeFault::Shrank { .. } => format!(in alloc; "{fault} (--max-shrink)").ok(),

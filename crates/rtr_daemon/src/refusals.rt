@@ -1,6 +1,7 @@
 //! The refusals of a source, and when they are reported.
-ghost use Rattle.std.specs.Prelude.{◌≡◌, true, Some};
+ghost use Rattle.std.specs.Prelude.{◌≡◌, None, true, Some, is_some};
 ghost use Rattle.rtr_daemon.specs.Files.{RefusesBytes};
+ghost use Rattle.rtr_daemon.specs.Statuses.{is_reported};
 
 use crate::environment::Stamp;
 use crate::refusal::{Refusal, RefusalKind};
@@ -41,7 +42,9 @@ pub(crate) struct Refusals {
 
 impl Refusals {
     /// No refusal yet.
-    pub(crate) fn none() -> Refusals {
+    pub(crate) fn none() -> Refusals
+        ensures { result.last ≡ None }
+    {
         Refusals {
             last: None,
             looks: 0,
@@ -51,7 +54,9 @@ impl Refusals {
     }
 
     /// The source was loaded. It returns whether a refusal was reported before.
-    pub(crate) fn clear(&mut self) -> bool {
+    pub(crate) fn clear(&mut self) -> bool
+        ensures { self.new.last ≡ None }
+    {
         let was_reported = self.reported_at.is_some();
         self.last = None;
         self.looks = 0;
@@ -62,7 +67,9 @@ impl Refusals {
 
     /// The source is refused, with this stamp. It returns whether that is reported: if the last refusal had the same stamp, or too many polls in
     /// a row refused it. Until the source is loaded, the next refusal is reported only if its reason is of another kind.
-    pub(crate) fn add(&mut self, stamp: Option<Stamp>, why: Refusal, now: u64) -> bool {
+    pub(crate) fn add(&mut self, stamp: Option<Stamp>, why: Refusal, now: u64) -> bool
+        ensures { self.new.last ≡ Some (record { stamp = stamp; why = why }) }
+    {
         let is_same = self.is_of(stamp);
         let is_due = is_same || self.looks >= UNREPORTED;
         self.last = Some(Refused { stamp, why });
@@ -71,7 +78,9 @@ impl Refusals {
     }
 
     /// Marks the last refusal as reported. It returns false if the refusal that was reported before is of the same kind.
-    pub(crate) fn mark_reported(&mut self, now: u64) -> bool {
+    pub(crate) fn mark_reported(&mut self, now: u64) -> bool
+        ensures { self.new.last ≡ self.old.last }
+    {
         let kind = self.last().map(|refusal| refusal.kind());
         if self.reported_at.is_some() && self.reported == kind {
             return false;
@@ -101,7 +110,9 @@ impl Refusals {
     }
 
     /// Why the source was refused last.
-    pub(crate) fn last(&self) -> Option<&Refusal> {
+    pub(crate) fn last(&self) -> Option<&Refusal>
+        ensures { is_some result ≡ is_some self.now.last }
+    {
         match &self.last {
             Some(refused) => Some(&refused.why),
             None => None,
@@ -109,7 +120,9 @@ impl Refusals {
     }
 
     /// Why the source was refused last, if a refusal was reported since the source was last loaded.
-    pub(crate) fn reported(&self) -> Option<&Refusal> {
+    pub(crate) fn reported(&self) -> Option<&Refusal>
+        ensures { is_some result ≡ is_reported self.now }
+    {
         if self.reported_at.is_some() {
             return self.last();
         }
@@ -117,7 +130,9 @@ impl Refusals {
     }
 
     /// When the refusal that lasts was reported, in seconds since 1970.
-    pub(crate) fn reported_at(&self) -> Option<u64> {
+    pub(crate) fn reported_at(&self) -> Option<u64>
+        ensures { result ≡ self.now.reported_at }
+    {
         self.reported_at
     }
 }

@@ -1,8 +1,8 @@
 //! The run of the daemon's program, from the wait for the clock to its exit status.
-ghost use Rattle.std.specs.Prelude.{◌≡◌, ℕ, IfErr, IfOk, OnOk, Ok, Some, min};
-ghost use Rattle.rtr_daemon.specs.Due.{TakesTurns, end_of};
+ghost use Rattle.std.specs.Prelude.{◌≡◌, ℕ, IfOk, OnOk, Ok, Some, min};
+ghost use Rattle.rtr_daemon.specs.Due.{end_of};
 ghost use Rattle.rtr_daemon.specs.Origins.{SourcesComeFrom};
-ghost use Rattle.rtr_daemon.specs.Running.{EndsForced, GoesThrough, IsClockSet, clients_within, exit_status, exit_words, failure_status};
+ghost use Rattle.rtr_daemon.specs.Running.{GoesThrough, IsClockSet, IsRun, clients_within, exit_status, exit_words, failure_status};
 ghost use Rattle.rtr_daemon.specs.declared.daemon.StopReason.{StopReason};
 
 use crate::daemon::{CheckReport, Daemon, StopReason};
@@ -100,7 +100,7 @@ pub fn run<
     A: AfterTurn<S, T, W>,
 >(daemon: &mut Daemon<S, T>, after: &mut A, env: &mut W) -> io::Result<StopReason>
     ensures goes { (turns : ℕ) × GoesThrough W.can_be S.holds T.remaining T.contents turns daemon.old.service daemon.new.service }
-    ensures turns { (turns : ℕ) × TakesTurns W.answers W.calls W.reads W.can_be W.can_tick S.holds T.remaining T.contents T.answers turns daemon.old daemon.new × IfErr result (λ _. EndsForced W.calls turns) }
+    ensures turns { IsRun W.answers W.calls W.reads W.can_be W.can_tick S.holds T.remaining T.contents T.answers result daemon.old daemon.new }
     ensures comes { SourcesComeFrom W.answers W.can_be daemon.old → SourcesComeFrom W.answers W.can_be daemon.new }
     ensures ends { IfOk result (λ reason. end_of daemon.new ≡ Some reason) }
 {

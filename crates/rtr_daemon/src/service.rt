@@ -12,6 +12,7 @@ ghost use Rattle.rtr_daemon.specs.Serving.{OnlyServer, OnlySources, SameExpired,
 ghost use Rattle.rtr_daemon.specs.Turns.{ServesClient};
 
 use crate::cache_settings::CacheSettings;
+use crate::families::Families;
 use crate::refusal::Refusal;
 use crate::set_changes::StepStore;
 use crate::versions::server_of;
@@ -36,6 +37,8 @@ pub struct Service<S, T> {
     sources: Sources,
     /// Whether the sources have changed since the last publication.
     pub(crate) is_pending: bool,
+    /// How many VRPs of each address family the newest version has.
+    pub(crate) families: Families,
     /// The pace of its versions.
     pub(crate) pace: Pace,
     /// A second since 1970. If no version is pending, the newest version is what the sources have then.
@@ -66,6 +69,7 @@ impl<S: StepStore, T: Stream + Drop> Service<S, T> {
             session0: ids.session0,
             sources,
             is_pending: true,
+            families: Families::none(),
             pace: Pace::new(),
             current_at: 0,
             has_points: true,
@@ -139,7 +143,8 @@ impl<S: VersionStore, T: Stream + Drop> Service<S, T> {
         self.server.admit(stream)
     }
 
-    /// Closes a client and drops its stream with all bytes that are not written yet. If there is no such client, nothing happens.
+    /// Closes a client and drops its stream with all bytes that are not written yet. [`Server::parted`] has its counts afterwards.
+    /// If there is no such client, nothing happens. If its number went to another client meanwhile, that one is closed.
     pub fn drop_client(&mut self, client: Client)
         ensures goes { Continues S.holds T.remaining T.contents self.old self.new }
         ensures others { KeepsOthers client.0.0 self.old.server.slots.items self.new.server.slots.items }

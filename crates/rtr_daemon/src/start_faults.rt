@@ -69,7 +69,7 @@ impl Display for StartFault {
 }
 
 impl StartFault {
-    /// Returns the fault if no session can be chosen. `error` is the error of the system's random source. If `error` is out of memory, the
+    /// Returns the fault of a start at which no session can be chosen. `error` is that of the system's random source. If it is out of memory, the
     /// refusal is `Set(Memory)`, without a path. Otherwise it is `Device(error)`, and the path names the random source, or is `None` without
     /// memory for the name.
     pub fn of_random(alloc: Global, error: io::Error) -> StartFault

@@ -3,7 +3,7 @@ ghost use Rattle.std.specs.Prelude.{◌≡◌, ℕ, IfOk, None, Ok, false, map};
 ghost use Rattle.points.specs.InUse.{no_points};
 ghost use Rattle.sources.specs.Served.{NoneTaken};
 ghost use Rattle.rtr_server.specs.Clients.{Begun};
-ghost use Rattle.rtr_daemon.specs.Files.{AreNumbered, LoadsEach, LoadsOne, marks_of, names_of};
+ghost use Rattle.rtr_daemon.specs.Files.{AreNumbered, LoadsEach, LoadsOne, mark_of, marks_of, names_of};
 ghost use Rattle.rtr_daemon.specs.PointOffers.{OffersEach, OffersPoint, points_of};
 ghost use Rattle.std.specs.String.{string_bytes};
 ghost use Rattle.rtr_daemon.specs.Origins.{SourcesComeFrom};
@@ -172,7 +172,7 @@ fn read_export<S: VersionStore, T: Stream + Drop, W: Disk + EventLog>(
     env: &mut W,
 ) -> Result<(), StartFault>
     ensures goes { Continues S.holds T.remaining T.contents service.old service.new }
-    ensures loads { IfOk result (λ _. (expired : ℕ) × LoadsOne W.answers export.old now expired export.new.file.loaded service.old.sources service.new.sources) }
+    ensures loads { IfOk result (λ _. (expired : ℕ) × LoadsOne W.answers export.old now expired (mark_of export.new) service.old.sources service.new.sources) }
     ensures path { export.new.file.path ≡ export.old.file.path }
     ensures number { export.new.number ≡ export.old.number }
 {
@@ -203,7 +203,7 @@ fn read_one<S: VersionStore, T: Stream + Drop, W: Disk>(
     env: &mut W,
 ) -> Result<u64, Refusal>
     ensures goes { Continues S.holds T.remaining T.contents service.old service.new }
-    ensures loads { IfOk result (λ expired. LoadsOne W.answers export.old now expired export.new.file.loaded service.old.sources service.new.sources) }
+    ensures loads { IfOk result (λ expired. LoadsOne W.answers export.old now expired (mark_of export.new) service.old.sources service.new.sources) }
     ensures path { export.new.file.path ≡ export.old.file.path }
     ensures number { export.new.number ≡ export.old.number }
 {

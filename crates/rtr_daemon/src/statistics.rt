@@ -8,7 +8,6 @@ ghost use Rattle.rtr_server.specs.Reports.{Said};
 use crate::peaks::{Peaks, turned_away_at};
 use crate::refusal::Refusal;
 use crate::versions::PublishReport;
-use prefixes::IpPrefix;
 use rtr_pdu::Kind;
 use rtr_server::{ByteCounts, Parted, PdusByKind, Report};
 use status_pages::{
@@ -16,7 +15,6 @@ use status_pages::{
 };
 use std::alloc::{AllocError, Global};
 use std::collections::VecDeque;
-use vrps::VrpSet;
 
 /// How many of the last versions are listed.
 const CHANGES: usize = 64;
@@ -34,30 +32,6 @@ const KINDS: [Kind; 10] = [
     Kind::RouterKey,
     Kind::ErrorReport,
 ];
-
-/// How many records of each address family a set has.
-#[derive(Clone, Copy, Debug, PartialEq, Eq)]
-pub(crate) struct Families {
-    pub(crate) ipv4: u64,
-    pub(crate) ipv6: u64,
-}
-
-impl Families {
-    /// Of a set, in which all of IPv4 is before all of IPv6.
-    pub(crate) fn of(set: &VrpSet) -> Families {
-        let records = set.as_slice();
-        let ipv4 = records.partition_point(|vrp| matches!(vrp.prefix(), IpPrefix::V4(_)));
-        Families {
-            ipv4: ipv4 as u64,
-            ipv6: records.len().saturating_sub(ipv4) as u64,
-        }
-    }
-
-    /// How many records there are of both.
-    fn total(self) -> u64 {
-        self.ipv4.saturating_add(self.ipv6)
-    }
-}
 
 /// The traffic of connections in one direction: bytes, and PDUs by their type, in the order of `KINDS`.
 #[derive(Clone, Copy, Debug, PartialEq, Eq)]
@@ -149,8 +123,8 @@ impl TrafficTotals {
 #[derive(Debug, Drop)]
 pub(crate) struct Statistics {
     changes: VecDeque<ChangeStatus>,
-    /// How many records of each family are served.
-    pub(crate) families: Families,
+    /// How many VRPs the newest version has.
+    size: u64,
     /// How many clients were admitted.
     pub(crate) clients: u64,
     /// The traffic of closed connections.
@@ -192,7 +166,7 @@ impl Statistics {
     pub(crate) fn new(alloc: Global) -> Result<Statistics, AllocError> {
         Ok(Statistics {
             changes: VecDeque::with_capacity(alloc, CHANGES)?,
-            families: Families { ipv4: 0, ipv6: 0 },
+            size: 0,
             clients: 0,
             gone: TrafficTotals::none(),
             given: 0,
@@ -284,15 +258,15 @@ impl Statistics {
         if self.changes.is_empty() {
             return Ok(());
         }
-        self.peaks.add(self.families.total(), until)
+        self.peaks.add(self.size, until)
     }
 
     /// All versions were dropped. It fails if memory runs out for the peaks.
     pub(crate) fn drop_versions(&mut self, until: u64) -> Result<(), AllocError>
-        ensures { self.new ≡ record self.old { families = self.new.families; peaks = self.new.peaks } }
+        ensures { self.new ≡ record self.old { size = self.new.size; peaks = self.new.peaks } }
     {
         let ended = self.end_version(until);
-        self.families = Families { ipv4: 0, ipv6: 0 };
+        self.size = 0;
         ended
     }
 
@@ -302,10 +276,9 @@ impl Statistics {
         serial: u32,
         at: u64,
         report: PublishReport,
-        families: Families,
     ) -> Result<(), AllocError> {
         let ended = self.end_version(at);
-        self.families = families;
+        self.size = report.records;
         if self.changes.len() >= CHANGES {
             let _oldest = self.changes.pop_front();
         }

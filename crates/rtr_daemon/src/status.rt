@@ -1,8 +1,13 @@
 //! The status of a daemon, as its pages and metrics show it.
-ghost use Rattle.std.specs.Prelude.{◌≡◌, IfOk, option_map};
-ghost use Rattle.sources.specs.Served.{ignored_exceptions};
-ghost use Rattle.rtr_daemon.specs.Calls.{near_limit};
-ghost use Rattle.rtr_daemon.specs.NotServed.{entries_at, entries_of, exceptions_of};
+ghost use Rattle.std.specs.Prelude.{◌≡◌, ◌-◌, IfOk, None, OnOk, false, is_some, option_map, slice_get};
+ghost use Rattle.rtr_server.specs.Clients.{Past, present};
+ghost use Rattle.sources.specs.Served.{records_of};
+ghost use Rattle.vrps.specs.Instance.{versions};
+ghost use Rattle.vrps.specs.Stores.{newest};
+ghost use Rattle.rtr_daemon.specs.NotServed.{entries_of, exceptions_of};
+ghost use Rattle.rtr_daemon.specs.Serving.{ShowsService};
+ghost use Rattle.rtr_daemon.specs.Statuses.{AddsExports, AddsPoints, AddsSlurms};
+ghost use Rattle.rtr_daemon.specs.Statuses.{IsDaemonStatus, IsExportStatus, IsFailureStatus, IsFileStatus, AreFileStatuses, IsPointStatus, IsSetStatus, IsSlurmStatus};
 
 use crate::ages::built_of;
 use crate::client_entry::ClientEntry;
@@ -25,12 +30,10 @@ impl<S: VersionStore, T: Stream + Drop> Daemon<S, T> {
     /// Returns the status of the daemon for the status pages. `version` is the version of the program.
     /// `now` is in seconds since 1970, `millis` in milliseconds of the monotonic clock. `Err`: out of memory.
     /// The caller fills in `host`, `addresses` and `log_lines_lost`: they are `None`, empty and 0.
-    pub fn status(
-        &self,
-        version: &'static str,
-        now: u64,
-        millis: u64,
-    ) -> Result<Status, AllocError> {
+    pub fn status(&self, version: &'static str, now: u64, millis: u64) -> Result<Status, AllocError>
+        ensures set { IfOk result (λ status. (p : Past) → ShowsService S.holds T.remaining T.contents p self.now.service → IsSetStatus p status) }
+        ensures all { IfOk result (IsDaemonStatus now self.now) }
+    {
         let traffic = self.traffic();
         let mut status = self.source_status(now)?;
         status.version = version;
@@ -42,7 +45,10 @@ impl<S: VersionStore, T: Stream + Drop> Daemon<S, T> {
     }
 
     /// The status without versions, clients and their traffic.
-    pub(crate) fn source_status(&self, now: u64) -> Result<Status, AllocError> {
+    pub(crate) fn source_status(&self, now: u64) -> Result<Status, AllocError>
+        ensures set { IfOk result (λ status. (p : Past) → ShowsService S.holds T.remaining T.contents p self.now.service → IsSetStatus p status) }
+        ensures all { IfOk result (IsDaemonStatus now self.now) }
+    {
         let traffic = TrafficTotals::none();
         Ok(Status {
             version: "",
@@ -51,11 +57,11 @@ impl<S: VersionStore, T: Stream + Drop> Daemon<S, T> {
             now,
             started: self.started,
             clock_behind: self.clock_behind,
-            session: self.session_ids.session,
-            session0: self.session_ids.session0,
+            session: self.service.server().version_store().session(),
+            session0: self.service.session0,
             serial: self.serial(),
-            ipv4: self.statistics.families.ipv4,
-            ipv6: self.statistics.families.ipv6,
+            ipv4: self.service.families.ipv4,
+            ipv6: self.service.families.ipv6,
             given: self.statistics.given,
             left_out: self.statistics.left_out,
             peak: self.statistics.peaks.most(now),
@@ -84,7 +90,9 @@ impl<S: VersionStore, T: Stream + Drop> Daemon<S, T> {
     }
 
     /// The serial of the served version.
-    fn serial(&self) -> Option<u32> {
+    fn serial(&self) -> Option<u32>
+        ensures { (p : Past) → ShowsService S.holds T.remaining T.contents p self.now.service → result ≡ option_map (λ v. v.serial) (newest (versions (present p).cache)) }
+    {
         match self.service.server().current() {
             Some((serial, _set)) => Some(number_in(serial)),
             None => None,
@@ -101,25 +109,49 @@ impl<S: VersionStore, T: Stream + Drop> Daemon<S, T> {
     }
 
     /// The status of all files and publication points.
-    fn file_statuses(&self, now: u64) -> Result<Vec<FileStatus>, AllocError> {
+    fn file_statuses(&self, now: u64) -> Result<Vec<FileStatus>, AllocError>
+        ensures { IfOk result (λ status. AreFileStatuses now self.now status.items) }
+    {
         let mut found = Vec::new(self.alloc);
+        self.add_exports(&mut found, now)?;
+        self.add_slurms(&mut found)?;
+        self.add_points(&mut found)?;
+        Ok(found)
+    }
+
+    /// Adds the status of each export.
+    fn add_exports(&self, found: &mut Vec<FileStatus>, now: u64) -> Result<(), AllocError>
+        ensures { OnOk result (AddsExports now self.now found.old.items found.new.items) }
+    {
         for export in self.exports.iter() {
             found.push(self.export_status(export, now)?)?;
         }
+        Ok(())
+    }
+
+    /// Adds the status of each file of local exceptions.
+    fn add_slurms(&self, found: &mut Vec<FileStatus>) -> Result<(), AllocError>
+        ensures { OnOk result (AddsSlurms self.now found.old.items found.new.items) }
+    {
         for (at, slurm) in self.slurms.iter().enumerate() {
             found.push(self.slurm_status(slurm, at)?)?;
         }
+        Ok(())
+    }
+
+    /// Adds the status of each publication point.
+    fn add_points(&self, found: &mut Vec<FileStatus>) -> Result<(), AllocError>
+        ensures { OnOk result (AddsPoints self.now found.old.items found.new.items) }
+    {
         for point in self.points.iter() {
             found.push(point_status(self.alloc, point)?)?;
         }
-        Ok(found)
+        Ok(())
     }
 
     /// The status of an export.
     fn export_status(&self, export: &WatchedExport, now: u64) -> Result<FileStatus, AllocError>
-        ensures slow { IfOk result (λ status. status.slow ≡ export.now.file.slow) }
-        ensures near { IfOk result (λ status. status.near_limit ≡ near_limit self.now.plan.max_size export.now.file.loaded) }
-        ensures ignored { IfOk result (λ status. status.ignored ≡ option_map (λ _. entries_at self.now.service.sources export.now.number) export.now.file.loaded_at) }
+        ensures { IfOk result (IsExportStatus now self.now export.now) }
     {
         let mut status = file_status(self.alloc, &export.file, self.plan.max_size)?;
         status.built = built_of(export, self.service.sources(), now);
@@ -136,9 +168,7 @@ impl<S: VersionStore, T: Stream + Drop> Daemon<S, T> {
 
     /// The status of the file of local exceptions of this index.
     fn slurm_status(&self, slurm: &WatchedFile, index: usize) -> Result<FileStatus, AllocError>
-        ensures slow { IfOk result (λ status. status.slow ≡ slurm.now.slow) }
-        ensures near { IfOk result (λ status. status.near_limit ≡ near_limit self.now.plan.max_size slurm.now.loaded) }
-        ensures ignored { IfOk result (λ status. status.ignored ≡ option_map (λ _. exceptions_of (ignored_exceptions self.now.service.sources.exceptions index)) slurm.now.loaded_at) }
+        ensures { IfOk result (IsSlurmStatus self.now index slurm.now) }
     {
         let mut status = file_status(self.alloc, slurm, self.plan.max_size)?;
         let ignored = self.service.sources().ignored_exceptions(index);
@@ -147,7 +177,9 @@ impl<S: VersionStore, T: Stream + Drop> Daemon<S, T> {
     }
 
     /// How many VRPs an export gives, as of the last poll, if it was loaded.
-    fn vrps_of(&self, export: &WatchedExport) -> Option<u64> {
+    fn vrps_of(&self, export: &WatchedExport) -> Option<u64>
+        ensures { result ≡ option_map (λ _. records_of (slice_get self.now.service.sources.lists.items export.now.number) - export.now.expired_since) export.now.file.loaded_at }
+    {
         export.file.loaded_at?;
         let records = self.service.sources().records(export.number);
         Some(records.saturating_sub(export.expired_since))
@@ -226,8 +258,8 @@ fn if_loaded(file: &WatchedFile, ignored: IgnoredEntries) -> Option<IgnoredEntri
 
 /// The status of a file without age and expiry, as are those of local exceptions.
 fn file_status(alloc: Global, file: &WatchedFile, max_size: u64) -> Result<FileStatus, AllocError>
-    ensures slow { IfOk result (λ status. status.slow ≡ file.now.slow) }
-    ensures near { IfOk result (λ status. status.near_limit ≡ near_limit max_size file.now.loaded) }
+    ensures file { IfOk result (IsFileStatus max_size file.now) }
+    ensures rest { IfOk result (λ status. (status.built ≡ None) × (status.is_old ≡ false) × (status.expired ≡ 0) × (status.vrps ≡ None)) }
 {
     Ok(FileStatus {
         path: file.path.clone()?,
@@ -249,7 +281,9 @@ fn file_status(alloc: Global, file: &WatchedFile, max_size: u64) -> Result<FileS
 fn failure_status(
     alloc: Global,
     failure: &Option<Failure>,
-) -> Result<Option<PublicationFailure>, AllocError> {
+) -> Result<Option<PublicationFailure>, AllocError>
+    ensures { IfOk result (IsFailureStatus failure.now) }
+{
     match failure {
         None => Ok(None),
         Some(failure) => Ok(Some(PublicationFailure {
@@ -260,7 +294,7 @@ fn failure_status(
 }
 
 fn point_status(alloc: Global, point: &WatchedPoint) -> Result<FileStatus, AllocError>
-    ensures { IfOk result (λ status. status.slow ≡ point.now.slow) }
+    ensures { IfOk result (IsPointStatus point.now) }
 {
     Ok(FileStatus {
         path: point.path.clone()?,
@@ -278,13 +312,17 @@ fn point_status(alloc: Global, point: &WatchedPoint) -> Result<FileStatus, Alloc
     })
 }
 
-fn refusal_text(alloc: Global, refusal: Option<&Refusal>) -> Result<Option<String>, AllocError> {
+fn refusal_text(alloc: Global, refusal: Option<&Refusal>) -> Result<Option<String>, AllocError>
+    ensures { IfOk result (λ text. is_some text ≡ is_some refusal.entry) }
+{
     match refusal {
         None => Ok(None),
         Some(refusal) => Ok(Some(refusal.to_string(alloc)?)),
     }
 }
 
-fn number_in(serial: Serial) -> u32 {
+fn number_in(serial: Serial) -> u32
+    ensures { result ≡ serial.0 }
+{
     serial.0
 }

@@ -2,9 +2,10 @@
 ghost use Rattle.std.specs.Prelude.{◌≡◌, ◌⊎◌, false, true, IfErr, IfOk, IfSome, IsNone, OnErr, OnOk, ℕ};
 ghost use Rattle.session_names.specs.Runs.{may_publish};
 ghost use Rattle.rtr_server.specs.Clients.{Begun, Past, ShowsServer};
-ghost use Rattle.rtr_daemon.specs.Serving.{Continues, Drops, EndsEmpty, GoesOn, IsOfSecond, IsReason, Issues, PacesSo, ShowsService, StaysFresh, new_past};
+ghost use Rattle.rtr_daemon.specs.Serving.{Continues, Drops, EndsEmpty, GoesOn, IsOfSecond, IsReason, Issues, PacesSo, StaysFresh, new_past};
 
 use crate::cache_settings::CacheSettings;
+use crate::families::Families;
 use crate::refusal::Refusal;
 use crate::service::Service;
 use crate::set_changes::{ChangeCounts, StepStore};
@@ -51,10 +52,12 @@ impl<S: StepStore, T: Stream + Drop> Service<S, T> {
             left_out,
         } = self.served(now)?;
         let records = set.len() as u64;
+        let families = Families::of(&set);
         match self.server.publish(set) {
             Err(_) => Err(Refusal::Set(SetFault::Memory)),
             Ok(published) => {
                 self.is_pending = false;
+                self.families = families;
                 self.current_at = now;
                 let ChangeCounts {
                     announced,
@@ -130,7 +133,7 @@ impl<S: StepStore + Drop, T: Stream + Drop> Service<S, T> {
         ensures emptied { OnOk result (EndsEmpty S.holds T.remaining T.contents self.old self.new) }
         ensures same { OnErr result (self.new ≡ self.old) }
         ensures pending { self.old.is_pending ≡ true → self.new.is_pending ≡ true }
-        ensures rest { self.new ≡ record self.old { server = self.new.server; is_pending = self.new.is_pending } }
+        ensures rest { self.new ≡ record self.old { server = self.new.server; families = self.new.families; is_pending = self.new.is_pending } }
     {
         let Some((serial, _set)) = self.server.current() else {
             return Ok(());
@@ -141,6 +144,7 @@ impl<S: StepStore + Drop, T: Stream + Drop> Service<S, T> {
             serial: serial.0.wrapping_add(1),
         };
         self.server = server_of(alloc, self.settings, ids)?;
+        self.families = Families::none();
         self.is_pending = true;
         Ok(())
     }

@@ -3,7 +3,8 @@ ghost use Rattle.std.specs.Prelude.{◌≡◌, ◌⊎◌, ◌↔◌, None, true,
 ghost use Rattle.rtr_daemon.specs.Ages.{file_time, modified_by};
 ghost use Rattle.rtr_daemon.specs.Calls.{near_limit, slow_after};
 ghost use Rattle.rtr_daemon.specs.Shrinking.{since_after};
-ghost use Rattle.rtr_daemon.specs.DiskAnswers.{FileFails, HadStamp, ReadsWhole};
+ghost use Rattle.rtr_daemon.specs.DiskAnswers.{FileFails, ReadsWhole};
+ghost use Rattle.rtr_daemon.specs.Statuses.{all_expired};
 ghost use Rattle.rtr_daemon.specs.Files.{ChangesWhileRead, IsKnown, IsStateNow, IsStateOf, Looks, ReadsAfter, WasLoaded, path_of};
 
 use crate::anchor_peaks::AnchorPeaks;
@@ -202,6 +203,7 @@ impl WatchedFile {
     /// It was loaded with this stamp. Returns whether a refusal was reported before.
     pub(crate) fn set_loaded(&mut self, stamp: Stamp, now: u64) -> bool
         ensures loaded { WasLoaded self.new stamp }
+        ensures refused { self.new.refusals.last ≡ None }
         ensures path { self.new.path ≡ self.old.path }
     {
         self.loaded = Some(stamp);
@@ -292,6 +294,7 @@ impl WatchedExport {
     /// It was loaded with this stamp, and this many of its entries had expired. Returns whether a refusal was reported before.
     pub(crate) fn set_loaded(&mut self, stamp: Stamp, now: u64, expired: u64) -> bool
         ensures loaded { WasLoaded self.new.file stamp }
+        ensures refused { self.new.file.refusals.last ≡ None }
         ensures path { self.new.file.path ≡ self.old.file.path }
         ensures number { self.new.number ≡ self.old.number }
         ensures short { self.new.short_since ≡ self.old.short_since }
@@ -315,6 +318,7 @@ impl WatchedExport {
     /// It is as it was loaded. Returns whether a refusal was reported before.
     pub(crate) fn set_unchanged(&mut self) -> bool
         ensures loaded { self.new.file.loaded ≡ self.old.file.loaded }
+        ensures refused { self.new.file.refusals.last ≡ None }
         ensures path { self.new.file.path ≡ self.old.file.path }
         ensures number { self.new.number ≡ self.old.number }
         ensures short { self.new.short_since ≡ None }
@@ -324,7 +328,9 @@ impl WatchedExport {
     }
 
     /// How many of its entries have expired, before it was loaded or since.
-    pub(crate) fn all_expired(&self) -> u64 {
+    pub(crate) fn all_expired(&self) -> u64
+        ensures { result ≡ all_expired self.now }
+    {
         self.expired.saturating_add(self.expired_since)
     }
 

@@ -1,8 +1,6 @@
 use Rattle.std.proofs.Common.{inl, subst, sym, ap, ◌∙◌}
 use Rattle.rtr_daemon.specs.DiskAnswers.{ReadsWhole}
 use Rattle.rtr_daemon.specs.Files.{loaded_after, path_of}
-use Rattle.rtr_daemon.specs.Shrinking.{since_after}
-use Rattle.rtr_daemon.proofs.ContentLaws.{mark_is}
 use Rattle.rtr_daemon.proofs.polling.follow.Goals as goal
 
 pub returns-in-Read-clause-follows : goal.returns-in-Read-clause-follows
@@ -14,7 +12,9 @@ returns-in-Read-clause-follows g c =
       result,
       stamp,
       (c.as_slice-bytes.result.now, subst (ReadsWhole g.W.Disk.answers (path_of before.file) stamp) (sym c.as_slice-bytes.ensures.value) c.in-Read.ensures, c.take_export_within-taken.ensures.export),
-      mark_is c.note.new.export.short_since (since_after result before.short_since c.args.at.millis) c.note.new.export.file.loaded (loaded_after result stamp before.file.loaded)
-          (c.note.ensures.short ∙ ap (λ e. e.short_since) c.note_short.ensures)
-          (c.note.ensures.loaded ∙ ap (λ e. loaded_after result stamp e.file.loaded) c.note_short.ensures),
+      record {
+        short = c.note.ensures.short ∙ ap (λ e. e.short_since) c.note_short.ensures;
+        loaded = c.note.ensures.loaded ∙ ap (λ e. loaded_after result stamp e.file.loaded) c.note_short.ensures;
+        refused = c.note.ensures.refused;
+      },
     )

@@ -28,7 +28,7 @@ loop-export-preserved g c =
       loads =
           subst (λ n. LoadsEach g.W.Disk.answers c.args.now (take n initial) (take n (marks_of (set written i export))) old new) more
           (loads_more g.W.Disk.answers c.args.now initial written i item export old mid new one.loads.0 less within before.loads
-          (subst (λ e. LoadsOne g.W.Disk.answers e c.args.now one.loads.0 (mark_of export).1 mid new) here one.loads.1));
+          (subst (λ e. LoadsOne g.W.Disk.answers e c.args.now one.loads.0 (mark_of export) mid new) here one.loads.1));
       count = length-set written i export ∙ before.count;
       names = names_kept written i item export one.path one.number ∙ before.names;
       left = left_more written initial i export before.left;

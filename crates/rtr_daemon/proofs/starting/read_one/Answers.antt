@@ -18,6 +18,7 @@ returns-in-Read-clause-loads g c =
             (subst (λ s. ExportTakenWithin None bytes c.args.now c.loop-time.export.number (Ok c.in_ok-expired-in-Read.expired) s.sources c.take.new.service.sources) c.loop-time.invariant.service c.in_ok-expired-in-Read.ensures.loads),
       ),
       c.set_loaded.ensures.loaded,
+      c.set_loaded.ensures.refused,
     )
 
 pub returns-in-Read-clause-goes : goal.returns-in-Read-clause-goes

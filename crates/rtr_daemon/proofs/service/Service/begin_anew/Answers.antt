@@ -8,7 +8,7 @@ use Rattle.rtr_daemon.proofs.service.Service.begin_anew.Goals as goal
 
 pub returns-in_default-clause-emptied : goal.returns-in_default-clause-emptied
 returns-in_default-clause-emptied g c p is =
-    (p, record { server = is.server; newest = is.newest; points = is.points; made_with = is.made_with }, no_sets (present p).cache (ap (λ found. option_map (λ f. record { serial = f.0.0; set = f.1.now }) found) (sym c.in_default.is) ∙ c.current.ensures p is.server))
+    (p, record { server = is.server; newest = is.newest; families = is.families; points = is.points; made_with = is.made_with }, no_sets (present p).cache (ap (λ found. option_map (λ f. record { serial = f.0.0; set = f.1.now }) found) (sym c.in_default.is) ∙ c.current.ensures p is.server))
 
 pub returns-clause-drops : goal.returns-clause-drops
 returns-clause-drops g c = inr (λ p is.
@@ -21,6 +21,7 @@ returns-clause-drops g c = inr (λ p is.
       record {
         server = c.in_ok-self.ensures p.begun;
         newest = λ e. absurd (let never : true ≡ false = e in cc);
+        families = c.none-self.ensures;
         points = is.points;
         made_with = record { keep = refl; timing = refl; most = refl; session0_is = refl };
       },
@@ -34,6 +35,7 @@ returns-clause-emptied g c p is =
       record {
         server = c.in_ok-self.ensures p.begun;
         newest = λ e. absurd (let never : true ≡ false = e in cc);
+        families = c.none-self.ensures;
         points = is.points;
         made_with = record { keep = refl; timing = refl; most = refl; session0_is = refl };
       },

@@ -9,5 +9,5 @@ returns-in_err-expired-clause-goes g c =
 
 pub returns-clause-goes : goal.returns-clause-goes
 returns-clause-goes g c =
-    pending_on g.S.VersionStore.holds g.T.Stream.remaining g.T.Stream.contents c.args.self.now (record c.args.self.now { sources = c.take_export_within.new.self; is_pending = true }) refl refl refl
+    pending_on g.S.VersionStore.holds g.T.Stream.remaining g.T.Stream.contents c.args.self.now (record c.args.self.now { sources = c.take_export_within.new.self; is_pending = true }) refl refl refl refl
     (λ none e. c.in_ok-expired.ensures.rest.1 ∙ none e) (λ p h. h)
