@@ -6,6 +6,7 @@ use Rattle.rtr_daemon.specs.declared.refusal.Refusal.{Refusal}
 use Rattle.rtr_daemon.specs.declared.statistics.Failure.{Failure}
 use Rattle.session_names.specs.Runs.{may_publish}
 use Rattle.rtr_daemon.specs.Files.{FollowsEach, FollowsSlurms, loads_of, marks_of, names_of, paths_of}
+use Rattle.rtr_daemon.specs.SlurmRefusals.{SlurmRefusalsFollow}
 use Rattle.rtr_daemon.specs.Ages.{AreJudged, IsOldAfter, ages_of}
 use Rattle.rtr_daemon.specs.DiskAnswers.{DiskAnswers}
 use Rattle.rtr_daemon.specs.Due.{DoesWhatIsDue, FailsToPublish, FailureNoted, IsBetween, IsChecked, IsKept, IsReadyAfter, JudgesAges, KeepsFiles, NextAfter, NextPoll, OnlyAdmitted, OnlyClients, OnlyFiles, OnlyNotes, OnlyPolled, PollsAll, PublishesIfDue, SamePaths, WakesIfPublished, failing_since, second_of_pace}
@@ -93,13 +94,14 @@ postponed_by {S} {T} ticks a new s began second (Ok report) ticked is paced late
   by (New serial) paced after = inr (record { began = began; ticked = ticked; paced = ap (λ d. d.service.pace) only ∙ paced ∙ ap (λ n. Some n) is; ended = after.0; answered = after.1; next_check = after.2 })
   by Unchanged paced after = inl (ap (λ d. d.service.pace) only ∙ paced, after)
 
-polls_to : {S T W : Type 0} (answers : DiskAnswers W) (clock ticks : ℕ → Type 0) (a b c : Daemon S T) → c.service.sources ≡ b.service.sources → marks_of c.exports.items ≡ marks_of b.exports.items → ages_of c.exports.items ≡ ages_of b.exports.items → loads_of c.slurms.items ≡ loads_of b.slurms.items
+polls_to : {S T W : Type 0} (answers : DiskAnswers W) (clock ticks : ℕ → Type 0) (a b c : Daemon S T) → c.service.sources ≡ b.service.sources → marks_of c.exports.items ≡ marks_of b.exports.items → ages_of c.exports.items ≡ ages_of b.exports.items → c.slurms ≡ b.slurms
     → c.is_old ≡ b.is_old → PollsAll answers clock ticks a b → PollsAll answers clock ticks a c
-polls_to answers clock ticks a b c same marks ages loads old p = record {
+polls_to answers clock ticks a b c same marks ages slurms old p = record {
   followed = p.followed;
   excepted = p.excepted;
   exports = subst (λ since. FollowsEach answers clock ticks a.plan.shrink a.exports.items since a.service.sources p.followed) (sym marks) p.exports;
-  slurms = subst (λ noted. FollowsSlurms answers a.slurms.items noted p.followed p.excepted) (sym loads) p.slurms;
+  slurms = subst (λ z. FollowsSlurms answers a.slurms.items (loads_of z.items) p.followed p.excepted) (sym slurms) p.slurms;
+  slurm_refusals = subst (λ z. SlurmRefusalsFollow answers a.slurms.items z.items) (sym slurms) p.slurm_refusals;
   points = subst (OffersEach answers clock a.points.items p.excepted) (sym same) p.points;
   judged = subst (λ s. AreJudged clock a.plan.max_age s (ages_of c.exports.items)) (sym same) (subst (AreJudged clock a.plan.max_age b.service.sources) (sym ages) p.judged);
   is_old = subst (IsOldAfter a.plan.max_age a.is_old (ages_of c.exports.items)) (sym old) (subst (λ all. IsOldAfter a.plan.max_age a.is_old all b.is_old) (sym ages) p.is_old);
@@ -125,7 +127,7 @@ due_of {S} {T} answers clock ticks now a b c d ticked polls fresh paths checked 
     now = now;
     ticked = ticked;
     due = λ is. record {
-      polls = polls_to answers clock ticks a b d r.kept.sources (ap (λ e. marks_of e.items) r.kept.exports) (ap (λ e. ages_of e.items) r.kept.exports) (ap (λ e. loads_of e.items) r.kept.slurms) r.kept.is_old (polls is);
+      polls = polls_to answers clock ticks a b d r.kept.sources (ap (λ e. marks_of e.items) r.kept.exports) (ap (λ e. ages_of e.items) r.kept.exports) r.kept.slurms r.kept.is_old (polls is);
       fresh = r.fresh (fresh is);
       publishes =
           publishes_from clock ticks now a (with_clients b c) d checked.pace checked.rest.1 checked.rest.2 checked.failing
@@ -197,6 +199,7 @@ pub record Parts {S T W : Type 0} (answers : DiskAnswers W) (clock ticks : ℕ �
   pub names : names_of c.exports.items ≡ names_of b.exports.items
   pub after_exports : (c.slurms ≡ b.slurms) × (c.points ≡ b.points)
   pub slurms : FollowsSlurms answers c.slurms.items (loads_of d.slurms.items) c.service.sources d.service.sources
+  pub slurm_refusals : SlurmRefusalsFollow answers c.slurms.items d.slurms.items
   pub slurm_paths : paths_of d.slurms.items ≡ paths_of c.slurms.items
   pub after_slurms : (d.exports ≡ c.exports) × (d.points ≡ c.points)
   pub points : OffersEach answers clock d.points.items d.service.sources e.service.sources
@@ -221,6 +224,9 @@ polls_of answers clock ticks a b c d e f p =
       slurms =
           subst (λ z. FollowsSlurms answers z.items (loads_of f.slurms.items) c.service.sources d.service.sources) slurms
           (subst (λ z. FollowsSlurms answers c.slurms.items (loads_of z.items) c.service.sources d.service.sources) (sym (ap (λ z. z.slurms) p.ages.rest ∙ p.after_points.1)) p.slurms);
+      slurm_refusals =
+          subst (λ z. SlurmRefusalsFollow answers z.items f.slurms.items) slurms
+          (subst (λ z. SlurmRefusalsFollow answers c.slurms.items z.items) (sym (ap (λ z. z.slurms) p.ages.rest ∙ p.after_points.1)) p.slurm_refusals);
       points = subst (OffersEach answers clock a.points.items d.service.sources) (sym last) (subst (λ z. OffersEach answers clock z.items d.service.sources e.service.sources) points p.points);
       judged =
           subst (λ s. AreJudged clock a.plan.max_age s (ages_of f.exports.items)) (sym last)
@@ -295,8 +301,8 @@ clients_kept a b c only kept = again (subst (λ z. KeepsFiles z c) only kept) wh
 
 -- A poll, when the next one was noted, and what has expired
 pub polled_then : {S T W : Type 0} (answers : DiskAnswers W) (clock ticks : ℕ → Type 0) (a b c d : Daemon S T) → b ≡ record a { next_check = b.next_check; next_round = b.next_round; held_until = b.held_until } → PollsAll answers clock ticks b c
-    → d.service.sources ≡ c.service.sources → marks_of d.exports.items ≡ marks_of c.exports.items → ages_of d.exports.items ≡ ages_of c.exports.items → loads_of d.slurms.items ≡ loads_of c.slurms.items → d.is_old ≡ c.is_old → PollsAll answers clock ticks a d
-polled_then answers clock ticks a b c d times polls same marks ages loads old =
+    → d.service.sources ≡ c.service.sources → marks_of d.exports.items ≡ marks_of c.exports.items → ages_of d.exports.items ≡ ages_of c.exports.items → d.slurms ≡ c.slurms → d.is_old ≡ c.is_old → PollsAll answers clock ticks a d
+polled_then answers clock ticks a b c d times polls same marks ages slurms old =
     let p = subst (λ z. PollsAll answers clock ticks z c) times polls in
-    let at_start : PollsAll answers clock ticks a c = record { followed = p.followed; excepted = p.excepted; exports = p.exports; slurms = p.slurms; points = p.points; judged = p.judged; is_old = p.is_old } in
-    polls_to answers clock ticks a c d same marks ages loads old at_start
+    let at_start : PollsAll answers clock ticks a c = record { followed = p.followed; excepted = p.excepted; exports = p.exports; slurms = p.slurms; slurm_refusals = p.slurm_refusals; points = p.points; judged = p.judged; is_old = p.is_old } in
+    polls_to answers clock ticks a c d same marks ages slurms old at_start

@@ -1,5 +1,5 @@
 -- In a listing all of IPv4 is before all of IPv6.
-use Rattle.std.proofs.Common.{◌≡◌, ◌≤◌, ◌+◌, ◌-◌, ◌∙◌, ⊎_elim, ℕ, zero, suc, List, [], ◌∷◌, arith, ap, get_or, length, refl, subst}
+use Rattle.std.proofs.Common.{◌≡◌, ◌≤◌, ◌+◌, ◌∙◌, ⊎_elim, ℕ, zero, suc, List, [], ◌∷◌, arith, ap, get_or, length, refl, subst}
 use Rattle.std.specs.Prelude.{Bool, true, false, cond, not}
 use Rattle.std.specs.List.{filter}
 use Rattle.std.specs.List.Sorted.{IsPartitionPoint, IsPartitionedBy, IsStrictlySortedBy}

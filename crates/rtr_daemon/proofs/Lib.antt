@@ -12,6 +12,7 @@ pub mod QueueLaws
 pub mod ReadyLaws
 pub mod Reasons
 pub mod RefusalLaws
+pub mod SlurmRefusalLaws
 pub mod ServiceLaws
 pub mod StampLaws
 pub mod StartLaws

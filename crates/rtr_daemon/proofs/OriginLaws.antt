@@ -39,6 +39,9 @@ use Rattle.rtr_daemon.specs.declared.shrink_guard.ShrinkGuard.{ShrinkGuard}
 use Rattle.rtr_daemon.specs.declared.watched_file.WatchedExport.{WatchedExport}
 use Rattle.rtr_daemon.specs.declared.watched_file.WatchedFile.{WatchedFile}
 use Rattle.rtr_daemon.proofs.RefusalLaws.{each_refused, none_refused, refusals_as}
+use Rattle.rtr_daemon.proofs.SlurmRefusalLaws.{slurms_refused}
+use Rattle.rtr_daemon.proofs.ContentLaws.{same_many}
+use Rattle.rtr_daemon.specs.SlurmRefusals.{SlurmRefusalsCome}
 
 names_equal : (a b : List ℕ) → (a ≡ b) ⊎ (¬ (a ≡ b))
 names_equal a b = by (bytes_eq a b) refl where
@@ -263,19 +266,20 @@ polled_comes answers clock ticks old new p names slurms points before =
       exceptions =
           subst (λ n. ExceptionsComeFrom answers n loads new.service.sources.exceptions) (sym slurms)
           (subst (ExceptionsComeFrom answers (paths_of old.slurms.items) loads) (sym offered.exceptions) exceptions);
+      slurm_refusals = slurms_refused answers old.slurms.items new.slurms.items slurms (same_many old.slurms.items new.slurms.items slurms) p.slurm_refusals before.slurm_refusals;
       points = subst (λ n. PointsComeFrom answers n new.service.sources.repository) (sym points) offers;
     }
 
 -- Only clients have changed.
 pub clients_come : {S T W : Type 0} (answers : DiskAnswers W) (clock : ℕ → Type 0) (old new : Daemon S T) → OnlyClients old new → SourcesComeFrom answers clock old → SourcesComeFrom answers clock new
-clients_come answers clock old new only before = subst (SourcesComeFrom answers clock) (sym only) (record { exports = before.exports; refusals = before.refusals; exceptions = before.exceptions; points = before.points })
+clients_come answers clock old new only before = subst (SourcesComeFrom answers clock) (sym only) (record { exports = before.exports; refusals = before.refusals; exceptions = before.exceptions; slurm_refusals = before.slurm_refusals; points = before.points })
 
 pub admitted_comes : {S T W : Type 0} (answers : DiskAnswers W) (clock : ℕ → Type 0) (old new : Daemon S T) → OnlyAdmitted old new → SourcesComeFrom answers clock old → SourcesComeFrom answers clock new
-admitted_comes answers clock old new only before = subst (SourcesComeFrom answers clock) (sym only) (record { exports = before.exports; refusals = before.refusals; exceptions = before.exceptions; points = before.points })
+admitted_comes answers clock old new only before = subst (SourcesComeFrom answers clock) (sym only) (record { exports = before.exports; refusals = before.refusals; exceptions = before.exceptions; slurm_refusals = before.slurm_refusals; points = before.points })
 
 -- Versions may have been dropped.
 pub served_comes : {S T W : Type 0} (answers : DiskAnswers W) (clock : ℕ → Type 0) (old new : Daemon S T) → OnlyServed old new → SourcesComeFrom answers clock old → SourcesComeFrom answers clock new
-served_comes answers clock old new only before = subst (SourcesComeFrom answers clock) (sym only.rest) (record { exports = before.exports; refusals = before.refusals; exceptions = before.exceptions; points = before.points })
+served_comes answers clock old new only before = subst (SourcesComeFrom answers clock) (sym only.rest) (record { exports = before.exports; refusals = before.refusals; exceptions = before.exceptions; slurm_refusals = before.slurm_refusals; points = before.points })
 
 -- A turn
 pub turn_comes : {S T W : Type 0} (answers : DiskAnswers W) (clock ticks : ℕ → Type 0) (old new : Daemon S T) → DoesWhatIsDue answers clock ticks old new → SourcesComeFrom answers clock old → SourcesComeFrom answers clock new
@@ -290,6 +294,7 @@ turn_comes answers clock ticks old new does before = by_time (cases_lt does.now 
         exceptions =
             subst (λ e. ExceptionsComeFrom answers (paths_of e.items) (loads_of e.items) new.service.sources.exceptions) (sym k.slurms)
             (subst (λ s. ExceptionsComeFrom answers (paths_of old.slurms.items) (loads_of old.slurms.items) s.exceptions) (sym k.sources) before.exceptions);
+        slurm_refusals = subst (λ e. SlurmRefusalsCome answers e.items) (sym k.slurms) before.slurm_refusals;
         points = subst (λ e. PointsComeFrom answers (points_of e.items) new.service.sources.repository) (sym k.points) (subst (λ s. PointsComeFrom answers (points_of old.points.items) s.repository) (sym k.sources) before.points);
       }
 
@@ -363,5 +368,6 @@ opened_comes answers clock leaves_out d at numbered r =
       exceptions =
           subst (ExceptionsComeFrom answers (paths_of d.slurms.items) loads) (sym third.exceptions)
           (record { stamps = r.slurms.stamps; contents = r.slurms.contents; read = r.slurms.read; noted = r.slurms.noted; united = r.slurms.taken.0 });
+      slurm_refusals = r.slurm_refusals;
       points = offers_come answers (λ t. t ≡ d.started) (points_of d.points.items) d.points.items r.excepted d.service.sources (λ q is. contains_map (λ w. string_bytes w.path) d.points.items q is) r.points held;
     }

@@ -12,6 +12,7 @@ use Rattle.rtr_daemon.specs.PointOffers.{OffersEach, points_of}
 use Rattle.rtr_daemon.specs.Queue.{AreQueued, NoClients, QueuesBehind, ServesEach}
 use Rattle.rtr_daemon.specs.Readiness.{TakesReady}
 use Rattle.rtr_daemon.specs.Serving.{Continues, Drops, EndsEmpty, IsFresh, IsReason}
+use Rattle.rtr_daemon.specs.SlurmRefusals.{SlurmRefusalsFollow}
 use Rattle.rtr_daemon.specs.SocketCalls.{SocketCalls}
 use Rattle.rtr_daemon.specs.Times.{later_by}
 use Rattle.rtr_server.specs.declared.stream.Call.{Call}
@@ -243,6 +244,7 @@ pub record PollsAll {S T W : Type 0} (answers : DiskAnswers W) (clock ticks : â„
   pub excepted : Sources
   pub exports : FollowsEach answers clock ticks old.plan.shrink old.exports.items (marks_of new.exports.items) old.service.sources followed
   pub slurms : FollowsSlurms answers old.slurms.items (loads_of new.slurms.items) followed excepted
+  pub slurm_refusals : SlurmRefusalsFollow answers old.slurms.items new.slurms.items
   pub points : OffersEach answers clock old.points.items excepted new.service.sources
   pub judged : AreJudged clock old.plan.max_age new.service.sources (ages_of new.exports.items)
   pub is_old : IsOldAfter old.plan.max_age old.is_old (ages_of new.exports.items) new.is_old

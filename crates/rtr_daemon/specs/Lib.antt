@@ -23,6 +23,7 @@ pub mod Running
 pub mod Serving
 pub mod Shrinking
 pub mod ShrinkingRows
+pub mod SlurmRefusals
 pub mod SocketCalls
 pub mod Stamps
 pub mod Starting

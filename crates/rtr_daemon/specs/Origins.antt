@@ -15,6 +15,7 @@ use Rattle.sources.specs.declared.slurms.AppliedSlurms.{AppliedSlurms}
 use Rattle.rtr_daemon.specs.DiskAnswers.{DiskAnswers, ReadsWhole}
 use Rattle.rtr_daemon.specs.Files.{AreContents, IsForFault, IsOfBytes, loads_of, path_of, paths_of}
 use Rattle.rtr_daemon.specs.PointOffers.{points_of}
+use Rattle.rtr_daemon.specs.SlurmRefusals.{SlurmRefusalsCome}
 use Rattle.rtr_daemon.specs.declared.daemon.Daemon.{Daemon}
 use Rattle.rtr_daemon.specs.declared.environment.Stamp.{Stamp}
 use Rattle.rtr_daemon.specs.declared.refusal.Refusal.{Refusal}
@@ -86,9 +87,10 @@ pub record PointComesFrom {W : Type 0} (answers : DiskAnswers W) (paths : List (
 abbrev pub PointsComeFrom : {W : Type 0} → DiskAnswers W → List (List ℕ) → Points → Type 0
 PointsComeFrom answers paths points = (name : List ℕ) (last : AcceptedPoint) → accepted_at points name ≡ Some last → PointComesFrom answers paths name last
 
--- All that the sources have comes from the paths that are watched, and so does what is refused of the exports.
+-- All that the sources have comes from the paths that are watched, and so does what is refused of the exports and of the local exceptions.
 pub record SourcesComeFrom {S T W : Type 0} (answers : DiskAnswers W) (clock : ℕ → Type 0) (daemon : Daemon S T) : Type 0 where
   pub exports : ExportsComeFrom answers clock (places_of daemon.exports.items) daemon.service.sources.lists.items
   pub refusals : RefusalsCome answers clock daemon.exports.items
   pub exceptions : ExceptionsComeFrom answers (paths_of daemon.slurms.items) (loads_of daemon.slurms.items) daemon.service.sources.exceptions
+  pub slurm_refusals : SlurmRefusalsCome answers daemon.slurms.items
   pub points : PointsComeFrom answers (points_of daemon.points.items) daemon.service.sources.repository

@@ -10,6 +10,7 @@ use Rattle.rtr_daemon.specs.DiskAnswers.{DiskAnswers}
 use Rattle.rtr_daemon.specs.Times.{later_by}
 use Rattle.rtr_daemon.specs.Files.{LoadsEach, ReadsSlurms, loads_of, marks_of, names_of, paths_of}
 use Rattle.rtr_daemon.specs.PointOffers.{OffersEach, points_of}
+use Rattle.rtr_daemon.specs.SlurmRefusals.{SlurmRefusalsCome}
 use Rattle.rtr_daemon.specs.declared.accepting.Listener.{Listener}
 use Rattle.rtr_daemon.specs.declared.daemon.Daemon.{Daemon}
 use Rattle.rtr_daemon.specs.declared.daemon.Paths.{Paths}
@@ -50,6 +51,7 @@ pub record Watches {S T : Type 0} (paths : Paths) (d : Daemon S T) : Type 0 wher
   pub points : points_of d.points.items ≡ texts paths.points.items
 
 -- Each source was read and loaded at the second of the start: exports, local exceptions, publication points, in this order. There was nothing before.
+-- What is refused of local exceptions was read too.
 pub record ReadsAll {S T W : Type 0} (answers : DiskAnswers W) (leaves_out : Bool) (d : Daemon S T) : Type 0 where
   pub first : Sources
   pub none : NoneTaken (length d.exports.items) first.lists.items
@@ -60,4 +62,5 @@ pub record ReadsAll {S T W : Type 0} (answers : DiskAnswers W) (leaves_out : Boo
   pub excepted : Sources
   pub exports : LoadsEach answers d.started d.exports.items (marks_of d.exports.items) first loaded
   pub slurms : ReadsSlurms answers d.slurms.items (loads_of d.slurms.items) loaded excepted
+  pub slurm_refusals : SlurmRefusalsCome answers d.slurms.items
   pub points : OffersEach answers (λ at. at ≡ d.started) d.points.items excepted d.service.sources

@@ -82,6 +82,7 @@ pub(crate) enum RefusalKind {
 
 impl Refusal {
     ghost use Rattle.rtr_daemon.specs.Files.{IsForFault, IsOfBytes};
+    ghost use Rattle.rtr_daemon.specs.SlurmRefusals.{IsForSlurm};
 
     /// The refusal of an export, with the text for these bytes.
     pub(crate) fn of_export(alloc: Global, bytes: &[u8], fault: TakeFault) -> Refusal
@@ -96,13 +97,17 @@ impl Refusal {
     }
 
     /// The refusal of local exceptions, with the text for these bytes.
-    pub(crate) fn of_slurm(alloc: Global, bytes: &[u8], fault: SlurmFault) -> Refusal {
+    pub(crate) fn of_slurm(alloc: Global, bytes: &[u8], fault: SlurmFault) -> Refusal
+        ensures { IsForSlurm fault result }
+    {
         let words = slurm::fault_text(alloc, bytes, fault).ok();
         Refusal::Slurm(FileFault { fault, words })
     }
 
     /// The refusal of several files of local exceptions together. The text names the file with which this one overlaps.
-    pub(crate) fn of_union(alloc: Global, fault: UniteFault, other: Option<&str>) -> Refusal {
+    pub(crate) fn of_union(alloc: Global, fault: UniteFault, other: Option<&str>) -> Refusal
+        ensures { ¬ (IsOfBytes result) }
+    {
         let words = match other {
             Some(other) => overlap_text(alloc, &fault, other).ok(),
             None => None,
@@ -124,7 +129,9 @@ impl Refusal {
     }
 
     /// Memory ran out.
-    pub(crate) fn memory() -> Refusal {
+    pub(crate) fn memory() -> Refusal
+        ensures { ¬ (IsOfBytes result) }
+    {
         Refusal::Set(SetFault::Memory)
     }
 

@@ -1,6 +1,7 @@
 //! The content of the files of local exceptions, read together (RFC 8416 section 4.2).
-ghost use Rattle.std.specs.Prelude.{◌≡◌, ◌∷◌, ◌++◌, [], IfErr, IfOk, OnOk, slice_get};
+ghost use Rattle.std.specs.Prelude.{◌≡◌, ◌∷◌, ◌++◌, [], IfErr, IfOk, None, OnOk, slice_get};
 ghost use Rattle.rtr_daemon.specs.Files.{AddsContent, HasContents, IsOneUnread, IsUnread, SameLoad, SameLoads, path_of, paths_of, stamp_or};
+ghost use Rattle.rtr_daemon.specs.SlurmRefusals.{EachNotesSo, IsNotOfBytes, NotesSo};
 
 use crate::environment::{Disk, Stamp};
 use crate::refusal::Refusal;
@@ -40,6 +41,7 @@ impl Contents {
     pub(crate) fn note_loaded(&self, index: usize, file: &mut WatchedFile, now: u64) -> bool
         ensures path { file.new.path ≡ file.old.path }
         ensures loaded { file.new.loaded ≡ stamp_or (slice_get self.now.stamps.items index) file.old.loaded }
+        ensures refusals { NotesSo IsNotOfBytes file.old file.new }
     {
         match self.stamps.get(index) {
             Some(stamp) => file.set_loaded(*stamp, now),
@@ -48,7 +50,11 @@ impl Contents {
     }
 
     /// The refusal of the file of this index.
-    pub(crate) fn refused(&self, index: usize, why: Refusal) -> SlurmRefusal {
+    pub(crate) fn refused(&self, index: usize, why: Refusal) -> SlurmRefusal
+        ensures index { result.index ≡ index }
+        ensures why { result.why ≡ why }
+        ensures stamp { result.stamp ≡ slice_get self.now.stamps.items index }
+    {
         SlurmRefusal {
             index,
             stamp: self.stamps.get(index).copied(),
@@ -102,7 +108,8 @@ impl LongestCall {
 
     /// Notes the call at its file, if it is slow.
     pub(crate) fn note_at(&self, slurms: &mut [WatchedFile], now: u64)
-        ensures { SameLoads slurms.old slurms.new }
+        ensures loads { SameLoads slurms.old slurms.new }
+        ensures refusals { EachNotesSo (λ k. IsNotOfBytes) slurms.old slurms.new }
     {
         for (at, file) in slurms.iter_mut().enumerate() {
             self.note_if_at(at, file, now);
@@ -111,7 +118,8 @@ impl LongestCall {
 
     /// Notes the call at the file of this index, if it was on that file and is slow.
     fn note_if_at(&self, index: usize, file: &mut WatchedFile, now: u64)
-        ensures { SameLoad file.old file.new }
+        ensures loads { SameLoad file.old file.new }
+        ensures refusals { NotesSo IsNotOfBytes file.old file.new }
     {
         if index == self.index {
             file.note_slow(self.millis, now);
@@ -128,6 +136,7 @@ pub(crate) fn contents_of<W: Disk>(
 ) -> Result<Contents, SlurmRefusal>
     ensures reads { IfOk result (λ contents. HasContents W.answers slurms.now contents) }
     ensures fails { IfErr result (λ _. IsOneUnread W.answers (paths_of slurms.now)) }
+    ensures unread { IfErr result (λ refusal. refusal.stamp ≡ None) }
 {
     let mut contents = Contents::new(alloc);
     longest.start_over();

@@ -1,8 +1,10 @@
 //! Polling the files of local exceptions, which are loaded together (RFC 8416 section 4.2).
-ghost use Rattle.std.specs.Prelude.{◌≡◌, All, IfErr, IfOk, Ok, Some, false, length, map, slice_get};
+ghost use Rattle.std.specs.Prelude.{◌≡◌, All, IfErr, IfOk, None, Ok, Some, false, length, map, slice_get};
+ghost use Rattle.rtr_daemon.specs.declared.refusal.Refusal.{Refusal};
 ghost use Rattle.rtr_daemon.specs.Files.{FollowsSlurms, HasContents, IsKnown, ReadsSlurms, SameLoad, SameLoads, loads_of, paths_of, stamp_or, texts_of};
-ghost use Rattle.sources.specs.Served.{SlurmsTaken};
+ghost use Rattle.sources.specs.Served.{AreRefused, SlurmsTaken};
 ghost use Rattle.rtr_daemon.specs.Due.{OnlyFiles};
+ghost use Rattle.rtr_daemon.specs.SlurmRefusals.{EachNotesSo, IsNotOfBytes, IsNotedAt, IsOfContents, IsOfPaths, NotesSo, SlurmRefusalsFollow};
 ghost use Rattle.rtr_daemon.specs.Serving.{Continues, LoadsSlurms, OnlySources, TakesSo};
 
 use crate::daemon::Daemon;
@@ -30,6 +32,7 @@ fn take<S: VersionStore, T: Stream + Drop>(
     ensures goes { Continues S.holds T.remaining T.contents service.old service.new }
     ensures takes { TakesSo result service.old service.new }
     ensures loads { LoadsSlurms (texts_of contents.now) result service.old.sources service.new.sources }
+    ensures refused { IfErr result (λ refusal. IsOfContents contents.now refusal) }
     ensures rest { OnlySources service.old service.new }
 {
     match service.take_slurms(contents.bytes.as_slice()) {
@@ -44,7 +47,9 @@ fn refusal_of(
     contents: &Contents,
     alloc: Global,
     fault: SlurmSetFault,
-) -> SlurmRefusal {
+) -> SlurmRefusal
+    ensures { AreRefused (texts_of contents.now) fault → IsOfContents contents.now result }
+{
     match fault {
         SlurmSetFault::File { index, fault } => {
             let why = match contents.bytes.get(index) {
@@ -75,6 +80,7 @@ pub(crate) fn read_slurms<S: VersionStore, T: Stream + Drop, W: Disk + EventLog>
     ensures goes { Continues S.holds T.remaining T.contents service.old service.new }
     ensures reads { IfOk result (λ _. ReadsSlurms W.answers slurms.old (loads_of slurms.new) service.old.sources service.new.sources) }
     ensures paths { paths_of slurms.new ≡ paths_of slurms.old }
+    ensures refusals { EachNotesSo (λ k. IsNotOfBytes) slurms.old slurms.new }
 {
     let mut longest = LongestCall::none();
     let contents = match settled_contents(slurms, &mut longest, alloc, env) {
@@ -112,6 +118,7 @@ impl<S: VersionStore, T: Stream + Drop> Daemon<S, T> {
         ensures kept { (self.new.exports ≡ self.old.exports) × (self.new.points ≡ self.old.points) }
         ensures follows { FollowsSlurms W.answers self.old.slurms.items (loads_of self.new.slurms.items) self.old.service.sources self.new.service.sources }
         ensures paths { paths_of self.new.slurms.items ≡ paths_of self.old.slurms.items }
+        ensures refusals { SlurmRefusalsFollow W.answers self.old.slurms.items self.new.slurms.items }
     {
         follow(
             &mut self.slurms,
@@ -137,6 +144,7 @@ fn follow<S: VersionStore, T: Stream + Drop, W: Disk + Time + EventLog>(
     ensures rest { OnlySources service.old service.new }
     ensures follows { FollowsSlurms W.answers slurms.old (loads_of slurms.new) service.old.sources service.new.sources }
     ensures paths { paths_of slurms.new ≡ paths_of slurms.old }
+    ensures refusals { SlurmRefusalsFollow W.answers slurms.old slurms.new }
 {
     let now = env.seconds();
     let mut longest = LongestCall::none();
@@ -184,6 +192,7 @@ fn load<S: VersionStore, T: Stream + Drop, W: Disk>(
     ensures read { IfOk result (λ contents. HasContents W.answers slurms.now contents) }
     ensures loads { IfOk result (λ contents. SlurmsTaken (texts_of contents) (Ok tt) service.old.sources service.new.sources) }
     ensures refuses { IfErr result (λ _. FollowsSlurms W.answers slurms.now (loads_of slurms.now) service.old.sources service.new.sources) }
+    ensures refused { IfErr result (λ refusal. IsOfPaths W.answers (paths_of slurms.now) refusal) }
 {
     let contents = contents_of(slurms, longest, alloc, env)?;
     take(service, slurms, &contents, alloc)?;
@@ -198,7 +207,8 @@ fn report_known<W: Disk + EventLog>(
     now: u64,
     env: &mut W,
 )
-    ensures { SameLoads slurms.old slurms.new }
+    ensures loads { SameLoads slurms.old slurms.new }
+    ensures refusals { EachNotesSo (λ k. IsNotOfBytes) slurms.old slurms.new }
 {
     for file in slurms.iter_mut() {
         report_if_known(file, statistics, alloc, now, env);
@@ -213,7 +223,8 @@ fn report_if_known<W: Disk + EventLog>(
     now: u64,
     env: &mut W,
 )
-    ensures { SameLoad file.old file.new }
+    ensures loads { SameLoad file.old file.new }
+    ensures refusals { NotesSo IsNotOfBytes file.old file.new }
 {
     match file.state(env) {
         FileState::RefusedBefore => {
@@ -238,6 +249,7 @@ fn report_loaded<W: EventLog>(
 )
     ensures paths { paths_of slurms.new ≡ paths_of slurms.old }
     ensures loaded { length contents.now.stamps.items ≡ length slurms.old → loads_of slurms.new ≡ map Some contents.now.stamps.items }
+    ensures refusals { EachNotesSo (λ k. IsNotOfBytes) slurms.old slurms.new }
 {
     for (at, file) in slurms.iter_mut().enumerate() {
         let was_near = file.near_limit(max_size).is_some();
@@ -256,6 +268,7 @@ fn report_one_loaded<W: EventLog>(
 )
     ensures path { file.new.path ≡ file.old.path }
     ensures loaded { file.new.loaded ≡ stamp_or (slice_get contents.now.stamps.items index) file.old.loaded }
+    ensures refusals { NotesSo IsNotOfBytes file.old file.new }
 {
     if contents.note_loaded(index, file, now) {
         log_taken(file, now, env);
@@ -269,7 +282,8 @@ fn report_not_applied<W: EventLog>(
     now: u64,
     env: &mut W,
 )
-    ensures { SameLoads slurms.old slurms.new }
+    ensures loads { SameLoads slurms.old slurms.new }
+    ensures refusals { EachNotesSo (λ k. IsNotOfBytes) slurms.old slurms.new }
 {
     for (at, file) in slurms.iter_mut().enumerate() {
         report_one_not_applied(file, sources.ignored_exceptions(at), now, env);
@@ -283,7 +297,8 @@ fn report_one_not_applied<W: EventLog>(
     now: u64,
     env: &mut W,
 )
-    ensures { SameLoad file.old file.new }
+    ensures loads { SameLoad file.old file.new }
+    ensures refusals { NotesSo IsNotOfBytes file.old file.new }
 {
     if file.set_not_applied(count) {
         let Ignored {
@@ -314,7 +329,8 @@ fn report_refused<W: Disk + EventLog>(
     now: u64,
     env: &mut W,
 )
-    ensures { SameLoads slurms.old slurms.new }
+    ensures loads { SameLoads slurms.old slurms.new }
+    ensures refusals { EachNotesSo (IsNotedAt refusal.index refusal.stamp refusal.why) slurms.old slurms.new }
 {
     let SlurmRefusal { index, stamp, why } = refusal;
     let mut why = Some(why);
@@ -334,7 +350,9 @@ fn report_one_refused<W: Disk + EventLog>(
     now: u64,
     env: &mut W,
 )
-    ensures { SameLoad file.old file.new }
+    ensures loads { SameLoad file.old file.new }
+    ensures other { own ≡ None → NotesSo IsNotOfBytes file.old file.new }
+    ensures own { (why : Refusal) → own ≡ Some why → file.new.refusals.last ≡ Some (record { stamp = stamp; why = why }) }
 {
     let is_due = match own {
         Some(why) => file.refusals.add(stamp, why, now),
@@ -349,7 +367,8 @@ fn report_one_refused<W: Disk + EventLog>(
 /// Notes that a file is not loaded because of another one, if it has changed. If it is again as it was loaded, its refusal ends. Returns
 /// whether a refusal is reported now.
 fn is_due_for_other<W: Disk + EventLog>(file: &mut WatchedFile, now: u64, env: &mut W) -> bool
-    ensures { SameLoad file.old file.new }
+    ensures loads { SameLoad file.old file.new }
+    ensures refusals { NotesSo IsNotOfBytes file.old file.new }
 {
     match env.stamp(file.path.as_str()) {
         Err(_) => false,
@@ -365,7 +384,8 @@ fn is_due_for_other<W: Disk + EventLog>(file: &mut WatchedFile, now: u64, env: &
 
 /// A file is again as it was loaded: its refusal ends, and that is reported if the refusal was.
 fn end_refusal<W: EventLog>(file: &mut WatchedFile, now: u64, env: &mut W)
-    ensures { SameLoad file.old file.new }
+    ensures loads { SameLoad file.old file.new }
+    ensures refusals { file.new.refusals.last ≡ None }
 {
     if file.refusals.clear() {
         log_taken(file, now, env);

@@ -1,5 +1,5 @@
 //! The start of a daemon: all sources are read before it serves.
-ghost use Rattle.std.specs.Prelude.{◌≡◌, ℕ, IfOk, None, Ok, false, map};
+ghost use Rattle.std.specs.Prelude.{◌≡◌, ℕ, All, IfOk, None, Ok, false, map};
 ghost use Rattle.points.specs.InUse.{no_points};
 ghost use Rattle.sources.specs.Served.{NoneTaken};
 ghost use Rattle.rtr_server.specs.Clients.{Begun};
@@ -124,7 +124,8 @@ fn watched_exports(alloc: Global, paths: Vec<String>) -> Result<Vec<WatchedExpor
 }
 
 fn watched_slurms(alloc: Global, paths: Vec<String>) -> Result<Vec<WatchedFile>, AllocError>
-    ensures { IfOk result (λ files. map (λ f. f.path) files.items ≡ paths.items) }
+    ensures paths { IfOk result (λ files. map (λ f. f.path) files.items ≡ paths.items) }
+    ensures refusals { IfOk result (λ files. All (λ f. f.refusals.last ≡ None) files.items) }
 {
     let mut slurms = Vec::new(alloc);
     for path in paths {

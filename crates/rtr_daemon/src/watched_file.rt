@@ -63,7 +63,8 @@ pub(crate) enum Look {
 
 impl WatchedFile {
     pub(crate) fn new(path: String) -> WatchedFile
-        ensures { result.path ≡ path }
+        ensures path { result.path ≡ path }
+        ensures refusals { result.refusals.last ≡ None }
     {
         WatchedFile {
             path,

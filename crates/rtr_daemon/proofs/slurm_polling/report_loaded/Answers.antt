@@ -1,7 +1,9 @@
 use Rattle.std.proofs.Common.{◌≡◌, ◌+◌, ◌++◌, ◌<◌, ◌∙◌, suc, arith, drop, get_or, length, set, subst, take}
 use Rattle.std.specs.Prelude.{Some, map}
 use Rattle.rtr_daemon.specs.Files.{loads_of}
+use Rattle.rtr_daemon.specs.SlurmRefusals.{IsNotOfBytes}
 use Rattle.rtr_daemon.proofs.ContentLaws.{loaded_all, loaded_more, paths_kept}
+use Rattle.rtr_daemon.proofs.SlurmRefusalLaws.{notes_more}
 use Rattle.rtr_daemon.proofs.slurm_polling.report_loaded.Goals as goal
 
 pub loop-at-preserved : goal.loop-at-preserved
@@ -22,6 +24,7 @@ loop-at-preserved g c =
       loaded = λ many.
           subst (λ n. loads_of (set files at file) ≡ take n (map Some stamps) ++ drop n (loads_of initial)) next
           (loaded_more stamps initial files at (get_or files at item).loaded file (omega (arith, within, many)) within one.loaded (c.loop-at.invariant.loaded many));
+      refusals = notes_more (λ k. IsNotOfBytes) initial files at item file (omega (arith, within, count)) c.loop-at.invariant.refusals one.refusals;
     }
 
 pub returns-clause-loaded : goal.returns-clause-loaded

@@ -1,6 +1,10 @@
 -- The paths are as they were, and the stamps of the last loads.
 use Rattle.rtr_daemon.specs.Files.{SameLoads}
+use Rattle.rtr_daemon.specs.SlurmRefusals.{EachNotesSo, IsNotOfBytes}
 use Rattle.rtr_daemon.proofs.slurm_polling.report_not_applied.Given as goal
 
 abbrev pub invariant-loop-at : goal.invariant-loop-at
-invariant-loop-at g l = SameLoads l.initial.slurms l.slurms
+invariant-loop-at g l = record {
+  loads : SameLoads l.initial.slurms l.slurms;
+  refusals : EachNotesSo (λ k. IsNotOfBytes) l.initial.slurms l.slurms;
+}

@@ -1,6 +1,6 @@
 use Rattle.std.proofs.Common.{◌∙◌, ap, refl, arith}
 use Rattle.rtr_daemon.proofs.DueLaws.{polled_then}
-use Rattle.rtr_daemon.specs.Files.{loads_of, paths_of}
+use Rattle.rtr_daemon.specs.Files.{paths_of}
 use Rattle.rtr_daemon.specs.PointOffers.{points_of}
 use Rattle.rtr_daemon.proofs.ServiceLaws.{then_on}
 use Rattle.rtr_daemon.proofs.daemon.Daemon.check.Goals as goal
@@ -13,7 +13,7 @@ pub returns-clause-fresh : goal.returns-clause-fresh
 returns-clause-fresh g c = λ due. c.judge_expiry.ensures.fresh
 
 pub returns-clause-polls : goal.returns-clause-polls
-returns-clause-polls g c = λ due. polled_then g.W.Disk.answers g.W.Time.can_be g.W.Time.can_tick c.args.self.now _ c.poll_all.new.self c.judge_expiry.new.self refl c.poll_all.ensures.polls (ap (λ d. d.service.sources) c.judge_expiry.ensures.rest.rest) c.judge_expiry.ensures.rest.marks c.judge_expiry.ensures.rest.ages (ap (λ d. loads_of d.slurms.items) c.judge_expiry.ensures.rest.rest) (ap (λ d. d.is_old) c.judge_expiry.ensures.rest.rest)
+returns-clause-polls g c = λ due. polled_then g.W.Disk.answers g.W.Time.can_be g.W.Time.can_tick c.args.self.now _ c.poll_all.new.self c.judge_expiry.new.self refl c.poll_all.ensures.polls (ap (λ d. d.service.sources) c.judge_expiry.ensures.rest.rest) c.judge_expiry.ensures.rest.marks c.judge_expiry.ensures.rest.ages (ap (λ d. d.slurms) c.judge_expiry.ensures.rest.rest) (ap (λ d. d.is_old) c.judge_expiry.ensures.rest.rest)
 
 pub returns-clause-paths : goal.returns-clause-paths
 returns-clause-paths g c =

@@ -11,6 +11,8 @@ use Rattle.rtr_daemon.specs.Serving.{LeadsToService, past_of}
 use Rattle.rtr_daemon.specs.Starting.{numbered_from, texts}
 use Rattle.rtr_daemon.proofs.ContentLaws.{same_many, written_back}
 use Rattle.rtr_daemon.proofs.OriginLaws.{opened_comes}
+use Rattle.rtr_daemon.proofs.SlurmRefusalLaws.{no_bytes_follow, none_slurms_refused, slurms_refused}
+use Rattle.rtr_daemon.specs.SlurmRefusals.{SlurmRefusalsCome}
 use Rattle.rtr_daemon.proofs.ServiceLaws.{leads_on, then_on}
 use Rattle.rtr_daemon.proofs.StartLaws.{loads_named, names_numbered, numbered_at, offers_named, paths_texts, points_texts, same_length}
 use Rattle.rtr_daemon.proofs.daemon.Daemon.open.Goals as goal
@@ -57,7 +59,7 @@ returns-clause-watches g c =
       exports =
           c.judge_ages.ensures.names ∙ c.in_ok-read_all.ensures.names ∙ names_numbered c.in_ok-exports.exports.items c.in_ok-exports.ensures.numbered
           ∙ ap (λ paths. numbered_from 0 (texts paths)) c.in_ok-exports.ensures.paths;
-      slurms = ap (λ d. paths_of d.slurms.items) c.judge_ages.ensures.rest ∙ ap paths_of back ∙ paths ∙ paths_texts files.items ∙ ap texts c.in_ok-slurms.ensures;
+      slurms = ap (λ d. paths_of d.slurms.items) c.judge_ages.ensures.rest ∙ ap paths_of back ∙ paths ∙ paths_texts files.items ∙ ap texts c.in_ok-slurms.ensures.paths;
       points = ap (λ d. points_of d.points.items) c.judge_ages.ensures.rest ∙ c.in_ok-read_points.ensures.paths ∙ points_texts c.in_ok-offered.offered.items ∙ ap texts c.in_ok-offered.ensures;
     }
 
@@ -108,6 +110,12 @@ returns-clause-reads g c =
         taken = reads.taken;
         noted = ap (λ d. loads_of d.slurms.items) only ∙ ap loads_of back ∙ reads.noted;
       };
+      slurm_refusals =
+          subst (λ all. SlurmRefusalsCome g.W.Disk.answers all.items) (sym (ap (λ d. d.slurms) only))
+          (subst (SlurmRefusalsCome g.W.Disk.answers) (sym back)
+          (slurms_refused g.W.Disk.answers c.deref_mut.result.now after c.in_ok-read_slurms.ensures.paths (same_many c.deref_mut.result.now after c.in_ok-read_slurms.ensures.paths)
+          (no_bytes_follow g.W.Disk.answers c.deref_mut.result.now after c.in_ok-read_slurms.ensures.refusals)
+          (subst (SlurmRefusalsCome g.W.Disk.answers) (sym c.deref_mut.ensures.value) (none_slurms_refused g.W.Disk.answers files.items c.in_ok-slurms.ensures.refusals))));
       points =
           subst (λ s. OffersEach g.W.Disk.answers (λ at. at ≡ d.started) d.points.items c.read_slurms.new.service.sources s.sources) (sym (ap (λ d. d.service) only))
           (subst (λ second. OffersEach g.W.Disk.answers (λ at. at ≡ second) d.points.items c.read_slurms.new.service.sources c.read_points.new.service.sources) started offers);
