@@ -145,8 +145,9 @@ impl LogBuffer {
         true
     }
 
-    /// Adds a line that reports all lost lines that [`LogBuffer::dropped`] counts, and returns `true`. If another report is pending or the line does
-    /// not fit, returns `false`, and nothing changes.
+    /// Adds a line, which ends in a newline, that reports all lost lines that [`LogBuffer::dropped`] counts, and returns `true`. If another report is
+    /// pending or the line does not fit, returns `false`, and nothing changes. If no line is lost, it is added too, as a report of none: ask
+    /// [`LogBuffer::is_report_due`] first.
     ///
     /// The lost lines count as reported once the last byte of the report was written.
     pub fn add_report(&mut self, line: &[u8]) -> bool

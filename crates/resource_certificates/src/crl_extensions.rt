@@ -1,4 +1,4 @@
-//! Extensions of a CRL (RFC 6487 section 5).
+//! Which extensions a CRL has, and the octets of each (RFC 6487 section 5). `crl.rt` judges what they say.
 
 ghost use Rattle.std.specs.Prelude.{◌≡◌, option_map};
 ghost use Rattle.der_lite.specs.Fields.{optional_at};

@@ -221,8 +221,9 @@ fn answers_of(
 
 /// Returns the replies of a cache to the bytes that `hex` gives, which come on a new connection. The cache has published only `set`, under
 /// `serial`. Its session is `session` in protocol version 1 and `session0` in version 0. It replies in version 0 if the first byte is 0,
-/// otherwise in version 1 (RFC 8210 section 7). `Err(BadHex)`: `hex` is not hexadecimal. `Err(Memory)`: memory ran out. Then no replies are
-/// returned, not even an Error Report of code 1.
+/// otherwise in version 1 (RFC 8210 section 7). Bytes after the end of the connection get no reply. An empty `hex` gives no replies.
+/// `Err(BadHex)`: `hex` is not hexadecimal digits in pairs. `Err(Memory)`: memory ran out. Then no replies are returned, not even an Error
+/// Report of code 1.
 pub fn answer_lines(
     alloc: Global,
     session: u16,
