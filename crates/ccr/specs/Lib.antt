@@ -1,0 +1,5 @@
+pub mod Canonical
+pub mod CanonicalRows
+pub mod Families
+pub mod Laws
+pub mod Runs
