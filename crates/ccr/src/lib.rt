@@ -10,8 +10,8 @@
 //! let mut list = Vec::new(rt.alloc());
 //! list.push(Vrp::new("192.0.2.0/24".parse()?, 24, Asn(64496))?)?;
 //! let set = VrpSet::try_from(list)?;
-//! assert!(rt; encode_vrps(rt.alloc(), &set)?.len() == 25);
-//! assert!(rt; vrps_digest(rt.alloc(), &set)?[0] == 0x1c);
+//! assert!(rt; encode_vrps(rt.alloc(), &set)?.len() == 27);
+//! assert!(rt; vrps_digest(rt.alloc(), &set)?[0] == 0x22);
 //! ```
 //!
 //! [`vrps_digest`] is the hash by which the VRPs of two caches are compared. [`encode_vrps`] writes what is hashed.

@@ -1,10 +1,15 @@
-//! Examples of elements, prefixes, payloads, publication points, sets, changes, route states, logs of versions, signatures, signed objects and
-//! kinds of files. They are the tests of the public items of these libraries. They use values of the standards, keys and objects of `openssl`,
-//! printed texts, and each public call once on its happy path. They are apart, because a crate with tests is proved twice.
+//! Examples of elements, prefixes, payloads, publication points, sets, changes, route states, logs of versions, signatures, signed objects,
+//! kinds of files and canonical forms of sets. They are the tests of the public items of these libraries. They use values of the standards,
+//! keys and objects of `openssl`, printed texts, and each public call once on its happy path. They are apart, because a crate with tests is
+//! proved twice.
 #![tactic(auto)]
 
 #[cfg(test)]
 mod ber;
+#[cfg(test)]
+mod canonical;
+#[cfg(test)]
+mod ccr_example;
 #[cfg(test)]
 mod der_lite_example;
 #[cfg(test)]
