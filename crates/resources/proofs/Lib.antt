@@ -4,3 +4,5 @@ pub mod ExactResources
 pub mod LawProofs
 pub mod Listing
 pub mod OneList
+pub mod Meetings
+pub mod Merging

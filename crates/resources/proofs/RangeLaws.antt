@@ -53,7 +53,7 @@ from_end_ranges n (o ∷ more) h =
       | inr ge ↦ rw (le-ltb o.high n ge) h
     ]
 
-left_in : (n : ℕ) (outer : List ResourceRange) (m : ℕ) → Covers (from_end n outer) m → Covers outer m
+pub left_in : (n : ℕ) (outer : List ResourceRange) (m : ℕ) → Covers (from_end n outer) m → Covers outer m
 left_in n [] m c = c
 left_in n (o ∷ more) m c =
     elim (cases_lt o.high n) [
@@ -67,7 +67,7 @@ left_in n (o ∷ more) m c =
     from_here : n ≤ o.high → from_end n (o ∷ more) ≡ o ∷ more
     from_here ge = rw (le-ltb o.high n ge) refl
 
-kept_in : (n : ℕ) (outer : List ResourceRange) (m : ℕ) → n ≤ m → Covers outer m → Covers (from_end n outer) m
+pub kept_in : (n : ℕ) (outer : List ResourceRange) (m : ℕ) → n ≤ m → Covers outer m → Covers (from_end n outer) m
 kept_in n [] m le c = c
 kept_in n (o ∷ more) m le c =
     elim (cases_lt o.high n) [

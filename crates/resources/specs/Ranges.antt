@@ -19,6 +19,10 @@ pub record AreRanges (ranges : List ResourceRange) : Type 0 where
   pub full : All (λ r. r.low ≤ r.high) ranges
   pub apart : are_apart ranges ≡ true
 
+-- a number is in the range
+abbrev pub IsIn : ResourceRange → ℕ → Type 0
+IsIn range n = (range.low ≤ n) × (n ≤ range.high)
+
 -- a number is in one of the ranges
 abbrev pub Covers : List ResourceRange → ℕ → Type 0
 Covers [] n = ⊥
@@ -27,3 +31,7 @@ Covers (range ∷ others) n = ((range.low ≤ n) × (n ≤ range.high)) ⊎ Cove
 -- RFC 3779 sections 2.3 and 3.3: each number of the one is one of the other
 abbrev pub Within : List ResourceRange → List ResourceRange → Type 0
 Within inner outer = (n : ℕ) → Covers inner n → Covers outer n
+
+-- a number is one of both
+abbrev pub Overlap : List ResourceRange → List ResourceRange → Type 0
+Overlap ranges others = (n : ℕ) × Covers ranges n × Covers others n

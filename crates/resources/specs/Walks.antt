@@ -1,5 +1,5 @@
 -- How two lists of ranges are walked.
-use Rattle.std.specs.Prelude.{ℕ, Bool, false, nat_lt, nat_le, if◌then◌else◌, List, [], ◌∷◌}
+use Rattle.std.specs.Prelude.{ℕ, Bool, false, nat_lt, nat_le, if◌then◌else◌, List, [], ◌∷◌, ◌+◌}
 use Rattle.resources.specs.declared.range.ResourceRange.{ResourceRange}
 
 -- the ranges from the first that does not end before this number
@@ -11,3 +11,26 @@ from_end n (first ∷ others) = if nat_lt first.high n then from_end n others el
 abbrev pub begins_by : ResourceRange → List ResourceRange → Bool
 begins_by range [] = false
 begins_by range (first ∷ others) = nat_le first.low range.low
+
+-- the first of the ranges begins no later than this one ends
+abbrev pub begins_in : ResourceRange → List ResourceRange → Bool
+begins_in range [] = false
+begins_in range (first ∷ others) = nat_le first.low range.high
+
+-- the lower of two numbers
+abbrev pub lower : ℕ → ℕ → ℕ
+lower a b = if nat_lt b a then b else a
+
+-- the higher of two numbers
+abbrev pub higher : ℕ → ℕ → ℕ
+higher a b = if nat_lt a b then b else a
+
+-- from the lower beginning to the higher end
+abbrev pub hull : ResourceRange → ResourceRange → ResourceRange
+hull a b = record { low = lower a.low b.low; high = higher a.high b.high }
+
+-- a range among others, in order: it becomes one with those that it overlaps or touches
+unfoldable pub merged : ResourceRange → List ResourceRange → List ResourceRange
+merged range [] = range ∷ []
+merged range (next ∷ more) =
+    if nat_lt (range.high + 1) next.low then range ∷ merged next more else if nat_lt (next.high + 1) range.low then next ∷ merged range more else merged (hull range next) more

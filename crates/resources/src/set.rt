@@ -1,11 +1,13 @@
 //! Sets of addresses of one family, or of AS numbers.
 
-ghost use Rattle.std.specs.Prelude.{◌≡◌, ◌≤◌, ◌↔◌, IsTrue, []};
-ghost use Rattle.resources.specs.Ranges.{is_after as is_after_of, are_apart as are_apart_of, AreRanges, Within};
-ghost use Rattle.resources.specs.Walks.{from_end as from_end_of, begins_by as begins_by_of};
+ghost use Rattle.std.specs.Prelude.{◌≡◌, ◌≤◌, ◌↔◌, ◌⊎◌, ◌++◌, ◌∷◌, ℕ, List, IsTrue, IfOk, []};
+ghost use Rattle.std.specs.List.{All};
+ghost use Rattle.resources.specs.declared.range.ResourceRange.{ResourceRange as RangeValue};
+ghost use Rattle.resources.specs.Ranges.{is_after as is_after_of, are_apart as are_apart_of, AreRanges, Covers, IsIn, Overlap, Within};
+ghost use Rattle.resources.specs.Walks.{from_end as from_end_of, begins_by as begins_by_of, begins_in as begins_in_of, lower as lower_of, higher as higher_of, hull as hull_of, merged as merged_of};
 
 use crate::ResourceRange;
-use std::alloc::Global;
+use std::alloc::{AllocError, Global};
 use std::marker::Model;
 
 /// Whether a number lies between this end of a range and the next range, if there is such an end.
@@ -88,6 +90,97 @@ impl ResourceSet {
         }
         true
     }
+
+    /// Returns whether a number of this set is in the other. This takes one walk of both lists.
+    pub fn overlaps(&self, other: &ResourceSet) -> bool
+        ensures { IsTrue result ↔ Overlap self.now other.now }
+    {
+        let mut rest = other.ranges.as_slice();
+        for range in &self.ranges {
+            rest = from_end(rest, range.low);
+            if begins_in(range, rest) {
+                return true;
+            }
+        }
+        false
+    }
+
+    /// Returns the set of the numbers that are in this set or in the range. A range whose `high` is below its `low` has no numbers. The only error
+    /// is that memory ran out.
+    pub fn with(&self, alloc: Global, range: ResourceRange) -> Result<ResourceSet, AllocError>
+        ensures { IfOk result (λ set. (n : ℕ) → Covers set n ↔ (IsIn range n ⊎ Covers self.now n)) }
+    {
+        if range.high < range.low {
+            return Ok(ResourceSet::of(self.ranges.clone()?));
+        }
+        Ok(ResourceSet::of(merged(alloc, self.as_slice(), range)?))
+    }
+}
+
+/// The lower of two numbers.
+fn lower(a: u128, b: u128) -> u128
+    ensures { result ≡ lower_of a b }
+{
+    if b < a {
+        return b;
+    }
+    a
+}
+
+/// The higher of two numbers.
+fn higher(a: u128, b: u128) -> u128
+    ensures { result ≡ higher_of a b }
+{
+    if a < b {
+        return b;
+    }
+    a
+}
+
+/// The range from the lower beginning to the higher end.
+fn hull(a: ResourceRange, b: ResourceRange) -> ResourceRange
+    ensures { result ≡ hull_of a b }
+{
+    ResourceRange {
+        low: lower(a.low, b.low),
+        high: higher(a.high, b.high),
+    }
+}
+
+/// Writes the lower of two ranges, if they neither overlap nor touch, and returns the other; otherwise returns the range of both.
+fn put_lower(
+    ranges: &mut Vec<ResourceRange>,
+    range: ResourceRange,
+    next: ResourceRange,
+) -> Result<ResourceRange, AllocError>
+    ensures { IfOk result (λ last. (more : List RangeValue) → ranges.old.items ++ merged_of range (next ∷ more) ≡ ranges.new.items ++ merged_of last more) }
+{
+    if is_after(&next, Some(range.high)) {
+        ranges.push(range)?;
+        return Ok(next);
+    }
+    if is_after(&range, Some(next.high)) {
+        ranges.push(next)?;
+        return Ok(range);
+    }
+    Ok(hull(range, next))
+}
+
+/// The ranges with one more, in order.
+fn merged(
+    alloc: Global,
+    ranges: &[ResourceRange],
+    range: ResourceRange,
+) -> Result<Vec<ResourceRange>, AllocError>
+    ensures { IfOk result (λ all. all.items ≡ merged_of range ranges.now) }
+{
+    let mut all = Vec::new(alloc);
+    let mut last = range;
+    for next in ranges {
+        last = put_lower(&mut all, last, *next)?;
+    }
+    all.push(last)?;
+    Ok(all)
 }
 
 /// The ranges from the first that does not end before this number.
@@ -110,6 +203,16 @@ fn begins_by(range: &ResourceRange, ranges: &[ResourceRange]) -> bool
 {
     match ranges {
         [first, ..] => first.low <= range.low,
+        [] => false,
+    }
+}
+
+/// Whether the first of the ranges begins no later than this one ends.
+fn begins_in(range: &ResourceRange, ranges: &[ResourceRange]) -> bool
+    ensures { result ≡ begins_in_of range.now ranges.now }
+{
+    match ranges {
+        [first, ..] => first.low <= range.high,
         [] => false,
     }
 }
