@@ -1,11 +1,15 @@
-//! Examples of certificates, revocation lists, resources and trust anchors, which are the tests of the public items of `resource_certificates`,
-//! `issuing`, `ee_keys`, `resources` and `trust_anchors`. They use certificates and CRLs of `openssl`, and each public call once on its happy path.
+//! Examples of certificates, revocation lists, resources, trust anchors and their constraints, which are the tests of the public items of
+//! `resource_certificates`, `issuing`, `ee_keys`, `resources`, `trust_anchors` and `constraints`. They use certificates and CRLs of `openssl`, and each public call once on its happy path.
 #![tactic(auto)]
 
 #[cfg(test)]
 mod anchors;
 #[cfg(test)]
 mod certificates;
+#[cfg(test)]
+mod constraint_files;
+#[cfg(test)]
+mod constraints_example;
 #[cfg(test)]
 mod crls;
 #[cfg(test)]

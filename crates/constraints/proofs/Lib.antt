@@ -1,0 +1,6 @@
+pub mod PartLaws
+pub mod ValueLaws
+pub mod FileLaws
+pub mod GatherLaws
+pub mod JudgeLaws
+pub mod Once

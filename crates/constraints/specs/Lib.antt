@@ -1,0 +1,9 @@
+pub mod Words
+pub mod Stops
+pub mod Values
+pub mod Entries
+pub mod Files
+pub mod Judging
+pub mod Gathering
+pub mod Parts
+pub mod Laws
