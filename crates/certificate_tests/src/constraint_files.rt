@@ -1,55 +1,144 @@
 //! Constraints of a trust anchor: what each line says, and which resources pass.
-use constraints::{ConstraintAction, ConstraintFaultKind, ConstraintRefusal, ConstraintsError, read_constraints};
+use constraints::{
+    ConstraintAction, ConstraintFaultKind, ConstraintRefusal, ConstraintsError, read_constraints,
+};
 use resources::{ResourceKind, ResourceRange, ResourceSet};
 use std::alloc::Global;
 use std::test::Fail;
 
 /// A file with a fault, its kind and its line.
 struct Faulty {
-    file: &'static [u8],
+    file: &'static str,
     kind: ConstraintFaultKind,
     line: usize,
 }
 
-/// A file with a fault.
-const fn faulty(file: &'static [u8], kind: ConstraintFaultKind, line: usize) -> Faulty {
-    Faulty { file, kind, line }
-}
-
 /// Each fault, with its line. Of two faults the first counts.
 const WORDS: [Faulty; 9] = [
-    faulty(b"allow 1\n\n# c\nblock 2\n", ConstraintFaultKind::Word, 4),
-    faulty(b"Allow 1", ConstraintFaultKind::Word, 1),
-    faulty(b"allow1\n", ConstraintFaultKind::Word, 1),
-    faulty(b"deny\n", ConstraintFaultKind::NoValue, 1),
-    faulty(b"deny # 10.0.0.0/8\n", ConstraintFaultKind::NoValue, 1),
-    faulty(b"allow 10.0.0.0 - \n", ConstraintFaultKind::NoValue, 1),
-    faulty(b"allow 10.0.0.0/8 11.0.0.0/8\n", ConstraintFaultKind::SecondValue, 1),
-    faulty(b"allow 1 - 2 3\nallow 4 - 3\n", ConstraintFaultKind::SecondValue, 1),
-    faulty(b"deny 10.0.0.0/8\xc2\xa0\n", ConstraintFaultKind::NotAscii, 1),
+    Faulty {
+        file: "allow 1\n\n# c\nblock 2\n",
+        kind: ConstraintFaultKind::Word,
+        line: 4,
+    },
+    Faulty {
+        file: "Allow 1",
+        kind: ConstraintFaultKind::Word,
+        line: 1,
+    },
+    Faulty {
+        file: "allow1\n",
+        kind: ConstraintFaultKind::Word,
+        line: 1,
+    },
+    Faulty {
+        file: "deny\n",
+        kind: ConstraintFaultKind::NoValue,
+        line: 1,
+    },
+    Faulty {
+        file: "deny # 10.0.0.0/8\n",
+        kind: ConstraintFaultKind::NoValue,
+        line: 1,
+    },
+    Faulty {
+        file: "allow 10.0.0.0 - \n",
+        kind: ConstraintFaultKind::NoValue,
+        line: 1,
+    },
+    Faulty {
+        file: "allow 10.0.0.0/8 11.0.0.0/8\n",
+        kind: ConstraintFaultKind::SecondValue,
+        line: 1,
+    },
+    Faulty {
+        file: "allow 1 - 2 3\nallow 4 - 3\n",
+        kind: ConstraintFaultKind::SecondValue,
+        line: 1,
+    },
+    Faulty {
+        file: "deny 10.0.0.0/8\u{a0}\n",
+        kind: ConstraintFaultKind::NotAscii,
+        line: 1,
+    },
 ];
 
 /// Faults of a value.
 const VALUES: [Faulty; 14] = [
-    faulty(b"allow 192.0.2.1\n", ConstraintFaultKind::Value, 1),
-    faulty(b"allow 192.0.2/24\n", ConstraintFaultKind::Value, 1),
-    faulty(b"allow 192.0.2.0/24 - 192.0.3.0/24\n", ConstraintFaultKind::Value, 1),
-    faulty(b"allow AS1\n", ConstraintFaultKind::Value, 1),
-    faulty(b"allow 192.0.2.0/33\n", ConstraintFaultKind::TooLong, 1),
-    faulty(b"allow 2001:db8::/129\n", ConstraintFaultKind::TooLong, 1),
-    faulty(b"allow 192.0.2.1/24\n", ConstraintFaultKind::HostBits, 1),
-    faulty(b"allow 2001:db8::1/127\n", ConstraintFaultKind::HostBits, 1),
-    faulty(b"deny 4294967296\n", ConstraintFaultKind::AsNumber, 1),
-    faulty(b"deny 1 - 01\n", ConstraintFaultKind::AsNumber, 1),
-    faulty(b"allow 192.0.2.0 - 2001:db8::\n", ConstraintFaultKind::Families, 1),
-    faulty(b"allow 192.0.2.0 - 64496\n", ConstraintFaultKind::Families, 1),
-    faulty(b"allow 192.0.2.1 - 192.0.2.0\n", ConstraintFaultKind::Order, 1),
-    faulty(b"allow 1\r\nallow 64497 - 64496\r\n", ConstraintFaultKind::Order, 2),
+    Faulty {
+        file: "allow 192.0.2.1\n",
+        kind: ConstraintFaultKind::Value,
+        line: 1,
+    },
+    Faulty {
+        file: "allow 192.0.2/24\n",
+        kind: ConstraintFaultKind::Value,
+        line: 1,
+    },
+    Faulty {
+        file: "allow 192.0.2.0/24 - 192.0.3.0/24\n",
+        kind: ConstraintFaultKind::Value,
+        line: 1,
+    },
+    Faulty {
+        file: "allow AS1\n",
+        kind: ConstraintFaultKind::Value,
+        line: 1,
+    },
+    Faulty {
+        file: "allow 192.0.2.0/33\n",
+        kind: ConstraintFaultKind::TooLong,
+        line: 1,
+    },
+    Faulty {
+        file: "allow 2001:db8::/129\n",
+        kind: ConstraintFaultKind::TooLong,
+        line: 1,
+    },
+    Faulty {
+        file: "allow 192.0.2.1/24\n",
+        kind: ConstraintFaultKind::HostBits,
+        line: 1,
+    },
+    Faulty {
+        file: "allow 2001:db8::1/127\n",
+        kind: ConstraintFaultKind::HostBits,
+        line: 1,
+    },
+    Faulty {
+        file: "deny 4294967296\n",
+        kind: ConstraintFaultKind::AsNumber,
+        line: 1,
+    },
+    Faulty {
+        file: "deny 1 - 01\n",
+        kind: ConstraintFaultKind::AsNumber,
+        line: 1,
+    },
+    Faulty {
+        file: "allow 192.0.2.0 - 2001:db8::\n",
+        kind: ConstraintFaultKind::Families,
+        line: 1,
+    },
+    Faulty {
+        file: "allow 192.0.2.0 - 64496\n",
+        kind: ConstraintFaultKind::Families,
+        line: 1,
+    },
+    Faulty {
+        file: "allow 192.0.2.1 - 192.0.2.0\n",
+        kind: ConstraintFaultKind::Order,
+        line: 1,
+    },
+    Faulty {
+        file: "allow 1\r\nallow 64497 - 64496\r\n",
+        kind: ConstraintFaultKind::Order,
+        line: 2,
+    },
 ];
 
 /// Whether a file has this first fault.
 fn has_fault(alloc: Global, faulty: &Faulty) -> bool {
-    match read_constraints(alloc, faulty.file) {
+    match read_constraints(alloc, faulty.file.as_bytes()) {
         Err(ConstraintsError::At(kind, line)) => kind == faulty.kind && line == faulty.line,
         _ => false,
     }
@@ -78,7 +167,10 @@ fn values_have_faults(rt: HostRuntime) -> Result<(), Fail> {
 }
 
 /// What the last entry of a file says.
-fn last_entry(alloc: Global, file: &[u8]) -> Option<(usize, ConstraintAction, ResourceKind, ResourceRange)> {
+fn last_entry(
+    alloc: Global,
+    file: &[u8],
+) -> Option<(usize, ConstraintAction, ResourceKind, ResourceRange)> {
     let Ok(constraints) = read_constraints(alloc, file) else {
         return None;
     };
@@ -90,7 +182,7 @@ fn last_entry(alloc: Global, file: &[u8]) -> Option<(usize, ConstraintAction, Re
 
 /// A line, and what it says: whether it allows, of what kind, from where to where.
 struct Said {
-    file: &'static [u8],
+    file: &'static str,
     line: usize,
     action: ConstraintAction,
     kind: ResourceKind,
@@ -100,27 +192,71 @@ struct Said {
 
 /// Forms of an entry, at both ends of what may be written.
 const SAID: [Said; 8] = [
-    said(b"allow 192.0.2.0/24", 1, ConstraintAction::Allow, ResourceKind::Ipv4, 0xc0000200, 0xc00002ff),
-    said(b"\n \t# c\n\tdeny\t0.0.0.0/0 \t# all\r\n", 3, ConstraintAction::Deny, ResourceKind::Ipv4, 0, 0xffffffff),
-    said(b"deny 192.0.2.0-192.0.2.0\n", 1, ConstraintAction::Deny, ResourceKind::Ipv4, 0xc0000200, 0xc0000200),
-    said(b"allow ::/0", 1, ConstraintAction::Allow, ResourceKind::Ipv6, 0, 0xffffffffffffffffffffffffffffffff),
-    said(b"allow ::ffff:192.0.2.0 - ::ffff:192.0.2.1", 1, ConstraintAction::Allow, ResourceKind::Ipv6, 0xffffc0000200, 0xffffc0000201),
-    said(b"deny ::1/128\n", 1, ConstraintAction::Deny, ResourceKind::Ipv6, 1, 1),
-    said(b"allow 0\nallow 4294967295\n\n", 2, ConstraintAction::Allow, ResourceKind::As, 4294967295, 4294967295),
-    said(b"deny 64496 - 64511#c", 1, ConstraintAction::Deny, ResourceKind::As, 64496, 64511),
-];
-
-/// A line, and what it says.
-const fn said(file: &'static [u8], line: usize, action: ConstraintAction, kind: ResourceKind, low: u128, high: u128) -> Said {
     Said {
-        file,
-        line,
-        action,
-        kind,
-        low,
-        high,
-    }
-}
+        file: "allow 192.0.2.0/24",
+        line: 1,
+        action: ConstraintAction::Allow,
+        kind: ResourceKind::Ipv4,
+        low: 0xc0000200,
+        high: 0xc00002ff,
+    },
+    Said {
+        file: "\n \t# c\n\tdeny\t0.0.0.0/0 \t# all\r\n",
+        line: 3,
+        action: ConstraintAction::Deny,
+        kind: ResourceKind::Ipv4,
+        low: 0,
+        high: 0xffffffff,
+    },
+    Said {
+        file: "deny 192.0.2.0-192.0.2.0\n",
+        line: 1,
+        action: ConstraintAction::Deny,
+        kind: ResourceKind::Ipv4,
+        low: 0xc0000200,
+        high: 0xc0000200,
+    },
+    Said {
+        file: "allow ::/0",
+        line: 1,
+        action: ConstraintAction::Allow,
+        kind: ResourceKind::Ipv6,
+        low: 0,
+        high: 0xffffffffffffffffffffffffffffffff,
+    },
+    Said {
+        file: "allow ::ffff:192.0.2.0 - ::ffff:192.0.2.1",
+        line: 1,
+        action: ConstraintAction::Allow,
+        kind: ResourceKind::Ipv6,
+        low: 0xffffc0000200,
+        high: 0xffffc0000201,
+    },
+    Said {
+        file: "deny ::1/128\n",
+        line: 1,
+        action: ConstraintAction::Deny,
+        kind: ResourceKind::Ipv6,
+        low: 1,
+        high: 1,
+    },
+    Said {
+        file: "allow 0\nallow 4294967295\n\n",
+        line: 2,
+        action: ConstraintAction::Allow,
+        kind: ResourceKind::As,
+        low: 4294967295,
+        high: 4294967295,
+    },
+    Said {
+        file: "deny 64496 - 64511#c",
+        line: 1,
+        action: ConstraintAction::Deny,
+        kind: ResourceKind::As,
+        low: 64496,
+        high: 64511,
+    },
+];
 
 /// Whether each file says this.
 fn all_say(alloc: Global, all: &[Said]) -> bool {
@@ -129,7 +265,9 @@ fn all_say(alloc: Global, all: &[Said]) -> bool {
             low: said.low,
             high: said.high,
         };
-        if last_entry(alloc, said.file) != Some((said.line, said.action, said.kind, range)) {
+        if last_entry(alloc, said.file.as_bytes())
+            != Some((said.line, said.action, said.kind, range))
+        {
             return false;
         }
     }
@@ -144,7 +282,7 @@ fn entries_are_read(rt: HostRuntime) -> Result<(), Fail> {
 
 /// A file, resources, and the verdict. No range: its second number is below its first.
 struct Case {
-    file: &'static [u8],
+    file: &'static str,
     v4: (u128, u128),
     v6: (u128, u128),
     verdict: Result<(), ConstraintRefusal>,
@@ -157,38 +295,116 @@ const NONE: (u128, u128) = (1, 0);
 const NET: (u128, u128) = (0xc0000200, 0xc00002ff);
 
 /// 2001:db8::/32.
-const NET6: (u128, u128) = (0x20010db8000000000000000000000000, 0x20010db8ffffffffffffffffffffffff);
-
-/// A file, resources, and the verdict.
-const fn case(file: &'static [u8], v4: (u128, u128), v6: (u128, u128), verdict: Result<(), ConstraintRefusal>) -> Case {
-    Case {
-        file,
-        v4,
-        v6,
-        verdict,
-    }
-}
+const NET6: (u128, u128) = (
+    0x20010db8000000000000000000000000,
+    0x20010db8ffffffffffffffffffffffff,
+);
 
 /// The verdict on addresses, on both sides of each end.
 const CASES: [Case; 17] = [
-    case(b"", NET, NET6, Ok(())),
-    case(b"deny 198.51.100.0/24\nallow 64496\n", NET, NONE, Ok(())),
-    case(b"allow 2001:db8::/32 # IPv6 alone\n", NET, NONE, Err(ConstraintRefusal::NotAllowed)),
-    case(b"allow 2001:db8::/32 # IPv6 alone\n", NONE, NET6, Ok(())),
-    case(b"allow 0.0.0.0/0\n", NET, NET6, Err(ConstraintRefusal::NotAllowed)),
-    case(b"deny 192.0.3.0/24\n", NET, NONE, Ok(())),
-    case(b"deny 192.0.3.0/24\n", (0xc0000200, 0xc0000300), NONE, Err(ConstraintRefusal::Denied { line: 1 })),
-    case(b"deny 192.0.1.0 - 192.0.2.0\n", NET, NONE, Err(ConstraintRefusal::Denied { line: 1 })),
-    case(b"deny 192.0.1.0 - 192.0.2.0\n", (0xc0000201, 0xc00002ff), NONE, Ok(())),
-    case(b"allow 192.0.2.0/25\nallow 192.0.2.128 - 192.0.2.255", NET, NONE, Ok(())),
-    case(b"allow 192.0.2.0/25\nallow 192.0.2.128 - 192.0.2.255", (0xc0000200, 0xc0000300), NONE, Err(ConstraintRefusal::NotAllowed)),
-    case(b"allow 192.0.2.0/25\nallow 192.0.2.128 - 192.0.2.255", (0xc00001ff, 0xc00002ff), NONE, Err(ConstraintRefusal::NotAllowed)),
-    case(b"allow 192.0.2.100 - 192.0.2.255\nallow 192.0.2.0 - 192.0.2.200\n", NET, NONE, Ok(())),
-    case(b"allow 192.0.2.0/24\ndeny 10.0.0.0/8\ndeny 192.0.2.7/32\ndeny 192.0.2.0/24\n", NET, NONE, Err(ConstraintRefusal::Denied { line: 3 })),
-    case(b"deny ::/0\n", NET, NONE, Ok(())),
-    case(b"deny 2001:db8:ffff::/48\n", NET, NET6, Err(ConstraintRefusal::Denied { line: 1 })),
+    Case {
+        file: "",
+        v4: NET,
+        v6: NET6,
+        verdict: Ok(()),
+    },
+    Case {
+        file: "deny 198.51.100.0/24\nallow 64496\n",
+        v4: NET,
+        v6: NONE,
+        verdict: Ok(()),
+    },
+    Case {
+        file: "allow 2001:db8::/32 # IPv6 alone\n",
+        v4: NET,
+        v6: NONE,
+        verdict: Err(ConstraintRefusal::NotAllowed),
+    },
+    Case {
+        file: "allow 2001:db8::/32 # IPv6 alone\n",
+        v4: NONE,
+        v6: NET6,
+        verdict: Ok(()),
+    },
+    Case {
+        file: "allow 0.0.0.0/0\n",
+        v4: NET,
+        v6: NET6,
+        verdict: Err(ConstraintRefusal::NotAllowed),
+    },
+    Case {
+        file: "deny 192.0.3.0/24\n",
+        v4: NET,
+        v6: NONE,
+        verdict: Ok(()),
+    },
+    Case {
+        file: "deny 192.0.3.0/24\n",
+        v4: (0xc0000200, 0xc0000300),
+        v6: NONE,
+        verdict: Err(ConstraintRefusal::Denied { line: 1 }),
+    },
+    Case {
+        file: "deny 192.0.1.0 - 192.0.2.0\n",
+        v4: NET,
+        v6: NONE,
+        verdict: Err(ConstraintRefusal::Denied { line: 1 }),
+    },
+    Case {
+        file: "deny 192.0.1.0 - 192.0.2.0\n",
+        v4: (0xc0000201, 0xc00002ff),
+        v6: NONE,
+        verdict: Ok(()),
+    },
+    Case {
+        file: "allow 192.0.2.0/25\nallow 192.0.2.128 - 192.0.2.255",
+        v4: NET,
+        v6: NONE,
+        verdict: Ok(()),
+    },
+    Case {
+        file: "allow 192.0.2.0/25\nallow 192.0.2.128 - 192.0.2.255",
+        v4: (0xc0000200, 0xc0000300),
+        v6: NONE,
+        verdict: Err(ConstraintRefusal::NotAllowed),
+    },
+    Case {
+        file: "allow 192.0.2.0/25\nallow 192.0.2.128 - 192.0.2.255",
+        v4: (0xc00001ff, 0xc00002ff),
+        v6: NONE,
+        verdict: Err(ConstraintRefusal::NotAllowed),
+    },
+    Case {
+        file: "allow 192.0.2.100 - 192.0.2.255\nallow 192.0.2.0 - 192.0.2.200\n",
+        v4: NET,
+        v6: NONE,
+        verdict: Ok(()),
+    },
+    Case {
+        file: "allow 192.0.2.0/24\ndeny 10.0.0.0/8\ndeny 192.0.2.7/32\ndeny 192.0.2.0/24\n",
+        v4: NET,
+        v6: NONE,
+        verdict: Err(ConstraintRefusal::Denied { line: 3 }),
+    },
+    Case {
+        file: "deny ::/0\n",
+        v4: NET,
+        v6: NONE,
+        verdict: Ok(()),
+    },
+    Case {
+        file: "deny 2001:db8:ffff::/48\n",
+        v4: NET,
+        v6: NET6,
+        verdict: Err(ConstraintRefusal::Denied { line: 1 }),
+    },
     // 192.0.2.0 as an AS number
-    case(b"deny 3221225984\n", NET, NONE, Ok(())),
+    Case {
+        file: "deny 3221225984\n",
+        v4: NET,
+        v6: NONE,
+        verdict: Ok(()),
+    },
 ];
 
 /// The set of one range.
@@ -206,7 +422,7 @@ fn set_of(alloc: Global, range: (u128, u128)) -> Option<ResourceSet> {
 
 /// Whether a file judges as it should.
 fn judges(alloc: Global, case: &Case) -> bool {
-    let Ok(constraints) = read_constraints(alloc, case.file) else {
+    let Ok(constraints) = read_constraints(alloc, case.file.as_bytes()) else {
         return false;
     };
     let Some(v4) = set_of(alloc, case.v4) else {
@@ -235,7 +451,11 @@ fn addresses_are_judged(rt: HostRuntime) -> Result<(), Fail> {
 }
 
 /// What a file says of AS numbers.
-fn judge_as(alloc: Global, file: &[u8], numbers: (u128, u128)) -> Option<Result<(), ConstraintRefusal>> {
+fn judge_as(
+    alloc: Global,
+    file: &[u8],
+    numbers: (u128, u128),
+) -> Option<Result<(), ConstraintRefusal>> {
     let Ok(constraints) = read_constraints(alloc, file) else {
         return None;
     };
@@ -247,8 +467,13 @@ fn judge_as(alloc: Global, file: &[u8], numbers: (u128, u128)) -> Option<Result<
 fn as_numbers_are_judged(rt: HostRuntime) -> Result<(), Fail> {
     let file = b"allow 192.0.2.0/24\ndeny 64500\nallow 64496 - 64511\n";
     assert!(rt; judge_as(rt.alloc(), file, (64511, 64511)) == Some(Ok(())));
-    assert!(rt; judge_as(rt.alloc(), file, (64511, 64512)) == Some(Err(ConstraintRefusal::NotAllowed)));
-    assert!(rt; judge_as(rt.alloc(), file, (64496, 64500)) == Some(Err(ConstraintRefusal::Denied { line: 2 })));
+    assert!(rt;
+        judge_as(rt.alloc(), file, (64511, 64512)) == Some(Err(ConstraintRefusal::NotAllowed))
+    );
+    assert!(rt;
+        judge_as(rt.alloc(), file, (64496, 64500))
+            == Some(Err(ConstraintRefusal::Denied { line: 2 }))
+    );
     assert!(rt; judge_as(rt.alloc(), b"allow 192.0.2.0/24\n", (64496, 64496)) == Some(Ok(())));
     Ok(())
 }
