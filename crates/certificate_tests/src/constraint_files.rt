@@ -180,7 +180,7 @@ fn last_entry(
     }
 }
 
-/// A line, and what it says: whether it allows, of what kind, from where to where.
+/// A line, and what it says: whether it allows, of what kind, and the ends of its range.
 struct Said {
     file: &'static str,
     line: usize,

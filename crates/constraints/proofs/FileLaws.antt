@@ -14,7 +14,7 @@ abbrev pub onto : List Constraint → Result (List Constraint) ConstraintsError 
 onto es (Ok more) = Ok (es ++ more)
 onto es (Err fault) = Err fault
 
--- what is read of the lines that are left is what is read of all, behind these entries
+-- what is read of the lines that are left is what is read of all, after these entries
 abbrev pub Read : List (List ℕ) → List Constraint → ℕ → List (List ℕ) → Type 0
 Read all es n left = (r : Result (List Constraint) ConstraintsError) → ReadsLines n left r → ReadsLines 1 all (onto es r)
 

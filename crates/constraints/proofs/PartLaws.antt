@@ -137,7 +137,7 @@ pub words_none : words [] ≡ []
 unfolding words
 words_none = refl
 
--- behind blanks
+-- after blanks
 not_by : (b : ℕ) (more : List ℕ) (x : Bool) → is_blank b ≡ x → words (from not_blank more) ≡ words more → words (from not_blank (b ∷ more)) ≡ words (b ∷ more)
 not_by b more true h ih =
     let skip : from not_blank (b ∷ more) ≡ from not_blank more = skipped not_blank b more (ap not h) in

@@ -28,6 +28,6 @@ abbrev pub ReadsWords : List (List ℕ) → Result (Option Entry) ConstraintFaul
 ReadsWords [] r = r ≡ Ok None
 ReadsWords (word ∷ more) r = Then (λ q. q ≡ action_of word) (λ action. Then (ReadsValue more) (λ numbers q. q ≡ Ok (entry_of action numbers))) r
 
--- A line is an entry with a comment behind it or without, or has no words, or has a fault.
+-- A line is an entry, has no words, or has a fault. A comment may follow.
 abbrev pub ReadsLine : List ℕ → Result (Option Entry) ConstraintFaultKind → Type 0
 ReadsLine line r = ReadsWords (words (uncommented line)) r

@@ -1,4 +1,4 @@
--- Where parts of bytes end.
+-- The bytes at which parts end.
 use Rattle.std.specs.Prelude.{ℕ, Bool}
 use Rattle.constraints.specs.declared.words.Stop.{Stop}
 use Rattle.constraints.specs.declared.words.Stop.TheVariants.{LineFeed, Comment, NotBlank, WordEnd}

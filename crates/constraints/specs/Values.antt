@@ -1,4 +1,4 @@
--- What the words behind `allow` and `deny` say: a prefix, a range of addresses, an AS number, or a range of AS numbers.
+-- What the words after `allow` and `deny` say: a prefix, a range of addresses, an AS number, or a range of AS numbers.
 use Rattle.std.specs.Prelude.{◌≡◌, ◌⊎◌, ℕ, ◌+◌, ◌-◌, ◌^◌, ◌<◌, Bool, true, false, not, ◌&&◌, nat_lt, nat_le, bytes_eq, if◌then◌else◌, List, [], ◌∷◌, Result, Ok, Err}
 use Rattle.std.specs.List.{list_all}
 use Rattle.std.specs.Bool.{MatchBool}
@@ -95,13 +95,13 @@ ReadsOne word = OfAscii word (λ r. MatchBool (list_all is_digit word) (Then (Re
 abbrev pub is_dash : List ℕ → Bool
 is_dash word = bytes_eq word (45 ∷ [])
 
--- behind a dash: the end of a range, and nothing more
+-- after a dash: the end of a range, and nothing more
 abbrev pub ReadsRangeTo : List ℕ → List (List ℕ) → Result Numbers ConstraintFaultKind → Type 0
 ReadsRangeTo begin [] r = r ≡ Err NoValue
 ReadsRangeTo begin (end ∷ []) r = ReadsRange begin end r
 ReadsRangeTo begin (end ∷ second ∷ more) r = r ≡ Err SecondValue
 
--- behind `allow` or `deny`: one word, or two with a dash between them
+-- after `allow` or `deny`: one word, or two with a dash between them
 abbrev pub ReadsValue : List (List ℕ) → Result Numbers ConstraintFaultKind → Type 0
 ReadsValue [] r = r ≡ Err NoValue
 ReadsValue (value ∷ []) r = ReadsOne value r

@@ -35,7 +35,7 @@ fn action_of(word: &[u8]) -> Result<ConstraintAction, ConstraintFaultKind>
     Err(ConstraintFaultKind::Word)
 }
 
-/// The value behind `allow` or `deny`.
+/// The value that follows `allow` or `deny`.
 fn read_value(text: &[u8]) -> Result<Numbers, ConstraintFaultKind>
     ensures { ReadsValue (words text.now) result }
 {

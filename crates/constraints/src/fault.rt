@@ -20,8 +20,8 @@ pub enum ConstraintFaultKind {
     /// The value has a byte that is not ASCII.
     #[error("the value has a byte that is not ASCII")]
     NotAscii,
-    /// The value is no prefix and no AS number, or the end of a range is no address and no AS number.
-    #[error("the value is no prefix, range of addresses, AS number or range of AS numbers")]
+    /// The value is neither a prefix nor an AS number, or an end of a range is neither an address nor an AS number.
+    #[error("the value is not a prefix, a range of addresses, an AS number or a range of AS numbers")]
     Value,
     /// The length of the prefix is greater than 32 for IPv4, or 128 for IPv6.
     #[error("the length of the prefix is greater than 32 for IPv4, or 128 for IPv6")]
@@ -29,7 +29,7 @@ pub enum ConstraintFaultKind {
     /// The prefix has a bit set that is not one of its first bits.
     #[error("the prefix has bits set beyond its length: clear them")]
     HostBits,
-    /// Digits alone that are no AS number.
+    /// Digits alone that are not an AS number.
     #[error("the AS number is not from 0 to 4294967295, or has leading zeros")]
     AsNumber,
     /// The ends of the range are not two IPv4 addresses, two IPv6 addresses or two AS numbers.

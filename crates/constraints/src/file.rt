@@ -42,7 +42,7 @@ impl Constraints {
         self.entries.as_slice()
     }
 
-    /// The line of the first entry that denies addresses. The sets decide at once where there is none.
+    /// The line of the first entry that denies addresses. The sets decide at once if no entry does.
     fn ip_denial(&self, v4: &ResourceSet, v6: &ResourceSet) -> Option<usize>
         ensures { FirstDenial (ip_sets v4.now v6.now) self.now result }
     {
@@ -57,7 +57,7 @@ impl Constraints {
         first_denial(self.entries.as_slice(), judged)
     }
 
-    /// The line of the first entry that denies AS numbers. The sets decide at once where there is none.
+    /// The line of the first entry that denies AS numbers. The sets decide at once if no entry does.
     fn as_denial(&self, numbers: &ResourceSet) -> Option<usize>
         ensures { FirstDenial (as_sets numbers.now) self.now result }
     {
@@ -79,8 +79,8 @@ impl Constraints {
     /// IPv4 or IPv6 addresses, and one of the addresses is in none of them. So a file that only allows IPv6 addresses refuses each IPv4 address. If
     /// no entry allows addresses, all are allowed that no entry denies. Entries for AS numbers have no part in this.
     ///
-    /// This takes one walk of the certificate's ranges and of the ranges that the entries allow and deny together. Only if it is `Denied`, it also
-    /// takes one walk of the entries.
+    /// The steps are about as many as the ranges of the certificate, and of the sets that the entries allow and deny. Only if an address is denied,
+    /// the entries are walked too.
     pub fn judge(&self, v4: &ResourceSet, v6: &ResourceSet) -> Result<(), ConstraintRefusal>
         ensures { Judges is_ip (ip_sets v4.now v6.now) self.now result }
     {
@@ -107,7 +107,7 @@ impl Constraints {
     }
 }
 
-/// Adds an entry behind the others, if there is one.
+/// Adds an entry at the end, if there is one.
 fn keep(entries: &mut Vec<Constraint>, line: usize, entry: Option<Entry>) -> Result<(), AllocError>
     ensures { OnOk result (entries.new.items ≡ entries.old.items ++ listed line entry []) }
 {
@@ -122,7 +122,7 @@ fn keep(entries: &mut Vec<Constraint>, line: usize, entry: Option<Entry>) -> Res
     Ok(())
 }
 
-/// Reads a line, and adds its entry behind the others.
+/// Reads a line, and adds its entry at the end.
 fn take_line(
     entries: &mut Vec<Constraint>,
     line: usize,
@@ -154,7 +154,7 @@ fn read_entries(alloc: Global, bytes: &[u8]) -> Result<Vec<Constraint>, Constrai
     Ok(entries)
 }
 
-/// Reads a file of constraints (rpki-client(8)). An entry takes a line: `allow` or `deny`, blanks, and one of these.
+/// Reads a file of constraints (rpki-client(8)). An entry is a line: `allow` or `deny`, blanks, and one of these.
 ///
 /// - A prefix, such as `192.0.2.0/24` or `2001:db8::/32`. An IPv6 address may be in mixed notation.
 /// - A range of addresses of one family, such as `192.0.2.0 - 192.0.2.255`. Blanks beside the dash may be missing.

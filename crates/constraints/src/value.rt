@@ -1,4 +1,4 @@
-//! What the words behind `allow` and `deny` say.
+//! What the words after `allow` and `deny` say.
 
 ghost use Rattle.std.specs.Prelude.{◌≡◌, ◌⊎◌, ℕ, ◌+◌, ◌-◌, ◌%◌, ◌^◌, ◌<◌, ◌≤◌, MatchOption};
 ghost use Rattle.std.specs.List.{list_all};

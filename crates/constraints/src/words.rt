@@ -5,7 +5,7 @@ ghost use Rattle.std.specs.Str.Lines.{strip_carriage_return, lines};
 ghost use Rattle.constraints.specs.Words.{from, until, words, uncommented};
 ghost use Rattle.constraints.specs.Stops.{stops};
 
-/// Where a part of bytes ends.
+/// The byte at which a part ends.
 #[derive(Clone, Copy)]
 enum Stop {
     /// At an LF.

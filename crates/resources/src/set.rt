@@ -91,7 +91,7 @@ impl ResourceSet {
         true
     }
 
-    /// Returns whether a number of this set is in the other. This takes one walk of both lists.
+    /// Returns whether a number of this set is in the other. Both lists are walked once.
     pub fn overlaps(&self, other: &ResourceSet) -> bool
         ensures { IsTrue result ↔ Overlap self.now other.now }
     {
