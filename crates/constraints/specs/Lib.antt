@@ -7,3 +7,4 @@ pub mod Judging
 pub mod Gathering
 pub mod Parts
 pub mod Laws
+pub mod ConstraintRows
