@@ -69,7 +69,7 @@ changed crates/rtr_ends/proofs/LinkCells.antt '$s|$| |' 'rtr_ends '
 # a new function that nothing names
 changed crates/vrps/src/log.rt 's|^    /// How many versions before|    /// One.\n    pub fn one_alone(\&self) -> u8 {\n        1\n    }\n\n&|' 'vrps '
 # the libraries of a crate
-changed crates.txt 's|^vrps: .*|& arrayvec|' 'command_parts event_log exports feed log_output payload_commands payload_lists rpkiobject rpkirtr rpkirtr_c rpkirtrd_cli rpkirtrd_start rtr_commands rtr_daemon rtr_ends rtr_server rtr_world session_names slurm sources status_pages status_server upstreams vrps world_scripts '
+changed crates.txt 's|^vrps: .*|& arrayvec|' 'ccr command_parts event_log exports feed log_output payload_commands payload_lists rpkiobject rpkirtr rpkirtr_c rpkirtrd_cli rpkirtrd_start rtr_commands rtr_daemon rtr_ends rtr_server rtr_world session_names slurm sources status_pages status_server upstreams vrps world_scripts '
 # an edit
 changed crates/vrps/wrong/a_group_has_no_records.edit '$s|$| |' 'vrps '
 wait

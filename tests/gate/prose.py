@@ -24,7 +24,7 @@ LONGEST = 30
 # Each turn, its pattern, and how often it may occur in all pages and in all comments: some are right now and then. The bounds of comments are
 # the counts that were reached; whoever lowers a count lowers its bound.
 TURNS = [
-    ("where (for a condition, mostly)", r"\bwhere\b", 6, 59),
+    ("where (for a condition, mostly)", r"\bwhere\b", 6, 19),
     ("take, taken", r"\b(?:take|takes|taken|taking|took)\b", 3, 5),
     ("stand, stands", r"\b(?:stand|stands|stood|standing)\b", 0, 1),
     ("told, tells", r"\b(?:tell|tells|told|telling)\b", 3, 0),
@@ -55,6 +55,9 @@ HEADER_TURNS = [
 # A comment, a text in quotes, or a character in quotes; and what no text may say.
 QUOTED = re.compile(r"""//[^\n]*|"((?:[^"\\]|\\.)*)"|b?'(?:[^'\\\n]|\\.)'""", re.S)
 IS_NO_NOUN = re.compile(r"(?<!\bthere )\b(?:is|are) no (?!more |longer )[A-Za-z]")
+
+# The line before the example on the first page of each library, which is in no count.
+LEAD = "For example, where `rt` is the runtime that `main` is handed:"
 
 # A comment that has its line for itself: its indent with its mark, and its words.
 COMMENT = re.compile(r"( *(?://[/!]?|--))(?: +(.*)|)$")
@@ -90,7 +93,7 @@ def of_comments(text):
             parts.append(" ".join(block))
             block = []
         mark = found.group(1) if found else None
-        if said and on and not is_fence:
+        if said and on and not is_fence and said != LEAD:
             block.append(said)
     return [plain(it) for it in [*parts, " ".join(block)] if it.strip(" -|")]
 
