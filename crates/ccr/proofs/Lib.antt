@@ -1,3 +1,5 @@
+pub mod ExactCcr
 pub mod Groups
 pub mod Sorting
+pub mod Sets
 pub mod Sizes

@@ -14,13 +14,20 @@
 //! assert!(rt; vrps_digest(rt.alloc(), &set)?[0] == 0x22);
 //! ```
 //!
-//! [`vrps_digest`] is the hash by which the VRPs of two caches are compared. [`encode_vrps`] writes what is hashed.
+//! [`read_ccr`] reads a canonical cache representation: its VRPs and the hashes of its lists. [`vrps_digest`] is the hash by which the VRPs of two caches are compared. [`encode_vrps`] writes what is hashed.
 #![tactic(auto)]
 
 mod by_as;
+mod ccr;
 mod digest;
 mod family;
+mod fault;
 pub mod laws;
 mod payload_set;
+mod reading;
+mod vrp_lists;
 
+pub use ccr::{Ccr, VrpState};
 pub use digest::{encode_vrps, vrps_digest};
+pub use fault::{CcrFault, CcrFaultKind, ReadCcrError};
+pub use reading::read_ccr;

@@ -11,6 +11,8 @@ mod canonical;
 #[cfg(test)]
 mod ccr_example;
 #[cfg(test)]
+mod ccrs;
+#[cfg(test)]
 mod der_lite_example;
 #[cfg(test)]
 mod elements;
