@@ -1,21 +1,21 @@
 -- Reading a canonical cache representation is exact.
-use Rattle.std.proofs.Common.{◌≡◌, ◌∙◌, ℕ, List, [], ◌∷◌, ◌++◌, Option, Some, None, Ok, Err, refl, sym, ap, subst, arith}
+use Rattle.std.proofs.Common.{◌≡◌, ◌∙◌, ℕ, List, Option, Some, Ok, Err, refl, ap, subst, arith}
 use Rattle.std.specs.Prelude.{Result, unwrap_or}
-use Rattle.der_lite.specs.Place.{Fault, Place, place_of}
+use Rattle.der_lite.specs.Place.{Fault, place_of}
 use Rattle.der_lite.specs.Der.{IsBytes, tlv, head_rules}
-use Rattle.der_lite.specs.Grammar.{Element, Members, element, primitive, constructed, plain, last, member, optional, each}
+use Rattle.der_lite.specs.Grammar.{Members, element, primitive, constructed, plain, last, member, optional, each}
 use Rattle.der_lite.specs.Moments.{CivilMoment}
 use Rattle.der_lite.specs.Times.{timed, timed_at}
 use Rattle.der_lite.specs.DerReading.{content_at, element_at}
 use Rattle.der_lite.specs.Decoding.{Read, ReadAll, read_constructed, read_member, read_each, read_primitive}
 use Rattle.der_lite.specs.Fields.{last_at, optional_at}
-use Rattle.der_lite.proofs.Exact.{ExactContent, ExactElement, ExactMembers, exact_primitive, exact_constructed, exact_member, exact_each}
+use Rattle.der_lite.proofs.Exact.{ExactContent, ExactElement, ExactMembers, exact_constructed, exact_member, exact_each}
 use Rattle.der_lite.proofs.FieldLaws.{exact_last_at, exact_optional_at}
 use Rattle.der_lite.proofs.ContentReads.{exact_plain}
 use Rattle.der_lite.proofs.NumberBytes.{tlv_bytes}
 use Rattle.der_lite.proofs.TimeLaws.{exact_timed}
-use Rattle.der_forms.specs.Combinators.{no_rules, barred, told, told_element, first_part, standing, fixed, fixed_rules, maybe, spelling, FixedSpells}
-use Rattle.der_forms.specs.CombinatorReading.{told_at, told_element_at, maybe_at, standing_at, octets_of, opened_at, fixed_field}
+use Rattle.der_forms.specs.Combinators.{no_rules, barred, told, first_part, standing, fixed, fixed_rules, maybe, spelling, FixedSpells}
+use Rattle.der_forms.specs.CombinatorReading.{told_at, maybe_at, standing_at, octets_of, opened_at, fixed_field}
 use Rattle.der_forms.proofs.ExactCombinators.{exact_behind, exact_opened, exact_fixed, exact_fixed_content, exact_told, exact_told_element, exact_standing, exact_maybe, exact_spelling, barred_follow}
 use Rattle.prefixes.specs.Payload.{Payload}
 use Rattle.payloads.specs.RoaReading.{payload_at}

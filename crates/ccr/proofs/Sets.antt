@@ -1,12 +1,11 @@
 -- Payload sets that come one after the other.
-use Rattle.std.proofs.Common.{◌≡◌, ◌≢◌, ◌∙◌, ℕ, ◌-◌, ◌<◌, List, [], ◌∷◌, ◌++◌, length, take, Option, Some, None, Ok, Err, refl, sym, ap, subst, arith, length-append}
+use Rattle.std.proofs.Common.{◌≡◌, ◌≢◌, ◌∙◌, ℕ, ◌-◌, ◌<◌, List, [], ◌∷◌, ◌++◌, length, take, Option, Some, None, Ok, Err, sym, ap, subst, arith, length-append}
 use Rattle.std.specs.Prelude.{Result}
 use Rattle.std.proofs.Math.Seq.{take-append_seam}
 use Rattle.std.proofs.lemmas.List.{flat_map_more}
 use Rattle.der_lite.specs.Place.{Fault, Place, place_of}
 use Rattle.der_lite.specs.Der.{IsBytes, tlv}
-use Rattle.der_lite.specs.DerReading.{◌>>=◌, content_at, element_at, judged}
-use Rattle.der_lite.specs.Decoding.{read_each}
+use Rattle.der_lite.specs.DerReading.{◌>>=◌, content_at, element_at}
 use Rattle.der_lite.proofs.ContentReads.{exact_plain}
 use Rattle.der_lite.proofs.FieldLaws.{element_shorter}
 use Rattle.der_lite.proofs.Loops.{Goes, goes_begin, goes_on, goes_wrong, goes_out}
@@ -22,7 +21,6 @@ use Rattle.payloads.specs.declared.fault.PayloadFault.TheVariants as theirs
 use Rattle.payloads.specs.Faults.{kind_number}
 use Rattle.payloads.specs.Gives.{Decodes}
 use Rattle.payloads.proofs.Roas.{exact_roa}
-use Rattle.ccr.specs.declared.fault.CcrFault.{CcrFault}
 use Rattle.ccr.specs.declared.fault.ReadCcrError.{ReadCcrError}
 use Rattle.ccr.specs.declared.fault.ReadCcrError.TheVariants.{At, Memory}
 use Rattle.ccr.specs.Ccr.{all_payloads}

@@ -1,10 +1,11 @@
 -- The canonical form, worked out.
 use Rattle.std.specs.Prelude.{◌≡◌, ℕ, List, [], ◌∷◌, refl}
-use Rattle.der_lite.specs.Der.{length_bytes}
+use Rattle.der_lite.specs.Der.{OBJECT_IDENTIFIER, length_bytes, tlv}
 use Rattle.der_lite.specs.Values.{unsigned_bytes}
 use Rattle.prefixes.specs.Payload.{Payload}
 use Rattle.prefixes.specs.declared.prefix.IpPrefix.TheVariants.{V4, V6}
 use Rattle.payloads.specs.RoaBytes.{address_content, entry_bytes, family_bytes, roa_bytes}
+use Rattle.ccr.specs.Ccr.{id_sha256, sha256_members}
 use Rattle.ccr.specs.Canonical.{as_numbers, payload_set, payload_sets}
 
 abbrev v4 : ℕ → ℕ → ℕ → ℕ → Payload
@@ -29,6 +30,11 @@ records =
     v6 0x20010db8000000000000000000000000 32 48 64497 ∷
     v6 0x20010db8000000000000000000000001 128 128 128 ∷
     []
+
+-- the algorithm of the hashes
+algorithm : sha256_members ≡ tlv OBJECT_IDENTIFIER id_sha256
+unfolding length_bytes
+algorithm = refl
 
 -- the AS numbers ascend
 numbers : as_numbers records ≡ 0 ∷ 128 ∷ 64496 ∷ 64497 ∷ 4200000000 ∷ []

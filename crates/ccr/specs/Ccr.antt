@@ -1,5 +1,5 @@
 -- The canonical cache representation (draft-ietf-sidrops-rpki-ccr), and the first fault of bytes that are none.
-use Rattle.std.specs.Prelude.{◌≡◌, ℕ, Bool, not, bytes_eq, List, [], ◌∷◌, ◌++◌, Option}
+use Rattle.std.specs.Prelude.{ℕ, Bool, not, bytes_eq, List, [], ◌∷◌, Option}
 use Rattle.std.specs.List.{flat_map}
 use Rattle.sha2.specs.Sha256.{sha256}
 use Rattle.der_lite.specs.Place.{Fault, place_of}

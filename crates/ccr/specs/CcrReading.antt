@@ -1,10 +1,10 @@
 -- Reading a canonical cache representation over what the reads of a cursor give.
-use Rattle.std.specs.Prelude.{ℕ, List, ◌∷◌, [], Option, Some, None, Result, Ok, Err}
-use Rattle.der_lite.specs.Place.{Fault, Place, place_of}
+use Rattle.std.specs.Prelude.{ℕ, List, Option, Some, None, Result, Ok, Err}
+use Rattle.der_lite.specs.Place.{Fault, place_of}
 use Rattle.der_lite.specs.Der.{EXPLICIT_0, OBJECT_IDENTIFIER, OCTET_STRING, SEQUENCE, tlv}
 use Rattle.der_lite.specs.DerReading.{content_at, element_at}
 use Rattle.der_lite.specs.Decoding.{Read, ReadAll, ReadContent, read_constructed, read_member, read_each, read_primitive}
-use Rattle.der_lite.specs.Fields.{last_at, optional_at, field_at}
+use Rattle.der_lite.specs.Fields.{last_at, optional_at}
 use Rattle.der_lite.specs.Times.{timed_at}
 use Rattle.der_forms.specs.Combinators.{no_rules, barred, first_part, fixed_rules}
 use Rattle.der_forms.specs.CombinatorReading.{found_at, opened_at, told_at, told_element_at, standing_at, fixed_field, maybe_at, octets_of, or_fault}

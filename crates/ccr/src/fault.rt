@@ -25,7 +25,8 @@ pub enum CcrFaultKind {
     /// 9: the hash beside a list is not the SHA-256 of the list.
     #[error("the hash is not the SHA-256 of the list before it (fault 9)")]
     Hash,
-    /// 10: a ROAPayloadSet is no RouteOriginAttestation as `payloads` decodes it.
+    /// 10: a ROAPayloadSet is no RouteOriginAttestation (RFC 9582 section 4) as `payloads::decode_roa` reads it: with at most 65,536 entries,
+    /// which ascend.
     #[error("the payload set is not a RouteOriginAttestation (fault 10)")]
     PayloadSet,
 }

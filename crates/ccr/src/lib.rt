@@ -14,7 +14,8 @@
 //! assert!(rt; vrps_digest(rt.alloc(), &set)?[0] == 0x22);
 //! ```
 //!
-//! [`read_ccr`] reads a canonical cache representation: its VRPs and the hashes of its lists. [`vrps_digest`] is the hash by which the VRPs of two caches are compared. [`encode_vrps`] writes what is hashed.
+//! [`read_ccr`] reads a canonical cache representation: its VRPs and the hashes of its lists.
+//! [`vrps_digest`] is the hash by which the VRPs of two caches are compared. [`encode_vrps`] writes what is hashed.
 #![tactic(auto)]
 
 mod by_as;
