@@ -406,6 +406,39 @@ def expired_of_bad_files(given):
 
 
 @part
+def expired_before_the_load(given):
+    """Entries that had expired when a file was loaded are counted, at the start and at a poll. The page has the words of a refusal."""
+    old, soon = int(time.time()) - 3600, int(time.time()) + 3600
+    lasting = [entry_of(*FIRST[0], expires=soon)]
+    put("list.json", json.dumps({"roas": [*lasting, entry_of("203.0.113.0/24", 24, 64499, expires=old)]}))
+    expired = 'rpkirtrd_file_expired_entries{file="list.json"}'
+    with running(given.program, "--vrps", "list.json", "--listen", "127.0.0.1:0", "--check", "1", "--status", "127.0.0.1:0") as daemon:
+        at, port = daemon.serves()
+        expect("expired entries at the start", metrics_of(port).get(expired), 1)
+        expect("what is served", Router(at).catch_up(), {FIRST[0]})
+        put("list.json", json.dumps({"roas": [*lasting, entry_of("203.0.113.0/24", 24, 64499, expires=old), entry_of("10.0.0.0/8", 8, 64500, expires=old)]}))
+        daemon.wait("expired", file="list.json", entries=2)
+        expect("expired entries at a poll", metrics_of(port).get(expired), 2)
+        put("list.json", "[{")
+        daemon.wait("refused", file="list.json")
+        expect("the words of the refusal on the page", "not JSON at line 1, column 3 (fault 1)" in got(port, "/")[2], True)
+
+
+@part
+def checked_as_it_starts(given):
+    """--check-config counts an entry that expires in an hour, and not one that has expired. Its status is that of a start with --stop-when-old."""
+    now = int(time.time())
+    put("list.json", json.dumps({"roas": [entry_of(*FIRST[0], expires=now + 3600), entry_of("203.0.113.0/24", 24, 64499, expires=now - 1)]}))
+    for words, status in ([], 0), (["--max-age", "3600"], 0), (["--max-age", "3600", "--stop-when-old"], 0):
+        ran = subprocess.run([given.program, "--check-config", "--vrps", "list.json", *words], stdin=subprocess.DEVNULL, capture_output=True, text=True, timeout=60)
+        expect(f"the check with {words}", (ran.returncode, " checked files=1 ipv4=1 ipv6=0 left-out=0\n" in ran.stderr), (status, True))
+    os.utime("list.json", (now - 7200, now - 7200))
+    for words, status in (["--max-age", "3600"], 0), (["--max-age", "3600", "--stop-when-old"], 1):
+        ran = subprocess.run([given.program, "--check-config", "--vrps", "list.json", *words], stdin=subprocess.DEVNULL, capture_output=True, text=True, timeout=60)
+        expect(f"the check of an old list with {words}", ran.returncode, status)
+
+
+@part
 def refusals_in_words(given):
     """A refusal names the entry, the member and its value; a name that is there twice; or the line and the column."""
     good = json.dumps({"roas": [entry_of(*FIRST[0])]})
