@@ -1,10 +1,11 @@
 -- Listeners are asked, one accept after another.
-use Rattle.std.proofs.Common.{◌≡◌, ◌∙◌, ◌⊎◌, inl, inr, ℕ, zero, suc, ◌+◌, ◌-◌, ◌<◌, ◌≤◌, List, [], ◌∷◌, length, get_or, arith, ap, refl, subst, sym}
-use Rattle.std.specs.Prelude.{true, false, Some, slice_get, slice_set}
+use Rattle.std.proofs.Common.{◌≡◌, ◌∙◌, ◌⊎◌, inl, inr, ℕ, zero, suc, ◌+◌, ◌-◌, ◌<◌, ◌≤◌, List, [], ◌∷◌, length, get_or, take, arith, ap, refl, subst, sym}
+use Rattle.std.specs.Prelude.{true, false, Option, None, Some, slice_get, slice_set, unwrap_or}
+use Rattle.std.proofs.lemmas.List.Elements.{All-more, All-weaker}
 use Rattle.std.proofs.lemmas.Bool.{cases_lt}
 use Rattle.std.proofs.lemmas.Option.{slice_get-get_or, slice_get_within}
 use Rattle.prefixes.proofs.Basics.{set_other, set_same}
-use Rattle.rtr_daemon.specs.Accepting.{AcceptsOnce, AsksEach, AsksOne, AsksUntil, can_accept, changed, changed_at, is_asked}
+use Rattle.rtr_daemon.specs.Accepting.{AcceptsOnce, AreTriedBy, AsksEach, AsksOne, AsksUntil, IsBy, IsTriedBy, can_accept, changed, changed_at, is_asked}
 use Rattle.rtr_daemon.specs.SocketCalls.{SocketCalls}
 use Rattle.rtr_daemon.specs.Starting.{open_listener}
 use Rattle.rtr_daemon.specs.declared.accepting.Listener.{Listener}
@@ -106,3 +107,20 @@ asked_more {W} calls ticks start now new count less asks a =
 
 pub asked_all : {W : Type 0} (calls : SocketCalls W) (ticks : ℕ → Type 0) (start now : List Listener) (count : ℕ) → length start ≤ count → AskedBefore calls ticks start now count → AsksEach calls ticks start now
 asked_all calls ticks start now count all a = record { many = a.many; asks = λ i l is. a.asked i l (let within = slice_get_within start i l is in omega (arith, within, all)) is }
+
+is_by_less : (old next : Option ℕ) (e at : ℕ) → next ≡ Some e → ((t : ℕ) → old ≡ Some t → e ≤ t) → IsBy old at → IsBy next at
+is_by_less None next e at is earlier h = absurd h
+is_by_less (Some t) next e at is earlier h = let less : e ≤ t = earlier t refl in subst (λ n. IsBy n at) (sym is) (let within : e ≤ at = omega (arith, less, h) in within)
+
+-- One listener more at which a connection may be pending
+pub tried_more : (old next : Option ℕ) (e t : ℕ) (listeners : List Listener) (i : ℕ) (d : Listener) → i < length listeners → next ≡ Some e → ((u : ℕ) → old ≡ Some u → e ≤ u) → e ≤ t → t ≡ unwrap_or (get_or listeners i d).paused_until 0
+    → AreTriedBy old (take i listeners) → AreTriedBy next (take (i + 1) listeners)
+tried_more old next e t listeners i d less is earlier within at before =
+    All-more (IsTriedBy next) listeners i d less
+    (All-weaker (IsTriedBy old) (IsTriedBy next) (λ l h pending. is_by_less old next e (unwrap_or l.paused_until 0) is earlier (h pending)) (take i listeners) before)
+    (λ pending. subst (λ n. IsBy n (unwrap_or (get_or listeners i d).paused_until 0)) (sym is) (subst (λ n. e ≤ n) at within))
+
+-- One more at which none is
+pub tried_none : (old next : Option ℕ) (listeners : List Listener) (i : ℕ) (d : Listener) → i < length listeners → next ≡ old → (get_or listeners i d).pending ≡ false → AreTriedBy old (take i listeners) → AreTriedBy next (take (i + 1) listeners)
+tried_none old next listeners i d less same none before =
+    All-more (IsTriedBy next) listeners i d less (subst (λ n. AreTriedBy n (take i listeners)) (sym same) before) (λ pending. absurd (let never : false ≡ true = sym none ∙ pending in cc))

@@ -140,7 +140,7 @@ follow_comes : {W : Type 0} (answers : DiskAnswers W) (clock : ℕ → Type 0) (
 follow_comes answers clock done rest percent export now millis mark old new at (inl (Ok expired, stamp, loads, noted)) before = λ i.
     subst (λ l. ComesAt answers clock (done ++ place export l ∷ rest) new.lists.items i) (sym noted.loaded) (loaded_comes answers clock done rest percent export now expired stamp old new at loads i (λ other. before i))
 follow_comes answers clock done rest percent export now millis mark old new at (inl (Err fault, stamp, (bytes, whole, taken), noted)) before = kept_comes answers clock done rest export mark.1 old.lists.items new.lists.items noted.loaded taken.0.1 before
-follow_comes answers clock done rest percent export now millis mark old new at (inr (inl (unchanged, noted), same)) before = kept_comes answers clock done rest export mark.1 old.lists.items new.lists.items (ap (λ m. m.1) noted) (ap (λ s. s.lists.items) same) before
+follow_comes answers clock done rest percent export now millis mark old new at (inr (inl (unchanged, noted, ahead), same)) before = kept_comes answers clock done rest export mark.1 old.lists.items new.lists.items (ap (λ m. m.1) noted) (ap (λ s. s.lists.items) same) before
 follow_comes answers clock done rest percent export now millis mark old new at (inr (inr (cannot, short, loaded, refused), same)) before = kept_comes answers clock done rest export mark.1 old.lists.items new.lists.items loaded (ap (λ s. s.lists.items) same) before
 
 each_rest : {W : Type 0} (answers : DiskAnswers W) (clock ticks : ℕ → Type 0) (guard : Option ShrinkGuard) (exports : List WatchedExport) (marks : List Mark) (old new : Sources) → FollowsEach answers clock ticks guard exports marks old new → KeepsRest old new

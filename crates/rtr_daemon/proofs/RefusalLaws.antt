@@ -53,7 +53,7 @@ follow_refused {W} answers clock percent export now millis mark old new at follo
       let r = noted.refused in
       subst (RefusalComes answers clock path) (sym r.1)
       (λ other is own. subst (λ s. IsRefusedFor answers clock path s r.0.why) (let same : stamp ≡ other = (let both : Some stamp ≡ Some other = sym r.2 ∙ is in cc) in same) (of_bytes answers clock percent export now stamp fault old new r.0.why at loads r.3 own))
-  by (inr (inl (unchanged, noted), same)) = subst (RefusalComes answers clock path) (sym (ap (λ m. m.2) noted)) tt
+  by (inr (inl (unchanged, noted, ahead), same)) = subst (RefusalComes answers clock path) (sym (ap (λ m. m.2) noted)) tt
   by (inr (inr (cannot, short, loaded, inl kept), same)) = subst (RefusalComes answers clock path) (sym kept) before
   by (inr (inr (cannot, short, loaded, inr (refused, noted, none)), same)) = subst (RefusalComes answers clock path) (sym noted) (of_none answers clock path refused none)
 

@@ -1,5 +1,5 @@
 -- Which listeners are asked for connections, and how often. Times are milliseconds of the monotonic clock.
-use Rattle.std.specs.Prelude.{◌≡◌, ◌⊎◌, ℕ, zero, suc, nat_le, ◌&&◌, Bool, true, false, List, map, length, slice_get, slice_set, Option, None, Some, unwrap_or, if◌then◌else◌}
+use Rattle.std.specs.Prelude.{◌≡◌, ◌⊎◌, ◌≤◌, ℕ, zero, suc, nat_le, ◌&&◌, All, Bool, true, false, List, map, length, slice_get, slice_set, Option, None, Some, unwrap_or, if◌then◌else◌}
 use Rattle.rtr_daemon.specs.SocketCalls.{AcceptOutcome, Fails, NonePending, SocketCalls}
 use Rattle.rtr_daemon.specs.Times.{later_by}
 use Rattle.rtr_daemon.specs.declared.accepting.Listener.{Listener}
@@ -9,6 +9,18 @@ use Rattle.rtr_daemon.specs.declared.environment.Ready.TheVariants as what
 -- A listener is asked at a time if a connection may be pending there, and it is not paused.
 abbrev pub can_accept : Listener → ℕ → Bool
 can_accept l now = l.pending && nat_le (unwrap_or l.paused_until 0) now
+
+-- There is such a time, and it is not later than this one.
+abbrev pub IsBy : Option ℕ → ℕ → Type 0
+IsBy None at = ⊥
+IsBy (Some time) at = time ≤ at
+
+-- If a connection may be pending at a listener, it is tried at this time at the latest, or when its pause ends if that is later.
+abbrev pub IsTriedBy : Option ℕ → Listener → Type 0
+IsTriedBy time l = l.pending ≡ true → IsBy time (unwrap_or l.paused_until 0)
+
+abbrev pub AreTriedBy : Option ℕ → List Listener → Type 0
+AreTriedBy time listeners = All (IsTriedBy time) listeners
 
 abbrev pub is_asked : Option Listener → ℕ → Bool
 is_asked None now = false

@@ -3,7 +3,7 @@ use Rattle.std.specs.Prelude.{◌≡◌, ◌⊎◌, ◌<◌, ◌≤◌, ◌+◌,
 use Rattle.vrps.specs.Instance.{Instance}
 use Rattle.session_names.specs.Runs.{may_publish}
 use Rattle.sources.specs.declared.sources.Sources.{Sources}
-use Rattle.rtr_daemon.specs.Accepting.{AsksEach, resumed}
+use Rattle.rtr_daemon.specs.Accepting.{AreTriedBy, AsksEach, resumed}
 use Rattle.rtr_daemon.specs.Ages.{AreJudged, IsOldAfter, ages_of}
 use Rattle.rtr_daemon.specs.DiskAnswers.{DiskAnswers}
 use Rattle.rtr_daemon.specs.Files.{FollowsEach, FollowsSlurms, loads_of, marks_of, names_of, paths_of}
@@ -153,12 +153,15 @@ expire_millis d = d.service.settings.timing.expire * 1000
 abbrev pub drop_time : {S T : Type 0} → ℕ → Daemon S T → ℕ
 drop_time since d = max (later_by (expire_millis d) since) d.next_round
 
--- This time is not after the next poll of the files. If a version is pending and is not held back, it is not after the next round. If publication fails,
--- it is not after the time at which versions are dropped.
+-- This time is not after the next poll of the files. If a version is pending and is not held back, or a client is blocked, it is not after the next
+-- round. If publication fails, it is not after the time at which versions are dropped. If routers are admitted, it is not after the end of the pause
+-- of a listener at which a connection may be pending.
 pub record IsInTime {S T : Type 0} (d : Daemon S T) (millis time : ℕ) : Type 0 where
   pub check : time ≤ d.next_check
   pub round : d.service.is_pending ≡ true → d.held_until ≤ millis → time ≤ d.next_round
   pub drop : (since : ℕ) → d.failing ≡ Some since → time ≤ drop_time since d
+  pub blocked : 0 < d.clients.blocked → time ≤ d.next_round
+  pub paused : d.is_ready ≡ true → AreTriedBy (Some time) d.listeners.listeners.items
 
 -- How long a turn waits at most: not at all if a client is queued, otherwise until something is due.
 pub record IsWait {S T : Type 0} (d : Daemon S T) (millis wait : ℕ) : Type 0 where
@@ -166,6 +169,8 @@ pub record IsWait {S T : Type 0} (d : Daemon S T) (millis wait : ℕ) : Type 0 w
   pub check : wait ≤ d.next_check - millis
   pub round : d.service.is_pending ≡ true → d.held_until ≤ millis → wait ≤ d.next_round - millis
   pub drop : (since : ℕ) → d.failing ≡ Some since → wait ≤ drop_time since d - millis
+  pub blocked : 0 < d.clients.blocked → wait ≤ d.next_round - millis
+  pub paused : d.is_ready ≡ true → AreTriedBy (Some (millis + wait)) d.listeners.listeners.items ⊎ (wait ≡ 0)
 
 -- A pending version waits: an earlier publication failed and is not tried again before this time, or the last version is of this second of the pace.
 pub record Waits {S T : Type 0} (ticks : ℕ → Type 0) (held : ℕ) (old new : Daemon S T) : Type 0 where

@@ -1,5 +1,5 @@
 -- What a poll of the files loads.
-use Rattle.std.specs.Prelude.{◌≡◌, ◌⊎◌, ℕ, All, Bool, Contains, false, List, [], ◌∷◌, ◌++◌, map, slice_get, ⊤, Option, None, Some, Result, Ok, Err}
+use Rattle.std.specs.Prelude.{◌≡◌, ◌⊎◌, ◌≤◌, ℕ, All, Bool, Contains, false, List, [], ◌∷◌, ◌++◌, map, slice_get, ⊤, Option, None, Some, Result, Ok, Err}
 use Rattle.std.specs.String.{string_bytes}
 use Rattle.sources.specs.Served.{SlurmsTaken}
 use Rattle.sources.specs.Shrinking.{ExportTakenWithin}
@@ -130,17 +130,22 @@ pub record IsMarkAfter (result : Result ℕ TakeFault) (stamp : Stamp) (export :
 abbrev pub KeepsRefusal : Option Refused → Option Refused → Type 0
 KeepsRefusal old new = (new ≡ old) ⊎ ((refused : Refused) × (new ≡ Some refused) × (refused.stamp ≡ None))
 
--- An export is again as it was loaded: it is no longer too short, nor refused.
-abbrev pub IsAsLoaded : {W : Type 0} → DiskAnswers W → WatchedExport → Mark → Type 0
-IsAsLoaded answers export mark = IsUnchanged answers export.file × (mark ≡ (None, export.file.loaded, None))
+-- A file was not loaded after this second: the clock was not set back since.
+abbrev pub IsNotAhead : Option ℕ → ℕ → Type 0
+IsNotAhead None now = ⊤
+IsNotAhead (Some at) now = at ≤ now
+
+-- An export is again as it was loaded: it is no longer too short, nor refused. If it was loaded while the clock was ahead, it is read again instead.
+abbrev pub IsAsLoaded : {W : Type 0} → DiskAnswers W → WatchedExport → ℕ → Mark → Type 0
+IsAsLoaded answers export now mark = IsUnchanged answers export.file × (mark ≡ (None, export.file.loaded, None)) × IsNotAhead export.file.loaded_at now
 
 -- It cannot be loaded.
 abbrev pub IsNotLoaded : {W : Type 0} → DiskAnswers W → WatchedExport → Mark → Type 0
 IsNotLoaded answers export mark = CannotLoad answers export.file × (mark.0 ≡ export.short_since) × (mark.1 ≡ export.file.loaded) × KeepsRefusal export.file.refusals.last mark.2
 
 -- Nothing is loaded of an export.
-abbrev pub HasNoNews : {W : Type 0} → DiskAnswers W → WatchedExport → Mark → Type 0
-HasNoNews answers export mark = IsAsLoaded answers export mark ⊎ IsNotLoaded answers export mark
+abbrev pub HasNoNews : {W : Type 0} → DiskAnswers W → WatchedExport → ℕ → Mark → Type 0
+HasNoNews answers export now mark = IsAsLoaded answers export now mark ⊎ IsNotLoaded answers export mark
 
 -- Bytes that were read whole of the path of an export with this stamp are loaded as this export, or refused. No more than this percentage of its
 -- records may be gone.
@@ -151,7 +156,7 @@ Loads answers percent export now stamp result old new = (bytes : List ℕ) × Re
 -- What is noted of it then is that.
 abbrev pub Follows : {W : Type 0} → DiskAnswers W → Option ℕ → WatchedExport → ℕ → ℕ → Mark → Sources → Sources → Type 0
 Follows answers percent export now millis mark old new =
-    ((result : Result ℕ TakeFault) × (stamp : Stamp) × Loads answers percent export now stamp result old new × IsMarkAfter result stamp export millis mark) ⊎ (HasNoNews answers export mark × (new ≡ old))
+    ((result : Result ℕ TakeFault) × (stamp : Stamp) × Loads answers percent export now stamp result old new × IsMarkAfter result stamp export millis mark) ⊎ (HasNoNews answers export now mark × (new ≡ old))
 
 -- A poll of an export with a guard, at times that the clocks answered
 abbrev pub FollowsOne : {W : Type 0} → DiskAnswers W → (ℕ → Type 0) → (ℕ → Type 0) → Option ShrinkGuard → WatchedExport → Mark → Sources → Sources → Type 0

@@ -16,6 +16,15 @@ use Rattle.rtr_daemon.specs.declared.daemon.StopReason.{StopReason}
 use Rattle.rtr_daemon.specs.declared.daemon.StopReason.TheVariants.{Once, Old, Checked}
 use Rattle.rtr_daemon.specs.declared.refusal.Refusal.{Refusal}
 use Rattle.rtr_daemon.specs.declared.refusal.Refusal.TheVariants as refused
+use Rattle.exports.specs.declared.fault.ExportFault.TheVariants as unread
+use Rattle.points.specs.declared.fault.PointFault.{PointFault}
+use Rattle.points.specs.declared.fault.PointFault.TheVariants as unaccepted
+use Rattle.slurm.specs.declared.fault.SlurmFault.{SlurmFault}
+use Rattle.slurm.specs.declared.fault.SlurmFault.TheVariants as unapplied
+use Rattle.slurm.specs.declared.unite_fault.UniteFault.{UniteFault}
+use Rattle.slurm.specs.declared.unite_fault.UniteFault.TheVariants as ununited
+use Rattle.sources.specs.declared.fault.TakeFault.{TakeFault}
+use Rattle.sources.specs.declared.fault.TakeFault.TheVariants as untaken
 use Rattle.rtr_daemon.specs.declared.service.Service.{Service}
 
 -- The first second of the year 2020. A clock before it was not set yet.
@@ -57,7 +66,34 @@ exit_status (Ok Checked) = 0
 exit_status (Ok Old) = 1
 exit_status (Err error) = failure_status (error_kind error)
 
--- and what the log says of it
+-- The exit status of a start that a refusal ends: 4 if memory ran out, 3 if a file cannot be read or changes while it is read, and 1 otherwise
+abbrev pub export_status : TakeFault → ℕ
+export_status (untaken.Export unread.Memory) = 4
+export_status fault = 1
+
+abbrev pub slurm_status : SlurmFault → ℕ
+slurm_status unapplied.Memory = 4
+slurm_status fault = 1
+
+abbrev pub union_status : UniteFault → ℕ
+union_status ununited.Memory = 4
+union_status fault = 1
+
+abbrev pub point_status : PointFault → ℕ
+point_status unaccepted.Memory = 4
+point_status fault = 1
+
+abbrev pub refusal_status : Refusal → ℕ
+refusal_status (refused.Device error) = failure_status (error_kind error)
+refusal_status refused.Changing = 3
+refusal_status (refused.Export file) = export_status file.fault
+refusal_status (refused.Slurm file) = slurm_status file.fault
+refusal_status (refused.SlurmUnion file) = union_status file.fault
+refusal_status (refused.Point fault) = point_status fault
+refusal_status (refused.Set Memory) = 4
+refusal_status refusal = 1
+
+-- and what the log says of the end of a run
 abbrev pub exit_words : Result StopReason Error → List ℕ
 exit_words (Ok Once) = codes "the client has gone"
 exit_words (Ok Checked) = codes "the configuration is valid, and with --check-config nothing is served"

@@ -21,7 +21,7 @@ abbrev pub open_listener : Listener
 open_listener = record { pending = true; paused_until = None }
 
 -- A daemon begins at a moment of both clocks. The pace begins with its second. Publication is due at once, the first poll of the files one interval
--- later. There are as many listeners as planned, all of them open. The ages of the exports were judged.
+-- later. No router has been served. There are as many listeners as planned, all of them open. The ages of the exports were judged.
 pub record Begins {S T : Type 0} (clock ticks : ℕ → Type 0) (plan : Plan) (d : Daemon S T) : Type 0 where
   pub second : clock d.started
   pub millis : ticks d.opened
@@ -30,6 +30,7 @@ pub record Begins {S T : Type 0} (clock ticks : ℕ → Type 0) (plan : Plan) (d
   pub next_round : d.next_round ≡ d.opened
   pub held_until : d.held_until ≡ d.opened
   pub failing : d.failing ≡ None
+  pub parted : d.has_parted ≡ false
   pub idle : d.clients.queue.items ≡ []
   pub listeners : d.listeners.listeners.items ≡ replicate plan.listeners open_listener
   pub judged : AreJudged clock plan.max_age d.service.sources (ages_of d.exports.items)

@@ -1,6 +1,6 @@
 //! Listeners, and the connections that are accepted from them.
-ghost use Rattle.std.specs.Prelude.{◌≡◌, false, true, IfOk, replicate, slice_get, unwrap_or};
-ghost use Rattle.rtr_daemon.specs.Accepting.{AcceptsOnce, AsksEach, AsksOne, PausesOne, can_accept, changed_at, is_asked, resumed, with_pause, with_pending};
+ghost use Rattle.std.specs.Prelude.{◌≡◌, ◌≤◌, ℕ, Some, false, true, IfOk, replicate, slice_get, unwrap_or};
+ghost use Rattle.rtr_daemon.specs.Accepting.{AcceptsOnce, AreTriedBy, AsksEach, AsksOne, PausesOne, can_accept, changed_at, is_asked, resumed, with_pause, with_pending};
 ghost use Rattle.rtr_daemon.specs.Due.{OnlyAdmitted, OnlyClients};
 ghost use Rattle.rtr_daemon.specs.Queue.{QueuesBehind};
 ghost use Rattle.rtr_daemon.specs.Serving.{Continues};
@@ -105,9 +105,16 @@ impl Listeners {
     }
 
     /// The earliest time at which a listener with a pending connection can be tried.
-    pub(crate) fn next_try(&self) -> Option<u64> {
-        let pending = self.listeners.iter().filter(|it| it.pending);
-        pending.map(|it| it.next_try()).min()
+    pub(crate) fn next_try(&self) -> Option<u64>
+        ensures { AreTriedBy result self.now.listeners.items }
+    {
+        let mut next = None;
+        for listener in self.listeners.iter() {
+            if listener.pending {
+                next = Some(earlier(next, listener.next_try()));
+            }
+        }
+        next
     }
 
     fn can_accept(&self, listener: usize, now: u64) -> bool
@@ -129,9 +136,22 @@ impl Listeners {
     }
 }
 
+/// The earlier of two times, or the second if there is no first.
+fn earlier(first: Option<u64>, second: u64) -> u64
+    ensures second { result ≤ second }
+    ensures first { (at : ℕ) → first ≡ Some at → result ≤ at }
+{
+    match first {
+        Some(first) => first.min(second),
+        None => second,
+    }
+}
+
 impl<S: VersionStore, T: Stream + Drop> Daemon<S, T> {
     /// When a listener with a pending connection can be tried, in milliseconds of the monotonic clock, once a version is published.
-    pub(crate) fn next_accept(&self) -> Option<u64> {
+    pub(crate) fn next_accept(&self) -> Option<u64>
+        ensures { self.now.is_ready ≡ true → AreTriedBy result self.now.listeners.listeners.items }
+    {
         if !self.is_ready {
             return None;
         }

@@ -1,5 +1,5 @@
 //! The table of connected clients, and the queue of those that are served next.
-ghost use Rattle.std.specs.Prelude.{◌≡◌, [], ◌+◌, ◌≤◌, ◌↔◌, None, true, length, option_map};
+ghost use Rattle.std.specs.Prelude.{◌≡◌, [], ◌+◌, ◌≤◌, ◌<◌, ◌↔◌, IsTrue, None, true, length, option_map};
 ghost use Rattle.std.specs.VecDeque.{deque_capacity, deque_len};
 ghost use Rattle.rtr_daemon.specs.Notes.{AreNoted, unqueued};
 
@@ -277,7 +277,9 @@ impl ClientTable {
     }
 
     /// Whether some client is blocked on writing.
-    pub(crate) fn has_blocked(&self) -> bool {
+    pub(crate) fn has_blocked(&self) -> bool
+        ensures { IsTrue result ↔ (0 < self.now.blocked) }
+    {
         self.blocked > 0
     }
 

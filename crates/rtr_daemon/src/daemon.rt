@@ -1,5 +1,6 @@
 //! The daemon: a loop that serves what is ready, and does what is due by the clock.
-ghost use Rattle.std.specs.Prelude.{◌≡◌, ◌≤◌, ◌<◌, ℕ, IfErr, IfOk};
+ghost use Rattle.std.specs.Prelude.{◌≡◌, ◌≤◌, ◌<◌, ℕ, IfErr, IfOk, unwrap_or};
+ghost use Rattle.rtr_daemon.specs.declared.daemon.StopReason.TheVariants.{Checked};
 ghost use Rattle.rtr_daemon.specs.Due.{DoesWhatIsDue, IsChecked, IsInTime, IsWait, KeepsFiles, NextPoll, OnlyPolled, PollsAll, PublishesIfDue, SamePaths, TakesTurn, WakesIfPublished, end_of};
 ghost use Rattle.rtr_daemon.specs.Times.{later_by};
 ghost use Rattle.rtr_daemon.specs.Queue.{QueuesBehind};
@@ -279,7 +280,9 @@ impl<S: StepStore + Drop, T: Stream + Drop> Daemon<S, T> {
     }
 
     /// Returns how a run ends that only checks its configuration: `Old` if the daemon would stop for an old export, otherwise `Checked`.
-    pub fn end_of_check(&self) -> StopReason {
+    pub fn end_of_check(&self) -> StopReason
+        ensures { result ≡ unwrap_or (end_of self.now) Checked }
+    {
         self.end().unwrap_or(StopReason::Checked)
     }
 

@@ -83,6 +83,7 @@ pub(crate) enum RefusalKind {
 impl Refusal {
     ghost use Rattle.rtr_daemon.specs.Files.{IsForFault, IsOfBytes};
     ghost use Rattle.rtr_daemon.specs.SlurmRefusals.{IsForSlurm};
+    ghost use Rattle.rtr_daemon.specs.Running.{refusal_status};
 
     /// The refusal of an export, with the text for these bytes.
     pub(crate) fn of_export(alloc: Global, bytes: &[u8], fault: TakeFault) -> Refusal
@@ -147,7 +148,9 @@ impl Refusal {
     }
 
     /// The exit status of the program: 4 if memory ran out, 3 if a file cannot be read or changes while it is read, and 1 otherwise.
-    pub fn status(&self) -> u8 {
+    pub fn status(&self) -> u8
+        ensures { result ≡ refusal_status self.now }
+    {
         match self {
             Refusal::Device(error) if error.kind() == io::ErrorKind::OutOfMemory => 4,
             Refusal::Device(_) | Refusal::Changing => 3,

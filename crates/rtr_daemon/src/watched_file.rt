@@ -1,11 +1,11 @@
 //! Watched files.
-ghost use Rattle.std.specs.Prelude.{◌≡◌, ◌⊎◌, ◌↔◌, None, true, false, IfErr, IfOk, IsTrue};
+ghost use Rattle.std.specs.Prelude.{◌≡◌, ◌⊎◌, ◌↔◌, None, Some, true, false, IfErr, IfOk, IsTrue};
 ghost use Rattle.rtr_daemon.specs.Ages.{file_time, modified_by};
 ghost use Rattle.rtr_daemon.specs.Calls.{near_limit, slow_after};
 ghost use Rattle.rtr_daemon.specs.Shrinking.{since_after};
 ghost use Rattle.rtr_daemon.specs.DiskAnswers.{FileFails, ReadsWhole};
 ghost use Rattle.rtr_daemon.specs.Statuses.{all_expired};
-ghost use Rattle.rtr_daemon.specs.Files.{ChangesWhileRead, IsKnown, IsStateNow, IsStateOf, Looks, ReadsAfter, WasLoaded, path_of};
+ghost use Rattle.rtr_daemon.specs.Files.{ChangesWhileRead, IsKnown, IsNotAhead, IsStateNow, IsStateOf, Looks, ReadsAfter, WasLoaded, path_of};
 
 use crate::anchor_peaks::AnchorPeaks;
 use crate::environment::{Disk, Stamp};
@@ -204,6 +204,7 @@ impl WatchedFile {
     /// It was loaded with this stamp. Returns whether a refusal was reported before.
     pub(crate) fn set_loaded(&mut self, stamp: Stamp, now: u64) -> bool
         ensures loaded { WasLoaded self.new stamp }
+        ensures at { self.new.loaded_at ≡ Some now }
         ensures refused { self.new.refusals.last ≡ None }
         ensures path { self.new.path ≡ self.old.path }
     {
@@ -225,8 +226,13 @@ impl WatchedFile {
     }
 
     /// Whether it was loaded after this second since 1970: the clock was set back since.
-    pub(crate) fn is_loaded_after(&self, now: u64) -> bool {
-        self.loaded_at.is_some_and(|at| now < at)
+    pub(crate) fn is_loaded_after(&self, now: u64) -> bool
+        ensures { result ≡ false → IsNotAhead self.now.loaded_at now }
+    {
+        match self.loaded_at {
+            Some(at) => now < at,
+            None => false,
+        }
     }
 }
 
@@ -295,6 +301,8 @@ impl WatchedExport {
     /// It was loaded with this stamp, and this many of its entries had expired. Returns whether a refusal was reported before.
     pub(crate) fn set_loaded(&mut self, stamp: Stamp, now: u64, expired: u64) -> bool
         ensures loaded { WasLoaded self.new.file stamp }
+        ensures at { self.new.file.loaded_at ≡ Some now }
+        ensures expired { (self.new.expired ≡ expired) × (self.new.expired_since ≡ 0) }
         ensures refused { self.new.file.refusals.last ≡ None }
         ensures path { self.new.file.path ≡ self.old.file.path }
         ensures number { self.new.number ≡ self.old.number }

@@ -1,6 +1,8 @@
-use Rattle.std.proofs.Common.{inl, subst, sym, ap, ◌∙◌}
+use Rattle.std.proofs.Common.{inl, inr, refl, subst, sym, ap, ◌∙◌}
+use Rattle.std.specs.Prelude.{None}
 use Rattle.rtr_daemon.specs.DiskAnswers.{ReadsWhole}
 use Rattle.rtr_daemon.specs.Files.{loaded_after, path_of}
+use Rattle.rtr_daemon.proofs.ContentLaws.{mark_is}
 use Rattle.rtr_daemon.proofs.polling.follow.Goals as goal
 
 pub returns-in-Read-clause-follows : goal.returns-in-Read-clause-follows
@@ -17,4 +19,18 @@ returns-in-Read-clause-follows g c =
         loaded = c.note.ensures.loaded ∙ ap (λ e. loaded_after result stamp e.file.loaded) c.note_short.ensures;
         refused = c.note.ensures.refused;
       },
+    )
+
+pub returns-in-Unchanged-clause-follows : goal.returns-in-Unchanged-clause-follows
+returns-in-Unchanged-clause-follows g c =
+    let h = c.in-Unchanged.ensures in
+    let now = c.set_unchanged.ensures in
+    let after = c.set_unchanged.new.self in
+    inr (
+      inl (
+        (h.0, h.1, h.2),
+        mark_is after.short_since None after.file.loaded c.args.export.now.file.loaded after.file.refusals.last None now.short now.loaded now.refused,
+        c.is_loaded_after-anew.ensures h.3,
+      ),
+      refl,
     )

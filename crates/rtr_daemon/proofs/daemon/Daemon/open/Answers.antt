@@ -41,6 +41,7 @@ returns-clause-begins g c =
       next_round = ap (λ d. d.next_round) only ∙ sym (ap (λ d. d.opened) only);
       held_until = ap (λ d. d.held_until) only ∙ sym (ap (λ d. d.opened) only);
       failing = ap (λ d. d.failing) only;
+      parted = ap (λ d. d.has_parted) only;
       idle = ap (λ d. d.clients.queue.items) only ∙ c.new-3.ensures;
       listeners = ap (λ d. d.listeners.listeners.items) only ∙ c.in_ok-listeners.ensures;
       judged = subst (λ s. AreJudged g.W.Time.can_be c.args.plan.max_age s.sources (ages_of c.judge_ages.new.self.exports.items)) (sym (ap (λ d. d.service) only)) c.judge_ages.ensures.judged;
