@@ -1,28 +1,27 @@
 -- Reading a canonical cache representation is exact.
-use Rattle.std.proofs.Common.{◌≡◌, ◌∙◌, ℕ, List, Option, Some, Ok, Err, refl, ap, subst, arith}
-use Rattle.std.specs.Prelude.{Result, unwrap_or}
+use Rattle.std.proofs.Common.{◌≡◌, ℕ, List, Option, None, Ok, Err, refl}
+use Rattle.std.specs.Prelude.{Result}
+use Rattle.std.specs.List.{last_or}
 use Rattle.der_lite.specs.Place.{Fault, place_of}
-use Rattle.der_lite.specs.Der.{IsBytes, tlv, head_rules}
+use Rattle.der_lite.specs.Der.{IsBytes, head_rules}
 use Rattle.der_lite.specs.Grammar.{Members, element, primitive, constructed, plain, last, member, optional, each}
 use Rattle.der_lite.specs.Moments.{CivilMoment}
 use Rattle.der_lite.specs.Times.{timed, timed_at}
 use Rattle.der_lite.specs.DerReading.{content_at, element_at}
 use Rattle.der_lite.specs.Decoding.{Read, ReadAll, read_constructed, read_member, read_each, read_primitive}
 use Rattle.der_lite.specs.Fields.{last_at, optional_at}
-use Rattle.der_lite.proofs.Exact.{ExactContent, ExactElement, ExactMembers, exact_constructed, exact_member, exact_each}
+use Rattle.der_lite.proofs.Exact.{ExactElement, ExactMembers, exact_constructed, exact_member, exact_each}
 use Rattle.der_lite.proofs.FieldLaws.{exact_last_at, exact_optional_at}
 use Rattle.der_lite.proofs.ContentReads.{exact_plain}
-use Rattle.der_lite.proofs.NumberBytes.{tlv_bytes}
 use Rattle.der_lite.proofs.TimeLaws.{exact_timed}
-use Rattle.der_forms.specs.Combinators.{no_rules, barred, told, first_part, standing, fixed, fixed_rules, maybe, spelling, FixedSpells}
+use Rattle.der_forms.specs.Combinators.{no_rules, barred, told, first_part, standing, fixed, fixed_rules, maybe, FixedSpells}
 use Rattle.der_forms.specs.CombinatorReading.{told_at, maybe_at, standing_at, octets_of, opened_at, fixed_field}
-use Rattle.der_forms.proofs.ExactCombinators.{exact_behind, exact_opened, exact_fixed, exact_fixed_content, exact_told, exact_told_element, exact_standing, exact_maybe, exact_spelling, barred_follow}
+use Rattle.der_forms.proofs.ExactCombinators.{exact_behind, exact_opened, exact_fixed, exact_fixed_content, exact_told, exact_told_element, exact_standing, exact_maybe, barred_follow}
 use Rattle.prefixes.specs.Payload.{Payload}
-use Rattle.payloads.specs.RoaReading.{payload_at}
-use Rattle.payloads.specs.RoaValues.{RoaValue, RoaSpells, TreeSpells, flat, payloads_of}
-use Rattle.payloads.specs.Roa.{RoaTree}
-use Rattle.payloads.proofs.DecodingLaws.{flat_read}
-use Rattle.payloads.proofs.Roas.{exact_roa}
+use Rattle.payloads.specs.RoaValues.{RoaValue}
+use Rattle.ccr.specs.PayloadSet.{as_of, set_behind}
+use Rattle.ccr.specs.PayloadSetReading.{set_behind_at}
+use Rattle.ccr.proofs.ExactSets.{exact_payload_set}
 use Rattle.ccr.specs.Ccr as g
 use Rattle.ccr.specs.CcrReading as r
 use Rattle.ccr.specs.declared.fault.ReadCcrError.{ReadCcrError}
@@ -38,45 +37,20 @@ exact_hash : (octets : List ℕ) → ExactElement (g.hash_of octets) (r.hash_at 
 unfolding g.hash_of r.hash_at
 exact_hash octets = exact_plain 4 (g.hash_rules octets)
 
--- ---- a payload set
-
-some_is : (x y : RoaValue) → Some x ≡ Some y → x ≡ y
-some_is x y e = ap (λ (o : Option RoaValue). unwrap_or o x) e
-
--- a tree that was read, and the value that was found
-pub found_read : (o : Result RoaTree Fault) (bytes : List ℕ) (v : RoaValue) → payload_at bytes ≡ o → IsBytes bytes → r.flat_value o ≡ Some v → RoaSpells v bytes
-found_read (Ok tree) bytes v e are h = subst (λ (x : RoaValue). RoaSpells x bytes) (some_is (flat tree) v h) (flat_read bytes tree are e)
-found_read (Err f) bytes v e are h = absurd cc
-
-pub set_found : (content : List ℕ) (v : RoaValue) → IsBytes content → r.set_in content ≡ Some v → g.SetSpells v content
-unfolding r.set_in
-set_found content v are h = found_read (payload_at (tlv 48 content)) (tlv 48 content) v refl (tlv_bytes 48 content (omega arith) are) h
-
-pub set_again : (content : List ℕ) (v : RoaValue) → g.SetSpells v content → r.set_in content ≡ Some v
-unfolding r.set_in payload_at TreeSpells
-set_again content v s = ap r.flat_value (exact_roa.again (place_of 0 (tlv 48 content)) s.tree s.spelled) ∙ ap (λ (x : RoaValue). Some x) s.is_flat
-
-exact_set_content : ExactContent (spelling 10 g.SetSpells) r.set_content_at
-exact_set_content = exact_spelling 10 g.SetSpells r.set_in set_found set_again
-
-exact_payload_set : ExactElement g.payload_set r.payload_set_at
-unfolding g.payload_set r.payload_set_at
-exact_payload_set =
-    exact_told_element payloads_of (element 48 (head_rules 48) (spelling 10 g.SetSpells)) (λ p. opened_at (element_at 48 p) p.at r.set_content_at)
-    (exact_opened 48 (spelling 10 g.SetSpells) r.set_content_at exact_set_content)
+-- ---- payload sets
 
 exact_payload_list : ExactElement g.payload_list r.payload_list_at
 unfolding g.payload_list r.payload_list_at r.payloads_at
 exact_payload_list =
-    let sets = each (λ _. g.payload_set) in
-    let read = read_each (λ _. r.payload_set_at) in
-    let members = told {A = List (List Payload)} g.all_payloads sets in
+    let sets = each set_behind in
+    let read = read_each set_behind_at in
+    let members = told {A = List RoaValue} g.all_payloads sets in
     let content = constructed no_rules members no_rules in
     let read_content = read_constructed no_rules (told_at g.all_payloads read) no_rules in
     exact_standing (element 48 (head_rules 48) content) (λ p. opened_at (element_at 48 p) p.at read_content)
     (exact_opened 48 content read_content
     (exact_constructed no_rules members (told_at g.all_payloads read) no_rules
-    (exact_told g.all_payloads sets read (exact_each (λ _. g.payload_set) (λ _. r.payload_set_at) (λ _. exact_payload_set)))))
+    (exact_told g.all_payloads sets read (exact_each set_behind set_behind_at (λ before. exact_payload_set (as_of (last_or None before)))))))
 
 -- ---- states
 
@@ -125,7 +99,7 @@ exact_hash_algorithm : ExactElement g.hash_algorithm r.hash_algorithm_at
 unfolding g.hash_algorithm r.hash_algorithm_at
 exact_hash_algorithm =
     let wanted = g.sha256_members in
-    exact_behind (barred 7 160) 48 (primitive (FixedSpells wanted) (fixed_rules 8 wanted)) (read_primitive (fixed_rules 8 wanted) (λ content. tt)) (barred_follow 7 160 48 refl) (exact_fixed_content 8 wanted)
+    exact_behind (barred 22 160) 48 (primitive (FixedSpells wanted) (fixed_rules 23 wanted)) (read_primitive (fixed_rules 23 wanted) (λ content. tt)) (barred_follow 22 160 48 refl) (exact_fixed_content 23 wanted)
 
 exact_last_states : ExactMembers g.last_states r.last_states_at
 unfolding g.last_states r.last_states_at
@@ -163,10 +137,10 @@ exact_content =
 exact_content_info : ExactElement g.content_info r.content_info_at
 unfolding g.content_info r.content_info_at r.info_members_at
 exact_content_info =
-    let oid_at : Read (Unit {0}) = λ p. fixed_field (content_at 6 no_rules p) p.at 6 g.id_ccr in
-    exact_inner (told {A = Unit {0} × g.Ccr} g.second_part (member (fixed 6 6 g.id_ccr) (λ _. last g.content))) (told_at g.second_part (read_member oid_at (λ _. last_at r.content_at_0)))
-    (exact_told {A = Unit {0} × g.Ccr} g.second_part (member (fixed 6 6 g.id_ccr) (λ _. last g.content)) (read_member oid_at (λ _. last_at r.content_at_0))
-    (exact_member (fixed 6 6 g.id_ccr) oid_at (exact_fixed 6 6 g.id_ccr) (λ _. last g.content) (λ _. last_at r.content_at_0) (λ _. exact_last_at g.content r.content_at_0 exact_content)))
+    let oid_at : Read (Unit {0}) = λ p. fixed_field (content_at 6 no_rules p) p.at 21 g.id_ccr in
+    exact_inner (told {A = Unit {0} × g.Ccr} g.second_part (member (fixed 21 6 g.id_ccr) (λ _. last g.content))) (told_at g.second_part (read_member oid_at (λ _. last_at r.content_at_0)))
+    (exact_told {A = Unit {0} × g.Ccr} g.second_part (member (fixed 21 6 g.id_ccr) (λ _. last g.content)) (read_member oid_at (λ _. last_at r.content_at_0))
+    (exact_member (fixed 21 6 g.id_ccr) oid_at (exact_fixed 21 6 g.id_ccr) (λ _. last g.content) (λ _. last_at r.content_at_0) (λ _. exact_last_at g.content r.content_at_0 exact_content)))
 
 pub exact_ccr : ExactMembers (last g.content_info) (last_at r.content_info_at)
 exact_ccr = exact_last_at g.content_info r.content_info_at exact_content_info

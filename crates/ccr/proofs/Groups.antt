@@ -29,7 +29,7 @@ ascend_drop (suc n) [] h = tt
 ascend_drop (suc n) (v ∷ vs) h = ascend_drop n vs h.1
 
 -- above one of two numbers
-weaken : (a b : ℕ) → a < b → (vs : List Payload) → AllByRecursion (λ w. b ≤ w.asn) vs → AllByRecursion (λ w. a < w.asn) vs
+pub weaken : (a b : ℕ) → a < b → (vs : List Payload) → AllByRecursion (λ w. b ≤ w.asn) vs → AllByRecursion (λ w. a < w.asn) vs
 weaken a b less [] h = tt
 weaken a b less (v ∷ vs) h = (omega (arith, less, h.0), weaken a b less vs h.1)
 
@@ -100,11 +100,11 @@ numbers_are a v (w ∷ front) back h low = (λ i. with_number (h.0 i) (numbers_a
 
 -- ---- the VRPs of the groups
 
-none_of : (a : ℕ) (vs : List Payload) → AllByRecursion (λ w. a < w.asn) vs → of_as a vs ≡ []
+pub none_of : (a : ℕ) (vs : List Payload) → AllByRecursion (λ w. a < w.asn) vs → of_as a vs ≡ []
 none_of a [] h = refl
 none_of a (v ∷ vs) h = ap (λ b. cond b (v ∷ of_as a vs) (of_as a vs)) (ne_eqb v.asn a (λ e. absurd (omega (arith, e, h.0)))) ∙ none_of a vs h.1
 
-front_of : (a : ℕ) (front back : List Payload) → AllByRecursion (λ w. w.asn ≡ a) front → AllByRecursion (λ w. a < w.asn) back → of_as a (front ++ back) ≡ front
+pub front_of : (a : ℕ) (front back : List Payload) → AllByRecursion (λ w. w.asn ≡ a) front → AllByRecursion (λ w. a < w.asn) back → of_as a (front ++ back) ≡ front
 front_of a [] back h low = none_of a back low
 front_of a (v ∷ vs) back h low =
     ap (λ b. cond b (v ∷ of_as a (vs ++ back)) (of_as a (vs ++ back))) (eq-eqb v.asn a h.0) ∙ ap (λ l. v ∷ l) (front_of a vs back h.1 low)
@@ -119,15 +119,15 @@ same_sets f g a [] h e = refl
 same_sets f g a (n ∷ ns) h e = λ i. e n h.0 i ++ same_sets f g a ns h.1 e i
 
 -- The sets of all are that of the group, and those of what is behind it.
-pub first_set : (a : ℕ) (front back : List Payload) → IsCut a front back → payload_sets (front ++ back) ≡ payload_set a front ++ payload_sets back
+pub first_set : (a : ℕ) (front back : List Payload) → 0 < length front → AllByRecursion (λ w. w.asn ≡ a) front → AllByRecursion (λ w. a < w.asn) back → payload_sets (front ++ back) ≡ payload_set a front ++ payload_sets back
 unfolding payload_sets
-first_set a [] back is = absurd (omega (arith, is.some))
-first_set a (v ∷ front) back is =
+first_set a [] back some one above = absurd (omega (arith, some))
+first_set a (v ∷ front) back some one above =
     let whole = (v ∷ front) ++ back in
-    let low = low_numbers a back is.above in
-    ap (λ ns. flat_map (λ n. payload_set n (of_as n whole)) ns) (numbers_are a v front back is.one low)
-    ∙ (λ i. payload_set a (front_of a (v ∷ front) back is.one is.above i)
-    ++ same_sets (λ n. payload_set n (of_as n whole)) (λ n. payload_set n (of_as n back)) a (as_numbers back) low (λ b less. ap (payload_set b) (others a b less (v ∷ front) back is.one)) i)
+    let low = low_numbers a back above in
+    ap (λ ns. flat_map (λ n. payload_set n (of_as n whole)) ns) (numbers_are a v front back one low)
+    ∙ (λ i. payload_set a (front_of a (v ∷ front) back one above i)
+    ++ same_sets (λ n. payload_set n (of_as n whole)) (λ n. payload_set n (of_as n back)) a (as_numbers back) low (λ b less. ap (payload_set b) (others a b less (v ∷ front) back one)) i)
 
 -- without VRPs there is no set
 pub no_sets : payload_sets [] ≡ []
@@ -146,7 +146,7 @@ next vs n v front back some s run first front_is back_is =
     let is = (cut vs n v some s run).1 in
     let a = (get_or vs 0 v).asn in
     let parts : vs ≡ take n vs ++ drop n vs = sym (take-append-drop n vs) in
-    let sets : payload_sets vs ≡ payload_set a (take n vs) ++ payload_sets (drop n vs) = ap payload_sets parts ∙ first_set a (take n vs) (drop n vs) is in
+    let sets : payload_sets vs ≡ payload_set a (take n vs) ++ payload_sets (drop n vs) = ap payload_sets parts ∙ first_set a (take n vs) (drop n vs) is.some is.one is.above in
     record {
       sets = sets ∙ (λ i. payload_set (sym first i).asn (sym front_is i) ++ payload_sets (sym back_is i));
       ascend = subst Ascend (sym back_is) is.ascend;

@@ -1,17 +1,15 @@
 -- Reading a canonical cache representation over what the reads of a cursor give.
-use Rattle.std.specs.Prelude.{ℕ, List, Option, Some, None, Result, Ok, Err}
+use Rattle.std.specs.Prelude.{ℕ, List, Option, Result}
 use Rattle.der_lite.specs.Place.{Fault, place_of}
-use Rattle.der_lite.specs.Der.{EXPLICIT_0, OBJECT_IDENTIFIER, OCTET_STRING, SEQUENCE, tlv}
+use Rattle.der_lite.specs.Der.{EXPLICIT_0, OBJECT_IDENTIFIER, OCTET_STRING, SEQUENCE}
 use Rattle.der_lite.specs.DerReading.{content_at, element_at}
-use Rattle.der_lite.specs.Decoding.{Read, ReadAll, ReadContent, read_constructed, read_member, read_each, read_primitive}
+use Rattle.der_lite.specs.Decoding.{Read, ReadAll, read_constructed, read_member, read_each, read_primitive}
 use Rattle.der_lite.specs.Fields.{last_at, optional_at}
 use Rattle.der_lite.specs.Times.{timed_at}
 use Rattle.der_forms.specs.Combinators.{no_rules, barred, first_part, fixed_rules}
-use Rattle.der_forms.specs.CombinatorReading.{found_at, opened_at, told_at, told_element_at, standing_at, fixed_field, maybe_at, octets_of, or_fault}
+use Rattle.der_forms.specs.CombinatorReading.{found_at, opened_at, told_at, told_element_at, standing_at, fixed_field, maybe_at, octets_of}
 use Rattle.prefixes.specs.Payload.{Payload}
-use Rattle.payloads.specs.Roa.{RoaTree}
-use Rattle.payloads.specs.RoaReading.{payload_at}
-use Rattle.payloads.specs.RoaValues.{RoaValue, flat, payloads_of}
+use Rattle.ccr.specs.PayloadSetReading.{set_behind_at}
 use Rattle.ccr.specs.Ccr.{id_ccr, sha256_members, hash_rules, all_payloads, second_part, third_part, Vrps, vrps_of, LastStates, States, Ccr}
 
 unfoldable pub any_list_at : Read (List ℕ)
@@ -20,23 +18,8 @@ any_list_at = told_element_at first_part (standing_at (octets_of SEQUENCE))
 unfoldable pub hash_at : List ℕ → Read (List ℕ)
 hash_at octets = content_at OCTET_STRING (hash_rules octets)
 
--- what was read, if it was
-abbrev pub flat_value : Result RoaTree Fault → Option RoaValue
-flat_value (Ok tree) = Some (flat tree)
-flat_value (Err _) = None
-
--- the ROA that a content spells, if it does
-unfoldable pub set_in : List ℕ → Option RoaValue
-set_in content = flat_value (payload_at (tlv SEQUENCE content))
-
-abbrev pub set_content_at : ReadContent RoaValue
-set_content_at at inner = or_fault 10 at (set_in inner.rest)
-
-unfoldable pub payload_set_at : Read (List Payload)
-payload_set_at = told_element_at payloads_of (λ p. opened_at (element_at SEQUENCE p) p.at set_content_at)
-
 unfoldable pub payloads_at : ReadAll (List Payload)
-payloads_at = told_at all_payloads (read_each (λ _. payload_set_at))
+payloads_at = told_at all_payloads (read_each set_behind_at)
 
 unfoldable pub payload_list_at : Read (List ℕ × List Payload)
 payload_list_at = standing_at (λ p. opened_at (element_at SEQUENCE p) p.at (read_constructed no_rules payloads_at no_rules))
@@ -67,7 +50,7 @@ unfoldable pub vrp_state_at : Read Vrps
 vrp_state_at = state_at 162 vrp_members_at
 
 unfoldable pub hash_algorithm_at : Read (Unit {0})
-hash_algorithm_at p = opened_at (found_at (barred 7 EXPLICIT_0) SEQUENCE p) p.at (read_primitive (fixed_rules 8 sha256_members) (λ content. tt))
+hash_algorithm_at p = opened_at (found_at (barred 22 EXPLICIT_0) SEQUENCE p) p.at (read_primitive (fixed_rules 23 sha256_members) (λ content. tt))
 
 unfoldable pub last_states_at : ReadAll LastStates
 last_states_at = maybe_at 164 (plain_state_at 164) (λ _. optional_at (plain_state_at 165))
@@ -91,7 +74,7 @@ unfoldable pub content_at_0 : Read Ccr
 content_at_0 p = opened_at (element_at EXPLICIT_0 p) p.at (read_constructed no_rules (last_at representation_at) no_rules)
 
 unfoldable pub info_members_at : ReadAll Ccr
-info_members_at = told_at second_part (read_member (λ p. fixed_field (content_at OBJECT_IDENTIFIER no_rules p) p.at 6 id_ccr) (λ _. last_at content_at_0))
+info_members_at = told_at second_part (read_member (λ p. fixed_field (content_at OBJECT_IDENTIFIER no_rules p) p.at 21 id_ccr) (λ _. last_at content_at_0))
 
 unfoldable pub content_info_at : Read Ccr
 content_info_at = inner_at info_members_at

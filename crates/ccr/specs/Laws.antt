@@ -1,12 +1,14 @@
 -- What canonical forms satisfy.
-use Rattle.std.specs.Prelude.{◌≡◌, ◌⊎◌, ℕ, List}
+use Rattle.std.specs.Prelude.{◌≡◌, ◌⊎◌, ◌↔◌, ⊤, ℕ, ◌≤◌, List, length, Option, Some, None}
 use Rattle.prefixes.specs.Payload.{Payload}
 use Rattle.sha2.specs.Sha256.{sha256}
-use Rattle.vrps.specs.VrpSet.{VrpSet, has}
+use Rattle.vrps.specs.VrpSet.{VrpSet, has, set_of}
 use Rattle.der_lite.specs.Place.{Fault}
 use Rattle.der_lite.specs.Der.{IsBytes}
 use Rattle.ccr.specs.Canonical.{canonical}
-use Rattle.ccr.specs.Ccr.{Ccr, CcrSpells, CcrFaultAt}
+use Rattle.payloads.specs.RoaValues.{RoaValue, RoaSpells}
+use Rattle.ccr.specs.PayloadSet.{payload_set}
+use Rattle.ccr.specs.Ccr.{Ccr, Vrps, CcrSpells, CcrFaultAt}
 
 -- Two sets with the same VRPs have one canonical form, and one digest.
 abbrev pub SameVrps : Type 0
@@ -24,3 +26,16 @@ Either = (bytes : List ℕ) → IsBytes bytes → ((v : Ccr) × CcrSpells v byte
 
 abbrev pub OneValue : Type 0
 OneValue = (bytes : List ℕ) (v w : Ccr) → CcrSpells v bytes → CcrSpells w bytes → v ≡ w
+
+-- The first ROAPayloadSet of a list is the payload of a ROA, as the crate `payloads` defines it, exactly if it has at most 65,536 entries.
+abbrev pub SetsAreRoas : Type 0
+SetsAreRoas = (roa : RoaValue) (bytes : List ℕ) → RoaSpells roa bytes ↔ ((payload_set None).Spells roa bytes × (length roa.entries ≤ 65536))
+
+-- The hash beside VRPs, if they are there, is the digest of their set.
+abbrev pub HasDigest : Option Vrps → Type 0
+HasDigest None = ⊤
+HasDigest (Some v) = v.1 ≡ sha256 (canonical (set_of v.0))
+
+-- In each representation it is.
+abbrev pub HashIsDigest : Type 0
+HashIsDigest = (bytes : List ℕ) (c : Ccr) → IsBytes bytes → CcrSpells c bytes → HasDigest c.1.1.0

@@ -5,4 +5,6 @@ pub mod CanonicalRows
 pub mod Families
 pub mod Faults
 pub mod Laws
+pub mod PayloadSet
+pub mod PayloadSetReading
 pub mod Runs

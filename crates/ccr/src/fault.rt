@@ -4,6 +4,7 @@ ghost use Rattle.std.specs.Prelude.{◌≡◌};
 ghost use Rattle.ccr.specs.Faults.{kind_number};
 
 use der_lite::{DerFault, DerFaultKind};
+use payloads::GrammarFaultKind;
 use std::alloc::AllocError;
 use thiserror::Error;
 
@@ -13,36 +14,40 @@ pub enum CcrFaultKind {
     /// 1 to 5: an element is not in DER.
     #[error("{0}")]
     Element(DerFaultKind),
-    /// 6: the content type is not id-ct-rpkiCanonicalCacheRepresentation.
-    #[error("the content type is not that of a canonical cache representation (fault 6)")]
+    /// 6 to 12, or 20: what is wrong with a ROAPayloadSet, which is a RouteOriginAttestation (RFC 9582 section 4). The number is that of the
+    /// `GrammarFaultKind`. A set may have more than 65,536 entries, so 19 is no fault of it.
+    #[error("{0}")]
+    PayloadSet(GrammarFaultKind),
+    /// 21: the content type is not id-ct-rpkiCanonicalCacheRepresentation.
+    #[error("the content type is not that of a canonical cache representation (fault 21)")]
     ContentType,
-    /// 7: a version is there. Version 0, the only one, is left out.
-    #[error("a version other than 0 (fault 7)")]
+    /// 22: a version is there. Version 0, the only one, is left out.
+    #[error("a version other than 0 (fault 22)")]
     Version,
-    /// 8: hashAlg is not SHA-256 without parameters.
-    #[error("the hash algorithm is not SHA-256 without parameters (fault 8)")]
+    /// 23: hashAlg is not SHA-256 without parameters.
+    #[error("the hash algorithm is not SHA-256 without parameters (fault 23)")]
     HashAlgorithm,
-    /// 9: the hash beside a list is not the SHA-256 of the list.
-    #[error("the hash is not the SHA-256 of the list before it (fault 9)")]
+    /// 24: the hash beside a list is not the SHA-256 of the list.
+    #[error("the hash is not the SHA-256 of the list before it (fault 24)")]
     Hash,
-    /// 10: a ROAPayloadSet is no RouteOriginAttestation (RFC 9582 section 4) as `payloads::decode_roa` reads it: with at most 65,536 entries,
-    /// which ascend.
-    #[error("the payload set is not a RouteOriginAttestation (fault 10)")]
-    PayloadSet,
+    /// 25: the AS of a ROAPayloadSet is not above that of the set before it.
+    #[error("the AS of the payload set is not above the one before it (fault 25)")]
+    SetOrder,
 }
 
 impl CcrFaultKind {
-    /// The number of the kind, 1 to 10.
+    /// The number of the kind, 1 to 25.
     pub fn number(self) -> u8
         ensures { result ≡ kind_number self }
     {
         match self {
             CcrFaultKind::Element(kind) => kind.number(),
-            CcrFaultKind::ContentType => 6,
-            CcrFaultKind::Version => 7,
-            CcrFaultKind::HashAlgorithm => 8,
-            CcrFaultKind::Hash => 9,
-            CcrFaultKind::PayloadSet => 10,
+            CcrFaultKind::PayloadSet(kind) => kind.number(),
+            CcrFaultKind::ContentType => 21,
+            CcrFaultKind::Version => 22,
+            CcrFaultKind::HashAlgorithm => 23,
+            CcrFaultKind::Hash => 24,
+            CcrFaultKind::SetOrder => 25,
         }
     }
 

@@ -14,10 +14,12 @@
 //! assert!(rt; vrps_digest(rt.alloc(), &set)?[0] == 0x22);
 //! ```
 //!
-//! [`read_ccr`] reads a canonical cache representation: its VRPs and the hashes of its lists.
+//! [`read_ccr`] reads a canonical cache representation: its VRPs and the hashes of its lists. [`begins_as_ccr`] is false for each JSON text.
 //! [`vrps_digest`] is the hash by which the VRPs of two caches are compared. [`encode_vrps`] writes what is hashed.
 #![tactic(auto)]
 
+mod attestation;
+mod bits;
 mod by_as;
 mod ccr;
 mod digest;
@@ -31,4 +33,4 @@ mod vrp_lists;
 pub use ccr::{Ccr, VrpState};
 pub use digest::{encode_vrps, vrps_digest};
 pub use fault::{CcrFault, CcrFaultKind, ReadCcrError};
-pub use reading::read_ccr;
+pub use reading::{begins_as_ccr, read_ccr};

@@ -1,14 +1,15 @@
 //! Reading a canonical cache representation, from top to bottom.
 
-ghost use Rattle.std.specs.Prelude.{◌≡◌};
+ghost use Rattle.std.specs.Prelude.{◌≡◌, IfOk};
 ghost use Rattle.der_lite.specs.Fields.{optional_at};
 ghost use Rattle.der_lite.specs.DerReading.{content_at};
 ghost use Rattle.der_forms.specs.CombinatorReading.{fixed_field, found_at};
-ghost use Rattle.ccr.specs.Ccr.{id_ccr};
+ghost use Rattle.ccr.specs.Ccr.{begins_as_ccr, id_ccr};
 ghost use Rattle.der_forms.specs.Combinators.{barred, begins as begins_with, no_rules};
 ghost use Rattle.ccr.specs.CcrReading.{any_list_at, hash_at, plain_members_at, plain_state_at, manifest_members_at, manifest_state_at};
 ghost use Rattle.ccr.specs.CcrReading.{vrp_members_at, vrp_state_at, hash_algorithm_at, last_states_at, aspa_states_at, vrp_states_at, states_at};
 ghost use Rattle.ccr.specs.CcrReading.{representation_members_at, representation_at, content_at_0, info_members_at, content_info_at, ccr_all};
+ghost use Rattle.ccr.specs.Laws.{HasDigest};
 ghost use Rattle.ccr.specs.Faults.{kind_number, GivesNext, GivesAll, GivesOrMemory, GivesAllOrMemory, ReadsCcr};
 
 use crate::ccr::{Ccr, VrpState};
@@ -23,6 +24,9 @@ const EXPLICIT_0: u8 = 0xa0;
 
 /// The tag of a SEQUENCE (X.690 section 8.9).
 const SEQUENCE: u8 = 0x30;
+
+/// The least first byte of a length of two bytes or more (X.690 section 8.1.3.5).
+const LONG_LENGTH: u8 = 0x80;
 
 /// The tag of manifests [1].
 const MANIFESTS: u8 = 0xa1;
@@ -327,7 +331,7 @@ fn content(alloc: Global, cursor: &mut Cursor) -> Result<Ccr, ReadCcrError>
 /// contentType.
 #[tactic(auto, unfolding(der_lite::specs::DerReading::content_at))]
 fn content_type(cursor: &mut Cursor) -> Result<(), CcrFault>
-    ensures { GivesNext (λ _. tt) result cursor.new (fixed_field (content_at 6 no_rules cursor.old) cursor.old.at 6 id_ccr) }
+    ensures { GivesNext (λ _. tt) result cursor.new (fixed_field (content_at 6 no_rules cursor.old) cursor.old.at 21 id_ccr) }
 {
     let offset = cursor.offset();
     if cursor.oid()? != ID_CCR.as_slice() {
@@ -350,11 +354,23 @@ fn whole(alloc: Global, bytes: &[u8]) -> Result<Ccr, ReadCcrError>
     Ok(ccr)
 }
 
+/// Returns whether bytes begin as a canonical cache representation with lists does: with the tag of a SEQUENCE and a length of two bytes or more
+/// (X.690 section 8.1.3.5). No JSON text begins so.
+pub fn begins_as_ccr(bytes: &[u8]) -> bool
+    ensures { result ≡ begins_as_ccr bytes.now }
+{
+    match (bytes.first(), bytes.get(1)) {
+        (Some(tag), Some(length)) => *tag == SEQUENCE && *length >= LONG_LENGTH,
+        _ => false,
+    }
+}
+
 /// Reads a canonical cache representation (draft-ietf-sidrops-rpki-ccr), as rpki-client writes it: ContentInfo in DER. The hash of each list that
 /// is there is judged. Of ROA payloads the VRPs are read; the lists of manifests, ASPA payloads, trust anchors and router keys are not looked into.
 /// `At`: the bytes are none, and this is the first fault. `Memory`: memory runs out.
 pub fn read_ccr(alloc: Global, bytes: &[u8]) -> Result<Ccr, ReadCcrError>
-    ensures { ReadsCcr (λ c. c) result bytes.now }
+    ensures exact { ReadsCcr (λ c. c) result bytes.now }
+    ensures digest { IfOk result (λ c. HasDigest c.1.1.0) }
 {
     whole(alloc, bytes)
 }

@@ -1,13 +1,12 @@
 //! The list of payload sets of a canonical cache representation.
 
 ghost use Rattle.std.specs.Prelude.{◌≡◌};
-ghost use Rattle.der_lite.specs.Der.{IsBytes};
-ghost use Rattle.ccr.specs.CcrReading.{payload_set_at, payloads_at, payload_list_at};
+ghost use Rattle.ccr.specs.CcrReading.{payloads_at, payload_list_at};
 ghost use Rattle.ccr.specs.Faults.{GivesOrMemory, GivesAllOrMemory};
 
-use crate::{CcrFaultKind, ReadCcrError};
+use crate::ReadCcrError;
+use crate::attestation::payload_set;
 use der_lite::Cursor;
-use payloads::{PayloadFault, decode_roa};
 use prefixes::Vrp;
 use std::alloc::Global;
 
@@ -20,38 +19,16 @@ pub(crate) struct PayloadList<'a> {
     pub(crate) vrps: Vec<Vrp>,
 }
 
-/// What is known of a slice of bytes: each is one.
-fn know_bytes(bytes: &[u8])
-    ensures { IsBytes bytes.now }
-{
-    let _len = bytes.len();
-}
-
-/// A ROAPayloadSet: its VRPs.
-#[tactic(auto, unfolding(crate::specs::CcrReading::payload_set_at))]
-fn payload_set(alloc: Global, cursor: &mut Cursor) -> Result<Vec<Vrp>, ReadCcrError>
-    ensures { GivesOrMemory (λ vrps. vrps.items) result cursor.new (payload_set_at cursor.old) }
-{
-    let offset = cursor.offset();
-    let here = cursor.remaining();
-    know_bytes(here);
-    cursor.sequence()?;
-    match decode_roa(alloc, &here[..here.len() - cursor.remaining().len()]) {
-        Ok(roa) => Ok(roa.vrps(alloc)?),
-        Err(PayloadFault::Memory) => Err(ReadCcrError::Memory),
-        Err(PayloadFault::At(_)) => Err(ReadCcrError::At(CcrFaultKind::PayloadSet.at(offset))),
-    }
-}
-
 /// The payload sets to the end: their VRPs.
 fn payloads(alloc: Global, members: Cursor) -> Result<Vec<Vrp>, ReadCcrError>
     ensures { GivesAllOrMemory (λ vrps. vrps.items) result (payloads_at members.entry) }
 {
     let mut members = members;
     let mut vrps = Vec::new(alloc);
+    let mut before = None;
     while !members.at_end() {
-        let more = payload_set(alloc, &mut members)?;
-        vrps.extend_from_slice(more.as_slice())?;
+        let asn = payload_set(&mut members, before, &mut vrps)?;
+        before = Some(asn);
     }
     Ok(vrps)
 }
