@@ -2,6 +2,7 @@
 use Rattle.std.proofs.Common.{◌≡◌, ◌≢◌, ℕ, ◌+◌, ◌^◌, ◌<◌, ◌≤◌, Bool, true, false, List, [], ◌∷◌, ◌++◌, Option, None, Ok, Err, Result, inl, inr, refl, sym, ap, subst, ◌∙◌, arith, codes}
 use Rattle.std.specs.Bool.{MatchBool}
 use Rattle.std.specs.Fmt.{decimal}
+use Rattle.std.specs.Char.{is_ascii_digit}
 use Rattle.std.specs.List.{list_all}
 use Rattle.std.specs.Str.Lines.{lines}
 use Rattle.std.proofs.lemmas.Fmt.{decimal_injective}
@@ -20,7 +21,7 @@ use Rattle.constraints.specs.declared.fault.ConstraintsError.TheVariants.{At, Me
 use Rattle.constraints.specs.declared.constraint.Constraint.{Constraint}
 use Rattle.constraints.specs.declared.entry.Entry.{Entry}
 use Rattle.constraints.specs.Words.{uncommented, words}
-use Rattle.constraints.specs.Values.{Then, OfAscii, is_digit, ReadsNumber, SpellsAddress, ReadsAddress, as_end, ReadsEnd, range_from, ReadsRange, addresses_of, ReadsAddresses, as_alone, ReadsOne, is_dash, ReadsRangeTo, ReadsValue}
+use Rattle.constraints.specs.Values.{Then, OfAscii, ReadsNumber, SpellsAddress, ReadsAddress, as_end, ReadsEnd, range_from, ReadsRange, addresses_of, ReadsAddresses, as_alone, ReadsOne, is_dash, ReadsRangeTo, ReadsValue}
 use Rattle.constraints.specs.Entries.{action_of, entry_of, ReadsWords, ReadsLine}
 use Rattle.constraints.specs.Files.{before, ReadsLines, ReadsFile}
 use Rattle.constraints.specs.Laws.{OneReading}
@@ -101,8 +102,8 @@ address_once text (Err f) (Err g) h k = ap Err ((address_fault text f h).0 ∙ s
 
 end_once : (word : List ℕ) → One (ReadsEnd word)
 end_once word =
-    ascii_once word (λ r. MatchBool (list_all is_digit word) (Then (ReadsNumber word) (λ n q. q ≡ Ok (as_end n)) r) (ReadsAddress word r))
-    (match_once (list_all is_digit word) (Then (ReadsNumber word) (λ n q. q ≡ Ok (as_end n))) (ReadsAddress word)
+    ascii_once word (λ r. MatchBool (list_all is_ascii_digit word) (Then (ReadsNumber word) (λ n q. q ≡ Ok (as_end n)) r) (ReadsAddress word r))
+    (match_once (list_all is_ascii_digit word) (Then (ReadsNumber word) (λ n q. q ≡ Ok (as_end n))) (ReadsAddress word)
     (then_once (ReadsNumber word) (λ n q. q ≡ Ok (as_end n)) (number_once word) (λ n. is_once (Ok (as_end n)))) (address_once word))
 
 range_once : (begin end : List ℕ) → One (ReadsRange begin end)
@@ -149,8 +150,8 @@ addresses_once text (Err f) (Err g) h k = ap Err (faulty text f g h k)
 
 one_once : (word : List ℕ) → One (ReadsOne word)
 one_once word =
-    ascii_once word (λ r. MatchBool (list_all is_digit word) (Then (ReadsNumber word) (λ n q. q ≡ Ok (as_alone n)) r) (ReadsAddresses word r))
-    (match_once (list_all is_digit word) (Then (ReadsNumber word) (λ n q. q ≡ Ok (as_alone n))) (ReadsAddresses word)
+    ascii_once word (λ r. MatchBool (list_all is_ascii_digit word) (Then (ReadsNumber word) (λ n q. q ≡ Ok (as_alone n)) r) (ReadsAddresses word r))
+    (match_once (list_all is_ascii_digit word) (Then (ReadsNumber word) (λ n q. q ≡ Ok (as_alone n))) (ReadsAddresses word)
     (then_once (ReadsNumber word) (λ n q. q ≡ Ok (as_alone n)) (number_once word) (λ n. is_once (Ok (as_alone n)))) (addresses_once word))
 
 range_to_once : (begin : List ℕ) (more : List (List ℕ)) → One (ReadsRangeTo begin more)

@@ -1,5 +1,5 @@
 -- What a line of a file of constraints says (rpki-client(8)).
-use Rattle.std.specs.Prelude.{◌≡◌, ℕ, bytes_eq, if◌then◌else◌, List, [], ◌∷◌, Option, Some, None, Result, Ok, Err}
+use Rattle.std.specs.Prelude.{◌≡◌, ℕ, bytes_eq, codes, if◌then◌else◌, List, [], ◌∷◌, Option, Some, None, Result, Ok, Err}
 use Rattle.constraints.specs.declared.fault.ConstraintFaultKind.{ConstraintFaultKind}
 use Rattle.constraints.specs.declared.fault.ConstraintFaultKind.TheVariants.{Word}
 use Rattle.constraints.specs.declared.action.ConstraintAction.{ConstraintAction}
@@ -9,13 +9,11 @@ use Rattle.constraints.specs.declared.entry.Entry.{Entry}
 use Rattle.constraints.specs.Words.{uncommented, words}
 use Rattle.constraints.specs.Values.{Then, ReadsValue}
 
--- `allow`
 abbrev pub allow : List ℕ
-allow = 0x61 ∷ 0x6c ∷ 0x6c ∷ 0x6f ∷ 0x77 ∷ []
+allow = codes "allow"
 
--- `deny`
 abbrev pub deny : List ℕ
-deny = 0x64 ∷ 0x65 ∷ 0x6e ∷ 0x79 ∷ []
+deny = codes "deny"
 
 abbrev pub action_of : List ℕ → Result ConstraintAction ConstraintFaultKind
 action_of word = if bytes_eq word allow then Ok Allow else if bytes_eq word deny then Ok Deny else Err Word

@@ -1,5 +1,6 @@
 -- What the words after `allow` and `deny` say: a prefix, a range of addresses, an AS number, or a range of AS numbers.
-use Rattle.std.specs.Prelude.{◌≡◌, ◌⊎◌, ℕ, ◌+◌, ◌-◌, ◌^◌, ◌<◌, Bool, true, false, not, ◌&&◌, nat_lt, nat_le, bytes_eq, if◌then◌else◌, List, [], ◌∷◌, Result, Ok, Err}
+use Rattle.std.specs.Prelude.{◌≡◌, ◌⊎◌, ℕ, ◌+◌, ◌-◌, ◌^◌, ◌<◌, Bool, true, false, not, nat_lt, bytes_eq, if◌then◌else◌, List, [], ◌∷◌, Result, Ok, Err}
+use Rattle.std.specs.Char.{is_ascii_digit}
 use Rattle.std.specs.List.{list_all}
 use Rattle.std.specs.Bool.{MatchBool}
 use Rattle.std.specs.Fmt.{decimal}
@@ -26,9 +27,6 @@ Then {A} first next r = ((f : ConstraintFaultKind) × first (Err f) × (r ≡ Er
 abbrev pub OfAscii : {A : Type 0} → List ℕ → (Result A ConstraintFaultKind → Type 0) → Result A ConstraintFaultKind → Type 0
 OfAscii word reads r = (IsAscii word × reads r) ⊎ (IsNotAscii word × (r ≡ Err NotAscii))
 
-abbrev pub is_digit : ℕ → Bool
-is_digit b = nat_le 48 b && nat_le b 57
-
 -- An AS number is below 2^32 (RFC 6793), in decimal digits without leading zeros (RFC 5396, "asplain").
 abbrev pub ReadsNumber : List ℕ → Result ℕ ConstraintFaultKind → Type 0
 ReadsNumber text (Ok n) = (n < 2 ^ 32) × (text ≡ decimal n)
@@ -51,7 +49,7 @@ as_end n = record { kind = As; number = n }
 
 -- Digits alone are an AS number; any other end of a range is an address.
 abbrev pub ReadsEnd : List ℕ → Result End ConstraintFaultKind → Type 0
-ReadsEnd word = OfAscii word (λ r. MatchBool (list_all is_digit word) (Then (ReadsNumber word) (λ n q. q ≡ Ok (as_end n)) r) (ReadsAddress word r))
+ReadsEnd word = OfAscii word (λ r. MatchBool (list_all is_ascii_digit word) (Then (ReadsNumber word) (λ n q. q ≡ Ok (as_end n)) r) (ReadsAddress word r))
 
 abbrev pub same_kind : ResourceKind → ResourceKind → Bool
 same_kind Ipv4 Ipv4 = true
@@ -90,7 +88,7 @@ as_alone n = record { kind = As; range = range_of n n }
 
 -- One word: digits alone are an AS number; any other word is a prefix.
 abbrev pub ReadsOne : List ℕ → Result Numbers ConstraintFaultKind → Type 0
-ReadsOne word = OfAscii word (λ r. MatchBool (list_all is_digit word) (Then (ReadsNumber word) (λ n q. q ≡ Ok (as_alone n)) r) (ReadsAddresses word r))
+ReadsOne word = OfAscii word (λ r. MatchBool (list_all is_ascii_digit word) (Then (ReadsNumber word) (λ n q. q ≡ Ok (as_alone n)) r) (ReadsAddresses word r))
 
 abbrev pub is_dash : List ℕ → Bool
 is_dash word = bytes_eq word (45 ∷ [])

@@ -9,12 +9,6 @@ use crate::value::{Numbers, is_dash, read_one, read_range};
 use crate::words::{next_word, without_comment};
 use crate::{ConstraintAction, ConstraintFaultKind};
 
-/// `allow`, in bytes.
-const ALLOW: [u8; 5] = [0x61, 0x6c, 0x6c, 0x6f, 0x77];
-
-/// `deny`, in bytes.
-const DENY: [u8; 4] = [0x64, 0x65, 0x6e, 0x79];
-
 /// What a line says.
 #[derive(Clone, Copy)]
 pub(crate) struct Entry {
@@ -26,10 +20,10 @@ pub(crate) struct Entry {
 fn action_of(word: &[u8]) -> Result<ConstraintAction, ConstraintFaultKind>
     ensures { result ≡ action_of_word word.now }
 {
-    if word == ALLOW.as_slice() {
+    if word == b"allow".as_slice() {
         return Ok(ConstraintAction::Allow);
     }
-    if word == DENY.as_slice() {
+    if word == b"deny".as_slice() {
         return Ok(ConstraintAction::Deny);
     }
     Err(ConstraintFaultKind::Word)

@@ -1,12 +1,14 @@
 //! What the words after `allow` and `deny` say.
 
 ghost use Rattle.std.specs.Prelude.{◌≡◌, ◌⊎◌, ℕ, ◌+◌, ◌-◌, ◌%◌, ◌^◌, ◌<◌, ◌≤◌, MatchOption};
+ghost use Rattle.std.specs.Char.{is_ascii_digit};
 ghost use Rattle.std.specs.List.{list_all};
 ghost use Rattle.std.specs.Str.{IsAscii, IsNotAscii};
 ghost use Rattle.prefixes.specs.Text.{IsV6Address, v4_address};
 ghost use Rattle.prefixes.specs.TextSteps.{IsOnly};
 ghost use Rattle.prefix_texts.specs.MixedText.{IsMixedAddress};
-ghost use Rattle.constraints.specs.Values.{is_digit as is_digit_of, same_kind as same_kind_of, range_from as range_from_of, addresses_of as addresses_of_prefix, is_dash as is_dash_of, ReadsNumber, ReadsAddress, ReadsAddresses, ReadsEnd, ReadsRange, ReadsOne};
+ghost use Rattle.constraints.specs.Values.{same_kind as same_kind_of, range_from as range_from_of, addresses_of as addresses_of_prefix, is_dash as is_dash_of};
+ghost use Rattle.constraints.specs.Values.{ReadsNumber, ReadsAddress, ReadsAddresses, ReadsEnd, ReadsRange, ReadsOne};
 
 use crate::ConstraintFaultKind;
 use prefix_texts::parse_prefix;
@@ -42,25 +44,11 @@ fn ascii_text(word: &[u8]) -> Option<&str>
     }
 }
 
-/// Whether a byte is a decimal digit.
-fn is_digit(byte: u8) -> bool
-    ensures { result ≡ is_digit_of byte }
-{
-    b'0' <= byte && byte <= b'9'
-}
-
 /// Whether all bytes are decimal digits.
 fn are_digits(bytes: &[u8]) -> bool
-    ensures { result ≡ list_all is_digit_of bytes.now }
+    ensures { result ≡ list_all is_ascii_digit bytes.now }
 {
-    let mut rest = bytes;
-    while let [first, others @ ..] = rest {
-        if !is_digit(*first) {
-            return false;
-        }
-        rest = others;
-    }
-    true
+    bytes.iter().all(u8::is_ascii_digit)
 }
 
 /// An AS number.

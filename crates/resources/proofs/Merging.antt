@@ -40,17 +40,12 @@ record IsHull (a b h : ResourceRange) : Type 0 where
   pub one_high : (h.high ≡ a.high) ⊎ (h.high ≡ b.high)
 
 hull_is : (a b : ResourceRange) → IsHull a b (hull a b)
-hull_is a b =
-    elim (cases_lt b.low a.low) [
-      | inl lt ↦ elim (cases_lt a.high b.high) [
-        | inl gt ↦ rw (lt-ltb b.low a.low lt, lt-ltb a.high b.high gt) (record { low = (omega (arith, lt), omega arith); high = (omega (arith, gt), omega arith); one_low = inr refl; one_high = inr refl })
-        | inr le ↦ rw (lt-ltb b.low a.low lt, le-ltb a.high b.high le) (record { low = (omega (arith, lt), omega arith); high = (omega arith, le); one_low = inr refl; one_high = inl refl })
-      ]
-      | inr ge ↦ elim (cases_lt a.high b.high) [
-        | inl gt ↦ rw (le-ltb b.low a.low ge, lt-ltb a.high b.high gt) (record { low = (omega arith, ge); high = (omega (arith, gt), omega arith); one_low = inl refl; one_high = inr refl })
-        | inr le ↦ rw (le-ltb b.low a.low ge, le-ltb a.high b.high le) (record { low = (omega arith, ge); high = (omega arith, le); one_low = inl refl; one_high = inl refl })
-      ]
-    ]
+hull_is a b = record {
+  low = (omega arith, omega arith);
+  high = (omega arith, omega arith);
+  one_low = elim (cases_lt b.low a.low) [ inl lt ↦ inr (omega (arith, lt)) | inr ge ↦ inl (omega (arith, ge)) ];
+  one_high = elim (cases_lt a.high b.high) [ inl gt ↦ inr (omega (arith, gt)) | inr le ↦ inl (omega (arith, le)) ];
+}
 
 hull_full : (a b h : ResourceRange) → IsHull a b h → a.low ≤ a.high → h.low ≤ h.high
 hull_full a b h is full = omega (arith, is.low.0, is.high.0, full)

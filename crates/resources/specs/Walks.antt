@@ -1,5 +1,5 @@
 -- How two lists of ranges are walked.
-use Rattle.std.specs.Prelude.{ℕ, Bool, false, nat_lt, nat_le, if◌then◌else◌, List, [], ◌∷◌, ◌+◌}
+use Rattle.std.specs.Prelude.{ℕ, Bool, false, max, min, nat_lt, nat_le, if◌then◌else◌, List, [], ◌∷◌, ◌+◌}
 use Rattle.resources.specs.declared.range.ResourceRange.{ResourceRange}
 
 -- the ranges from the first that does not end before this number
@@ -17,17 +17,9 @@ abbrev pub begins_in : ResourceRange → List ResourceRange → Bool
 begins_in range [] = false
 begins_in range (first ∷ others) = nat_le first.low range.high
 
--- the lower of two numbers
-abbrev pub lower : ℕ → ℕ → ℕ
-lower a b = if nat_lt b a then b else a
-
--- the higher of two numbers
-abbrev pub higher : ℕ → ℕ → ℕ
-higher a b = if nat_lt a b then b else a
-
 -- from the lower beginning to the higher end
 abbrev pub hull : ResourceRange → ResourceRange → ResourceRange
-hull a b = record { low = lower a.low b.low; high = higher a.high b.high }
+hull a b = record { low = min a.low b.low; high = max a.high b.high }
 
 -- a range among others, in order: it becomes one with those that it overlaps or touches
 unfoldable pub merged : ResourceRange → List ResourceRange → List ResourceRange

@@ -4,7 +4,7 @@ ghost use Rattle.std.specs.Prelude.{◌≡◌, ◌≤◌, ◌↔◌, ◌⊎◌, 
 ghost use Rattle.std.specs.List.{All};
 ghost use Rattle.resources.specs.declared.range.ResourceRange.{ResourceRange as RangeValue};
 ghost use Rattle.resources.specs.Ranges.{is_after as is_after_of, are_apart as are_apart_of, AreRanges, Covers, IsIn, Overlap, Within};
-ghost use Rattle.resources.specs.Walks.{from_end as from_end_of, begins_by as begins_by_of, begins_in as begins_in_of, lower as lower_of, higher as higher_of, hull as hull_of, merged as merged_of};
+ghost use Rattle.resources.specs.Walks.{from_end as from_end_of, begins_by as begins_by_of, begins_in as begins_in_of, hull as hull_of, merged as merged_of};
 
 use crate::ResourceRange;
 use std::alloc::{AllocError, Global};
@@ -117,33 +117,13 @@ impl ResourceSet {
     }
 }
 
-/// The lower of two numbers.
-fn lower(a: u128, b: u128) -> u128
-    ensures { result ≡ lower_of a b }
-{
-    if b < a {
-        return b;
-    }
-    a
-}
-
-/// The higher of two numbers.
-fn higher(a: u128, b: u128) -> u128
-    ensures { result ≡ higher_of a b }
-{
-    if a < b {
-        return b;
-    }
-    a
-}
-
 /// The range from the lower beginning to the higher end.
 fn hull(a: ResourceRange, b: ResourceRange) -> ResourceRange
     ensures { result ≡ hull_of a b }
 {
     ResourceRange {
-        low: lower(a.low, b.low),
-        high: higher(a.high, b.high),
+        low: a.low.min(b.low),
+        high: a.high.max(b.high),
     }
 }
 
