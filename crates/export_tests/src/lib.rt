@@ -6,6 +6,8 @@
 #[cfg(test)]
 mod anchors;
 #[cfg(test)]
+mod ccr_files;
+#[cfg(test)]
 mod export_cases;
 #[cfg(test)]
 mod export_files;

@@ -12,7 +12,8 @@ use Rattle.vrps.proofs.SetLaws.{set_of-listing}
 use Rattle.exports.specs.Lasting.{counting}
 use Rattle.sources.specs.ByAnchor.{HasNoAnchors}
 use Rattle.sources.specs.Served.{CountsUntil, IsNothing, counting_at, expired_of, none_ignored}
-use Rattle.sources.specs.TakenLaws.{NothingCounts}
+use Rattle.sources.specs.Ccrs.{last_of}
+use Rattle.sources.specs.TakenLaws.{CcrsEnd, NothingCounts}
 use Rattle.sources.specs.declared.listed.Listed.{Listed}
 use Rattle.sources.proofs.Counts.{counted_all}
 
@@ -35,9 +36,9 @@ whole : (s : VrpSet) (b : Bool) → set_of (cond b (listing s) []) ≡ cond b s 
 whole s true = set_of-listing s
 whole s false = refl
 
-at_second : (at last : ℕ) (s : VrpSet) (l : Listed) → HasOneEnd s last l → counting_at at l ≡ cond (nat_le at last) s empty
-at_second at last s l is =
-    (λ i. set_of (counting at (listing (is.set_is i)) (is.lasts_are i)))
+at_second : (at last : ℕ) (s : VrpSet) (l : Listed) → l.set ≡ s → l.lasts.items ≡ replicate (size s) last → counting_at at l ≡ cond (nat_le at last) s empty
+at_second at last s l set_is lasts_are =
+    (λ i. set_of (counting at (listing (set_is i)) (lasts_are i)))
     ∙ ap (λ n. set_of (counting at (listing s) (replicate n last))) (sym (size_of_listing s))
     ∙ ap set_of (alike at last (nat_le at last) refl (listing s))
     ∙ whole s (nat_le at last)
@@ -47,12 +48,34 @@ either_way : (at last : ℕ) (s : VrpSet) (l : Listed) → HasOneEnd s last l �
 either_way at last s l is =
     let first : nat_le 0 last ≡ true = grind (arith, nat_tests) in
     counted_all at l (ap length is.lasts_are ∙ length-replicate (size s) last ∙ ap (λ t. size t) (sym is.set_is))
-    ∙ ap (λ t. size t) (is.set_is ∙ sym (at_second 0 last s l is ∙ ap (λ b. cond b s empty) first))
+    ∙ ap (λ t. size t) (is.set_is ∙ sym (at_second 0 last s l is.set_is is.lasts_are ∙ ap (λ b. cond b s empty) first))
+
+-- No record has a last second.
+pub no_lasts : (last : ℕ) → [] ≡ replicate (size empty) last
+no_lasts last = sym (ap (λ n. replicate n last) (map.len-empty vrp_cmp (Unit {0})))
+
+-- A canonical cache representation ends with its age.
+pub ccrs_end : CcrsEnd
+ccrs_end max_age bytes now expired l taken at later = by (nat_le now last) refl where
+  last : ℕ
+  last = last_of taken.made taken.age
+
+  vrps : VrpSet
+  vrps = set_of taken.vrps.0
+
+  whole_list : counting_at at l ≡ cond (nat_le at last) l.set empty
+  whole_list = at_second at last l.set l refl taken.lasts_are
+
+  by : (counts : Bool) → nat_le now last ≡ counts → counting_at at l ≡ cond (nat_le at last) vrps empty
+  by true is = whole_list ∙ ap (λ s. cond (nat_le at last) s empty) (taken.set_is ∙ ap (λ b. cond b vrps empty) is)
+  by false is =
+      let over : nat_le at last ≡ false = grind (arith, nat_tests) in
+      whole_list ∙ ap (λ b. cond b l.set empty) over ∙ sym (ap (λ b. cond b vrps empty) over)
 
 -- Without an end ..
 pub without_end : (s : VrpSet) (l : Listed) → HasOneEnd s 18446744073709551615 l → CountsUntil s None l
 without_end s l is = record {
-  counts = λ at small. let all : nat_le at 18446744073709551615 ≡ true = grind (arith, nat_tests) in at_second at 18446744073709551615 s l is ∙ ap (λ b. cond b s empty) all;
+  counts = λ at small. let all : nat_le at 18446744073709551615 ≡ true = grind (arith, nat_tests) in at_second at 18446744073709551615 s l is.set_is is.lasts_are ∙ ap (λ b. cond b s empty) all;
   expired = λ at small. either_way at 18446744073709551615 s l is;
   built_is = is.built_is;
   ignored_is = is.ignored_is;
@@ -66,7 +89,7 @@ one_before at end some false is = grind (arith, nat_tests)
 -- .. with one after the first second ..
 pub with_end : (s : VrpSet) (end : ℕ) (l : Listed) → 0 < end → HasOneEnd s (end - 1) l → CountsUntil s (Some end) l
 with_end s end l some is = record {
-  counts = λ at small. at_second at (end - 1) s l is ∙ ap (λ b. cond b s empty) (one_before at end some (nat_lt at end) refl);
+  counts = λ at small. at_second at (end - 1) s l is.set_is is.lasts_are ∙ ap (λ b. cond b s empty) (one_before at end some (nat_lt at end) refl);
   expired = λ at small. either_way at (end - 1) s l is;
   built_is = is.built_is;
   ignored_is = is.ignored_is;

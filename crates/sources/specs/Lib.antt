@@ -1,4 +1,5 @@
 pub mod ByAnchor
+pub mod Ccrs
 pub mod Served
 pub mod ServedRows
 pub mod Shrinking

@@ -1,5 +1,5 @@
 -- What is served: what all sources have together, with local exceptions.
-use Rattle.std.specs.Prelude.{◌≡◌, ◌⊎◌, ◌<◌, ◌≤◌, ℕ, ◌+◌, ◌^◌, cond, nat_le, nat_lt, length, map, take, unwrap_or, count_by, filter, slice_set, Bool, true, false, not, ◌&&◌, ◌||◌, ◌==◌, List, [], ◌∷◌, Option, Some, None, Result, Ok, Err, string_bytes, ⊤}
+use Rattle.std.specs.Prelude.{◌≡◌, ◌⊎◌, ◌<◌, ◌≤◌, ℕ, ◌+◌, ◌^◌, cond, nat_le, nat_lt, length, map, take, unwrap_or, count_by, filter, replicate, slice_set, Bool, true, false, not, ◌&&◌, ◌||◌, ◌==◌, List, [], ◌∷◌, Option, Some, None, Result, Ok, Err, string_bytes, ⊤}
 use Rattle.std.specs.List.{All, list_any, slice_get}
 use Rattle.der_lite.specs.Moments.{CivilMoment}
 use Rattle.der_lite.specs.Seconds.{seconds_of}
@@ -22,11 +22,13 @@ use Rattle.slurm.specs.declared.fault.SlurmFault.{SlurmFault}
 use Rattle.slurm.specs.declared.fault.SlurmFault.TheVariants.{Memory}
 use Rattle.slurm.specs.declared.scoped.Ignored.{Ignored as IgnoredExceptions}
 use Rattle.slurm.specs.declared.unite_fault.UniteFault.TheVariants as unite
+use Rattle.ccr.specs.Ccr.{Vrps, begins_as_ccr}
 use Rattle.sources.specs.ByAnchor.{AreLeft, HasNoAnchors}
+use Rattle.sources.specs.Ccrs.{IsCcrRefused, Says, last_of}
 use Rattle.sources.specs.declared.fault.SlurmSetFault.{SlurmSetFault}
 use Rattle.sources.specs.declared.fault.SlurmSetFault.TheVariants.{File, Unite}
 use Rattle.sources.specs.declared.fault.TakeFault.{TakeFault}
-use Rattle.sources.specs.declared.fault.TakeFault.TheVariants.{NoSuchFile, Export, Shrank}
+use Rattle.sources.specs.declared.fault.TakeFault.TheVariants.{NoSuchFile, Export, Ccr}
 use Rattle.sources.specs.declared.fault.TakeSetFault.{TakeSetFault}
 use Rattle.sources.specs.declared.fault.TakeSetFault.TheVariants as set
 use Rattle.sources.specs.declared.listed.Listed.{Listed}
@@ -130,16 +132,45 @@ pub record IsTaken (bytes : List ℕ) (now : ℕ) (expired : ℕ) (l : Listed) :
   pub is_read : counted.lasting ≡ read
   pub anchors_are : l.anchors ≡ counted.anchors
 
--- Why an export is refused: there is no such file, or its bytes have a fault.
-abbrev pub IsRefused : List ℕ → ℕ → ℕ → List Listed → TakeFault → Type 0
-IsRefused bytes now i lists NoSuchFile = length lists ≤ i
-IsRefused bytes now i lists (Export fault) = (i < length lists) × HasFault bytes now fault
-IsRefused bytes now i lists (Shrank percent had has) = ⊥
+-- Nothing of a file is left out.
+abbrev pub none_ignored : Ignored
+none_ignored = record { aspas = 0; router_keys = 0 }
 
--- The export of a file is replaced as a whole, or nothing changes.
-abbrev pub TakesExport : List ℕ → ℕ → ℕ → Result ℕ TakeFault → List Listed → List Listed → Type 0
-TakesExport bytes now i (Ok expired) old new = (i < length old) × ((l : Listed) × IsTaken bytes now expired l × (new ≡ slice_set old i l))
-TakesExport bytes now i (Err fault) old new = IsRefused bytes now i old fault × (new ≡ old)
+-- What is kept of a canonical cache representation: its VRPs, which count until it is older than the maximum age. If it is already, none is kept, and all
+-- have expired.
+pub record IsTakenCcr (max_age : Option ℕ) (bytes : List ℕ) (now : ℕ) (expired : ℕ) (l : Listed) : Type 0 where
+  pub age : ℕ
+  pub age_is : max_age ≡ Some age
+  pub made : ℕ
+  pub vrps : Vrps
+  pub says : Says bytes made vrps
+  pub set_is : l.set ≡ cond (nat_le now (last_of made age)) (set_of vrps.0) empty
+  pub lasts_are : l.lasts.items ≡ replicate (size l.set) (last_of made age)
+  pub expired_is : expired ≡ cond (nat_le now (last_of made age)) 0 (size (set_of vrps.0))
+  pub built_is : l.built ≡ Some made
+  pub ignored_is : l.ignored ≡ none_ignored
+  pub anchors_are : HasNoAnchors l.anchors
+
+-- What is kept of the content of a file. If it begins as a canonical cache representation does, it is one. Otherwise it is an export.
+abbrev pub IsLoaded : Option ℕ → List ℕ → ℕ → ℕ → Listed → Type 0
+IsLoaded max_age bytes now expired l =
+    ((begins_as_ccr bytes ≡ false) × IsTaken bytes now expired l) ⊎ ((begins_as_ccr bytes ≡ true) × IsTakenCcr max_age bytes now expired l)
+
+-- Why the content of a file is not read.
+abbrev pub IsUnread : Option ℕ → List ℕ → ℕ → TakeFault → Type 0
+IsUnread max_age bytes now (Export fault) = (begins_as_ccr bytes ≡ false) × HasFault bytes now fault
+IsUnread max_age bytes now (Ccr fault) = (begins_as_ccr bytes ≡ true) × IsCcrRefused max_age bytes fault
+IsUnread max_age bytes now fault = ⊥
+
+-- Why the content of a file is refused: there is no such file, or it is not read.
+abbrev pub IsRefused : Option ℕ → List ℕ → ℕ → ℕ → List Listed → TakeFault → Type 0
+IsRefused max_age bytes now i lists NoSuchFile = length lists ≤ i
+IsRefused max_age bytes now i lists fault = (i < length lists) × IsUnread max_age bytes now fault
+
+-- The content of a file is replaced as a whole, or nothing changes.
+abbrev pub TakesExport : Option ℕ → List ℕ → ℕ → ℕ → Result ℕ TakeFault → List Listed → List Listed → Type 0
+TakesExport max_age bytes now i (Ok expired) old new = (i < length old) × ((l : Listed) × IsLoaded max_age bytes now expired l × (new ≡ slice_set old i l))
+TakesExport max_age bytes now i (Err fault) old new = IsRefused max_age bytes now i old fault × (new ≡ old)
 
 -- Of files of these scopes, these exceptions are applied, and the entries on BGPsec of each file are counted.
 pub record AreApplied (ss : List Scoped) (e : AppliedSlurms) : Type 0 where
@@ -180,10 +211,6 @@ AreRefused files (Unite fault) = (fault ≡ unite.Memory) ⊎ ((ss : List Scoped
 abbrev pub TakesSlurms : List (List ℕ) → Result (Unit {0}) SlurmSetFault → Option AppliedSlurms → Option AppliedSlurms → Type 0
 TakesSlurms files (Ok u) old new = AreUnited files new
 TakesSlurms files (Err fault) old new = AreRefused files fault × (new ≡ old)
-
--- Nothing of a file is left out.
-abbrev pub none_ignored : Ignored
-none_ignored = record { aspas = 0; router_keys = 0 }
 
 -- No export of a file was read yet ..
 pub record IsNothing (l : Listed) : Type 0 where
@@ -266,23 +293,28 @@ DropsSet i false old new = (length old ≤ i) × (new ≡ old)
 abbrev pub ServesAt : Sources → CivilMoment → VrpSet → Type 0
 ServesAt s now t = IsServed s.repository s.lists.items s.exceptions s.leaves_out now t
 
--- What the sources keep of an export, of a set, and of local exceptions
+-- What is left out, and the maximum age, are unchanged.
+pub record SameSettings (old new : Sources) : Type 0 where
+  pub leaves_out : new.leaves_out ≡ old.leaves_out
+  pub max_age : new.max_age ≡ old.max_age
+
+-- What the sources keep of the content of a file, of a set, and of local exceptions
 abbrev pub ExportTaken : List ℕ → ℕ → ℕ → Result ℕ TakeFault → Sources → Sources → Type 0
 ExportTaken bytes now i result old new =
-    TakesExport bytes now i result old.lists.items new.lists.items × (new.exceptions ≡ old.exceptions) × (new.repository ≡ old.repository) × (new.leaves_out ≡ old.leaves_out)
+    TakesExport old.max_age bytes now i result old.lists.items new.lists.items × (new.exceptions ≡ old.exceptions) × (new.repository ≡ old.repository) × SameSettings old new
 
 abbrev pub SetTaken : VrpSet → Option ℕ → ℕ → Result (Unit {0}) TakeSetFault → Sources → Sources → Type 0
 SetTaken s end i result old new =
-    TakesSet s end i result old.lists.items new.lists.items × (new.exceptions ≡ old.exceptions) × (new.repository ≡ old.repository) × (new.leaves_out ≡ old.leaves_out)
+    TakesSet s end i result old.lists.items new.lists.items × (new.exceptions ≡ old.exceptions) × (new.repository ≡ old.repository) × SameSettings old new
 
 abbrev pub SetDropped : ℕ → Bool → Sources → Sources → Type 0
 SetDropped i result old new =
-    DropsSet i result old.lists.items new.lists.items × (new.exceptions ≡ old.exceptions) × (new.repository ≡ old.repository) × (new.leaves_out ≡ old.leaves_out)
+    DropsSet i result old.lists.items new.lists.items × (new.exceptions ≡ old.exceptions) × (new.repository ≡ old.repository) × SameSettings old new
 
 abbrev pub SlurmTaken : List ℕ → Result (Unit {0}) SlurmFault → Sources → Sources → Type 0
 SlurmTaken bytes result old new =
-    TakesSlurm bytes result old.exceptions new.exceptions × (new.lists ≡ old.lists) × (new.repository ≡ old.repository) × (new.leaves_out ≡ old.leaves_out)
+    TakesSlurm bytes result old.exceptions new.exceptions × (new.lists ≡ old.lists) × (new.repository ≡ old.repository) × SameSettings old new
 
 abbrev pub SlurmsTaken : List (List ℕ) → Result (Unit {0}) SlurmSetFault → Sources → Sources → Type 0
 SlurmsTaken files result old new =
-    TakesSlurms files result old.exceptions new.exceptions × (new.lists ≡ old.lists) × (new.repository ≡ old.repository) × (new.leaves_out ≡ old.leaves_out)
+    TakesSlurms files result old.exceptions new.exceptions × (new.lists ≡ old.lists) × (new.repository ≡ old.repository) × SameSettings old new

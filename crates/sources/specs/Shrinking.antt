@@ -1,10 +1,9 @@
--- When an export is refused, as it is far shorter than what its file has given so far.
-use Rattle.std.specs.Prelude.{◌≡◌, ◌<◌, ◌≤◌, ◌*◌, ◌-◌, ◌&&◌, ℕ, nat_le, nat_lt, slice_set, length, Bool, true, false, List, Option, Some, None, Result, Ok, Err}
+-- When the content of a file is refused, as it is far shorter than what its file has given so far.
+use Rattle.std.specs.Prelude.{◌≡◌, ◌<◌, ◌*◌, ◌-◌, ◌&&◌, ℕ, nat_le, nat_lt, slice_set, length, Bool, true, false, List, Option, Some, None, Result, Ok, Err}
 use Rattle.std.specs.List.{slice_get}
-use Rattle.exports.specs.Export.{HasFault}
-use Rattle.sources.specs.Served.{IsTaken, expired_of, records_of}
+use Rattle.sources.specs.Served.{IsLoaded, IsRefused, SameSettings, expired_of, records_of}
 use Rattle.sources.specs.declared.fault.TakeFault.{TakeFault}
-use Rattle.sources.specs.declared.fault.TakeFault.TheVariants.{NoSuchFile, Export, Shrank}
+use Rattle.sources.specs.declared.fault.TakeFault.TheVariants.{Shrank}
 use Rattle.sources.specs.declared.listed.Listed.{Listed}
 use Rattle.sources.specs.declared.sources.Sources.{Sources}
 
@@ -21,29 +20,28 @@ abbrev pub is_guarded : Option ℕ → ℕ → ℕ → Bool
 is_guarded None had has = false
 is_guarded (Some percent) had has = is_too_short percent had has
 
--- The bytes are an export, and of what counts at this moment it has too little.
-pub record IsShrunk (percent : ℕ) (bytes : List ℕ) (now i : ℕ) (lists : List Listed) (had has : ℕ) : Type 0 where
+-- The content of a file is read, and of what counts at this moment it has too little.
+pub record IsShrunk (max_age : Option ℕ) (percent : ℕ) (bytes : List ℕ) (now i : ℕ) (lists : List Listed) (had has : ℕ) : Type 0 where
   pub there : i < length lists
   pub read : Listed
   pub expired : ℕ
-  pub is : IsTaken bytes now expired read
+  pub is : IsLoaded max_age bytes now expired read
   pub had_is : had ≡ left_of now (slice_get lists i)
   pub has_is : has ≡ left_of now (Some read)
   pub short : is_too_short percent had has ≡ true
 
--- Why an export is refused: there is no such file, its bytes have a fault, or it is too short.
-abbrev pub IsRefusedWithin : Option ℕ → List ℕ → ℕ → ℕ → List Listed → TakeFault → Type 0
-IsRefusedWithin guard bytes now i lists NoSuchFile = length lists ≤ i
-IsRefusedWithin guard bytes now i lists (Export fault) = (i < length lists) × HasFault bytes now fault
-IsRefusedWithin guard bytes now i lists (Shrank percent had has) = (guard ≡ Some percent) × IsShrunk percent bytes now i lists had has
+-- Why the content of a file is refused: there is no such file, it is not read, or it is too short.
+abbrev pub IsRefusedWithin : Option ℕ → Option ℕ → List ℕ → ℕ → ℕ → List Listed → TakeFault → Type 0
+IsRefusedWithin max_age guard bytes now i lists (Shrank percent had has) = (guard ≡ Some percent) × IsShrunk max_age percent bytes now i lists had has
+IsRefusedWithin max_age guard bytes now i lists fault = IsRefused max_age bytes now i lists fault
 
--- The export of a file is replaced as a whole, by one that the guard does not refuse. Or nothing changes.
-abbrev pub TakesWithin : Option ℕ → List ℕ → ℕ → ℕ → Result ℕ TakeFault → List Listed → List Listed → Type 0
-TakesWithin guard bytes now i (Ok expired) old new =
-    (i < length old) × ((l : Listed) × IsTaken bytes now expired l × (is_guarded guard (left_of now (slice_get old i)) (left_of now (Some l)) ≡ false) × (new ≡ slice_set old i l))
-TakesWithin guard bytes now i (Err fault) old new = IsRefusedWithin guard bytes now i old fault × (new ≡ old)
+-- The content of a file is replaced as a whole, by one that the guard does not refuse. Or nothing changes.
+abbrev pub TakesWithin : Option ℕ → Option ℕ → List ℕ → ℕ → ℕ → Result ℕ TakeFault → List Listed → List Listed → Type 0
+TakesWithin max_age guard bytes now i (Ok expired) old new =
+    (i < length old) × ((l : Listed) × IsLoaded max_age bytes now expired l × (is_guarded guard (left_of now (slice_get old i)) (left_of now (Some l)) ≡ false) × (new ≡ slice_set old i l))
+TakesWithin max_age guard bytes now i (Err fault) old new = IsRefusedWithin max_age guard bytes now i old fault × (new ≡ old)
 
--- What the sources keep of an export
+-- What the sources keep of the content of a file
 abbrev pub ExportTakenWithin : Option ℕ → List ℕ → ℕ → ℕ → Result ℕ TakeFault → Sources → Sources → Type 0
 ExportTakenWithin guard bytes now i result old new =
-    TakesWithin guard bytes now i result old.lists.items new.lists.items × (new.exceptions ≡ old.exceptions) × (new.repository ≡ old.repository) × (new.leaves_out ≡ old.leaves_out)
+    TakesWithin old.max_age guard bytes now i result old.lists.items new.lists.items × (new.exceptions ≡ old.exceptions) × (new.repository ≡ old.repository) × SameSettings old new

@@ -1,12 +1,13 @@
 -- What is kept of a file says what it exports at later moments too.
-use Rattle.std.specs.Prelude.{◌≡◌, ◌↔◌, ℕ, ◌+◌, ◌^◌, ◌<◌, ◌≤◌, false, List, [], ◌∷◌, Option, Some, Ok, Err}
-use Rattle.vrps.specs.VrpSet.{empty, size}
+use Rattle.std.specs.Prelude.{◌≡◌, ◌↔◌, ℕ, ◌+◌, ◌^◌, ◌<◌, ◌≤◌, cond, nat_le, false, List, [], ◌∷◌, Option, Some, Ok, Err}
+use Rattle.vrps.specs.VrpSet.{empty, set_of, size}
 use Rattle.exports.specs.Export.{IsExport}
 use Rattle.exports.specs.declared.export.Export.{Export}
 use Rattle.slurm.specs.declared.fault.SlurmFault.{SlurmFault}
 use Rattle.slurm.specs.declared.unite_fault.UniteFault.{UniteFault}
 use Rattle.slurm.specs.declared.unite_fault.UniteFault.TheVariants as unite
-use Rattle.sources.specs.Served.{IsNothing, IsTaken, TakesSlurm, TakesSlurms, counting_at, ends_between, expired_of}
+use Rattle.sources.specs.Ccrs.{last_of}
+use Rattle.sources.specs.Served.{IsNothing, IsTaken, IsTakenCcr, TakesSlurm, TakesSlurms, counting_at, ends_between, expired_of}
 use Rattle.sources.specs.declared.fault.SlurmSetFault.TheVariants.{File, Unite}
 use Rattle.sources.specs.declared.listed.Listed.{Listed}
 use Rattle.sources.specs.declared.slurms.AppliedSlurms.{AppliedSlurms}
@@ -16,6 +17,12 @@ abbrev pub StaysTaken : Type 0
 StaysTaken =
     (bytes : List ℕ) (now expired : ℕ) (l : Listed) → IsTaken bytes now expired l → (at : ℕ) → now ≤ at → at < 2 ^ 64
     → ((y : Export) × IsExport bytes at y) × ((y : Export) → IsExport bytes at y → y.set ≡ counting_at at l)
+
+-- The VRPs of a canonical cache representation count at a later second until it is older than the maximum age, and then none does.
+abbrev pub CcrsEnd : Type 0
+CcrsEnd =
+    (max_age : Option ℕ) (bytes : List ℕ) (now expired : ℕ) (l : Listed) (taken : IsTakenCcr max_age bytes now expired l) (at : ℕ) → now ≤ at
+    → counting_at at l ≡ cond (nat_le at (last_of taken.made taken.age)) (set_of taken.vrps.0) empty
 
 -- Each payload that is kept counts at a second, or is counted as expired.
 abbrev pub CountsExpired : Type 0

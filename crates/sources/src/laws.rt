@@ -1,6 +1,6 @@
 //! Laws of sources. The functions do nothing: each states a law, which is proved. A record is a VRP of a file with its last second.
 //! It counts at a second if its last second is that one or a later one. Seconds are counted since 1970.
-ghost use Rattle.sources.specs.TakenLaws.{CountsExpired, NothingCounts, NothingEnds, OneSlurm, StaysTaken};
+ghost use Rattle.sources.specs.TakenLaws.{CcrsEnd, CountsExpired, NothingCounts, NothingEnds, OneSlurm, StaysTaken};
 
 use exports::laws::later_exports;
 
@@ -10,6 +10,12 @@ pub fn stays_taken()
 {
     later_exports();
 }
+
+/// Law: let a canonical cache representation be read at one second. At each later second all its VRPs count, until it is older than the maximum age.
+/// From then on none does.
+pub fn ccrs_end()
+    ensures { CcrsEnd }
+{}
 
 /// Law, for a file that was read, and each second below 2^64. The number of its records that count, and the number that `expired` counts, add up to
 /// the number of all its records.

@@ -1,4 +1,4 @@
-//! The sources of what a cache serves: exports of validators, sets of other caches, publication points, and local exceptions. [`Sources`]
+//! The sources of what a cache serves: lists of validators, sets of other caches, publication points, and local exceptions. [`Sources`]
 //! keeps the last good content of each, and makes one set of them.
 //!
 //! For example, where `rt` is the runtime that `main` is handed:
@@ -20,11 +20,12 @@
 mod fault;
 pub mod laws;
 mod listed;
+mod reading;
 mod shrinking;
 mod slurms;
 mod sources;
 
-pub use fault::{SlurmSetFault, TakeFault, TakeSetFault};
+pub use fault::{SlurmSetFault, TakeCcrFault, TakeFault, TakeSetFault};
 pub use listed::Listed;
 pub use shrinking::is_too_short;
 pub use sources::{ServedSet, Sources};

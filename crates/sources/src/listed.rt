@@ -1,6 +1,6 @@
 //! What one source says: the export of a file as it was read last, or the set of another cache.
 ghost use Rattle.std.specs.Prelude.{◌≡◌, ℕ, ◌+◌, ◌^◌, ◌<◌, ◌++◌, ◌∷◌, [], cond, length, nat_le, slice_get, IfOk, IsErrOf, None, OnOk, Some, replicate};
-ghost use Rattle.vrps.specs.VrpSet.{size};
+ghost use Rattle.vrps.specs.VrpSet.{empty, size};
 ghost use Rattle.exports.specs.Lasting.{counting, last_at};
 ghost use Rattle.sources.specs.Served.{CountsUntil, IsNothing, counting_at, ends_between, expired_of, is_any_before, none_ignored};
 ghost use Rattle.sources.specs.ByAnchor.{AreLeft, HasNoAnchors, raised};
@@ -78,14 +78,38 @@ impl Listed {
         ensures set { IfOk result (λ l. (l.set ≡ set.now) × (l.built ≡ None) × (l.ignored ≡ none_ignored) × HasNoAnchors l.anchors) }
         ensures lasts { IfOk result (λ l. l.lasts.items ≡ replicate (size set.now) last) }
     {
+        Listed::ending(alloc, set.duplicate()?, last, None)
+    }
+
+    /// A set that was made at a second, or it is not known when. Its records all have the same last second.
+    pub(crate) fn ending(
+        alloc: Global,
+        set: VrpSet,
+        last: u64,
+        built: Option<u64>,
+    ) -> Result<Listed, AllocError>
+        ensures set { IfOk result (λ l. (l.set ≡ set) × (l.built ≡ built) × (l.ignored ≡ none_ignored) × HasNoAnchors l.anchors) }
+        ensures lasts { IfOk result (λ l. l.lasts.items ≡ replicate (size set) last) }
+    {
         let lasts = vec![in alloc; last; set.len()]?;
         Ok(Listed {
-            set: set.duplicate()?,
+            set,
             lasts,
-            built: None,
+            built,
             ignored: NONE_IGNORED,
             anchors: no_anchors(alloc),
         })
+    }
+
+    /// A list that was made at a second, and whose records have all expired.
+    pub(crate) fn ended(alloc: Global, built: u64) -> Listed
+        ensures list { (result.set ≡ empty) × (result.lasts.items ≡ []) × (result.built ≡ Some built) }
+        ensures rest { (result.ignored ≡ none_ignored) × HasNoAnchors result.anchors }
+    {
+        Listed {
+            built: Some(built),
+            ..Listed::empty(alloc)
+        }
     }
 
     /// How many records have expired at this moment.

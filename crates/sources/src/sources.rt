@@ -4,17 +4,18 @@ ghost use Rattle.vrps.specs.VrpSet.{empty, size, union};
 ghost use Rattle.points.specs.Answers.{told_by, NewExactly, BecomesAt};
 ghost use Rattle.points.specs.InUse.{accepted_at, no_points};
 ghost use Rattle.points.specs.Offers.{Acceptable, Judged};
-ghost use Rattle.sources.specs.Served.{DropsSet, Gives, HasServed, IsServed, LeavesOut, NoneTaken, PassesLimit, TakesExport, TakesSet, TakesSlurm, TakesSlurms};
+ghost use Rattle.sources.specs.Served.{DropsSet, Gives, HasServed, IsServed, LeavesOut, NoneTaken, PassesLimit, SameSettings, TakesExport, TakesSet, TakesSlurm, TakesSlurms};
 ghost use Rattle.sources.specs.Shrinking.{TakesWithin, left_of};
 ghost use Rattle.sources.specs.Served.{AreLeftOf, anchors_at};
 ghost use Rattle.sources.specs.Served.{built_at, ends_between, excepted_by, expired_of, has_length_0, ignored_at, ignored_exceptions, left_out_of, narrowed, records_of, with_lists};
 
 use crate::fault::{SlurmSetFault, TakeFault, TakeSetFault};
 use crate::listed::Listed;
+use crate::reading::read_listed;
 use crate::shrinking::shrinking;
 use crate::slurms::{AppliedSlurms, NO_EXCEPTIONS, read_applied, read_united};
 use der_lite::Moment;
-use exports::{Export, ExportCounted, ExportLasting, Ignored, read_export_counted};
+use exports::Ignored;
 use points::{FileIn, Offered, PointFault, Repository};
 use prefixes::Vrp;
 use slurm::{Ignored as IgnoredExceptions, SlurmFault, apply};
@@ -30,6 +31,8 @@ pub struct Sources {
     repository: Repository,
     /// Whether payloads of length 0 are left out.
     leaves_out: bool,
+    /// The maximum age of canonical cache representations, in seconds. `None`: they are refused.
+    max_age: Option<u64>,
 }
 
 /// The set that is served, and the numbers of payloads that it was made of.
@@ -45,10 +48,10 @@ pub struct ServedSet {
 
 impl Sources {
     /// Creates sources with this number of files, each without records. There are no local exceptions and no publication points. Payloads of
-    /// length 0 are not left out.
+    /// length 0 are not left out. Canonical cache representations are refused.
     /// `files` includes the lists for sets of other caches. `AllocError`: no memory for them.
     pub fn new(alloc: Global, files: usize) -> Result<Sources, AllocError>
-        ensures { IfOk result (λ s. (s.exceptions ≡ None) × (s.repository ≡ no_points) × NoneTaken files s.lists.items × (s.leaves_out ≡ false)) }
+        ensures { IfOk result (λ s. (s.exceptions ≡ None) × (s.repository ≡ no_points) × NoneTaken files s.lists.items × (s.leaves_out ≡ false) × (s.max_age ≡ None)) }
     {
         let mut lists = Vec::with_capacity(alloc, files)?;
         for _file in 0..files {
@@ -60,15 +63,23 @@ impl Sources {
             exceptions: None,
             repository: Repository::new(alloc),
             leaves_out: false,
+            max_age: None,
         })
     }
 
     /// Leaves out payloads of length 0 (for `0.0.0.0/0` or `::/0`) from now on. Some routers fail at them. This cannot be undone.
     pub fn leave_out_length_0(&mut self)
-        ensures leaves { self.new.leaves_out ≡ true }
-        ensures rest { (self.new.lists ≡ self.old.lists) × (self.new.exceptions ≡ self.old.exceptions) × (self.new.repository ≡ self.old.repository) }
+        ensures { self.new ≡ record self.old { leaves_out = true } }
     {
         self.leaves_out = true;
+    }
+
+    /// Sets the maximum age of canonical cache representations (draft-ietf-sidrops-rpki-ccr), in seconds. From now on they are read. Their records have no
+    /// expiry of their own: they count until the time at which the representation was produced is more than `age` seconds ago.
+    pub fn set_max_age(&mut self, age: u64)
+        ensures { self.new ≡ record self.old { max_age = Some age } }
+    {
+        self.max_age = Some(age);
     }
 
     /// Returns the number of files, as given to `new`. The lists for sets of other caches are included.
@@ -161,26 +172,27 @@ impl Sources {
         }
     }
 
-    /// Replaces the export of `file` (from 0) by the export in `bytes`, read at `now`, in seconds since 1970.
+    /// Replaces the content of `file` (from 0) by `bytes`, read at `now`, in seconds since 1970. They are an export in JSON, or a canonical cache
+    /// representation (see [`Sources::set_max_age`]). The first two bytes decide.
     ///
-    /// `Ok`: the number of its entries whose `expires` is at or before `now`: they are left out. On an error nothing changes. `NoSuchFile`: there
-    /// is no such file. `Export`: the bytes are not an export, more than 16,777,215 different VRPs have not expired, or memory ran out. The result
-    /// is never `Shrank`.
+    /// `Ok`: the number of entries that have expired at `now`: they are left out. On an error nothing changes. `NoSuchFile`: there is no such file.
+    /// `Export`: the bytes are not an export, more than 16,777,215 different VRPs have not expired, or memory ran out. `Ccr`: the same of a canonical
+    /// cache representation, or there is no maximum age. The result is never `Shrank`.
     pub fn take_export(&mut self, file: usize, bytes: &[u8], now: u64) -> Result<u64, TakeFault>
-        ensures lists { TakesExport bytes.now now file result self.old.lists.items self.new.lists.items }
-        ensures rest { (self.new.exceptions ≡ self.old.exceptions) × (self.new.repository ≡ self.old.repository) × (self.new.leaves_out ≡ self.old.leaves_out) }
+        ensures lists { TakesExport self.old.max_age bytes.now now file result self.old.lists.items self.new.lists.items }
+        ensures rest { (self.new.exceptions ≡ self.old.exceptions) × (self.new.repository ≡ self.old.repository) × SameSettings self.old self.new }
     {
         self.take_export_within(None, file, bytes, now)
     }
 
-    /// Replaces the export of `file` (from 0) as [`Sources::take_export`] does, but refuses one with far fewer records. `now` is in seconds since
+    /// Replaces the content of `file` (from 0) as [`Sources::take_export`] does, but refuses one with far fewer records. `now` is in seconds since
     /// 1970.
     /// `guard` is the largest part that may be gone, in percent.
     ///
-    /// `Err(Shrank)`: the last export has 1,000 or more records, and more than `guard` percent of them are gone. Records that have expired at `now`
+    /// `Err(Shrank)`: the last content has 1,000 or more records, and more than `guard` percent of them are gone. Records that have expired at `now`
     /// count on neither side.
     ///
-    /// `guard` of `None`, or of 100 or more: no export is refused for this reason. On an error nothing changes.
+    /// `guard` of `None`, or of 100 or more: nothing is refused for this reason. On an error nothing changes.
     pub fn take_export_within(
         &mut self,
         guard: Option<u8>,
@@ -188,15 +200,14 @@ impl Sources {
         bytes: &[u8],
         now: u64,
     ) -> Result<u64, TakeFault>
-        ensures lists { TakesWithin guard bytes.now now file result self.old.lists.items self.new.lists.items }
-        ensures rest { (self.new.exceptions ≡ self.old.exceptions) × (self.new.repository ≡ self.old.repository) × (self.new.leaves_out ≡ self.old.leaves_out) }
+        ensures lists { TakesWithin self.old.max_age guard bytes.now now file result self.old.lists.items self.new.lists.items }
+        ensures rest { (self.new.exceptions ≡ self.old.exceptions) × (self.new.repository ≡ self.old.repository) × SameSettings self.old self.new }
     {
         let had = self.left(file, now);
         if file >= self.lists.len() {
             return Err(TakeFault::NoSuchFile);
         }
-        let read = read_export_counted(self.alloc, bytes, now)?;
-        let (list, expired) = listed_of(read);
+        let (list, expired) = read_listed(self.alloc, self.max_age, bytes, now)?;
         let has = list.left(now);
         match shrinking(guard, had, has) {
             Some(fault) => Err(fault),
@@ -230,7 +241,7 @@ impl Sources {
         until: Option<u64>,
     ) -> Result<(), TakeSetFault>
         ensures lists { TakesSet set.now until list result self.old.lists.items self.new.lists.items }
-        ensures rest { (self.new.exceptions ≡ self.old.exceptions) × (self.new.repository ≡ self.old.repository) × (self.new.leaves_out ≡ self.old.leaves_out) }
+        ensures rest { (self.new.exceptions ≡ self.old.exceptions) × (self.new.repository ≡ self.old.repository) × SameSettings self.old self.new }
     {
         if list >= self.lists.len() {
             return Err(TakeSetFault::NoSuchList);
@@ -244,7 +255,7 @@ impl Sources {
     /// Allocates no memory.
     pub fn drop_set(&mut self, list: usize) -> bool
         ensures lists { DropsSet list result self.old.lists.items self.new.lists.items }
-        ensures rest { (self.new.exceptions ≡ self.old.exceptions) × (self.new.repository ≡ self.old.repository) × (self.new.leaves_out ≡ self.old.leaves_out) }
+        ensures rest { (self.new.exceptions ≡ self.old.exceptions) × (self.new.repository ≡ self.old.repository) × SameSettings self.old self.new }
     {
         if list >= self.lists.len() {
             return false;
@@ -257,7 +268,7 @@ impl Sources {
     /// or memory ran out. Then nothing changes.
     pub fn take_slurm(&mut self, bytes: &[u8]) -> Result<(), SlurmFault>
         ensures exceptions { TakesSlurm bytes.now result self.old.exceptions self.new.exceptions }
-        ensures rest { (self.new.lists ≡ self.old.lists) × (self.new.repository ≡ self.old.repository) × (self.new.leaves_out ≡ self.old.leaves_out) }
+        ensures rest { (self.new.lists ≡ self.old.lists) × (self.new.repository ≡ self.old.repository) × SameSettings self.old self.new }
     {
         let slurms = read_applied(self.alloc, bytes)?;
         self.exceptions = Some(slurms);
@@ -271,7 +282,7 @@ impl Sources {
     /// `Err(Unite)`: two files overlap, they assert over 16,777,215 VRPs together, or memory ran out. On an error nothing changes.
     pub fn take_slurms(&mut self, files: &[Vec<u8>]) -> Result<(), SlurmSetFault>
         ensures exceptions { TakesSlurms (map (λ f. f.items) files.now) result self.old.exceptions self.new.exceptions }
-        ensures rest { (self.new.lists ≡ self.old.lists) × (self.new.repository ≡ self.old.repository) × (self.new.leaves_out ≡ self.old.leaves_out) }
+        ensures rest { (self.new.lists ≡ self.old.lists) × (self.new.repository ≡ self.old.repository) × SameSettings self.old self.new }
     {
         let exceptions = read_united(self.alloc, files)?;
         self.exceptions = exceptions;
@@ -304,7 +315,7 @@ impl Sources {
         ensures judged { IfSome (told_by result) (Judged (accepted_at self.old.repository name.now) manifest.now files.now now) }
         ensures exact { NewExactly result (Acceptable (accepted_at self.old.repository name.now) manifest.now files.now now) }
         ensures held { BecomesAt result name.now self.old.repository self.new.repository manifest.now files.now }
-        ensures rest { (self.new.lists ≡ self.old.lists) × (self.new.exceptions ≡ self.old.exceptions) × (self.new.leaves_out ≡ self.old.leaves_out) }
+        ensures rest { (self.new.lists ≡ self.old.lists) × (self.new.exceptions ≡ self.old.exceptions) × SameSettings self.old self.new }
     {
         self.repository.offer(name, manifest, files, now)
     }
@@ -399,38 +410,6 @@ fn narrowed(alloc: Global, leaves: bool, given: u64, set: VrpSet) -> Result<Serv
         given,
         left_out,
     })
-}
-
-/// What is kept of an export, and how many of its entries did not count.
-fn listed_of(read: ExportCounted) -> (Listed, u64)
-    ensures list { (result.0.set ≡ read.lasting.export.set) × (result.0.lasts ≡ read.lasting.lasts) × (result.0.built ≡ read.lasting.export.built) }
-    ensures ignored { result.0.ignored ≡ read.ignored }
-    ensures anchors { result.0.anchors ≡ read.anchors }
-    ensures expired { result.1 ≡ read.lasting.export.expired }
-{
-    let ExportCounted {
-        lasting,
-        ignored,
-        anchors,
-    } = read;
-    let ExportLasting {
-        export,
-        until: _,
-        lasts,
-    } = lasting;
-    let Export {
-        set,
-        expired,
-        built,
-    } = export;
-    let list = Listed {
-        set,
-        lasts,
-        built,
-        ignored,
-        anchors,
-    };
-    (list, expired)
 }
 
 /// A set, and the members of another.
