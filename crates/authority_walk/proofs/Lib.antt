@@ -1,0 +1,4 @@
+pub mod Having
+pub mod Progressing
+pub mod Standing
+pub mod Walking

@@ -1,0 +1,4 @@
+pub mod Hierarchy
+pub mod Progress
+pub mod Stands
+pub mod Walks
