@@ -17,7 +17,6 @@
 
 use anyhow::{Result, bail};
 use rtr_ends::{CommittedVersion, End, Router};
-use rtr_pdu::{Version, error_code};
 use rtr_server::Duplex;
 use std::alloc::Global;
 use std::io::{self, BufWriter, Write};
@@ -66,21 +65,7 @@ impl From<DisconnectReason> for Lost {
             DisconnectReason::PeerClosed => Lost::Closed,
             DisconnectReason::LinkEnded(end) => Lost::Link(end),
             DisconnectReason::ReadFailed | DisconnectReason::WriteFailed => Lost::Reset,
-            DisconnectReason::Stalled => Lost::Silent,
-        }
-    }
-}
-
-impl Lost {
-    /// Whether the cache may speak version 0 alone. Its Error Report in version 0 is malformed to a router of version 1.
-    fn is_of_version(&self) -> bool {
-        match self {
-            Lost::Link(End::Malformed) => true,
-            Lost::Link(End::Told(code)) => *code == error_code::UNSUPPORTED_VERSION,
-            Lost::Link(End::Reported(code)) => {
-                *code == error_code::UNSUPPORTED_VERSION || *code == error_code::UNEXPECTED_VERSION
-            }
-            _ => false,
+            DisconnectReason::Stalled | DisconnectReason::TimedOut => Lost::Silent,
         }
     }
 }
@@ -165,8 +150,6 @@ struct Client<'a, R: Net, W: Write + Drop> {
     /// The start of its clock, which counts seconds and never goes back.
     began: Instant,
     upstream: Upstream<Duplex<R::Stream, R::Stream>>,
-    /// The version of the protocol on the connection.
-    spoken: Version,
     follower: Follower<W>,
 }
 
@@ -249,17 +232,10 @@ impl<'a, R: Clock + Net, W: Write + Drop> Client<'a, R, W> {
         stream.input.set_nonblocking(true)
     }
 
-    /// Prints why a connection ended, and waits until the next one is due. If the cache may speak version 0 alone, the next one is of version 0
-    /// and due at once.
+    /// Prints why a connection ended, and waits until the next one is due. That is at once if the cache has another session, or asks for version 0.
     fn lose(&mut self, lost: &Lost) -> Result<()> {
         self.follower.print_end(lost)?;
-        let falls_back = self.spoken == Version::V1 && lost.is_of_version();
-        self.spoken = if falls_back { Version::V0 } else { Version::V1 };
-        self.upstream.set_version(self.spoken);
-        if !falls_back {
-            self.wait()?;
-        }
-        Ok(())
+        self.wait()
     }
 
     /// Waits until the next connection is due. Records can expire meanwhile.
@@ -312,7 +288,6 @@ fn main(rt: HostRuntime) -> Result<()> {
         rt: &rt,
         began: Instant::now(&rt)?,
         upstream: Upstream::new(rt.alloc(), ANSWER_WAIT),
-        spoken: Version::V1,
         follower,
     };
     client.run(&address)

@@ -1,8 +1,7 @@
 use rtr_pdu::{Next, Unit, UnitBuffer, UnitReader, encode};
-use std::test::Fail;
 
 #[test]
-fn a_pdu_is_written_and_read(rt: HostRuntime) -> Result<(), Fail> {
+fn a_pdu_is_written_and_read(rt: HostRuntime) {
     let mut buffer = UnitBuffer::new();
     encode(&Unit::ResetQuery, &mut buffer);
     let mut piece = buffer.as_slice();
@@ -10,5 +9,4 @@ fn a_pdu_is_written_and_read(rt: HostRuntime) -> Result<(), Fail> {
         Next::Unit(unit) => assert!(rt; unit == Unit::ResetQuery),
         Next::NeedMore | Next::Fault(_) => assert!(rt; false),
     }
-    Ok(())
 }

@@ -7,10 +7,9 @@ use rtr_pdu::{
 use std::alloc::Global;
 use std::io::{Read, Write};
 use std::process::Abort;
-use std::test::Fail;
 use std::{io, slice};
 use test_values::hex::bytes;
-use test_values::sets::payload;
+use test_values::sets::record;
 use test_values::units as wire;
 
 /// Whether these PDUs of this version are written as these bytes.
@@ -407,16 +406,15 @@ fn is_written_whole(alloc: Global, unit: &Unit) -> bool {
 }
 
 #[test]
-fn units_to_a_writer(rt: HostRuntime) -> Result<(), Fail> {
+fn units_to_a_writer(rt: HostRuntime) {
     let unit = Unit::Prefix {
         announce: true,
-        vrp: payload("192.0.2.0/24", 24, 64496)?,
+        vrp: record("192.0.2.0/24", 24, 64496).expect(&rt, "a record"),
     };
     assert!(rt; is_written_whole(rt.alloc(), &unit));
     for calls in 0..=20u8 {
         assert!(rt; is_written(rt.alloc(), &unit, calls));
     }
-    Ok(())
 }
 
 #[test]

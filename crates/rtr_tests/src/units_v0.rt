@@ -7,9 +7,8 @@ use rtr_pdu::{
 };
 use std::alloc::Global;
 use std::process::Abort;
-use std::test::Fail;
 use test_values::hex::bytes;
-use test_values::sets::payload;
+use test_values::sets::record;
 use test_values::units as wire;
 
 const NOTIFY: &str = "00 00 0777 0000000c 00000005";
@@ -51,10 +50,9 @@ fn is_written_in_both(vrp: &Vrp) -> bool {
 }
 
 #[test]
-fn records_are_written_in_both_versions(rt: HostRuntime) -> Result<(), Fail> {
-    let v = payload("192.0.2.0/24", 24, 64496)?;
+fn records_are_written_in_both_versions(rt: HostRuntime) {
+    let v = record("192.0.2.0/24", 24, 64496).expect(&rt, "a record");
     assert!(rt; is_written_in_both(&v));
-    Ok(())
 }
 
 /// Whether a PDU is one of this version, and not of the other.

@@ -206,6 +206,69 @@ const AN_ANSWER_OF_VERSION_0_IS_TRIED_AGAIN: &[Step] = &[
     Step::Commits(Version::V0, 4660, 5),
 ];
 
+/// A cache of version 0 answers any other version by an Error Report of version 0, with whatever code: it is asked in version 0 at once. A Serial
+/// Notify before that, of whatever version, does not matter.
+const AN_ERROR_REPORT_OF_VERSION_0_ASKS_FOR_IT: &[Step] = &[
+    Step::HasVersion(Version::V1),
+    Step::Connects(
+        "01 00 1234 0000000c 00000005 | 00 0a 0000 00000010 00000000 00000000",
+        0,
+    ),
+    Step::Settles(
+        0,
+        PollOutcome::Disconnected(DisconnectReason::LinkEnded(End::Malformed)),
+    ),
+    Step::IsNextDue(Some(0)),
+    Step::Connects(ANSWER_0, 1),
+    Step::HasVersion(Version::V0),
+    Step::Settles(1, PollOutcome::WaitsToRead),
+    Step::Commits(Version::V0, 4660, 5),
+];
+
+/// A cache that opens in version 2 asks for no version 0.
+const VERSION_2_IS_NO_FALLBACK: &[Step] = &[
+    Step::Connects("02 03 1234 00000008", 0),
+    Step::Settles(
+        0,
+        PollOutcome::Disconnected(DisconnectReason::LinkEnded(End::Reported(
+            error_code::UNSUPPORTED_VERSION,
+        ))),
+    ),
+    Step::IsNextDue(Some(600)),
+    Step::Connects(ANSWER, 600),
+    Step::HasVersion(Version::V1),
+    Step::Settles(600, PollOutcome::WaitsToRead),
+    Step::Commits(Version::V1, 4660, 5),
+];
+
+/// Version 0 is kept while its data is held, and version 1 is tried again after that.
+const VERSION_1_IS_TRIED_AGAIN: &[Step] = &[
+    Step::Connects(ANSWER_0, 0),
+    Step::SettlesAgain(
+        0,
+        PollOutcome::Disconnected(DisconnectReason::LinkEnded(End::Reported(
+            error_code::UNSUPPORTED_VERSION,
+        ))),
+    ),
+    Step::Connects(ANSWER_0, 1),
+    Step::Settles(1, PollOutcome::WaitsToRead),
+    Step::Disconnects(10),
+    Step::Fails(610),
+    Step::HasVersion(Version::V0),
+    Step::Connects("00 03 1234 00000008 | 00 07 1234 0000000c 00000005", 1210),
+    Step::HasVersion(Version::V0),
+    Step::Settles(1210, PollOutcome::WaitsToRead),
+    Step::Disconnects(1220),
+    Step::Ticks(8411, None),
+    Step::Holds(None),
+    Step::Fails(9000),
+    Step::HasVersion(Version::V1),
+    Step::Connects(ANSWER, 9600),
+    Step::HasVersion(Version::V1),
+    Step::Settles(9600, PollOutcome::WaitsToRead),
+    Step::Commits(Version::V1, 4660, 5),
+];
+
 const A_VERSION_IS_SET: &[Step] = &[
     Step::Speaks(Version::V0),
     Step::Connects(ANSWER_0, 1),
@@ -220,4 +283,7 @@ fn refusals_and_versions_are_taken_in(rt: HostRuntime) {
     play(&rt, 60, ANOTHER_VERSION_IS_TRIED);
     play(&rt, 60, AN_ANSWER_OF_VERSION_0_IS_TRIED_AGAIN);
     play(&rt, 60, A_VERSION_IS_SET);
+    play(&rt, 60, AN_ERROR_REPORT_OF_VERSION_0_ASKS_FOR_IT);
+    play(&rt, 60, VERSION_2_IS_NO_FALLBACK);
+    play(&rt, 60, VERSION_1_IS_TRIED_AGAIN);
 }

@@ -19,6 +19,8 @@ const BOTH_QUERIES: &str = "01 02 0000 00000008 01 01 1234 0000000c 00000005";
 #[derive(Clone, Copy)]
 pub(crate) enum Step {
     Speaks(Version),
+    /// An answer is given up after this many seconds.
+    LimitsAnswers(u64),
     /// A connection is made on which all of these bytes come, and then it would block.
     Connects(&'static str, u64),
     /// The same with this many of them, and then the cache closes it.
@@ -45,8 +47,11 @@ pub(crate) enum Step {
     IsNextDue(Option<u64>),
     IsDue(u64, bool),
     IsStalled(u64, bool),
+    IsOverdue(u64, bool),
     ExpiresAt(Option<u64>),
     HasLink(Link),
+    /// The latest connection is of this version.
+    HasVersion(Version),
     IsConnected(bool),
     /// This many records are held, and are the data of the cache, or there are none.
     Holds(Option<usize>),
@@ -129,8 +134,10 @@ fn stands(upstream: &Upstream<Script<'_>>, sent: &Sent, step: &Step) -> bool {
         Step::IsNextDue(moment) => upstream.next_due() == *moment,
         Step::IsDue(now, is_due) => upstream.is_due(*now) == *is_due,
         Step::IsStalled(now, is_stalled) => upstream.is_stalled(*now) == *is_stalled,
+        Step::IsOverdue(now, is_overdue) => upstream.is_overdue(*now) == *is_overdue,
         Step::ExpiresAt(moment) => upstream.expires_at() == *moment,
         Step::HasLink(link) => upstream.router().link() == *link,
+        Step::HasVersion(version) => upstream.version() == *version,
         Step::IsConnected(is_connected) => {
             upstream.is_connected() == *is_connected && upstream.stream().is_some() == *is_connected
         }
@@ -178,6 +185,7 @@ fn ends<'a>(upstream: &mut Upstream<Script<'a>>, sent: &'a Sent, units: &str, en
 pub(crate) fn goes<'a>(upstream: &mut Upstream<Script<'a>>, sent: &'a Sent, step: &Step) -> bool {
     match step {
         Step::Speaks(version) => upstream.set_version(*version),
+        Step::LimitsAnswers(seconds) => upstream.set_answer_limit(*seconds),
         Step::Connects(units, now) => upstream.connect(plain(units, sent), *now),
         Step::ConnectsCut(units, count, now) => upstream.connect(cut(units, *count, sent), *now),
         Step::ConnectsSlow(units, now) => upstream.connect(slow(units, sent), *now),

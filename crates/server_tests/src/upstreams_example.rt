@@ -23,7 +23,7 @@ fn an_upstream_commits_an_answer(rt: HostRuntime) -> Result<(), Fail> {
     );
     assert!(rt; upstream.poll(7, 64) == PollOutcome::Disconnected(DisconnectReason::PeerClosed));
     assert!(rt; upstream.committed() == Some((Version::V1, 4660, Serial(5))));
-    assert!(rt; upstream.expires_at() == Some(7207));
+    assert!(rt; upstream.expires_at() == Some(7208));
     assert!(rt; upstream.next_due() == Some(607));
     Ok(())
 }

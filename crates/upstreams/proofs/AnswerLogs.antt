@@ -11,7 +11,7 @@ use Rattle.rtr_server.specs.declared.stream.Progress.{Progress}
 use Rattle.rtr_server.specs.declared.stream.Progress.TheVariants.{Bytes, Waits, Interrupted, Failed}
 use Rattle.rtr_server.proofs.AnswerLogs.{SoFar, logged_both, logged_none}
 use Rattle.upstreams.specs.Polls.{AnswersPoll, AnswersStep, FitsBudget, StepTold, ToldSo, after_read, after_write}
-use Rattle.upstreams.specs.declared.connection.DisconnectReason.TheVariants.{LinkEnded, PeerClosed, ReadFailed, Stalled, WriteFailed}
+use Rattle.upstreams.specs.declared.connection.DisconnectReason.TheVariants.{LinkEnded, PeerClosed, ReadFailed, Stalled, TimedOut, WriteFailed}
 use Rattle.upstreams.specs.declared.connection.PollOutcome.{PollOutcome}
 use Rattle.upstreams.specs.declared.connection.PollOutcome.TheVariants.{Busy, Disconnected, NotConnected, WaitsToRead, WaitsToWrite}
 
@@ -62,6 +62,7 @@ told_more Busy answers earlier h = tt
 told_more (Disconnected PeerClosed) answers earlier h = last_more (calls.Read (Bytes 0)) answers earlier h
 told_more (Disconnected (LinkEnded end)) answers earlier h = tt
 told_more (Disconnected Stalled) answers earlier h = tt
+told_more (Disconnected TimedOut) answers earlier h = tt
 told_more (Disconnected ReadFailed) answers earlier h = last_more (calls.Read Failed) answers earlier h
 told_more (Disconnected WriteFailed) answers earlier (inl h) = inl (last_more (calls.Write (Bytes 0)) answers earlier h)
 told_more (Disconnected WriteFailed) answers earlier (inr h) = inr (last_more (calls.Write Failed) answers earlier h)

@@ -1,5 +1,5 @@
 -- One connection, from step to step.
-use Rattle.std.specs.Prelude.{◌≡◌, ℕ, ◌+◌, ◌-◌, ◌<◌, ◌≤◌, ◌==◌, Bool, true, false, List, [], ◌∷◌, ◌++◌, length, min, take, drop, Option, Some, None, if◌then◌else◌, refl}
+use Rattle.std.specs.Prelude.{◌≡◌, ℕ, ◌+◌, ◌-◌, ◌<◌, ◌≤◌, ◌==◌, Bool, true, false, List, [], ◌∷◌, ◌++◌, length, min, take, drop, Option, Some, None, is_some, if◌then◌else◌, refl}
 use Rattle.std.proofs.Common.{zero, suc, sym, ap, ◌∙◌, subst, arith, append_assoc}
 use Rattle.std.proofs.lemmas.List.{append-nil, length-append, length-take-le, take-append-drop}
 use Rattle.std.specs.Io.KnownBytes.{Consumes, Keeps}
@@ -8,7 +8,7 @@ use Rattle.prefixes.proofs.Basics.{eq_of}
 use Rattle.rtr_pdu.specs.Judging.{Begins, Faulty, Whole}
 use Rattle.rtr_pdu.specs.Payloads.{AreBytes}
 use Rattle.rtr_pdu.specs.Unit.{MAX_UNIT_LEN}
-use Rattle.rtr_ends.specs.Consumed.{came}
+use Rattle.rtr_ends.specs.Consumed.{came, consumed}
 use Rattle.rtr_ends.specs.LinkRules as rules
 use Rattle.rtr_ends.specs.Router.{RouterCall, Connects, Receives, Ticks, asks_if, called, clocked, close, closed_at, connects_at, played, receives, router_pulled, ticks_at}
 use Rattle.rtr_ends.specs.Router as routers
@@ -28,12 +28,15 @@ use Rattle.rtr_server.specs.declared.stream.Progress.TheVariants.{Bytes, Waits, 
 use Rattle.rtr_server.specs.declared.turn.Traffic.{Traffic}
 use Rattle.rtr_server.specs.Turns.{and_read, and_received, and_written}
 use Rattle.rtr_server.proofs.CountingLaws.{counted_both}
+use Rattle.upstreams.specs.Notes.{received_notes}
+use Rattle.upstreams.specs.Versions.{opened_on}
 use Rattle.upstreams.specs.Polls.{Anyhow, AwaitsBytes, ConnectionState, Flow, GoesFrom, GoesOrEnds, HandsIn, HasEnded, HasUnwritten, IsFlushed, IsOver, MayBeFlushed, MayStep, MaySteps, Pulls, Reads, Runs, StandsFor, Step, Writes, after_read, after_write, next_on, router_of, state_after, state_of, steps_after}
 use Rattle.upstreams.specs.declared.connection.Connection.{Connection}
 use Rattle.upstreams.specs.declared.connection.DisconnectReason.TheVariants.{PeerClosed, WriteFailed}
 use Rattle.upstreams.specs.declared.connection.NextCall.{NextCall}
 use Rattle.upstreams.specs.declared.connection.PollOutcome.{PollOutcome}
 use Rattle.upstreams.specs.declared.connection.PollOutcome.TheVariants.{Disconnected}
+use Rattle.upstreams.specs.declared.notes.Notes.{Notes}
 
 -- steps after steps
 after_both : (now : ℕ) (more steps : List Step) (s : ConnectionState) → steps_after now (more ++ steps) s ≡ steps_after now more (steps_after now steps s)
@@ -204,8 +207,8 @@ flow_written calls b left still has wrote unread old new traffic moved flow empt
 pub same_filled : {T A : Type 0} (f : T → A) (old new : Connection T) (bytes : List ℕ) → new ≡ record old { unwritten = bytes } → f new.stream ≡ f old.stream
 same_filled f old new bytes e = ap (λ x. f x.stream) e
 
-pub same_taken : {T A : Type 0} (f : T → A) (old new : Connection T) (bytes : List ℕ) (traffic : Traffic) (now : ℕ) → new ≡ record old { unread = bytes; traffic = traffic; heard_at = now } → f new.stream ≡ f old.stream
-same_taken f old new bytes traffic now e = ap (λ x. f x.stream) e
+pub same_taken : {T A : Type 0} (f : T → A) (old new : Connection T) (bytes : List ℕ) (traffic : Traffic) (notes : Notes) → new ≡ record old { unread = bytes; traffic = traffic; notes = notes } → f new.stream ≡ f old.stream
+same_taken f old new bytes traffic notes e = ap (λ x. f x.stream) e
 
 module _ {T : Type 0} (remaining contents : T → Option (List ℕ)) where
   -- one part of a poll after another
@@ -234,9 +237,10 @@ module _ {T : Type 0} (remaining contents : T → Option (List ℕ)) where
   stays now P router c calls begun runs is = record { steps = []; may = tt; calls = calls; leads = refl; runs = runs; so = is }
 
   -- What was read is passed to the router, and this many bytes of it are consumed.
-  pub takes : (now : ℕ) (before after : Router) (old : Connection T) (rest : List ℕ) (traffic : Traffic) (count : ℕ) → 0 < length old.unread → rest ≡ drop count old.unread → traffic ≡ and_received (take count old.unread) old.traffic → AreBytes old.unread → ReceivesSo now old.unread count before after
-      → GoesFrom remaining contents now IsFlushed before old after (record old { unread = rest; traffic = traffic; heard_at = now }) (λ s. count ≡ 0 → IsOver s)
-  takes now before after old rest traffic count some rest_is traffic_is bytes received calls b runs flushed =
+  pub takes : (now : ℕ) (before after : Router) (old : Connection T) (rest : List ℕ) (traffic : Traffic) (notes : Notes) (count : ℕ) → 0 < length old.unread → rest ≡ drop count old.unread → traffic ≡ and_received (take count old.unread) old.traffic → AreBytes old.unread → ReceivesSo now old.unread count before after
+      → ((r n : rules.Router) → IsShown r before → IsShown n after → notes ≡ received_notes now (is_some r.version) n (record old.notes { opening = opened_on old.notes.opening (take count old.unread) }))
+      → GoesFrom remaining contents now IsFlushed before old after (record old { unread = rest; traffic = traffic; notes = notes }) (λ s. count ≡ 0 → IsOver s)
+  takes now before after old rest traffic notes count some rest_is traffic_is bytes received notes_are calls b runs flushed =
       let r : rules.Router = (played calls).router in
       let s = received.1 r runs.leads in
       let wanting : Option ℕ = received.0 in
@@ -257,7 +261,10 @@ module _ {T : Type 0} (remaining contents : T → Option (List ℕ)) where
           can_be = (bytes, runs.can_be);
           carries = record {
             is_open = is_open;
-            heard = refl;
+            noted =
+                notes_are r (played more).router runs.leads s.shown
+                ∙ ap (λ n. received_notes now (is_some r.version) (played more).router (record old.notes { opening = opened_on old.notes.opening (take n unread) })) s.count_is
+                ∙ ap (λ (n : Notes). received_notes now (is_some r.version) (played more).router (record n { opening = opened_on n.opening (consumed (Receives now wanting unread) r) })) runs.carries.noted;
             flow = record {
               read = subst (Consumes b.before (remaining old.stream)) (sym whole_is) runs.carries.flow.read;
               written = runs.carries.flow.written;
@@ -297,7 +304,7 @@ module _ {T : Type 0} (remaining contents : T → Option (List ℕ)) where
           can_be = (tt, runs.can_be);
           carries = record {
             is_open = runs.carries.is_open;
-            heard = runs.carries.heard;
+            noted = runs.carries.noted;
             flow = record {
               read = subst (λ x. Consumes b.before (remaining old.stream) (x ++ old.unread)) (sym (append-nil (came calls))) flow.read;
               written = flow.written;
@@ -328,7 +335,7 @@ module _ {T : Type 0} (remaining contents : T → Option (List ℕ)) where
           can_be = runs.can_be;
           carries = record {
             is_open = runs.carries.is_open;
-            heard = runs.carries.heard;
+            noted = runs.carries.noted;
             flow = subst (λ c. Flow b (remaining stream) (contents stream) (with_count c)) so_counted
                 (flow_read calls b (remaining old.stream) (remaining stream) (contents old.stream) (contents stream) old.unread unread old.unwritten old.traffic moved idle.all_consumed runs.carries.flow fills keeps);
           };
@@ -370,7 +377,7 @@ module _ {T : Type 0} (remaining contents : T → Option (List ℕ)) where
           can_be = runs.can_be;
           carries = record {
             is_open = runs.carries.is_open;
-            heard = runs.carries.heard;
+            noted = runs.carries.noted;
             flow = subst (λ c. Flow b (remaining stream) (contents stream) (with_both new c)) (sym traffic_is)
                 (flow_written calls b (remaining old.stream) (remaining stream) (contents old.stream) (contents stream) old.unread old.unwritten new old.traffic moved runs.carries.flow empties keeps);
           };

@@ -1,3 +1,5 @@
 pub mod AnswerLogs
 pub mod ConnectionLaws
+pub mod OpeningLaws
+pub mod TimeLaws
 pub mod UpstreamLaws

@@ -1,2 +1,4 @@
+pub mod Notes
 pub mod Polls
 pub mod Upstreams
+pub mod Versions

@@ -6,10 +6,10 @@ use Rattle.rtr_pdu.specs.Payloads.{AreBytes}
 use Rattle.rtr_pdu.specs.Unit.{MAX_UNIT_LEN}
 use Rattle.rtr_ends.specs.Consumed.{IsRouterCall, came}
 use Rattle.rtr_ends.specs.LinkRules as rules
-use Rattle.rtr_ends.specs.Router.{RouterCall, Connects, Receives, Ticks, played, receives}
+use Rattle.rtr_ends.specs.Router.{RouterCall, Receives, played, receives}
 use Rattle.rtr_ends.specs.Router as routers
 use Rattle.rtr_ends.specs.RouterLaws.{pulled_by}
-use Rattle.rtr_ends.specs.RouterLink.{Link, Ended, is_closed, is_idle, is_reading}
+use Rattle.rtr_ends.specs.RouterLink.{Link, Ended, is_closed, is_reading}
 use Rattle.rtr_ends.specs.RouterShown.{CallsLead, is_wanted_by_router}
 use Rattle.rtr_ends.specs.declared.link.End.{End}
 use Rattle.rtr_ends.specs.declared.router.Router.{Router}
@@ -23,12 +23,14 @@ use Rattle.rtr_server.specs.declared.stream.Progress.{Progress}
 use Rattle.rtr_server.specs.declared.stream.Progress.TheVariants.{Bytes, Waits, Interrupted, Failed}
 use Rattle.rtr_server.specs.declared.turn.ByteCounts.{ByteCounts}
 use Rattle.rtr_server.specs.declared.turn.Traffic.{Traffic}
+use Rattle.upstreams.specs.Notes.{asked_again, noted, ticked_notes}
 use Rattle.upstreams.specs.declared.connection.Connection.{Connection}
-use Rattle.upstreams.specs.declared.connection.DisconnectReason.TheVariants.{LinkEnded, PeerClosed, ReadFailed, Stalled, WriteFailed}
+use Rattle.upstreams.specs.declared.connection.DisconnectReason.TheVariants.{LinkEnded, PeerClosed, ReadFailed, Stalled, TimedOut, WriteFailed}
 use Rattle.upstreams.specs.declared.connection.NextCall.{NextCall}
 use Rattle.upstreams.specs.declared.connection.NextCall.TheVariants.{NoCall, Read, Write}
 use Rattle.upstreams.specs.declared.connection.PollOutcome.{PollOutcome}
 use Rattle.upstreams.specs.declared.connection.PollOutcome.TheVariants.{Busy, Disconnected, NotConnected, WaitsToRead, WaitsToWrite}
+use Rattle.upstreams.specs.declared.notes.Notes.{Notes}
 
 -- A connection: the calls that led to its router, the last first. What was read of its stream and is not consumed. What was pulled of the
 -- router and is not written. And what is counted of it.
@@ -127,28 +129,25 @@ pub record Flow (b : Begun) (left has : Option (List ℕ)) (s : ConnectionState)
 abbrev pub state_of : {T : Type 0} → List RouterCall → Connection T → ConnectionState
 state_of calls c = record { calls = calls; unread = c.unread; unwritten = c.unwritten; traffic = c.traffic }
 
--- Since when nothing was heard of the cache: the last time at which the connection was made, or the router received bytes of it. The clock of
--- an idle link counts too, as no question is outstanding then.
-abbrev pub heard_at : List RouterCall → ℕ
-heard_at [] = 0
-heard_at (Connects now ∷ calls) = now
-heard_at (Receives now wanting piece ∷ calls) = now
-heard_at (Ticks now ∷ calls) = if is_idle (played calls).router.link then now else heard_at calls
-heard_at (call ∷ calls) = heard_at calls
+-- What is noted of the latest connection, once that is dropped
+abbrev pub notes_of : {T : Type 0} → Option (Connection T) → Notes → Notes
+notes_of None last = last
+notes_of (Some c) last = c.notes
 
-abbrev pub heard_on : {T : Type 0} → Option (Connection T) → ℕ
-heard_on None = 0
-heard_on (Some c) = c.heard_at
+-- The clock was advanced to this time; the link was idle before, or not.
+abbrev pub with_tick : {T : Type 0} → ℕ → Bool → rules.Router → Option (Connection T) → Option (Connection T)
+with_tick now idle r None = None
+with_tick now idle r (Some c) = Some (record c { notes = ticked_notes now idle r c.notes })
 
--- if the link is idle at this time
-abbrev pub heard_if : {T : Type 0} → Bool → ℕ → Option (Connection T) → Option (Connection T)
-heard_if true now (Some c) = Some (record c { heard_at = now })
-heard_if idle now c = c
+-- A query was put at this time.
+abbrev pub with_ask : {T : Type 0} → ℕ → Option (Connection T) → Option (Connection T)
+with_ask now None = None
+with_ask now (Some c) = Some (record c { notes = asked_again now c.notes })
 
 -- a connection, over whose stream went what these calls say
 pub record Carries {T : Type 0} (remaining contents : T → Option (List ℕ)) (calls : List RouterCall) (b : Begun) (c : Connection T) : Type 0 where
   pub is_open : is_closed (played calls).router.link ≡ false
-  pub heard : c.heard_at ≡ heard_at calls
+  pub noted : c.notes ≡ noted calls
   pub flow : Flow b (remaining c.stream) (contents c.stream) (state_of calls c)
 
 -- The link is closed exactly if there is no connection.
@@ -203,6 +202,7 @@ EndsSo (Disconnected (LinkEnded end)) left s = HasEnded end s
 EndsSo (Disconnected ReadFailed) left s = AwaitsBytes s
 EndsSo (Disconnected WriteFailed) left s = HasUnwritten s
 EndsSo (Disconnected Stalled) left s = ⊥
+EndsSo (Disconnected TimedOut) left s = ⊥
 
 -- or the poll continues
 abbrev pub GoesOrEnds : Option PollOutcome → Option (List ℕ) → ConnectionState → Type 0

@@ -8,7 +8,9 @@ ghost use Rattle.rtr_ends.specs.Router.{called};
 ghost use Rattle.rtr_ends.specs.RouterShown.{Calls, IsShown, ReceivesSo};
 ghost use Rattle.rtr_server.specs.Counting.{counted_on, first_byte};
 ghost use Rattle.rtr_server.specs.Streams.{EmptiesSo, FillsSo, Logged, a_read, a_write, moved_count};
+ghost use Rattle.upstreams.specs.Versions.{opened_on};
 
+use crate::opening::Opening;
 use rtr_ends::Router;
 use rtr_pdu::MAX_UNIT_LEN;
 use rtr_server::{Progress, Stream, Tally};
@@ -76,6 +78,7 @@ impl Buffer {
         now: u64,
         received: &mut Tally,
         asked: &mut Option<u8>,
+        opening: &mut Opening,
     ) -> usize
         ensures takes { ReceivesSo now self.old result router.old router.new }
         ensures rest { self.new ≡ drop result self.old }
@@ -83,10 +86,12 @@ impl Buffer {
         ensures bytes { AreBytes self.old }
         ensures counts { received.new ≡ counted_on received.old (take result self.old) }
         ensures asks { asked.new ≡ first_byte asked.old (take result self.old) }
+        ensures opens { opening.new ≡ opened_on opening.old (take result self.old) }
     {
         let taken = hand_piece(router, &self.bytes[self.from..self.to], now);
         received.count(&self.bytes[self.from..self.from + taken]);
         *asked = first_byte(*asked, &self.bytes[self.from..self.from + taken]);
+        opening.read(&self.bytes[self.from..self.from + taken]);
         self.from += taken;
         taken
     }

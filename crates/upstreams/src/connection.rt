@@ -5,10 +5,14 @@ ghost use Rattle.rtr_ends.specs.RouterLink as links;
 ghost use Rattle.rtr_ends.specs.RouterLink.{is_closed};
 ghost use Rattle.rtr_ends.specs.RouterShown.{IsShown};
 ghost use Rattle.rtr_server.specs.Turns.{and_received, no_traffic};
-ghost use Rattle.upstreams.specs.Polls.{AnswersPoll, AnswersStep, Anyhow, AwaitsBytes, EndsSo, GoesFrom, GoesOrEnds, HasUnwritten, IsFlushed, IsOver, MayBeFlushed, StandsFor, after_read, after_write, next_on};
+ghost use Rattle.upstreams.specs.Notes.{noted_at_connection};
+ghost use Rattle.upstreams.specs.Polls.{AnswersPoll, AnswersStep, Anyhow, AwaitsBytes, EndsSo, GoesFrom, GoesOrEnds, HasUnwritten, IsFlushed};
+ghost use Rattle.upstreams.specs.Polls.{IsOver, MayBeFlushed, StandsFor, after_read, after_write, next_on};
 
 use crate::buffer::Buffer;
+use crate::notes::{Notes, holds};
 use rtr_ends::{End, Link, Router};
+use rtr_pdu::Version;
 use rtr_server::{Progress, Stream, Traffic};
 
 /// Why a connection was dropped.
@@ -24,6 +28,8 @@ pub enum DisconnectReason {
     WriteFailed,
     /// A query was outstanding and no byte came for `stall` seconds (the parameter of `Upstream::new`).
     Stalled,
+    /// The answer to a query was not complete after the limit for an answer (`Upstream::set_answer_limit`).
+    TimedOut,
 }
 
 /// The outcome of a poll: what the caller waits for, or why the connection was dropped.
@@ -48,8 +54,8 @@ pub(crate) struct Connection<T> {
     pub(crate) unread: Buffer,
     pub(crate) unwritten: Buffer,
     pub(crate) traffic: Traffic,
-    /// Since when nothing was heard of the cache, in seconds of the caller's clock.
-    pub(crate) heard_at: u64,
+    /// What is noted of it.
+    pub(crate) notes: Notes,
 }
 
 /// The next call of the stream.
@@ -65,15 +71,15 @@ pub(crate) enum NextCall {
 
 impl<T: Stream> Connection<T> {
     /// A connection that was just made.
-    pub(crate) fn new(stream: T, now: u64) -> Connection<T>
-        ensures { result ≡ record { stream = stream; unread = []; unwritten = []; traffic = no_traffic; heard_at = now } }
+    pub(crate) fn new(stream: T, now: u64, spoken: Version) -> Connection<T>
+        ensures { result ≡ record { stream = stream; unread = []; unwritten = []; traffic = no_traffic; notes = noted_at_connection now spoken } }
     {
         Connection {
             stream,
             unread: Buffer::new(),
             unwritten: Buffer::new(),
             traffic: Traffic::new(),
-            heard_at: now,
+            notes: Notes::new(now, spoken),
         }
     }
 
@@ -91,13 +97,20 @@ impl<T: Stream> Connection<T> {
     fn take(&mut self, router: &mut Router, now: u64) -> usize
         requires { 0 < length self.old.unread }
         ensures goes { GoesFrom T.remaining T.contents now IsFlushed router.old self.old router.new self.new (λ s. result ≡ 0 → IsOver s) }
-        ensures rest { self.new ≡ record self.old { unread = drop result self.old.unread; traffic = and_received (take result self.old.unread) self.old.traffic; heard_at = now } }
+        ensures rest { self.new ≡ record self.old { unread = drop result self.old.unread; traffic = and_received (take result self.old.unread) self.old.traffic; notes = self.new.notes } }
         ensures within { result ≤ length self.old.unread }
     {
-        self.heard_at = now;
+        let held = holds(router);
         let traffic = &mut self.traffic;
-        self.unread
-            .hand_in(router, now, &mut traffic.received, &mut traffic.asked)
+        let taken = self.unread.hand_in(
+            router,
+            now,
+            &mut traffic.received,
+            &mut traffic.asked,
+            &mut self.notes.opening,
+        );
+        self.notes.receive(held, router, now);
+        taken
     }
 
     /// Passes what was read to the router, as far as that has nothing to send, and returns which call of the stream is next.

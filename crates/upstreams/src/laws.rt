@@ -1,5 +1,5 @@
 //! Laws of upstreams. These functions do nothing: their contracts are the laws.
-ghost use Rattle.upstreams.specs.Upstreams.{CountsReceived, EachHolds};
+ghost use Rattle.upstreams.specs.Upstreams.{CountsReceived, EachHolds, ExpiresExactly};
 
 use crate::upstream::Upstream;
 use rtr_server::Stream;
@@ -19,3 +19,8 @@ pub fn counts_received<T: Stream + Drop>(upstream: &Upstream<T>)
 {
     counts_splits();
 }
+
+/// Law: data is over (RFC 8210 section 6) if and only if the second of [`Upstream::expires_at`] has come.
+pub fn expires_exactly()
+    ensures { ExpiresExactly }
+{}

@@ -25,7 +25,7 @@
 //! );
 //! assert!(rt; upstream.poll(7, 64) == PollOutcome::Disconnected(DisconnectReason::PeerClosed));
 //! assert!(rt; upstream.committed() == Some((Version::V1, 4660, Serial(5))));
-//! assert!(rt; upstream.expires_at() == Some(7207));
+//! assert!(rt; upstream.expires_at() == Some(7208));
 //! assert!(rt; upstream.next_due() == Some(607));
 //! ```
 #![tactic(auto)]
@@ -33,7 +33,11 @@
 mod buffer;
 mod connection;
 pub mod laws;
+mod notes;
+mod opening;
+mod times;
 mod upstream;
+mod versions;
 
 pub use connection::{DisconnectReason, PollOutcome};
 pub use upstream::Upstream;

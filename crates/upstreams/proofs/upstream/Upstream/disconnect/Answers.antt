@@ -1,10 +1,5 @@
-use Rattle.std.proofs.Common.{subst, sym, ◌∷◌}
-use Rattle.rtr_ends.specs.Router.{Closes}
-use Rattle.upstreams.specs.Polls.{Runs}
 use Rattle.upstreams.proofs.UpstreamLaws as laws
 use Rattle.upstreams.proofs.upstream.Upstream.disconnect.Goals as goal
 
 pub returns-clause-calls : goal.returns-clause-calls
-returns-clause-calls g c = λ calls b runs.
-    subst (λ x. Runs g.T.Stream.remaining g.T.Stream.contents (Closes c.args.now ∷ calls) b c.close.new.self.router x) (sym c.close.ensures.gone)
-    (laws.closes g.T.Stream.remaining g.T.Stream.contents c.args.self.now.router c.close.new.self.router c.args.self.now.connection c.args.now c.close.ensures.calls calls b runs)
+returns-clause-calls g c = laws.closes g.T.Stream.remaining g.T.Stream.contents c.args.self.now c.close.new.self c.args.now c.close.ensures.calls c.close.ensures.gone c.close.ensures.noted
