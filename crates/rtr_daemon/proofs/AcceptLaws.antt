@@ -124,3 +124,12 @@ tried_more old next e t listeners i d less is earlier within at before =
 pub tried_none : (old next : Option ℕ) (listeners : List Listener) (i : ℕ) (d : Listener) → i < length listeners → next ≡ old → (get_or listeners i d).pending ≡ false → AreTriedBy old (take i listeners) → AreTriedBy next (take (i + 1) listeners)
 tried_none old next listeners i d less same none before =
     All-more (IsTriedBy next) listeners i d less (subst (λ n. AreTriedBy n (take i listeners)) (sym same) before) (λ pending. absurd (let never : false ≡ true = sym none ∙ pending in cc))
+
+-- Each is tried by a time, if there is one. Without one none is pending, so that any will do.
+pub tried_at : (time : Option ℕ) (other : ℕ) (listeners : List Listener) → AreTriedBy time listeners → AreTriedBy (Some (unwrap_or time other)) listeners
+tried_at None other listeners tried = All-weaker (IsTriedBy None) (IsTriedBy (Some other)) (λ l h pending. absurd (h pending)) listeners tried
+tried_at (Some time) other listeners tried = tried
+
+pub tried_earlier : (time other : ℕ) (listeners : List Listener) → other ≤ time → AreTriedBy (Some time) listeners → AreTriedBy (Some other) listeners
+tried_earlier time other listeners earlier tried =
+    All-weaker (IsTriedBy (Some time)) (IsTriedBy (Some other)) (λ l h pending. let at : time ≤ unwrap_or l.paused_until 0 = h pending in let by : other ≤ unwrap_or l.paused_until 0 = omega (arith, earlier, at) in by) listeners tried

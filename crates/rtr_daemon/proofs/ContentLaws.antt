@@ -113,9 +113,10 @@ pub marks_kept : (exports : List WatchedExport) (i : ℕ) (d new : WatchedExport
 marks_kept exports i d new same = map-set_same mark_of exports i new d same
 
 -- the same marks
-pub mark_is : (a b : Option ℕ) (s t : Option Stamp) (q r : Option Refused) → a ≡ b → s ≡ t → q ≡ r → ◌≡◌ {A = Mark} (a, s, q) (b, t, r)
-mark_is a b s t q r since loaded refused =
-    subst (λ x. ◌≡◌ {A = Mark} (a, s, q) (x, t, r)) since (subst (λ y. ◌≡◌ {A = Mark} (a, s, q) (a, y, r)) loaded (subst (λ z. ◌≡◌ {A = Mark} (a, s, q) (a, s, z)) refused refl))
+pub mark_is : (a b : Option ℕ) (s t : Option Stamp) (q r : Option Refused) (m n : Option ℕ) → a ≡ b → s ≡ t → q ≡ r → m ≡ n → ◌≡◌ {A = Mark} (a, s, q, m) (b, t, r, n)
+mark_is a b s t q r m n since loaded refused at =
+    subst (λ w. ◌≡◌ {A = Mark} (a, s, q, m) (w, t, r, n)) since
+    (subst (λ x. ◌≡◌ {A = Mark} (a, s, q, m) (a, x, r, n)) loaded (subst (λ y. ◌≡◌ {A = Mark} (a, s, q, m) (a, s, y, n)) refused (subst (λ z. ◌≡◌ {A = Mark} (a, s, q, m) (a, s, q, z)) at refl)))
 
 -- One export more was loaded.
 loads_then : {W : Type 0} (answers : DiskAnswers W) (now : ℕ) (exports : List WatchedExport) (last : WatchedExport) (marks : List Mark) (mark : Mark) (old mid new : Sources) (expired : ℕ) → LoadsEach answers now exports marks old mid → LoadsOne answers last now expired mark mid new

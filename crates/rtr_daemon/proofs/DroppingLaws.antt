@@ -11,7 +11,7 @@ use Rattle.rtr_ends.specs.CacheState.{CacheCall, CacheState, Close, Notify, Open
 use Rattle.rtr_server.specs.Clients.{Past, present}
 use Rattle.rtr_server.specs.Clients.{made as made_of}
 use Rattle.rtr_daemon.specs.Due.{DropsIfLate, DropsLate, OnlyClients, OnlyServed, expire_millis}
-use Rattle.rtr_daemon.specs.Queue.{NoClients}
+use Rattle.rtr_daemon.specs.Known.{NoClients}
 use Rattle.rtr_daemon.specs.Serving.{BeginsAnew, Continues, Drops, EndsEmpty, IsMadeWith, new_past, without_versions}
 use Rattle.rtr_daemon.specs.declared.cache_settings.CacheSettings.{CacheSettings}
 use Rattle.rtr_daemon.specs.declared.client_entry.ClientEntry.{ClientEntry}
@@ -46,7 +46,6 @@ with_served old new = record old {
   service = record old.service { server = new.service.server; families = new.service.families; is_pending = new.service.is_pending };
   clients = new.clients;
   has_closed = new.has_closed;
-  readings = new.readings;
   statistics = new.statistics;
   has_parted = new.has_parted;
 }

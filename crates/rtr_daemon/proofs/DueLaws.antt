@@ -1,6 +1,7 @@
 -- The parts of a turn, and what it does by the clock.
-use Rattle.std.proofs.Common.{◌≡◌, ℕ, ◌≤◌, ◌<◌, ◌⊎◌, inl, inr, subst, sym, ◌∙◌, ap, refl, arith}
-use Rattle.std.specs.Prelude.{false, max, IfErr, IfOk, Option, None, Some, Result, Ok, Err}
+use Rattle.std.proofs.lemmas.Bool.{cases_lt}
+use Rattle.std.proofs.Common.{◌≡◌, ℕ, ◌+◌, ◌-◌, ◌≤◌, ◌<◌, ◌⊎◌, inl, inr, subst, sym, ◌∙◌, ap, refl, arith}
+use Rattle.std.specs.Prelude.{false, true, max, min, IfErr, IfOk, Option, None, Some, Result, Ok, Err}
 use Rattle.rtr_daemon.specs.declared.versions.PublishReport.{PublishReport}
 use Rattle.rtr_daemon.specs.declared.refusal.Refusal.{Refusal}
 use Rattle.rtr_daemon.specs.declared.statistics.Failure.{Failure}
@@ -9,8 +10,13 @@ use Rattle.rtr_daemon.specs.Files.{FollowsEach, FollowsSlurms, loads_of, marks_o
 use Rattle.rtr_daemon.specs.SlurmRefusals.{SlurmRefusalsFollow}
 use Rattle.rtr_daemon.specs.Ages.{AreJudged, IsOldAfter, ages_of}
 use Rattle.rtr_daemon.specs.DiskAnswers.{DiskAnswers}
-use Rattle.rtr_daemon.specs.Due.{DoesWhatIsDue, FailsToPublish, FailureNoted, IsBetween, IsChecked, IsKept, IsReadyAfter, JudgesAges, KeepsFiles, NextAfter, NextPoll, OnlyAdmitted, OnlyClients, OnlyFiles, OnlyNotes, OnlyPolled, PollsAll, PublishesIfDue, SamePaths, WakesIfPublished, failing_since, second_of_pace}
-use Rattle.rtr_daemon.specs.Overdue.{LeavesNoneOverdue}
+use Rattle.rtr_daemon.specs.Due.{DoesWhatIsDue, FailsToPublish, FailureNoted, HasNoFailure, HasRound, IsBetween, IsChecked, IsInTime, IsKept, IsReadyAfter, JudgesAges, KeepsFiles, NextAfter, NextPoll, OnlyAdmitted, OnlyClients, OnlyFiles, OnlyNotes, OnlyPolled, PollsAll, PublishesIfDue, SamePaths, WakesIfPublished, drop_time, failing_since, second_of_pace}
+use Rattle.rtr_daemon.specs.Accepting.{AreTriedBy}
+use Rattle.rtr_daemon.specs.Closing.{ClosesClients, ClosesOverdue, LooksIfDue, WakesFor}
+use Rattle.rtr_daemon.specs.Known.{known_at}
+use Rattle.rtr_daemon.specs.declared.client_entry.ClientEntry.{ClientEntry}
+use Rattle.rtr_daemon.proofs.AcceptLaws.{tried_earlier}
+use Rattle.rtr_daemon.specs.SocketCalls.{SocketCalls}
 use Rattle.rtr_daemon.specs.PointOffers.{OffersEach, points_of}
 use Rattle.rtr_daemon.specs.Queue.{WakesIfNew}
 use Rattle.rtr_daemon.specs.Times.{later_by}
@@ -23,11 +29,15 @@ use Rattle.rtr_daemon.specs.declared.service.Service.{Service}
 
 -- old with the clients of new
 abbrev pub with_clients : {S T : Type 0} → Daemon S T → Daemon S T → Daemon S T
-with_clients old new = record old { service = record old.service { server = new.service.server }; clients = new.clients; has_closed = new.has_closed; readings = new.readings; statistics = new.statistics; has_parted = new.has_parted }
+with_clients old new = record old { service = record old.service { server = new.service.server }; clients = new.clients; has_closed = new.has_closed; statistics = new.statistics; has_parted = new.has_parted }
 
 -- One part after another changes only clients.
 pub only_on : {S T : Type 0} (a b c : Daemon S T) → OnlyClients a b → OnlyClients b c → OnlyClients a c
 only_on a b c first second = subst (λ z. c ≡ with_clients z c) first second
+
+-- Clients were closed, then the system's tables were read and clients closed by them.
+pub only_looked : {S T : Type 0} (a : Daemon S T) (round : ℕ) (b c : Daemon S T) → OnlyClients (record a { next_round = round }) b → OnlyClients (record b { readings = c.readings }) c → OnlyClients (record a { next_round = round; readings = c.readings }) c
+only_looked {S} {T} a round b c first second = subst (λ (z : Daemon S T). c ≡ with_clients (record z { readings = c.readings }) c) first second
 
 -- old with what was admitted to new
 abbrev pub with_admitted : {S T : Type 0} → Daemon S T → Daemon S T → Daemon S T
@@ -107,61 +117,61 @@ polls_to answers clock ticks a b c same marks ages slurms old p = record {
   is_old = subst (IsOldAfter a.plan.max_age a.is_old (ages_of c.exports.items)) (sym old) (subst (λ all. IsOldAfter a.plan.max_age a.is_old all b.is_old) (sym ages) p.is_old);
 }
 
--- A round of publication, after a check and a turn of clients
-pub record Round {S T : Type 0} (clock ticks : ℕ → Type 0) (now : ℕ) (c d : Daemon S T) : Type 0 where
-  pub fresh : IsFresh clock c.service → IsFresh clock d.service
-  pub due : c.next_round ≤ now → PublishesIfDue clock ticks c.held_until c d
-  pub round : c.next_round ≤ now → d.next_round ≡ later_by 1000 now
-  pub early : now < c.next_round → d.next_round ≡ c.next_round
-  pub kept : KeepsFiles c d
-  pub next : NextPoll ticks c.next_check c d
-  pub overdue : c.next_round ≤ now → LeavesNoneOverdue ticks c.plan d.clients
-  pub wakes : WakesIfPublished c d
+-- A round, after a check
+pub record Round {S T W : Type 0} (calls : SocketCalls W) (clock ticks : ℕ → Type 0) (now : ℕ) (b d : Daemon S T) : Type 0 where
+  pub fresh : IsFresh clock b.service → IsFresh clock d.service
+  pub has : b.next_round ≤ now → HasRound calls clock ticks now b.held_until b d
+  pub idle : now < b.next_round → d ≡ b
+  pub kept : KeepsFiles b d
+  pub next : NextPoll ticks b.next_check b d
+  pub wakes : WakesIfPublished b d
 
--- What is due: a check, clients, and a round of publication.
-pub due_of : {S T W : Type 0} (answers : DiskAnswers W) (clock ticks : ℕ → Type 0) (now : ℕ) (a b c d : Daemon S T) → ticks now → (a.next_check ≤ now → PollsAll answers clock ticks a b) → (a.next_check ≤ now → IsFresh clock b.service) → SamePaths a b → IsChecked now a b → OnlyClients b c → Round clock ticks now c d
-    → DoesWhatIsDue answers clock ticks a d
-due_of {S} {T} answers clock ticks now a b c d ticked polls fresh paths checked only round = on (subst (λ z. Round clock ticks now z d) only round) where
-  on : Round clock ticks now (with_clients b c) d → DoesWhatIsDue answers clock ticks a d
-  on r = record {
-    now = now;
-    ticked = ticked;
-    due = λ is. record {
-      polls = polls_to answers clock ticks a b d r.kept.sources (ap (λ e. marks_of e.items) r.kept.exports) (ap (λ e. ages_of e.items) r.kept.exports) r.kept.slurms r.kept.is_old (polls is);
-      fresh = r.fresh (fresh is);
-      publishes =
-          publishes_from clock ticks now a (with_clients b c) d checked.pace checked.rest.1 checked.rest.2 checked.failing
-          (subst (λ held. PublishesIfDue clock ticks held (with_clients b c) d) (checked.held_until is) (r.due (early_enough is)));
-      next_poll =
-          next_from ticks (later_by a.plan.check now) a (with_clients b c) d checked.pace checked.rest.0 checked.rest.1 checked.rest.2
-          (subst (λ time. NextPoll ticks time (with_clients b c) d) (checked.next_check is) r.next);
-      next_round = r.round (early_enough is);
-      overdue = subst (λ plan. LeavesNoneOverdue ticks plan d.clients) checked.rest.0 (r.overdue (early_enough is));
-      paths = record {
-        exports = ap (λ e. names_of e.items) r.kept.exports ∙ paths.exports;
-        slurms = ap (λ e. paths_of e.items) r.kept.slurms ∙ paths.slurms;
-        points = ap (λ e. points_of e.items) r.kept.points ∙ paths.points;
-      };
+-- Which clients are closed depends on those that are there, on the settings, and on when the system's tables are read next.
+closes_from : {S T W : Type 0} (calls : SocketCalls W) (ticks : ℕ → Type 0) (now : ℕ) (a b d : Daemon S T) → b.plan ≡ a.plan → (b.clients ≡ a.clients) × (b.readings ≡ a.readings) → ClosesClients calls ticks now b d → ClosesClients calls ticks now a d
+closes_from calls ticks now a b d plan same c = record {
+  at = c.at;
+  ticked = c.ticked;
+  left = c.left;
+  overdue = subst (λ p. ClosesOverdue c.at p a.clients c.left) plan (subst (λ t. ClosesOverdue c.at b.plan t c.left) same.0 c.overdue);
+  lost = subst (λ p. LooksIfDue calls now p.stall a.readings c.left d.readings d.clients) plan (subst (λ r. LooksIfDue calls now b.plan.stall r c.left d.readings d.clients) same.1 c.lost);
+}
+
+-- What is due: a check, and a round.
+pub due_of : {S T W : Type 0} (answers : DiskAnswers W) (calls : SocketCalls W) (clock ticks : ℕ → Type 0) (now : ℕ) (a b d : Daemon S T) → ticks now → (a.next_check ≤ now → PollsAll answers clock ticks a b) → (a.next_check ≤ now → IsFresh clock b.service) → SamePaths a b → IsChecked now a b → Round calls clock ticks now b d
+    → DoesWhatIsDue answers calls clock ticks a d
+due_of {S} {T} answers calls clock ticks now a b d ticked polls fresh paths checked r = record {
+  now = now;
+  ticked = ticked;
+  due = λ is. record {
+    polls = polls_to answers clock ticks a b d r.kept.sources (ap (λ e. marks_of e.items) r.kept.exports) (ap (λ e. ages_of e.items) r.kept.exports) r.kept.slurms r.kept.is_old (polls is);
+    fresh = r.fresh (fresh is);
+    round =
+        let has = r.has (early_enough is) in
+        record {
+          closes = closes_from calls ticks now a b d checked.rest.0 checked.clients has.closes;
+          tries = has.tries;
+          publishes = publishes_from clock ticks now a b d checked.pace checked.rest.1 checked.rest.2 checked.failing (subst (λ held. PublishesIfDue clock ticks held b d) (checked.held_until is) has.publishes);
+          next_round = has.next_round;
+        };
+    next_poll = next_from ticks (later_by a.plan.check now) a b d checked.pace checked.rest.0 checked.rest.1 checked.rest.2 (subst (λ time. NextPoll ticks time b d) (checked.next_check is) r.next);
+    paths = record {
+      exports = ap (λ e. names_of e.items) r.kept.exports ∙ paths.exports;
+      slurms = ap (λ e. paths_of e.items) r.kept.slurms ∙ paths.slurms;
+      points = ap (λ e. points_of e.items) r.kept.points ∙ paths.points;
     };
-    between = λ is. between_of (checked.between is);
-    wakes = wakes_from a (with_clients b c) d checked.pace checked.ready r.wakes;
-    listeners = r.kept.listeners ∙ checked.listeners;
-    rest = (r.kept.rest.0 ∙ checked.rest.0, r.kept.rest.1 ∙ checked.rest.1, r.kept.rest.2 ∙ checked.rest.2);
-  } where
-    early_enough : a.next_check ≤ now → b.next_round ≤ now
-    early_enough is = let at : b.next_round ≡ now = checked.next_round is in omega (arith, at)
+  };
+  between = λ is. between_of (checked.between is);
+  wakes = wakes_from a b d checked.pace checked.ready r.wakes;
+  listeners = r.kept.listeners ∙ checked.listeners;
+  rest = (r.kept.rest.0 ∙ checked.rest.0, r.kept.rest.1 ∙ checked.rest.1, r.kept.rest.2 ∙ checked.rest.2);
+} where
+  early_enough : a.next_check ≤ now → b.next_round ≤ now
+  early_enough is = let at : b.next_round ≡ now = checked.next_round is in omega (arith, at)
 
-    between_of : b ≡ a → IsBetween clock ticks now a d
-    between_of same = again (subst (λ z. Round clock ticks now (with_clients z c) d) same r) where
-      again : Round clock ticks now (with_clients a c) d → IsBetween clock ticks now a d
-      again s = record {
-        kept = record { sources = s.kept.sources; exports = s.kept.exports; slurms = s.kept.slurms; points = s.kept.points; is_old = s.kept.is_old; listeners = s.kept.listeners; rest = s.kept.rest };
-        next_poll = next_from ticks a.next_check a (with_clients a c) d refl refl refl refl s.next;
-        publishes = λ due. publishes_from clock ticks a.held_until a (with_clients a c) d refl refl refl refl (s.due due);
-        next_round = s.round;
-        overdue = s.overdue;
-        early = s.early;
-      }
+  between_of : b ≡ a → IsBetween calls clock ticks now a d
+  between_of same = again (subst (λ z. Round calls clock ticks now z d) same r) where
+    again : Round calls clock ticks now a d → IsBetween calls clock ticks now a d
+    again s = record { kept = s.kept; next_poll = s.next; round = s.has; early = s.idle }
 
 -- old with the files of new, and what is noted of them
 abbrev pub with_files : {S T : Type 0} → Daemon S T → Daemon S T → Daemon S T
@@ -263,7 +273,7 @@ fails_on clock ticks a new s now tried refusal answered ticked same reason only 
 
 -- A publication was tried: no version is pending, or it failed.
 pub tried_due : {S T : Type 0} (clock ticks : ℕ → Type 0) (held : ℕ) (a new : Daemon S T) (s : Service S T) (now began : ℕ) (tried : Result PublishReport Refusal) → clock now → ticks began → s.sources ≡ a.service.sources → IfOk tried (λ x. s.is_pending ≡ false) → IfErr tried (λ r. IsReason now a.service.sources r) → OnlyNotes (record a { service = s }) new
-    → IfErr tried (λ r. FailureNoted r began (record a { service = s }) new) → IfOk tried (λ x. new.failing ≡ None) → PublishesIfDue clock ticks held a new
+    → IfErr tried (λ r. FailureNoted r began (record a { service = s }) new) → IfOk tried (λ x. HasNoFailure new) → PublishesIfDue clock ticks held a new
 tried_due clock ticks held a new s now began (Ok report) answered ticked same done fails only noted none = inl (ap (λ d. d.service.is_pending) only ∙ done, none)
 tried_due clock ticks held a new s now began (Err refusal) answered ticked same done fails only noted none = inr (inl (fails_on clock ticks a new s now began refusal answered ticked same fails only noted))
 
@@ -306,3 +316,25 @@ polled_then answers clock ticks a b c d times polls same marks ages slurms old =
     let p = subst (λ z. PollsAll answers clock ticks z c) times polls in
     let at_start : PollsAll answers clock ticks a c = record { followed = p.followed; excepted = p.excepted; exports = p.exports; slurms = p.slurms; slurm_refusals = p.slurm_refusals; points = p.points; judged = p.judged; is_old = p.is_old } in
     polls_to answers clock ticks a c d same marks ages slurms old at_start
+
+-- A turn that waits until a time is due then, or does not wait.
+pub wait_until : {S T : Type 0} (d : Daemon S T) (millis time : ℕ) → IsInTime d millis time → IsInTime d millis (millis + (time - millis)) ⊎ (time - millis ≡ 0)
+wait_until d millis time is = by (cases_lt time millis) where
+  by : (time < millis) ⊎ (millis ≤ time) → IsInTime d millis (millis + (time - millis)) ⊎ (time - millis ≡ 0)
+  by (inl past) = inr (omega (arith, past))
+  by (inr later) = let at : time ≡ millis + (time - millis) = omega (arith, later) in inl (subst (IsInTime d millis) at is)
+
+-- The earliest of several times is in time for all.
+pub earliest_in_time : {S T : Type 0} (d : Daemon S T) (millis check clients pending failure listeners time : ℕ) → check ≡ d.next_check → ((token : ℕ) (entry : ClientEntry) → known_at d.clients token ≡ Some entry → WakesFor d.next_round d.readings clients entry) → (d.service.is_pending ≡ true → d.held_until ≤ millis → pending ≤ d.next_round)
+    → ((since : ℕ) → d.failing ≡ Some since → failure ≤ drop_time since d) → (d.is_ready ≡ true → AreTriedBy (Some listeners) d.listeners.listeners.items) → time ≡ min (min (min (min check clients) pending) failure) listeners → IsInTime d millis time
+earliest_in_time d millis check clients pending failure listeners time check_is of_clients of_pending of_failure of_listeners is = record {
+  check = omega (arith, check_is, is);
+  round = λ pends held. let by = of_pending pends held in omega (arith, by, is);
+  drop = λ since fails. let by = of_failure since fails in let least : time ≤ failure = omega (arith, is) in omega (arith, by, least);
+  clients = λ token entry known. let w = of_clients token entry known in let least : time ≤ clients = omega (arith, is) in record {
+    blocked = λ b. let by = w.blocked b in omega (arith, by, least);
+    silent = λ b. let by = w.silent b in omega (arith, by, least);
+    notified = λ b. let by = w.notified b in omega (arith, by, least);
+  };
+  paused = λ ready. tried_earlier listeners time d.listeners.listeners.items (omega (arith, is)) (of_listeners ready);
+}

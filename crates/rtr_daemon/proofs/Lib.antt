@@ -5,6 +5,7 @@ pub mod DroppingLaws
 pub mod DueLaws
 pub mod Expiry
 pub mod FamilyLaws
+pub mod NewcomerLaws
 pub mod OriginLaws
 pub mod OverdueLaws
 pub mod PacingLaws
@@ -18,4 +19,5 @@ pub mod StampLaws
 pub mod StartLaws
 pub mod StateLaws
 pub mod StatusLaws
+pub mod WaitingLaws
 pub mod WakeLaws

@@ -2,25 +2,23 @@
 use Rattle.std.proofs.Common.{◌≡◌, ℕ, List, ◌<◌, ◌≤◌, ◌+◌, ◌⊎◌, inl, inr, ap, refl, subst, sym, ◌∙◌, arith}
 use Rattle.std.specs.Prelude.{Bool, true, false, if◌then◌else◌, Option, None, Some, option_map}
 use Rattle.std.proofs.lemmas.Bool.{cases_lt}
-use Rattle.rtr_daemon.specs.Queue.{IsFirstFrom, OtherClients, SameClients, known_at}
-use Rattle.rtr_daemon.specs.Overdue.{AnswerNoted, AnswersNoted, ClosesOverdue, LeavesNoneOverdue, OutcomeOf, answers_in, is_overdue, outstanding_after, queries_in, unless_overdue}
+use Rattle.rtr_daemon.specs.Closing.{ClosesBy, ClosesClients, ClosesOverdue, LooksIfDue, TriesBlocked}
+use Rattle.rtr_daemon.specs.Due.{OnlyClients}
+use Rattle.rtr_daemon.specs.Known.{OtherClients, SameClients, known_at}
 use Rattle.rtr_daemon.specs.Losing.{lines_noted}
+use Rattle.rtr_daemon.specs.Queue.{IsFirstFrom, IsQueued, QueuesBehind}
+use Rattle.rtr_daemon.specs.SocketCalls.{SocketCalls}
 use Rattle.rtr_daemon.specs.declared.client_entry.ClientEntry.{ClientEntry}
 use Rattle.rtr_daemon.specs.declared.client_table.ClientTable.{ClientTable}
-use Rattle.rtr_daemon.specs.declared.client_entry.TurnOutcome.{TurnOutcome}
+use Rattle.rtr_daemon.specs.Waiting.{is_blocked_client}
+use Rattle.rtr_daemon.specs.declared.daemon.Daemon.{Daemon}
 use Rattle.rtr_daemon.specs.declared.daemon.Plan.{Plan}
-use Rattle.rtr_ends.specs.declared.cache.Cache.{Cache}
-use Rattle.rtr_server.specs.Clients.{Serves}
-use Rattle.rtr_server.specs.declared.stream.Call.{Call}
-use Rattle.rtr_server.specs.declared.tally.PdusByKind.{PdusByKind}
-use Rattle.rtr_server.specs.declared.turn.Parted.{Parted}
-use Rattle.rtr_server.specs.declared.turn.Slot.{Slot}
+use Rattle.rtr_daemon.specs.declared.losing.Readings.{Readings}
 use Rattle.tcp_table.specs.Columns.{endpoint_of}
 use Rattle.tcp_table.specs.Loss.{unanswered_after}
 use Rattle.tcp_table.specs.Tables.{bytes_of}
 use Rattle.tcp_table.specs.declared.line.TcpLine.{TcpLine}
-use Rattle.vrps.specs.Instance.{Instance}
-use Rattle.rtr_daemon.proofs.WakeLaws.{IsBefore}
+use Rattle.rtr_daemon.proofs.WakeLaws.{IsBefore, still_queued}
 
 -- a token is not before the next one
 abbrev pub IsFrom : ℕ → Option ℕ → Type 0
@@ -37,7 +35,7 @@ unknown None is = refl
 unknown (Some entry) is = absurd (let never : option_map (λ e. e.client) (Some entry) ≡ None = is in cc)
 
 -- There is no client at the tokens before the next one.
-absent : (table : ClientTable) (least : ℕ) (next : Option ℕ) → IsFirstFrom table least next → (t : ℕ) → least ≤ t → IsBefore t next → known_at table t ≡ None
+pub absent : (table : ClientTable) (least : ℕ) (next : Option ℕ) → IsFirstFrom table least next → (t : ℕ) → least ≤ t → IsBefore t next → known_at table t ≡ None
 absent table least None none t more before = unknown (known_at table t) (none t more)
 absent table least (Some next) first t more before = unknown (known_at table t) (first.1 t more before)
 
@@ -78,41 +76,14 @@ all_changed to old new so_far t = so_far.changed t tt
 pub closed_then : (now : ℕ) (plan : Plan) (a b c : ClientTable) → ClosesOverdue now plan a b → SameClients b c → ClosesOverdue now plan a c
 closed_then now plan a b c closed same = λ t. same t ∙ closed t
 
-none_left : (now : ℕ) (plan : Plan) (client : Option ClientEntry) → is_overdue now plan (unless_overdue now plan client) ≡ false
-none_left now plan client = by (is_overdue now plan client) refl where
-  by : (overdue : Bool) → is_overdue now plan client ≡ overdue → is_overdue now plan (if overdue then None else client) ≡ false
-  by true is = refl
-  by false is = is
-
--- Then no client is left that is overdue.
-pub leaves_none : (ticks : ℕ → Type 0) (now : ℕ) (plan : Plan) (old new : ClientTable) → ticks now → ClosesOverdue now plan old new → LeavesNoneOverdue ticks plan new
-leaves_none ticks now plan old new ticked closed = (now, ticked, λ t. subst (λ client. is_overdue now plan client ≡ false) (sym (closed t)) (none_left now plan (known_at old t)))
-
--- There is no client, so there is no outcome of its turn.
-pub no_outcome : {T A : Type 0} (of : Slot T → A) (client : Option (Slot T)) → None ≡ option_map of client → OutcomeOf client None
-no_outcome of None is = refl
-no_outcome {T} {A} of (Some slot) is = absurd (let never : None ≡ Some (of slot) = is in cc)
-
-pub an_outcome : {T : Type 0} (client : Option (Slot T)) (received sent : PdusByKind) (outcome : TurnOutcome) → Some received ≡ option_map (λ slot. slot.traffic.received.pdus) client → Some sent ≡ option_map (λ slot. slot.traffic.sent.pdus) client
-    → outcome.queries ≡ queries_in received → outcome.answers ≡ answers_in sent → OutcomeOf client (Some outcome)
-an_outcome None received sent outcome is is' queries answers = absurd (let never : Some received ≡ None = is in cc)
-an_outcome {T} (Some slot) received sent outcome is is' queries answers =
-    let came : received ≡ slot.traffic.received.pdus = by is in
-    let went : sent ≡ slot.traffic.sent.pdus = by is' in
-    (queries ∙ ap queries_in came, answers ∙ ap answers_in went) where
-      by : {A : Type 0} {x y : A} → Some x ≡ Some y → x ≡ y
-      by {A} {x} {y} e = cc
-
--- What is noted of a turn is which answer is outstanding.
-pub noted_on : {T : Type 0} (ticks : ℕ → Type 0) (now : ℕ) (before after : Option ClientEntry) (client : Option (Slot T)) (outcome : TurnOutcome) → ticks now → OutcomeOf client (Some outcome) → AnswerNoted outcome.queries outcome.answers now before after → AnswersNoted ticks before client after
-noted_on ticks now (Some before) (Some after) (Some slot) outcome ticked is noted = (
-  now,
-  ticked,
-  subst (λ n. after.answering ≡ outstanding_after before.answering n (answers_in slot.traffic.sent.pdus) now) is.0 (subst (λ n. after.answering ≡ outstanding_after before.answering outcome.queries n now) is.1 noted),
-)
-noted_on ticks now (Some before) None (Some slot) outcome ticked is noted = tt
-noted_on ticks now (Some before) after None outcome ticked is noted = tt
-noted_on ticks now None after client outcome ticked is noted = tt
+-- Lost clients are closed, and then no client changes.
+pub looks_then : {W : Type 0} (calls : SocketCalls W) (now stall : ℕ) (readings after : Readings) (a b c : ClientTable) → SameClients b c → LooksIfDue calls now stall readings a after b → LooksIfDue calls now stall readings a after c
+looks_then {W} calls now stall readings after a b c same (inl (none, kept, is)) = inl (none, (λ t. same t ∙ kept t), is)
+looks_then {W} calls now stall readings after a b c same (inr l) = inr (record { before = l.before; tables = l.tables; after = l.after; shown = l.shown; closed = by l.tables l.closed; next = l.next }) where
+  by : (tables : Option (List ℕ)) → ClosesBy tables now stall a b → ClosesBy tables now stall a c
+  by None kept = λ t. same t ∙ kept t
+  by (Some lines) (inl closed) = inl (λ t. same t ∙ closed t)
+  by (Some lines) (inr kept) = inr (λ t. same t ∙ kept t)
 
 -- What the system's tables show of a client does not change whether it is queued.
 pub same_place : (lines : List TcpLine) (now : ℕ) (entry : ClientEntry) → (lines_noted lines now entry).is_queued ≡ entry.is_queued
@@ -121,21 +92,22 @@ same_place lines now entry = by entry.is_notified where
   by true = refl
   by false = refl
 
--- Of a client that is not there nothing is noted.
-pub none_noted : {T : Type 0} (ticks : ℕ → Type 0) (before after : Option ClientEntry) (client : Option (Slot T)) → client ≡ None → AnswersNoted ticks before client after
-none_noted {T} ticks before after client is = subst (λ (slot : Option (Slot T)). AnswersNoted ticks before slot after) (sym is) (by before) where
-  by : (known : Option ClientEntry) → AnswersNoted {T = T} ticks known None after
-  by None = tt
-  by (Some entry) = tt
+-- Overdue clients were closed, then lost ones, then no client changed.
+pub closes_on : {S T W : Type 0} (calls : SocketCalls W) (ticks : ℕ → Type 0) (now round : ℕ) (a left mid : Daemon S T) (woken : ClientTable) (new : Daemon S T) → ((at : ℕ) × ticks at × ClosesOverdue at a.plan a.clients left.clients) → OnlyClients (record a { next_round = round }) left
+    → LooksIfDue calls now left.plan.stall left.readings left.clients mid.readings mid.clients → SameClients mid.clients woken → SameClients woken new.clients → new.readings ≡ mid.readings → ClosesClients calls ticks now a new
+closes_on calls ticks now round a left mid woken new closed only looks first second readings = record {
+  at = closed.0;
+  ticked = closed.1;
+  left = left.clients;
+  overdue = closed.2;
+  lost =
+      subst (λ r. LooksIfDue calls now a.plan.stall a.readings left.clients r new.clients) (sym readings)
+      (looks_then calls now a.plan.stall a.readings mid.readings left.clients mid.clients new.clients (λ t. second t ∙ first t)
+      (subst (λ span. LooksIfDue calls now span a.readings left.clients mid.readings mid.clients) (ap (λ d. d.plan.stall) only)
+      (subst (λ r. LooksIfDue calls now left.plan.stall r left.clients mid.readings mid.clients) (ap (λ d. d.readings) only) looks)));
+}
 
-pub gone_noted : {T : Type 0} (ticks : ℕ → Type 0) (before after : Option ClientEntry) (client : Option (Slot T)) → after ≡ None → AnswersNoted ticks before client after
-gone_noted {T} ticks before after client is = subst (λ known. AnswersNoted ticks before client known) (sym is) (by before client) where
-  by : (known : Option ClientEntry) (slot : Option (Slot T)) → AnswersNoted ticks known slot None
-  by None slot = tt
-  by (Some entry) None = tt
-  by (Some entry) (Some slot) = tt
-
--- If there was no turn, there is no client.
-pub unserved : {S T : Type 0} (holds : ℕ → Instance → S → Type 0) (remaining contents : T → Option (List ℕ)) (answers : T → Option (List Call)) (budget c : ℕ) (old new : Option (Slot T)) (cache after : Cache S) (parted : Option Parted) → Serves holds remaining contents answers budget c old cache None new after parted → new ≡ None
-unserved holds remaining contents answers budget c None new cache after parted serves = serves.0
-unserved holds remaining contents answers budget c (Some slot) new cache after parted serves = absurd serves
+-- Blocked clients were queued, then no client changed, and the queue has grown at its end.
+pub tried_on : (mid woken new : ClientTable) → SameClients mid woken → SameClients woken new → QueuesBehind woken.queue.items new → ((token : ℕ) → is_blocked_client (known_at mid token) ≡ true → IsQueued woken token) → TriesBlocked new
+tried_on mid woken new first second behind tries token blocked =
+    still_queued woken new token (second token) behind (tries token (subst (λ known. is_blocked_client known ≡ true) (second token ∙ first token) blocked))

@@ -1,10 +1,11 @@
 -- What is ready, one answer after another, and who is queued for it.
 use Rattle.std.proofs.Common.{◌≡◌, ℕ, ◌+◌, ◌⊎◌, List, [], ◌∷◌, ◌++◌, length, inl, inr, refl, subst, sym, ap, ◌∙◌, arith, length-append}
-use Rattle.std.specs.Prelude.{Contains, IsSome, Some, option_map}
+use Rattle.std.specs.Prelude.{Contains, Some}
 use Rattle.std.proofs.lemmas.List.{append-nil}
-use Rattle.std.proofs.lemmas.List.Elements.{Contains-append_cases, Contains-append_left}
+use Rattle.std.proofs.lemmas.List.Elements.{Contains-append_cases}
 use Rattle.points.proofs.Named.{contains_cases}
-use Rattle.rtr_daemon.specs.Queue.{IsQueued, QueuesBehind, SameClients}
+use Rattle.rtr_daemon.specs.Known.{SameClients}
+use Rattle.rtr_daemon.specs.Queue.{IsQueued, QueuesBehind}
 use Rattle.rtr_daemon.specs.Accepting.{noted}
 use Rattle.rtr_daemon.specs.Readiness.{QueuesReady, TellsEach, all_noted}
 use Rattle.rtr_daemon.specs.SocketCalls.{SocketCalls}
@@ -13,7 +14,7 @@ use Rattle.rtr_daemon.specs.declared.environment.Ready.{Ready}
 use Rattle.rtr_daemon.specs.declared.environment.Ready.TheVariants.{Connection}
 use Rattle.rtr_daemon.specs.declared.environment.Ready.TheVariants as what
 use Rattle.rtr_daemon.specs.declared.accepting.Listener.{Listener}
-use Rattle.rtr_daemon.proofs.WakeLaws.{behind_on}
+use Rattle.rtr_daemon.proofs.WakeLaws.{behind_on, still_queued}
 
 -- So far this many were ready, and the clients among them are queued.
 pub record ReadySoFar {W : Type 0} (calls : SocketCalls W) (before : W) (old : ClientTable) (listeners : List Listener) (now : ClientTable) (heard : List Listener) (after : W) (count : ℕ) : Type 0 where
@@ -46,11 +47,6 @@ tells_more : {W : Type 0} (calls : SocketCalls W) (before : W) (told : List Read
 tells_more calls before [] last next after so_far told = (after, subst (λ w. calls.tells w (Some next) after) so_far told, refl)
 tells_more calls before (first ∷ told) last next after so_far tells = (so_far.0, so_far.1, tells_more calls so_far.0 told last next after so_far.2 tells)
 
--- A client that was queued stays so.
-still_queued : (a b : ClientTable) (token : ℕ) → SameClients a b → QueuesBehind a.queue.items b → IsQueued a token → IsQueued b token
-still_queued a b token same behind queued there =
-    subst (λ q. Contains q token) (sym behind.1) (Contains-append_left a.queue.items behind.0 token (queued (subst IsSome (ap (λ known. option_map (λ entry. entry.client) known) (same token)) there)))
-
 -- A listener is ready: nobody is queued.
 pub queues_listener : (listener : ℕ) (table : ClientTable) → QueuesReady (what.Listener listener ∷ []) table table
 queues_listener listener table = record { woken = λ token among. alone token (contains_cases (Connection token) (what.Listener listener) [] among); clients = λ token. refl; queue = ([], sym (append-nil table.queue.items)) } where
@@ -68,7 +64,7 @@ queues_connection token old now same behind queued = record { woken = λ other a
 queues_more : (told : List Ready) (ready : Ready) (old mid now : ClientTable) → QueuesReady told old mid → QueuesReady (ready ∷ []) mid now → QueuesReady (told ++ ready ∷ []) old now
 queues_more told ready old mid now h one = record { woken = woken; clients = λ token. one.clients token ∙ h.clients token; queue = behind_on old.queue.items mid now h.queue one.queue } where
   by : (token : ℕ) → Contains told (Connection token) ⊎ Contains (ready ∷ []) (Connection token) → IsQueued now token
-  by token (inl before) = still_queued mid now token one.clients one.queue (h.woken token before)
+  by token (inl before) = still_queued mid now token (one.clients token) one.queue (h.woken token before)
   by token (inr last) = one.woken token last
 
   woken : (token : ℕ) → Contains (told ++ ready ∷ []) (Connection token) → IsQueued now token

@@ -204,7 +204,7 @@ same_newest : (now : ℕ) (i : Instance) (a b : Sources) → SameSources a b →
 same_newest now i a b e h = record {
   version = h.version;
   is = h.is;
-  served = record { at = h.served.at; seconds = h.served.seconds; served = rw (e.lists, e.exceptions, e.repository, e.leaves_out) h.served.served };
+  served = record { at = h.served.at; seconds = h.served.seconds; served = rw (e.lists, e.exceptions, e.repository, e.settings.leaves_out) h.served.served };
 }
 
 -- The sources are unchanged.

@@ -64,11 +64,12 @@ pub numbered_at : (exports : List WatchedExport) (paths : List (List ℕ)) → n
 numbered_at exports paths same i export got = let at : export.number ≡ 0 + i = numbers_at 0 exports paths same i export got in omega (arith, at)
 
 load_named : {W : Type 0} (answers : DiskAnswers W) (now expired : ℕ) (a b : WatchedExport) (mark : Mark) (old new : Sources) → path_of a.file ≡ path_of b.file → a.number ≡ b.number → LoadsOne answers a now expired mark old new → LoadsOne answers b now expired mark old new
-load_named answers now expired a b mark old new paths numbers (stamp, (bytes, whole, taken), noted, refused) = (
+load_named answers now expired a b mark old new paths numbers (stamp, (bytes, whole, taken), noted, refused, at) = (
   stamp,
   (bytes, subst (λ path. ReadsWhole answers path stamp bytes) paths whole, subst (λ number. ExportTakenWithin None bytes now number (Ok expired) old new) numbers taken),
   noted,
   refused,
+  at,
 )
 
 -- Loads of exports of the same paths and numbers

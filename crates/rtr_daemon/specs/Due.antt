@@ -1,5 +1,5 @@
 -- What a turn does that is due by the clock. Times are milliseconds of the monotonic clock.
-use Rattle.std.specs.Prelude.{◌≡◌, ◌⊎◌, ◌<◌, ◌≤◌, ◌+◌, ◌-◌, ◌*◌, ◌/◌, ◌&&◌, ℕ, zero, suc, Bool, max, min, true, false, List, [], Option, None, Some, unwrap_or, if◌then◌else◌}
+use Rattle.std.specs.Prelude.{◌≡◌, ◌⊎◌, ◌<◌, ◌≤◌, ◌+◌, ◌-◌, ◌*◌, ◌/◌, ◌&&◌, ℕ, Bool, max, min, true, false, List, [], Option, None, Some, unwrap_or, if◌then◌else◌}
 use Rattle.vrps.specs.Instance.{Instance}
 use Rattle.session_names.specs.Runs.{may_publish}
 use Rattle.sources.specs.declared.sources.Sources.{Sources}
@@ -7,9 +7,11 @@ use Rattle.rtr_daemon.specs.Accepting.{AreTriedBy, AsksEach, resumed}
 use Rattle.rtr_daemon.specs.Ages.{AreJudged, IsOldAfter, ages_of}
 use Rattle.rtr_daemon.specs.DiskAnswers.{DiskAnswers}
 use Rattle.rtr_daemon.specs.Files.{FollowsEach, FollowsSlurms, loads_of, marks_of, names_of, paths_of}
-use Rattle.rtr_daemon.specs.Overdue.{LeavesNoneOverdue}
+use Rattle.rtr_daemon.specs.Closing.{ClosesClients, TriesBlocked, WakesFor}
+use Rattle.rtr_daemon.specs.Newcomers.{AddsAccepted}
 use Rattle.rtr_daemon.specs.PointOffers.{OffersEach, points_of}
-use Rattle.rtr_daemon.specs.Queue.{AreQueued, NoClients, QueuesBehind, ServesEach}
+use Rattle.rtr_daemon.specs.Known.{NoClients, known_at}
+use Rattle.rtr_daemon.specs.Queue.{AreQueued, QueuesBehind, ServesEach}
 use Rattle.rtr_daemon.specs.Readiness.{TakesReady}
 use Rattle.rtr_daemon.specs.Serving.{Continues, Drops, EndsEmpty, IsFresh, IsReason}
 use Rattle.rtr_daemon.specs.SlurmRefusals.{SlurmRefusalsFollow}
@@ -18,6 +20,7 @@ use Rattle.rtr_daemon.specs.Times.{later_by}
 use Rattle.rtr_server.specs.declared.stream.Call.{Call}
 use Rattle.vrps.specs.declared.store.Published.{Published}
 use Rattle.vrps.specs.declared.store.Published.TheVariants.{New, Unchanged}
+use Rattle.rtr_daemon.specs.declared.client_entry.ClientEntry.{ClientEntry}
 use Rattle.rtr_daemon.specs.declared.daemon.Daemon.{Daemon}
 use Rattle.rtr_daemon.specs.declared.daemon.StopReason.{StopReason}
 use Rattle.rtr_daemon.specs.declared.daemon.StopReason.TheVariants.{Once, Old}
@@ -27,7 +30,7 @@ use Rattle.rtr_daemon.specs.declared.statistics.Failure.{Failure}
 -- Only clients have changed, what is counted of them, and whether one was closed.
 abbrev pub OnlyClients : {S T : Type 0} → Daemon S T → Daemon S T → Type 0
 OnlyClients old new =
-    new ≡ record old { service = record old.service { server = new.service.server }; clients = new.clients; has_closed = new.has_closed; readings = new.readings; statistics = new.statistics; has_parted = new.has_parted }
+    new ≡ record old { service = record old.service { server = new.service.server }; clients = new.clients; has_closed = new.has_closed; statistics = new.statistics; has_parted = new.has_parted }
 
 -- So it is, and listeners have changed.
 abbrev pub OnlyAdmitted : {S T : Type 0} → Daemon S T → Daemon S T → Type 0
@@ -38,7 +41,6 @@ OnlyAdmitted old new =
       clients = new.clients;
       listeners = new.listeners;
       has_closed = new.has_closed;
-      readings = new.readings;
       statistics = new.statistics;
       has_parted = new.has_parted;
     }
@@ -83,6 +85,10 @@ IsKept refusal (Some failure) = failure.why ≡ refusal
 -- since when publication fails, if it fails at a time: since the first failure without a success in between
 abbrev pub failing_since : ℕ → Option ℕ → ℕ
 failing_since millis failing = unwrap_or failing millis
+
+-- Publication does not fail, and no failure is kept.
+abbrev pub HasNoFailure : {S T : Type 0} → Daemon S T → Type 0
+HasNoFailure d = (d.failing ≡ None) × (d.statistics.failure ≡ None)
 
 -- A failure is kept with its reason, and since when publication fails. It is tried again at the next poll of the files.
 pub record FailureNoted {S T : Type 0} (refusal : Refusal) (millis : ℕ) (old new : Daemon S T) : Type 0 where
@@ -153,24 +159,20 @@ expire_millis d = d.service.settings.timing.expire * 1000
 abbrev pub drop_time : {S T : Type 0} → ℕ → Daemon S T → ℕ
 drop_time since d = max (later_by (expire_millis d) since) d.next_round
 
--- This time is not after the next poll of the files. If a version is pending and is not held back, or a client is blocked, it is not after the next
--- round. If publication fails, it is not after the time at which versions are dropped. If routers are admitted, it is not after the end of the pause
--- of a listener at which a connection may be pending.
+-- A time is early enough for all that is due. It is not after the next poll of the files. If a version is pending and is not held back, it is not
+-- after the next round. If publication fails, it is not after the time at which versions are dropped. For each client it is as `WakesFor` says. If
+-- routers are admitted, it is not after the end of the pause of a listener at which a connection may be pending.
 pub record IsInTime {S T : Type 0} (d : Daemon S T) (millis time : ℕ) : Type 0 where
   pub check : time ≤ d.next_check
   pub round : d.service.is_pending ≡ true → d.held_until ≤ millis → time ≤ d.next_round
   pub drop : (since : ℕ) → d.failing ≡ Some since → time ≤ drop_time since d
-  pub blocked : 0 < d.clients.blocked → time ≤ d.next_round
+  pub clients : (token : ℕ) (entry : ClientEntry) → known_at d.clients token ≡ Some entry → WakesFor d.next_round d.readings time entry
   pub paused : d.is_ready ≡ true → AreTriedBy (Some time) d.listeners.listeners.items
 
--- How long a turn waits at most: not at all if a client is queued, otherwise until something is due.
+-- How long a turn waits at most: not at all if a client is queued or something is due, and otherwise until something is due.
 pub record IsWait {S T : Type 0} (d : Daemon S T) (millis wait : ℕ) : Type 0 where
   pub queued : ¬ (d.clients.queue.items ≡ []) → wait ≡ 0
-  pub check : wait ≤ d.next_check - millis
-  pub round : d.service.is_pending ≡ true → d.held_until ≤ millis → wait ≤ d.next_round - millis
-  pub drop : (since : ℕ) → d.failing ≡ Some since → wait ≤ drop_time since d - millis
-  pub blocked : 0 < d.clients.blocked → wait ≤ d.next_round - millis
-  pub paused : d.is_ready ≡ true → AreTriedBy (Some (millis + wait)) d.listeners.listeners.items ⊎ (wait ≡ 0)
+  pub due : IsInTime d millis (millis + wait) ⊎ (wait ≡ 0)
 
 -- A pending version waits: an earlier publication failed and is not tried again before this time, or the last version is of this second of the pace.
 pub record Waits {S T : Type 0} (ticks : ℕ → Type 0) (held : ℕ) (old new : Daemon S T) : Type 0 where
@@ -191,10 +193,10 @@ pub record FailsToPublish {S T : Type 0} (clock ticks : ℕ → Type 0) (old new
   pub reason : IsReason now new.service.sources failure.why
   pub held : new.held_until ≡ new.next_check
 
--- No version is pending, and publication does not fail; or it failed; or the version waits.
+-- No version is pending, publication does not fail, and no failure is kept; or it failed; or the version waits.
 abbrev pub PublishesIfDue : {S T : Type 0} → (ℕ → Type 0) → (ℕ → Type 0) → ℕ → Daemon S T → Daemon S T → Type 0
 PublishesIfDue clock ticks held old new =
-    ((new.service.is_pending ≡ false) × (new.failing ≡ None)) ⊎ FailsToPublish clock ticks old new ⊎ Waits ticks held old new
+    ((new.service.is_pending ≡ false) × HasNoFailure new) ⊎ FailsToPublish clock ticks old new ⊎ Waits ticks held old new
 
 -- Nothing is done while publication does not fail, or has failed for less than the Expire Interval. After that no version is left. If memory for an empty
 -- cache runs out, the versions stay, but all clients are closed.
@@ -212,7 +214,6 @@ pub record OnlyServed {S T : Type 0} (old new : Daemon S T) : Type 0 where
         service = record old.service { server = new.service.server; families = new.service.families; is_pending = new.service.is_pending };
         clients = new.clients;
         has_closed = new.has_closed;
-        readings = new.readings;
         statistics = new.statistics;
         has_parted = new.has_parted;
       }
@@ -270,35 +271,39 @@ pub record IsChecked {S T : Type 0} (now : ℕ) (old new : Daemon S T) : Type 0 
   pub settings : new.service.settings ≡ old.service.settings
   pub ready : new.is_ready ≡ old.is_ready
   pub listeners : new.listeners ≡ old.listeners
+  pub clients : (new.clients ≡ old.clients) × (new.readings ≡ old.readings)
   pub rest : (new.plan ≡ old.plan) × (new.started ≡ old.started) × (new.opened ≡ old.opened)
   pub between : now < old.next_check → new ≡ old
 
--- The files are polled. Then a version is pending, or the newest one is the set of the sources at a second of this poll. A pending version is
--- published. The next poll is one interval later, or one interval after a new version. No client is left that is overdue.
-pub record Polls {S T W : Type 0} (answers : DiskAnswers W) (clock ticks : ℕ → Type 0) (now : ℕ) (old new : Daemon S T) : Type 0 where
+-- A round: overdue and lost clients are closed, blocked ones are tried, and a pending version is published. The next round is a second later.
+pub record HasRound {S T W : Type 0} (calls : SocketCalls W) (clock ticks : ℕ → Type 0) (now held : ℕ) (old new : Daemon S T) : Type 0 where
+  pub closes : ClosesClients calls ticks now old new
+  pub tries : TriesBlocked new.clients
+  pub publishes : PublishesIfDue clock ticks held old new
+  pub next_round : new.next_round ≡ later_by 1000 now
+
+-- The files are polled. Then a version is pending, or the newest one is the set of the sources at a second of this poll. A round follows. The next
+-- poll is one interval later, or one interval after a new version.
+pub record Polls {S T W : Type 0} (answers : DiskAnswers W) (calls : SocketCalls W) (clock ticks : ℕ → Type 0) (now : ℕ) (old new : Daemon S T) : Type 0 where
   pub polls : PollsAll answers clock ticks old new
   pub fresh : IsFresh clock new.service
-  pub publishes : PublishesIfDue clock ticks now old new
+  pub round : HasRound calls clock ticks now now old new
   pub next_poll : NextPoll ticks (later_by old.plan.check now) old new
-  pub next_round : new.next_round ≡ later_by 1000 now
-  pub overdue : LeavesNoneOverdue ticks old.plan new.clients
   pub paths : SamePaths old new
 
--- No file is polled. Each second a pending version is published, and the clients that are overdue are closed.
-pub record IsBetween {S T : Type 0} (clock ticks : ℕ → Type 0) (now : ℕ) (old new : Daemon S T) : Type 0 where
+-- No file is polled. There is a round if it is time for one. Otherwise nothing has changed.
+pub record IsBetween {S T W : Type 0} (calls : SocketCalls W) (clock ticks : ℕ → Type 0) (now : ℕ) (old new : Daemon S T) : Type 0 where
   pub kept : KeepsFiles old new
   pub next_poll : NextPoll ticks old.next_check old new
-  pub publishes : old.next_round ≤ now → PublishesIfDue clock ticks old.held_until old new
-  pub next_round : old.next_round ≤ now → new.next_round ≡ later_by 1000 now
-  pub overdue : old.next_round ≤ now → LeavesNoneOverdue ticks old.plan new.clients
-  pub early : now < old.next_round → new.next_round ≡ old.next_round
+  pub round : old.next_round ≤ now → HasRound calls clock ticks now old.held_until old new
+  pub early : now < old.next_round → new ≡ old
 
 -- What a turn does by the clock, at a time that the clock answered.
-pub record DoesWhatIsDue {S T W : Type 0} (answers : DiskAnswers W) (clock ticks : ℕ → Type 0) (old new : Daemon S T) : Type 0 where
+pub record DoesWhatIsDue {S T W : Type 0} (answers : DiskAnswers W) (calls : SocketCalls W) (clock ticks : ℕ → Type 0) (old new : Daemon S T) : Type 0 where
   pub now : ℕ
   pub ticked : ticks now
-  pub due : old.next_check ≤ now → Polls answers clock ticks now old new
-  pub between : now < old.next_check → IsBetween clock ticks now old new
+  pub due : old.next_check ≤ now → Polls answers calls clock ticks now old new
+  pub between : now < old.next_check → IsBetween calls clock ticks now old new
   pub wakes : WakesIfPublished old new
   pub listeners : new.listeners ≡ old.listeners
   pub rest : (new.plan ≡ old.plan) × (new.started ≡ old.started) × (new.opened ≡ old.opened)
@@ -319,16 +324,18 @@ pub record Awakes {S T W : Type 0} (calls : SocketCalls W) (reads : W → ℕ �
   pub service : new.service ≡ old.service
   pub only : OnlyAdmitted old new
 
--- Each listener was asked for connections, and their clients are queued after those that were. Before the first version none is asked.
+-- Each listener was asked for connections, and their clients are queued after those that were. No client is changed but those whose connections were
+-- accepted. Before the first version none is asked.
 pub record Accepts {S T W : Type 0} (calls : SocketCalls W) (ticks : ℕ → Type 0) (old new : Daemon S T) : Type 0 where
   pub asks : old.is_ready ≡ true → AsksEach calls ticks (resumed old.has_closed old.listeners.listeners.items) new.listeners.listeners.items
   pub queue : QueuesBehind old.clients.queue.items new.clients
+  pub clients : AddsAccepted calls ticks old.clients new.clients
   pub closed : old.is_ready ≡ false → new.service ≡ old.service
   pub only : OnlyAdmitted old new
 
 -- Each client that was in the queue had one turn, in its order. One that may do more is in the queue again, behind those that were.
-pub record ServesQueue {S T : Type 0} (holds : ℕ → Instance → S → Type 0) (remaining contents : T → Option (List ℕ)) (answers : T → Option (List Call)) (old new : Daemon S T) : Type 0 where
-  pub turns : ServesEach holds remaining contents answers old.clients.queue.items old.clients old.service.server new.clients new.service.server
+pub record ServesQueue {S T : Type 0} (ticks : ℕ → Type 0) (holds : ℕ → Instance → S → Type 0) (remaining contents : T → Option (List ℕ)) (answers : T → Option (List Call)) (old new : Daemon S T) : Type 0 where
+  pub turns : ServesEach ticks holds remaining contents answers old.clients.queue.items old new
   pub only : OnlyClients old new
 
 -- A turn, in this order: it waits for the sockets, drops versions if that is due, accepts connections, serves clients, and does what is due by the
@@ -342,11 +349,9 @@ pub record TakesTurn {S T W : Type 0} (answers : DiskAnswers W) (calls : SocketC
   pub awakes : Awakes calls reads ticks start old awake
   pub drops : DropsIfLate ticks holds remaining contents awake left
   pub accepts : Accepts calls ticks left admitted
-  pub serves : ServesQueue holds remaining contents stream admitted served
-  pub due : DoesWhatIsDue answers clock ticks served new
+  pub serves : ServesQueue ticks holds remaining contents stream admitted served
+  pub due : DoesWhatIsDue answers calls clock ticks served new
 
--- this many turns, one after the other
-abbrev pub TakesTurns : {S T W : Type 0} → DiskAnswers W → SocketCalls W → (W → ℕ → W → Type 0) → (ℕ → Type 0) → (ℕ → Type 0) → (ℕ → Instance → S → Type 0) → (T → Option (List ℕ)) → (T → Option (List ℕ)) → (T → Option (List Call)) → ℕ → Daemon S T → Daemon S T → Type 0
-TakesTurns answers calls reads clock ticks holds remaining contents stream zero old new = new ≡ old
-TakesTurns {S} {T} {W} answers calls reads clock ticks holds remaining contents stream (suc n) old new =
-    (last : Daemon S T) × TakesTurns answers calls reads clock ticks holds remaining contents stream n old last × (start : W) × TakesTurn answers calls reads clock ticks holds remaining contents stream start last new
+-- So it does, from some state of the environment.
+abbrev pub Turns : {S T W : Type 0} → DiskAnswers W → SocketCalls W → (W → ℕ → W → Type 0) → (ℕ → Type 0) → (ℕ → Type 0) → (ℕ → Instance → S → Type 0) → (T → Option (List ℕ)) → (T → Option (List ℕ)) → (T → Option (List Call)) → Daemon S T → Daemon S T → Type 0
+Turns {S} {T} {W} answers calls reads clock ticks holds remaining contents stream old new = (start : W) × TakesTurn answers calls reads clock ticks holds remaining contents stream start old new

@@ -7,6 +7,7 @@ use Rattle.sources.specs.declared.fault.SlurmSetFault.{SlurmSetFault}
 use Rattle.exports.specs.declared.fault.ExportFault.TheVariants as unread
 use Rattle.slurm.specs.declared.fault.SlurmFault.TheVariants as unapplied
 use Rattle.sources.specs.declared.fault.TakeFault.{TakeFault}
+use Rattle.sources.specs.declared.fault.TakeCcrFault.TheVariants as unlisted
 use Rattle.sources.specs.declared.fault.TakeFault.TheVariants as untaken
 use Rattle.sources.specs.declared.sources.Sources.{Sources}
 use Rattle.rtr_daemon.specs.DiskAnswers.{DiskAnswers, FileFails, HadStamp, ReadsWhole}
@@ -31,6 +32,7 @@ path_of file = string_bytes file.path
 -- An export is refused for its own bytes, at each second: memory did not run out, and the records that count now are neither too many nor too few.
 abbrev pub IsOfExport : TakeFault → Type 0
 IsOfExport (untaken.Export fault) = (¬ (fault ≡ unread.Memory)) × (¬ (fault ≡ unread.TooMany))
+IsOfExport (untaken.Ccr fault) = ¬ (fault ≡ unlisted.Memory)
 IsOfExport untaken.NoSuchFile = ⊥
 IsOfExport (untaken.Shrank percent had has) = ⊥
 
@@ -95,12 +97,13 @@ IsUnchanged answers file = (stamp : Stamp) × HadStamp answers (path_of file) st
 abbrev pub CannotLoad : {W : Type 0} → DiskAnswers W → WatchedFile → Type 0
 CannotLoad answers file = ((stamp : Stamp) × HadStamp answers (path_of file) stamp × WasRefused file stamp) ⊎ ChangesWhileRead answers (path_of file) ⊎ FileFails answers (path_of file)
 
--- What is noted of an export: since when its contents are refused as too short, the stamp of the contents that were loaded last, and the last refusal
+-- What is noted of an export. It is since when its contents are refused as too short, the stamp of its last load, the last refusal, and the second of
+-- the last load.
 abbrev pub Mark : Type 0
-Mark = Option ℕ × Option Stamp × Option Refused
+Mark = Option ℕ × Option Stamp × Option Refused × Option ℕ
 
 abbrev pub mark_of : WatchedExport → Mark
-mark_of export = (export.short_since, export.file.loaded, export.file.refusals.last)
+mark_of export = (export.short_since, export.file.loaded, export.file.refusals.last, export.file.loaded_at)
 
 abbrev pub marks_of : List WatchedExport → List Mark
 marks_of exports = map mark_of exports
@@ -109,6 +112,11 @@ marks_of exports = map mark_of exports
 abbrev pub loaded_after : Result ℕ TakeFault → Stamp → Option Stamp → Option Stamp
 loaded_after (Ok expired) stamp before = Some stamp
 loaded_after (Err fault) stamp before = before
+
+-- the second of the last load, after contents were loaded at a second or refused
+abbrev pub loaded_at_after : Result ℕ TakeFault → ℕ → Option ℕ → Option ℕ
+loaded_at_after (Ok expired) now before = Some now
+loaded_at_after (Err fault) now before = before
 
 -- A refusal is for a fault of an export.
 abbrev pub IsForFault : TakeFault → Refusal → Type 0
@@ -120,11 +128,12 @@ abbrev pub RefusedAfter : Result ℕ TakeFault → Stamp → Option Refused → 
 RefusedAfter (Ok expired) stamp noted = noted ≡ None
 RefusedAfter (Err fault) stamp noted = (refused : Refused) × (noted ≡ Some refused) × (refused.stamp ≡ Some stamp) × IsForFault fault refused.why
 
--- What is noted of an export then, at a time of the monotonic clock
-pub record IsMarkAfter (result : Result ℕ TakeFault) (stamp : Stamp) (export : WatchedExport) (millis : ℕ) (mark : Mark) : Type 0 where
+-- What is noted of an export then, at a second, and at a time of the monotonic clock
+pub record IsMarkAfter (result : Result ℕ TakeFault) (stamp : Stamp) (export : WatchedExport) (now millis : ℕ) (mark : Mark) : Type 0 where
   pub short : mark.0 ≡ since_after result export.short_since millis
   pub loaded : mark.1 ≡ loaded_after result stamp export.file.loaded
   pub refused : RefusedAfter result stamp mark.2
+  pub at : mark.3 ≡ loaded_at_after result now export.file.loaded_at
 
 -- The last refusal is as before, or of no contents.
 abbrev pub KeepsRefusal : Option Refused → Option Refused → Type 0
@@ -137,11 +146,12 @@ IsNotAhead (Some at) now = at ≤ now
 
 -- An export is again as it was loaded: it is no longer too short, nor refused. If it was loaded while the clock was ahead, it is read again instead.
 abbrev pub IsAsLoaded : {W : Type 0} → DiskAnswers W → WatchedExport → ℕ → Mark → Type 0
-IsAsLoaded answers export now mark = IsUnchanged answers export.file × (mark ≡ (None, export.file.loaded, None)) × IsNotAhead export.file.loaded_at now
+IsAsLoaded answers export now mark = IsUnchanged answers export.file × (mark ≡ (None, export.file.loaded, None, export.file.loaded_at)) × IsNotAhead export.file.loaded_at now
 
 -- It cannot be loaded.
 abbrev pub IsNotLoaded : {W : Type 0} → DiskAnswers W → WatchedExport → Mark → Type 0
-IsNotLoaded answers export mark = CannotLoad answers export.file × (mark.0 ≡ export.short_since) × (mark.1 ≡ export.file.loaded) × KeepsRefusal export.file.refusals.last mark.2
+IsNotLoaded answers export mark =
+    CannotLoad answers export.file × (mark.0 ≡ export.short_since) × (mark.1 ≡ export.file.loaded) × KeepsRefusal export.file.refusals.last mark.2 × (mark.3 ≡ export.file.loaded_at)
 
 -- Nothing is loaded of an export.
 abbrev pub HasNoNews : {W : Type 0} → DiskAnswers W → WatchedExport → ℕ → Mark → Type 0
@@ -156,7 +166,7 @@ Loads answers percent export now stamp result old new = (bytes : List ℕ) × Re
 -- What is noted of it then is that.
 abbrev pub Follows : {W : Type 0} → DiskAnswers W → Option ℕ → WatchedExport → ℕ → ℕ → Mark → Sources → Sources → Type 0
 Follows answers percent export now millis mark old new =
-    ((result : Result ℕ TakeFault) × (stamp : Stamp) × Loads answers percent export now stamp result old new × IsMarkAfter result stamp export millis mark) ⊎ (HasNoNews answers export now mark × (new ≡ old))
+    ((result : Result ℕ TakeFault) × (stamp : Stamp) × Loads answers percent export now stamp result old new × IsMarkAfter result stamp export now millis mark) ⊎ (HasNoNews answers export now mark × (new ≡ old))
 
 -- A poll of an export with a guard, at times that the clocks answered
 abbrev pub FollowsOne : {W : Type 0} → DiskAnswers W → (ℕ → Type 0) → (ℕ → Type 0) → Option ShrinkGuard → WatchedExport → Mark → Sources → Sources → Type 0
@@ -169,9 +179,9 @@ FollowsEach answers clock ticks guard (export ∷ exports) (mark ∷ marks) old 
     (between : Sources) × FollowsOne answers clock ticks guard export mark old between × FollowsEach answers clock ticks guard exports marks between new
 FollowsEach answers clock ticks guard exports marks old new = ⊥
 
--- An export was loaded without a guard. Its stamp is noted, and no refusal.
+-- An export was loaded without a guard. Its stamp and the second of the load are noted, and no refusal.
 abbrev pub LoadsOne : {W : Type 0} → DiskAnswers W → WatchedExport → ℕ → ℕ → Mark → Sources → Sources → Type 0
-LoadsOne answers export now expired mark old new = (stamp : Stamp) × Loads answers None export now stamp (Ok expired) old new × (mark.1 ≡ Some stamp) × (mark.2 ≡ None)
+LoadsOne answers export now expired mark old new = (stamp : Stamp) × Loads answers None export now stamp (Ok expired) old new × (mark.1 ≡ Some stamp) × (mark.2 ≡ None) × (mark.3 ≡ Some now)
 
 -- Each export was loaded, at the second of the start. There is no guard then.
 abbrev pub LoadsEach : {W : Type 0} → DiskAnswers W → ℕ → List WatchedExport → List Mark → Sources → Sources → Type 0

@@ -2,12 +2,16 @@ pub mod Accepting
 pub mod Ages
 pub mod AnchorPeaks
 pub mod Calls
+pub mod Checking
+pub mod Closing
 pub mod DaemonRows
 pub mod DiskAnswers
 pub mod Due
 pub mod Families
 pub mod Files
+pub mod Known
 pub mod Losing
+pub mod Newcomers
 pub mod Notes
 pub mod NotServed
 pub mod Opening
@@ -30,3 +34,4 @@ pub mod Starting
 pub mod Statuses
 pub mod Times
 pub mod Turns
+pub mod Waiting

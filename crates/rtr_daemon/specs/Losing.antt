@@ -1,11 +1,11 @@
 -- When a client is lost: it was notified and has sent nothing since, and the bytes to it are sent again and again. Times are milliseconds of the monotonic
 -- clock.
-use Rattle.std.specs.Prelude.{◌≡◌, ◌⊎◌, ℕ, Bool, false, List, Option, None, Some, option_map, if◌then◌else◌}
+use Rattle.std.specs.Prelude.{◌≡◌, ℕ, Bool, false, List, Option, None, Some, option_map, if◌then◌else◌}
 use Rattle.tcp_table.specs.Columns.{endpoint_of}
 use Rattle.tcp_table.specs.Loss.{is_lost, unanswered_after}
-use Rattle.tcp_table.specs.Tables.{bytes_of, unanswered}
+use Rattle.tcp_table.specs.Tables.{bytes_of}
 use Rattle.tcp_table.specs.declared.line.TcpLine.{TcpLine}
-use Rattle.rtr_daemon.specs.Queue.{known_at}
+use Rattle.rtr_daemon.specs.Known.{known_at}
 use Rattle.rtr_daemon.specs.declared.client_entry.ClientEntry.{ClientEntry}
 use Rattle.rtr_daemon.specs.declared.client_table.ClientTable.{ClientTable}
 
@@ -31,7 +31,3 @@ unless_lost lines now stall client = if is_lost_client (noted_by lines now clien
 -- Each client that is lost is closed. Of all others it is noted what the tables show, and otherwise they are unchanged.
 abbrev pub ClosesLost : List TcpLine → ℕ → ℕ → ClientTable → ClientTable → Type 0
 ClosesLost lines now stall old new = (token : ℕ) → known_at new token ≡ unless_lost lines now stall (known_at old token)
-
--- Tables that the system had were read, and the clients that are lost by them were closed. Or all clients are unchanged.
-abbrev pub LooksOrNot : (List ℕ → Type 0) → ℕ → ℕ → ClientTable → ClientTable → Type 0
-LooksOrNot has now stall old new = (new ≡ old) ⊎ ((table : List ℕ) × has table × ClosesLost (unanswered table) now stall old new)

@@ -1,14 +1,12 @@
--- When a client is overdue: it is stalled, or slow. Times are milliseconds of the monotonic clock.
-use Rattle.std.specs.Prelude.{◌≡◌, ◌+◌, ◌-◌, ◌==◌, ◌||◌, ℕ, nat_le, nat_lt, Bool, false, ⊤, Option, None, Some, unwrap_or, if◌then◌else◌}
-use Rattle.rtr_pdu.specs.declared.kind.Kind.TheVariants.{SerialQuery, ResetQuery, EndOfData, CacheReset, ErrorReport}
-use Rattle.rtr_server.specs.Counting.{capped, count_of}
+-- When a client is overdue: it is stalled, slow or silent. Times are milliseconds of the monotonic clock.
+use Rattle.std.specs.Prelude.{◌+◌, ◌-◌, ◌==◌, ◌||◌, ◌&&◌, ℕ, nat_le, nat_lt, not, Bool, false, Option, None, Some, unwrap_or, if◌then◌else◌}
+use Rattle.rtr_pdu.specs.declared.kind.Kind.TheVariants.{SerialNotify, SerialQuery, ResetQuery, EndOfData, CacheReset, ErrorReport}
+use Rattle.rtr_server.specs.Counting.{capped, count_of, has_query}
 use Rattle.rtr_server.specs.declared.tally.PdusByKind.{PdusByKind}
 use Rattle.rtr_server.specs.declared.turn.Slot.{Slot}
 use Rattle.rtr_server.specs.declared.turn.Turn.{Turn}
 use Rattle.rtr_server.specs.declared.turn.Turn.TheVariants.{WaitsToWrite}
-use Rattle.rtr_daemon.specs.Queue.{known_at}
 use Rattle.rtr_daemon.specs.declared.client_entry.ClientEntry.{ClientEntry}
-use Rattle.rtr_daemon.specs.declared.client_table.ClientTable.{ClientTable}
 use Rattle.rtr_daemon.specs.declared.client_entry.TurnOutcome.{TurnOutcome}
 use Rattle.rtr_daemon.specs.declared.daemon.Plan.{Plan}
 use Rattle.rtr_daemon.specs.declared.outstanding.Outstanding.{Outstanding}
@@ -46,6 +44,13 @@ abbrev pub is_slow : Option Outstanding → ℕ → ℕ → Bool
 is_slow None now slow = false
 is_slow (Some answer) now slow = nat_le slow (now - answer.since)
 
+-- A client that sent no whole query within this time is silent.
+abbrev pub first_query : ℕ
+first_query = 60000
+
+abbrev pub is_silent : ClientEntry → ℕ → Bool
+is_silent entry now = not entry.has_asked && nat_le first_query (now - entry.came)
+
 -- whether there is a client, and it is stalled
 abbrev pub is_stalled_client : Option ClientEntry → ℕ → ℕ → Bool
 is_stalled_client None now stall = false
@@ -56,39 +61,42 @@ abbrev pub is_slow_client : Option ClientEntry → ℕ → ℕ → Bool
 is_slow_client None now slow = false
 is_slow_client (Some entry) now slow = is_slow entry.answering now slow
 
+-- whether there is a client, and it is silent
+abbrev pub is_silent_client : Option ClientEntry → ℕ → Bool
+is_silent_client None now = false
+is_silent_client (Some entry) now = is_silent entry now
+
 -- whether there is a client, and it is overdue by the settings
 abbrev pub is_overdue : ℕ → Plan → Option ClientEntry → Bool
-is_overdue now plan client = is_stalled_client client now plan.stall || is_slow_client client now plan.slow
+is_overdue now plan client = is_stalled_client client now plan.stall || is_slow_client client now plan.slow || is_silent_client client now
 
 -- what is known of a client after overdue ones are closed
 abbrev pub unless_overdue : ℕ → Plan → Option ClientEntry → Option ClientEntry
 unless_overdue now plan client = if is_overdue now plan client then None else client
 
--- Each overdue client is closed, and what is known of all others is unchanged.
-abbrev pub ClosesOverdue : ℕ → Plan → ClientTable → ClientTable → Type 0
-ClosesOverdue now plan old new = (token : ℕ) → known_at new token ≡ unless_overdue now plan (known_at old token)
+-- Whether a client was notified, and has sent nothing since, after a turn: a notify more was written to it, or it was so before and no byte came.
+abbrev pub is_notified_after : ClientEntry → TurnOutcome → Bool
+is_notified_after entry outcome = nat_lt entry.notifies outcome.notifies || (entry.is_notified && (outcome.carried.read == entry.carried.read))
 
--- No client is overdue at a time that the clock answered.
-abbrev pub LeavesNoneOverdue : (ℕ → Type 0) → Plan → ClientTable → Type 0
-LeavesNoneOverdue ticks plan table = (at : ℕ) × ticks at × ((token : ℕ) → is_overdue at plan (known_at table token) ≡ false)
+-- what is known of a client after a turn at a time
+abbrev pub turned : ℕ → TurnOutcome → ClientEntry → ClientEntry
+turned now outcome entry = record entry {
+  has_asked = entry.has_asked || outcome.has_asked;
+  blocked = blocked_after entry.blocked entry.carried.written outcome.turn outcome.carried.written now;
+  answering = outstanding_after entry.answering outcome.queries outcome.answers now;
+  notifies = outcome.notifies;
+  is_notified = is_notified_after entry outcome;
+  unanswered = if is_notified_after entry outcome then entry.unanswered else None;
+  carried = outcome.carried;
+}
 
--- a client with what is noted of a turn as of another
-abbrev pub with_turn : ClientEntry → ClientEntry → ClientEntry
-with_turn entry noted = record entry { blocked = noted.blocked; answering = noted.answering; notifies = noted.notifies; is_notified = noted.is_notified; unanswered = noted.unanswered; carried = noted.carried }
-
--- It is noted which answer to a client is outstanding.
-abbrev pub AnswerNoted : ℕ → ℕ → ℕ → Option ClientEntry → Option ClientEntry → Type 0
-AnswerNoted queries answers now None after = ⊤
-AnswerNoted queries answers now (Some before) None = ⊥
-AnswerNoted queries answers now (Some before) (Some after) = after.answering ≡ outstanding_after before.answering queries answers now
-
--- The counts of a turn are those of its client.
-abbrev pub OutcomeOf : {T : Type 0} → Option (Slot T) → Option TurnOutcome → Type 0
-OutcomeOf None outcome = outcome ≡ None
-OutcomeOf (Some slot) None = ⊥
-OutcomeOf (Some slot) (Some outcome) = (outcome.queries ≡ queries_in slot.traffic.received.pdus) × (outcome.answers ≡ answers_in slot.traffic.sent.pdus)
-
--- After a turn of a client that stays it is noted, at a time that the clock answered, which answer to it is outstanding by what was counted of it.
-abbrev pub AnswersNoted : {T : Type 0} → (ℕ → Type 0) → Option ClientEntry → Option (Slot T) → Option ClientEntry → Type 0
-AnswersNoted ticks (Some before) (Some slot) (Some after) = (now : ℕ) × ticks now × (after.answering ≡ outstanding_after before.answering (queries_in slot.traffic.received.pdus) (answers_in slot.traffic.sent.pdus) now)
-AnswersNoted ticks before client after = ⊤
+-- what a turn came to, by what was counted of its client
+abbrev pub outcome_of : {T : Type 0} → Turn → Slot T → TurnOutcome
+outcome_of turn slot = record {
+  turn = turn;
+  carried = slot.traffic.carried;
+  queries = queries_in slot.traffic.received.pdus;
+  answers = answers_in slot.traffic.sent.pdus;
+  notifies = count_of slot.traffic.sent.pdus SerialNotify;
+  has_asked = has_query slot.traffic.received.pdus;
+}

@@ -13,6 +13,7 @@ use Rattle.points.specs.declared.fault.PointFault.TheVariants.{Memory}
 use Rattle.points.specs.declared.file.FileIn.{FileIn}
 use Rattle.payload_commands.specs.Directories.{Supplies}
 use Rattle.payload_commands.specs.declared.directories.Directory.{Directory}
+use Rattle.sources.specs.Served.{SameSettings}
 use Rattle.sources.specs.declared.sources.Sources.{Sources}
 use Rattle.rtr_daemon.specs.DiskAnswers.{DirectoryFails, DiskAnswers}
 use Rattle.rtr_daemon.specs.declared.point_polling.WatchedPoint.{WatchedPoint}
@@ -31,7 +32,7 @@ pub record IsOffered (directory : Directory) (now : ℕ) (old new : Sources) : T
   pub becomes : BecomesAt answer directory.name.now old.repository new.repository directory.manifest.items files
   pub lists : new.lists ≡ old.lists
   pub exceptions : new.exceptions ≡ old.exceptions
-  pub leaves_out : new.leaves_out ≡ old.leaves_out
+  pub settings : SameSettings old new
 
 -- Why nothing could be offered: the time is after the year 9999, or memory ran out.
 abbrev pub HasNoOffer : ℕ → Result Offered Refusal → Type 0

@@ -1,42 +1,22 @@
 -- The queue of clients, and their turns.
-use Rattle.std.specs.Prelude.{◌≡◌, ◌<◌, ◌≤◌, false, ℕ, Contains, IsSome, List, [], ◌∷◌, ◌++◌, Option, None, Some, option_map}
-use Rattle.std.specs.BTreeMap.{get}
-use Rattle.std.specs.Ordering.{nat_cmp}
+use Rattle.std.specs.Prelude.{◌≡◌, ◌<◌, ◌≤◌, ◌||◌, ℕ, Bool, ⊤, Contains, IsSome, List, [], ◌∷◌, ◌++◌, Option, None, Some, option_map}
 use Rattle.vrps.specs.Instance.{Instance}
 use Rattle.vrps.specs.declared.store.Published.{Published}
 use Rattle.vrps.specs.declared.store.Published.TheVariants.{New, Unchanged}
 use Rattle.rtr_server.specs.declared.server.Client.{Client}
-use Rattle.rtr_server.specs.declared.server.Server.{Server}
 use Rattle.rtr_server.specs.declared.stream.Call.{Call}
 use Rattle.rtr_server.specs.declared.turn.Turn.{Turn}
 use Rattle.rtr_server.specs.declared.turn.Turn.TheVariants.{Busy, Gone}
 use Rattle.rtr_daemon.specs.Turns.{HasTurn}
+use Rattle.rtr_server.specs.declared.turn.Parted.{Parted}
+use Rattle.rtr_server.specs.declared.turn.Slot.{Slot}
+use Rattle.rtr_server.specs.Clients.{slot_at}
+use Rattle.rtr_daemon.specs.Known.{OtherClients, SameClients, client_at, known_at}
+use Rattle.rtr_daemon.specs.Overdue.{outcome_of, turned}
+use Rattle.rtr_daemon.specs.Parting.{has_agreed}
 use Rattle.rtr_daemon.specs.declared.client_entry.ClientEntry.{ClientEntry}
 use Rattle.rtr_daemon.specs.declared.client_table.ClientTable.{ClientTable}
-
--- what is known of a client, whether it is queued or not
-abbrev pub without_queue : ClientEntry → ClientEntry
-without_queue entry = record entry { is_queued = false }
-
--- what is known of the client of a poll token
-abbrev pub known_at : ClientTable → ℕ → Option ClientEntry
-known_at table token = option_map without_queue (get nat_cmp table.by_token token)
-
--- the client of a poll token
-abbrev pub client_at : ClientTable → ℕ → Option Client
-client_at table token = option_map (λ entry. entry.client) (known_at table token)
-
--- What is known of each client is unchanged.
-abbrev pub SameClients : ClientTable → ClientTable → Type 0
-SameClients old new = (token : ℕ) → known_at new token ≡ known_at old token
-
--- No client is left.
-abbrev pub NoClients : ClientTable → Type 0
-NoClients table = (token : ℕ) → known_at table token ≡ None
-
--- What is known of the clients of all other tokens is unchanged.
-abbrev pub OtherClients : ℕ → ClientTable → ClientTable → Type 0
-OtherClients token old new = (other : ℕ) → ¬ (other ≡ token) → known_at new other ≡ known_at old other
+use Rattle.rtr_daemon.specs.declared.daemon.Daemon.{Daemon}
 
 -- The queue is unchanged, or tokens were added at its end.
 abbrev pub QueuesBehind : List ℕ → ClientTable → Type 0
@@ -75,34 +55,51 @@ abbrev pub TakesNext : List ℕ → Option (ℕ × Client) → ClientTable → C
 TakesNext [] next old new = (next ≡ None) × (new.queue.items ≡ []) × SameClients old new
 TakesNext (token ∷ tokens) next old new = (next ≡ under token (client_at old token)) × (new.queue.items ≡ tokens) × SameClients old new
 
--- After its turn a client is known as long as it has not gone. If it made all calls that it may, it is in the queue again.
-abbrev pub IsKeptAfter : Option Turn → ℕ → ClientTable → ClientTable → Type 0
-IsKeptAfter (Some (Gone how)) token old new = client_at new token ≡ None
-IsKeptAfter (Some Busy) token old new = (client_at new token ≡ client_at old token) × IsQueued new token
-IsKeptAfter turn token old new = client_at new token ≡ client_at old token
+-- After a turn at a time that the clock answered it is noted what the turn came to, by what was counted of the client.
+abbrev pub IsNotedAfter : {T : Type 0} → (ℕ → Type 0) → Turn → Option (Slot T) → Option ClientEntry → Option ClientEntry → Type 0
+IsNotedAfter ticks turn None before after = after ≡ before
+IsNotedAfter ticks turn (Some slot) before after = (now : ℕ) × ticks now × (after ≡ option_map (turned now (outcome_of turn slot)) before)
 
--- The client of a token had a turn of at most 8 calls. If there is none, nothing changes.
-abbrev pub TurnOf : {S T : Type 0} → (ℕ → Instance → S → Type 0) → (T → Option (List ℕ)) → (T → Option (List ℕ)) → (T → Option (List Call)) → Option Client → ℕ → ClientTable → Server S T → ClientTable → Server S T → Type 0
-TurnOf holds remaining contents answers None token table old served new = (client_at served token ≡ None) × (new ≡ old)
-TurnOf holds remaining contents answers (Some client) token table old served new = (had : HasTurn holds remaining contents answers 8 client.0.0 old new) × IsKeptAfter had.turn token table served
+-- After its turn a client is known as long as it has not gone, and what the turn came to is noted. If it made all calls that it may, it is in the
+-- queue again.
+abbrev pub IsKeptAfter : {T : Type 0} → (ℕ → Type 0) → Option Turn → ℕ → Option (Slot T) → ClientTable → ClientTable → Type 0
+IsKeptAfter ticks None token slot old new = known_at new token ≡ known_at old token
+IsKeptAfter ticks (Some (Gone how)) token slot old new = known_at new token ≡ None
+IsKeptAfter ticks (Some Busy) token slot old new = IsNotedAfter ticks Busy slot (known_at old token) (known_at new token) × IsQueued new token
+IsKeptAfter ticks (Some turn) token slot old new = IsNotedAfter ticks turn slot (known_at old token) (known_at new token)
+
+-- If a known client has gone, it is noted whether it had agreed on a version.
+abbrev pub PartsAfter : Option Turn → Option ClientEntry → Option Parted → Bool → Bool → Type 0
+PartsAfter (Some (Gone how)) None parted was is = ⊤
+PartsAfter (Some (Gone how)) (Some entry) parted was is = is ≡ (was || has_agreed parted)
+PartsAfter turn known parted was is = is ≡ was
+
+-- The client of a token had a turn of at most 8 calls. If there is none, the server is unchanged.
+abbrev pub TurnOf : {S T : Type 0} → (ℕ → Type 0) → (ℕ → Instance → S → Type 0) → (T → Option (List ℕ)) → (T → Option (List ℕ)) → (T → Option (List Call)) → Option Client → ℕ → Daemon S T → Daemon S T → Type 0
+TurnOf ticks holds remaining contents answers None token old new =
+    (client_at new.clients token ≡ None) × (new.service.server ≡ old.service.server) × (new.has_parted ≡ old.has_parted)
+TurnOf ticks holds remaining contents answers (Some client) token old new =
+    (had : HasTurn holds remaining contents answers 8 client.0.0 old.service.server new.service.server)
+    × IsKeptAfter ticks had.turn token (slot_at new.service.server.slots.items client.0.0) old.clients new.clients
+    × PartsAfter had.turn (known_at old.clients token) new.service.server.parted old.has_parted new.has_parted
 
 -- The front of the queue has left it. What came was queued behind the others.
 abbrev pub LeavesFront : ℕ → ClientTable → ClientTable → Type 0
 LeavesFront token old new = (others : List ℕ) × (more : List ℕ) × (old.queue.items ≡ token ∷ others) × (new.queue.items ≡ others ++ more)
 
 -- The client of a token at the front of the queue had its turn. All others are unchanged.
-pub record ServesOne {S T : Type 0} (holds : ℕ → Instance → S → Type 0) (remaining contents : T → Option (List ℕ)) (answers : T → Option (List Call)) (token : ℕ) (table : ClientTable) (old : Server S T) (served : ClientTable) (new : Server S T) : Type 0 where
-  pub turn : TurnOf holds remaining contents answers (client_at table token) token table old served new
-  pub others : OtherClients token table served
-  pub queue : LeavesFront token table served
+pub record ServesOne {S T : Type 0} (ticks : ℕ → Type 0) (holds : ℕ → Instance → S → Type 0) (remaining contents : T → Option (List ℕ)) (answers : T → Option (List Call)) (token : ℕ) (old new : Daemon S T) : Type 0 where
+  pub turn : TurnOf ticks holds remaining contents answers (client_at old.clients token) token old new
+  pub others : OtherClients token old.clients new.clients
+  pub queue : LeavesFront token old.clients new.clients
 
 -- The client at the front of the queue had its turn, if there is one.
-abbrev pub ServesNext : {S T : Type 0} → (ℕ → Instance → S → Type 0) → (T → Option (List ℕ)) → (T → Option (List ℕ)) → (T → Option (List Call)) → List ℕ → ClientTable → Server S T → ClientTable → Server S T → Type 0
-ServesNext holds remaining contents answers [] table old served new = SameClients table served × (new ≡ old)
-ServesNext holds remaining contents answers (token ∷ tokens) table old served new = ServesOne holds remaining contents answers token table old served new
+abbrev pub ServesNext : {S T : Type 0} → (ℕ → Type 0) → (ℕ → Instance → S → Type 0) → (T → Option (List ℕ)) → (T → Option (List ℕ)) → (T → Option (List Call)) → List ℕ → Daemon S T → Daemon S T → Type 0
+ServesNext ticks holds remaining contents answers [] old new = SameClients old.clients new.clients × (new.service.server ≡ old.service.server) × (new.has_parted ≡ old.has_parted)
+ServesNext ticks holds remaining contents answers (token ∷ tokens) old new = ServesOne ticks holds remaining contents answers token old new
 
--- The client of each of these tokens had its turn, in this order.
-abbrev pub ServesEach : {S T : Type 0} → (ℕ → Instance → S → Type 0) → (T → Option (List ℕ)) → (T → Option (List ℕ)) → (T → Option (List Call)) → List ℕ → ClientTable → Server S T → ClientTable → Server S T → Type 0
-ServesEach holds remaining contents answers [] table old served new = (served ≡ table) × (new ≡ old)
-ServesEach {S} {T} holds remaining contents answers (token ∷ tokens) table old served new =
-    (between : ClientTable) × (mid : Server S T) × ServesOne holds remaining contents answers token table old between mid × ServesEach holds remaining contents answers tokens between mid served new
+-- The client of each of these tokens had its turn, in this order. If one has gone that had agreed on a version, that is noted.
+abbrev pub ServesEach : {S T : Type 0} → (ℕ → Type 0) → (ℕ → Instance → S → Type 0) → (T → Option (List ℕ)) → (T → Option (List ℕ)) → (T → Option (List Call)) → List ℕ → Daemon S T → Daemon S T → Type 0
+ServesEach ticks holds remaining contents answers [] old new = new ≡ old
+ServesEach {S} {T} ticks holds remaining contents answers (token ∷ tokens) old new =
+    (between : Daemon S T) × ServesOne ticks holds remaining contents answers token old between × ServesEach ticks holds remaining contents answers tokens between new

@@ -1,6 +1,7 @@
 -- What becomes ready, and who is queued for it.
 use Rattle.std.specs.Prelude.{◌≡◌, ◌⊎◌, ℕ, Contains, List, [], ◌∷◌, length, None, Some}
-use Rattle.rtr_daemon.specs.Queue.{IsQueued, QueuesBehind, SameClients}
+use Rattle.rtr_daemon.specs.Known.{SameClients}
+use Rattle.rtr_daemon.specs.Queue.{IsQueued, QueuesBehind}
 use Rattle.rtr_daemon.specs.SocketCalls.{SocketCalls}
 use Rattle.rtr_daemon.specs.declared.client_table.ClientTable.{ClientTable}
 use Rattle.rtr_daemon.specs.Accepting.{noted}

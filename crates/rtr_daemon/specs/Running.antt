@@ -1,5 +1,5 @@
 -- The run of the daemon's program: what it waits for, what it may open, and how it ends (rpkirtrd(8)).
-use Rattle.std.specs.Prelude.{◌≡◌, ◌⊎◌, ◌≤◌, ℕ, zero, suc, ◌-◌, min, max, List, codes, IfErr, Option, Result, Ok, Err}
+use Rattle.std.specs.Prelude.{◌≡◌, ◌⊎◌, ◌<◌, ◌≤◌, ℕ, zero, suc, ◌-◌, min, max, List, codes, Option, Result, Ok, Err}
 use Rattle.std.specs.IoError.{error_kind}
 use Rattle.std.specs.declared.io.Error.{Error}
 use Rattle.std.specs.declared.io.ErrorKind.{ErrorKind}
@@ -8,7 +8,7 @@ use Rattle.rtr_server.specs.declared.stream.Call.{Call}
 use Rattle.vrps.specs.Instance.{Instance}
 use Rattle.vrps.specs.declared.set.SetFault.TheVariants.{Memory}
 use Rattle.rtr_daemon.specs.DiskAnswers.{DiskAnswers}
-use Rattle.rtr_daemon.specs.Due.{TakesTurns}
+use Rattle.rtr_daemon.specs.Due.{Turns}
 use Rattle.rtr_daemon.specs.Serving.{Advances}
 use Rattle.rtr_daemon.specs.SocketCalls.{SocketCalls, WaitFails}
 use Rattle.rtr_daemon.specs.declared.daemon.Daemon.{Daemon}
@@ -24,6 +24,7 @@ use Rattle.slurm.specs.declared.fault.SlurmFault.TheVariants as unapplied
 use Rattle.slurm.specs.declared.unite_fault.UniteFault.{UniteFault}
 use Rattle.slurm.specs.declared.unite_fault.UniteFault.TheVariants as ununited
 use Rattle.sources.specs.declared.fault.TakeFault.{TakeFault}
+use Rattle.sources.specs.declared.fault.TakeCcrFault.TheVariants as unlisted
 use Rattle.sources.specs.declared.fault.TakeFault.TheVariants as untaken
 use Rattle.rtr_daemon.specs.declared.service.Service.{Service}
 
@@ -34,6 +35,10 @@ year_2020 = 1577836800
 -- The clock answered a second of the year 2020 or later.
 abbrev pub IsClockSet : (ℕ → Type 0) → Type 0
 IsClockSet clock = (second : ℕ) × clock second × (year_2020 ≤ second)
+
+-- It answered an earlier one.
+abbrev pub IsClockUnset : (ℕ → Type 0) → Type 0
+IsClockUnset clock = (second : ℕ) × clock second × (second < year_2020)
 
 -- How many clients there may be: as many as asked for, but no more than the descriptors allow. The program keeps 16 of them, and one for each HTTP
 -- connection. One client may always be there.
@@ -50,10 +55,21 @@ GoesThrough {S} {T} clock holds remaining contents (suc n) old new =
 abbrev pub EndsForced : {W : Type 0} → SocketCalls W → ℕ → Type 0
 EndsForced calls turns = WaitFails calls ⊎ (turns ≡ 18446744073709551615)
 
--- A run is its turns, one after the other. If its result is an error, it was forced to end.
-abbrev pub IsRun : {S T W : Type 0} → DiskAnswers W → SocketCalls W → (W → ℕ → W → Type 0) → (ℕ → Type 0) → (ℕ → Type 0) → (ℕ → Instance → S → Type 0) → (T → Option (List ℕ)) → (T → Option (List ℕ)) → (T → Option (List Call)) → Result StopReason Error → Daemon S T → Daemon S T → Type 0
-IsRun answers calls reads clock ticks holds remaining contents stream result old new =
-    (turns : ℕ) × TakesTurns answers calls reads clock ticks holds remaining contents stream turns old new × IfErr result (λ _. EndsForced calls turns)
+-- This many turns, one after the other. After each of them the rest of the program has seen the daemon as it was then.
+abbrev pub AreSeen : {D A : Type 0} → (D → D → Type 0) → (A → D → A → Type 0) → ℕ → D → A → D → A → Type 0
+AreSeen turns sees zero old first new last = (new ≡ old) × (last ≡ first)
+AreSeen {D} {A} turns sees (suc n) old first new last = (before : D) × (seen : A) × AreSeen turns sees n old first before seen × turns before new × sees seen new last
+
+-- A run ends after these turns: with one turn more, after which there is a reason to stop, or it was forced to end.
+abbrev pub EndsRun : {D W : Type 0} → (D → D → Type 0) → SocketCalls W → Result StopReason Error → ℕ → D → D → Type 0
+EndsRun turns calls (Ok reason) n before new = turns before new
+EndsRun turns calls (Err error) n before new = (new ≡ before) × EndsForced calls n
+
+-- A run is its turns, one after the other, each of which the rest of the program has seen but the last.
+abbrev pub IsRun : {S T W A : Type 0} → DiskAnswers W → SocketCalls W → (W → ℕ → W → Type 0) → (ℕ → Type 0) → (ℕ → Type 0) → (ℕ → Instance → S → Type 0) → (T → Option (List ℕ)) → (T → Option (List ℕ)) → (T → Option (List Call)) → (A → Daemon S T → A → Type 0) → Result StopReason Error → Daemon S T → A → Daemon S T → A → Type 0
+IsRun {S} {T} answers calls reads clock ticks holds remaining contents stream sees result old first new last =
+    (n : ℕ) × (before : Daemon S T) × AreSeen (Turns answers calls reads clock ticks holds remaining contents stream) sees n old first before last
+    × EndsRun (Turns answers calls reads clock ticks holds remaining contents stream) calls result n before new
 
 -- The exit status: 0 if the run ended well, and 1 if a file is too old. If the system failed it is 3, or 4 without memory.
 abbrev pub failure_status : ErrorKind → ℕ
@@ -69,6 +85,7 @@ exit_status (Err error) = failure_status (error_kind error)
 -- The exit status of a start that a refusal ends: 4 if memory ran out, 3 if a file cannot be read or changes while it is read, and 1 otherwise
 abbrev pub export_status : TakeFault → ℕ
 export_status (untaken.Export unread.Memory) = 4
+export_status (untaken.Ccr unlisted.Memory) = 4
 export_status fault = 1
 
 abbrev pub slurm_status : SlurmFault → ℕ

@@ -15,7 +15,7 @@ use Rattle.rtr_ends.specs.CacheState.{CacheCall, Open}
 use Rattle.rtr_server.specs.Clients.{Begun, Past, ShowsServer, present}
 use Rattle.points.specs.InUse.{no_points}
 use Rattle.sources.specs.Shrinking.{ExportTakenWithin}
-use Rattle.sources.specs.Served.{PassesLimit, ServesAt, SlurmsTaken, ends_between, expired_of}
+use Rattle.sources.specs.Served.{PassesLimit, SameSettings, ServesAt, SlurmsTaken, ends_between, expired_of}
 use Rattle.sources.specs.declared.fault.SlurmSetFault.{SlurmSetFault}
 use Rattle.sources.specs.declared.fault.TakeFault.{TakeFault}
 use Rattle.sources.specs.declared.listed.Listed.{Listed}
@@ -236,7 +236,7 @@ pub record SameSources (old new : Sources) : Type 0 where
   pub lists : new.lists.items ≡ old.lists.items
   pub exceptions : new.exceptions ≡ old.exceptions
   pub repository : new.repository ≡ old.repository
-  pub leaves_out : new.leaves_out ≡ old.leaves_out
+  pub settings : SameSettings old new
 
 -- An export was loaded at a time, without a guard. Or it was refused, and nothing changed.
 abbrev pub LoadsExport : ℕ → List ℕ → ℕ → Result ℕ Refusal → Sources → Sources → Type 0

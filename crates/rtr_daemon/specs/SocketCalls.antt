@@ -1,5 +1,5 @@
 -- What the sockets answered.
-use Rattle.std.specs.Prelude.{ℕ, ⊤, Option}
+use Rattle.std.specs.Prelude.{ℕ, ⊤, List, Option, None, Some, Result, Ok, Err, Vec}
 use Rattle.rtr_daemon.specs.declared.environment.AcceptResult.{AcceptResult}
 use Rattle.rtr_daemon.specs.declared.environment.AcceptResult.TheVariants as result
 use Rattle.rtr_daemon.specs.declared.environment.Ready.{Ready}
@@ -18,17 +18,23 @@ accepted_as result.Again = TryAgain
 accepted_as result.NoRoom = Fails
 accepted_as (result.Failed error) = Fails
 
+-- the system's tables of connections, if they could be read
+abbrev pub shown_by : {E A : Type 0} → Result (Vec ℕ A) E → Option (List ℕ)
+shown_by (Ok table) = Some table.items
+shown_by (Err error) = None
+
 -- The calls of the sockets, each from a state to the next one. A wait of at most this many milliseconds ended, or failed. This was the next of what
--- was ready, or nothing more was. An accept of a listener came to this.
+-- was ready, or nothing more was. An accept of a listener came to this. The system's tables of connections are these, or cannot be read.
 pub record SocketCalls (W : Type 0) : Type 1 where
   pub waits : W → ℕ → W → Type 0
   pub wait_fails : W → ℕ → W → Type 0
   pub tells : W → Option Ready → W → Type 0
   pub accepts : W → ℕ → AcceptOutcome → W → Type 0
+  pub shows : W → Option (List ℕ) → W → Type 0
 
 -- Nothing is known of them.
 abbrev pub any_calls : {W : Type 0} → SocketCalls W
-any_calls {W} = record { waits = λ before millis after. ⊤; wait_fails = λ before millis after. ⊤; tells = λ before next after. ⊤; accepts = λ before listener came after. ⊤ }
+any_calls {W} = record { waits = λ before millis after. ⊤; wait_fails = λ before millis after. ⊤; tells = λ before next after. ⊤; accepts = λ before listener came after. ⊤; shows = λ before tables after. ⊤ }
 
 -- A wait failed.
 abbrev pub WaitFails : {W : Type 0} → SocketCalls W → Type 0

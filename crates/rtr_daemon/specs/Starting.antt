@@ -1,5 +1,5 @@
 -- How a daemon begins: at a moment that the clocks answered, with all its files read.
-use Rattle.std.specs.Prelude.{◌≡◌, ℕ, suc, Bool, true, false, List, [], ◌∷◌, length, map, replicate, None, Some}
+use Rattle.std.specs.Prelude.{◌≡◌, ℕ, suc, true, false, List, [], ◌∷◌, length, map, replicate, None, Some}
 use Rattle.std.specs.String.{string_bytes}
 use Rattle.std.specs.declared.string.String.{String}
 use Rattle.points.specs.InUse.{no_points}
@@ -53,12 +53,13 @@ pub record Watches {S T : Type 0} (paths : Paths) (d : Daemon S T) : Type 0 wher
 
 -- Each source was read and loaded at the second of the start: exports, local exceptions, publication points, in this order. There was nothing before.
 -- What is refused of local exceptions was read too.
-pub record ReadsAll {S T W : Type 0} (answers : DiskAnswers W) (leaves_out : Bool) (d : Daemon S T) : Type 0 where
+pub record ReadsAll {S T W : Type 0} (answers : DiskAnswers W) (plan : Plan) (d : Daemon S T) : Type 0 where
   pub first : Sources
   pub none : NoneTaken (length d.exports.items) first.lists.items
   pub no_exceptions : first.exceptions ≡ None
   pub no_points : first.repository ≡ no_points
-  pub leaves : first.leaves_out ≡ leaves_out
+  pub leaves : first.leaves_out ≡ plan.leaves_out_length_0
+  pub aged : first.max_age ≡ plan.max_age
   pub loaded : Sources
   pub excepted : Sources
   pub exports : LoadsEach answers d.started d.exports.items (marks_of d.exports.items) first loaded

@@ -2,6 +2,7 @@
 ghost use Rattle.std.specs.Prelude.{◌≡◌, ◌≤◌, ℕ, Some, false, true, IfOk, replicate, slice_get, unwrap_or};
 ghost use Rattle.rtr_daemon.specs.Accepting.{AcceptsOnce, AreTriedBy, AsksEach, AsksOne, PausesOne, can_accept, changed_at, is_asked, resumed, with_pause, with_pending};
 ghost use Rattle.rtr_daemon.specs.Due.{OnlyAdmitted, OnlyClients};
+ghost use Rattle.rtr_daemon.specs.Newcomers.{AddsAccepted, MayAdd};
 ghost use Rattle.rtr_daemon.specs.Queue.{QueuesBehind};
 ghost use Rattle.rtr_daemon.specs.Serving.{Continues};
 ghost use Rattle.rtr_daemon.specs.Starting.{open_listener};
@@ -169,6 +170,7 @@ impl<S: VersionStore, T: Stream + Drop> Daemon<S, T> {
         ensures goes { Continues S.holds T.remaining T.contents self.old.service self.new.service }
         ensures rest { OnlyAdmitted self.old self.new }
         ensures queue { QueuesBehind self.old.clients.queue.items self.new.clients }
+        ensures clients { AddsAccepted W.calls W.can_tick self.old.clients self.new.clients }
         ensures before { self.old.is_ready ≡ false → self.new.service ≡ self.old.service }
         ensures asks { self.old.is_ready ≡ true → AsksEach W.calls W.can_tick (resumed self.old.has_closed self.old.listeners.listeners.items) self.new.listeners.listeners.items }
     {
@@ -197,6 +199,7 @@ impl<S: VersionStore, T: Stream + Drop> Daemon<S, T> {
         ensures goes { Continues S.holds T.remaining T.contents self.old.service self.new.service }
         ensures rest { OnlyAdmitted self.old self.new }
         ensures queue { QueuesBehind self.old.clients.queue.items self.new.clients }
+        ensures clients { AddsAccepted W.calls W.can_tick self.old.clients self.new.clients }
         ensures asks { AsksOne W.calls W.can_tick listener self.old.listeners.listeners.items self.new.listeners.listeners.items }
     {
         for _connection in 0..AT_ONCE {
@@ -212,6 +215,7 @@ impl<S: VersionStore, T: Stream + Drop> Daemon<S, T> {
         ensures goes { Continues S.holds T.remaining T.contents self.old.service self.new.service }
         ensures rest { OnlyAdmitted self.old self.new }
         ensures queue { QueuesBehind self.old.clients.queue.items self.new.clients }
+        ensures clients { AddsAccepted W.calls W.can_tick self.old.clients self.new.clients }
         ensures asks { AcceptsOnce W.calls W.can_tick listener self.old.listeners.listeners.items self.new.listeners.listeners.items }
     {
         match env.accept(listener) {
@@ -236,6 +240,7 @@ impl<S: VersionStore, T: Stream + Drop> Daemon<S, T> {
         ensures goes { Continues S.holds T.remaining T.contents self.old.service self.new.service }
         ensures rest { OnlyClients self.old self.new }
         ensures queue { QueuesBehind self.old.clients.queue.items self.new.clients }
+        ensures adds { MayAdd W.can_tick token self.old.clients self.new.clients }
     {
         let address = ends.address;
         let clients = self.clients.of_address(address);
@@ -255,6 +260,7 @@ impl<S: VersionStore, T: Stream + Drop> Daemon<S, T> {
         ensures goes { Continues S.holds T.remaining T.contents self.old.service self.new.service }
         ensures rest { OnlyClients self.old self.new }
         ensures queue { QueuesBehind self.old.clients.queue.items self.new.clients }
+        ensures adds { MayAdd W.can_tick token self.old.clients self.new.clients }
     {
         let now = env.seconds();
         let address = ends.address;

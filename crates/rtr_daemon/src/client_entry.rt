@@ -1,11 +1,14 @@
 //! A connected client, as the table of clients keeps it.
 ghost use Rattle.std.specs.Prelude.{◌≡◌};
-ghost use Rattle.rtr_daemon.specs.Overdue.{blocked_after};
+ghost use Rattle.rtr_daemon.specs.Overdue.{blocked_after, is_notified_after};
 
 use crate::outstanding::{Outstanding, outstanding_after};
 use rtr_server::{ByteCounts, Client, Turn};
 use std::net::SocketAddr;
 use tcp_table::{Endpoint, TcpLine, Unanswered, bytes_of, unanswered_after};
+
+/// The timeout for the first query of a client, in milliseconds.
+pub(crate) const FIRST_QUERY: u64 = 60_000;
 
 /// The addresses of both ends of a client's connection.
 #[derive(Clone, Copy)]
@@ -25,6 +28,8 @@ pub(crate) struct TurnOutcome {
     pub(crate) answers: u64,
     /// How many Serial Notifies were written whole to it.
     pub(crate) notifies: u64,
+    /// Whether a whole query came from it.
+    pub(crate) has_asked: bool,
 }
 
 /// A client: its number at the server, its address, and how long its stream has been blocked.
@@ -35,6 +40,8 @@ pub(crate) struct ClientEntry {
     pub(crate) local: SocketAddr,
     /// When it connected, in milliseconds of the monotonic clock.
     pub(crate) came: u64,
+    /// Whether a whole query came from it.
+    pub(crate) has_asked: bool,
     /// Since when no byte could be written to it, while bytes are due.
     pub(crate) blocked: Option<u64>,
     /// The answer that has not left.
@@ -52,15 +59,37 @@ pub(crate) struct ClientEntry {
 
 impl ClientEntry {
     ghost use Rattle.rtr_daemon.specs.Losing.{lines_noted};
-    ghost use Rattle.rtr_daemon.specs.Overdue.{is_slow, is_stalled, outstanding_after, with_turn};
+    ghost use Rattle.rtr_daemon.specs.Newcomers.{newcomer};
+    ghost use Rattle.rtr_daemon.specs.Overdue.{is_silent, is_slow, is_stalled, turned};
     ghost use Rattle.tcp_table.specs.Columns.{endpoint_of};
     ghost use Rattle.tcp_table.specs.Tables.{bytes_of};
 
+    /// A client that comes now, in milliseconds of the monotonic clock.
+    pub(crate) fn new(client: Client, ends: Ends, now: u64) -> ClientEntry
+        ensures { result ≡ newcomer client ends now }
+    {
+        ClientEntry {
+            client,
+            address: ends.address,
+            local: ends.local,
+            came: now,
+            has_asked: false,
+            blocked: None,
+            answering: None,
+            notifies: 0,
+            is_notified: false,
+            unanswered: None,
+            carried: ByteCounts {
+                read: 0,
+                written: 0,
+            },
+            is_queued: false,
+        }
+    }
+
     /// Notes the outcome of a turn.
     pub(crate) fn note(&mut self, outcome: TurnOutcome, now: u64)
-        ensures answering { self.new.answering ≡ outstanding_after self.old.answering outcome.queries outcome.answers now }
-        ensures blocked { self.new.blocked ≡ blocked_after self.old.blocked self.old.carried.written outcome.turn outcome.carried.written now }
-        ensures rest { self.new ≡ with_turn self.old self.new }
+        ensures { self.new ≡ turned now outcome self.old }
     {
         let TurnOutcome {
             turn,
@@ -68,9 +97,11 @@ impl ClientEntry {
             queries,
             answers,
             notifies,
+            has_asked,
         } = outcome;
+        self.has_asked = self.has_asked || has_asked;
         self.blocked = blocked_since(self, turn, carried, now);
-        self.is_notified = is_notified_after(self, notifies, carried.read);
+        self.is_notified = is_notified_after(self, &outcome);
         if !self.is_notified {
             self.unanswered = None;
         }
@@ -106,6 +137,12 @@ impl ClientEntry {
         }
     }
 
+    pub(crate) fn is_silent(&self, now: u64) -> bool
+        ensures { result ≡ is_silent self.now now }
+    {
+        !self.has_asked && now.saturating_sub(self.came) >= FIRST_QUERY
+    }
+
     pub(crate) fn is_slow(&self, now: u64, slow: u64) -> bool
         ensures { result ≡ is_slow self.now.answering now slow }
     {
@@ -130,6 +167,9 @@ fn blocked_since(entry: &ClientEntry, turn: Turn, carried: ByteCounts, now: u64)
 }
 
 /// Whether a client is notified, and has sent nothing since, after a turn: a notify more was written to it, or it was so before and no byte came.
-fn is_notified_after(entry: &ClientEntry, notifies: u64, read: u64) -> bool {
-    notifies > entry.notifies || (entry.is_notified && read == entry.carried.read)
+fn is_notified_after(entry: &ClientEntry, outcome: &TurnOutcome) -> bool
+    ensures { result ≡ is_notified_after entry.now outcome.now }
+{
+    outcome.notifies > entry.notifies
+        || (entry.is_notified && outcome.carried.read == entry.carried.read)
 }

@@ -1,10 +1,13 @@
 //! The table of connected clients, and the queue of those that are served next.
-ghost use Rattle.std.specs.Prelude.{◌≡◌, [], ◌+◌, ◌≤◌, ◌<◌, ◌↔◌, IsTrue, None, true, length, option_map};
+ghost use Rattle.std.specs.Prelude.{◌≡◌, [], ◌+◌, ◌≤◌, ◌↔◌, ℕ, IfErr, IfOk, None, Some, true, length, option_map};
 ghost use Rattle.std.specs.VecDeque.{deque_capacity, deque_len};
 ghost use Rattle.rtr_daemon.specs.Notes.{AreNoted, unqueued};
+ghost use Rattle.rtr_daemon.specs.Waiting.{AreCovered, Covers, is_blocked_client, waiting_with};
+ghost use Rattle.rtr_daemon.specs.declared.client_entry.ClientEntry.{ClientEntry};
 
 use crate::client_entry::{ClientEntry, Ends, TurnOutcome};
-use rtr_server::{ByteCounts, Client};
+use crate::waiting::Waiting;
+use rtr_server::Client;
 use std::alloc::{AllocError, Global};
 use std::collections::btree_map::Values;
 use std::collections::{BTreeMap, VecDeque};
@@ -17,22 +20,21 @@ use tcp_table::{TcpLine, is_lost};
 pub(crate) struct ClientTable {
     by_token: BTreeMap<usize, ClientEntry>,
     queue: VecDeque<usize>,
-    /// How many clients are blocked on writing.
-    blocked: usize,
-    /// How many clients were notified, and have sent nothing since.
-    notified: usize,
-    /// The poll tokens of clients that may not have sent a query yet, and when they connected, in order. Some of them may be closed by now.
-    newcomers: VecDeque<(usize, u64)>,
+    /// What waits among the clients.
+    waiting: Waiting,
     /// How many clients each address has.
     by_address: BTreeMap<IpAddr, u64>,
     ghost noted: { AreNoted by_token queue.items },
+    ghost covered: { AreCovered waiting by_token },
     ghost room: { deque_len queue + unqueued by_token ≤ deque_capacity queue },
 }
 
 impl ClientTable {
-    ghost use Rattle.rtr_daemon.specs.Queue.{IsFirstFrom, IsQueued, OtherClients, QueuesBehind, SameClients, TakesNext, WakesAll, client_at, known_at};
+    ghost use Rattle.rtr_daemon.specs.Known.{OtherClients, SameClients, client_at, known_at};
+    ghost use Rattle.rtr_daemon.specs.Queue.{IsFirstFrom, IsQueued, QueuesBehind, TakesNext, WakesAll};
     ghost use Rattle.rtr_daemon.specs.Losing.{is_lost_client, lines_noted};
-    ghost use Rattle.rtr_daemon.specs.Overdue.{AnswerNoted, is_slow_client, is_stalled_client};
+    ghost use Rattle.rtr_daemon.specs.Newcomers.{newcomer};
+    ghost use Rattle.rtr_daemon.specs.Overdue.{is_silent_client, is_slow_client, is_stalled_client, turned};
 
     pub(crate) fn new(alloc: Global) -> ClientTable
         ensures { result.queue.items ≡ [] }
@@ -40,9 +42,7 @@ impl ClientTable {
         ClientTable {
             by_token: BTreeMap::new(alloc),
             queue: VecDeque::new(alloc),
-            blocked: 0,
-            notified: 0,
-            newcomers: VecDeque::new(alloc),
+            waiting: Waiting::none(),
             by_address: BTreeMap::new(alloc),
         }
     }
@@ -69,33 +69,21 @@ impl ClientTable {
         ends: Ends,
         now: u64,
     ) -> Result<(), AllocError>
-        ensures { QueuesBehind self.old.queue.items self.new }
+        ensures queue { QueuesBehind self.old.queue.items self.new }
+        ensures others { OtherClients token self.old self.new }
+        ensures came { IfOk result (λ _. known_at self.new token ≡ Some (newcomer client ends now)) }
+        ensures queued { IfOk result (λ _. IsQueued self.new token) }
+        ensures fails { IfErr result (λ _. known_at self.new token ≡ known_at self.old token) }
     {
-        let Ends { address, local } = ends;
+        let address = ends.address;
         self.queue.reserve(self.by_token.len().saturating_add(1))?;
-        self.newcomers.reserve(1)?;
         self.count(address)?;
-        let entry = ClientEntry {
-            client,
-            address,
-            local,
-            came: now,
-            blocked: None,
-            answering: None,
-            notifies: 0,
-            is_notified: false,
-            unanswered: None,
-            carried: ByteCounts {
-                read: 0,
-                written: 0,
-            },
-            is_queued: false,
-        };
+        let entry = ClientEntry::new(client, ends, now);
+        self.waiting = self.waiting.and(&entry);
         if self.by_token.insert(token, entry).is_err() {
             self.discount(address);
             return Err(AllocError);
         }
-        let _ = self.newcomers.push_back((token, now));
         self.wake(token);
         Ok(())
     }
@@ -130,24 +118,6 @@ impl ClientTable {
         } else if let Some(it) = self.by_address.get_mut(&key) {
             *it = count;
         }
-    }
-
-    /// When the first client in the list of those without a query reaches this timeout.
-    pub(crate) fn first_deadline(&self, patience: u64) -> Option<u64> {
-        let (_token, came) = self.newcomers.front()?;
-        Some(came.saturating_add(patience))
-    }
-
-    /// The poll token of a client that reached this timeout, and may have sent no query. It may be closed by now.
-    pub(crate) fn next_overdue(&mut self, now: u64, patience: u64) -> Option<usize>
-        ensures { self.new ≡ record self.old { newcomers = self.new.newcomers } }
-    {
-        let deadline = self.first_deadline(patience)?;
-        if now < deadline {
-            return None;
-        }
-        let (token, _came) = self.newcomers.pop_front()?;
-        Some(token)
     }
 
     /// Queues the client of a poll token, if there is one.
@@ -196,25 +166,41 @@ impl ClientTable {
         }
     }
 
-    /// Queues the clients that are blocked on writing.
+    /// Queues the clients that are blocked on writing, and finds what waits among all.
     pub(crate) fn wake_blocked(&mut self)
         ensures clients { SameClients self.old self.new }
         ensures queue { QueuesBehind self.old.queue.items self.new }
+        ensures blocked { (token : ℕ) → is_blocked_client (known_at self.old token) ≡ true → IsQueued self.new token }
     {
+        let mut waiting = Waiting::none();
         let mut at = self.first();
         while let Some(token) = at {
             if self.is_blocked(token) {
                 self.wake(token);
             }
+            waiting = self.with_client(waiting, token);
             at = self.first_after(token);
         }
+        self.waiting = waiting;
     }
 
     /// Whether the client of a poll token is blocked on writing.
-    fn is_blocked(&self, token: usize) -> bool {
+    fn is_blocked(&self, token: usize) -> bool
+        ensures { result ≡ is_blocked_client (known_at self.now token) }
+    {
         match self.by_token.get(&token) {
             Some(entry) => entry.blocked.is_some(),
             None => false,
+        }
+    }
+
+    /// What waits, with the client of a poll token, if there is one.
+    fn with_client(&self, waiting: Waiting, token: usize) -> Waiting
+        ensures { result ≡ waiting_with waiting (known_at self.now token) }
+    {
+        match self.by_token.get(&token) {
+            Some(entry) => waiting.and(entry),
+            None => waiting,
         }
     }
 
@@ -230,21 +216,14 @@ impl ClientTable {
 
     /// Notes the outcome of a turn. A client is blocked from the last byte that was written to it.
     pub(crate) fn note(&mut self, token: usize, outcome: TurnOutcome, now: u64)
-        ensures client { client_at self.new token ≡ client_at self.old token }
-        ensures answering { AnswerNoted outcome.queries outcome.answers now (known_at self.old token) (known_at self.new token) }
+        ensures noted { known_at self.new token ≡ option_map (turned now outcome) (known_at self.old token) }
         ensures others { OtherClients token self.old self.new }
         ensures queue { self.new.queue ≡ self.old.queue }
     {
-        let Some(entry) = self.by_token.get_mut(&token) else {
-            return;
-        };
-        let was_blocked = entry.blocked.is_some();
-        let was_notified = entry.is_notified;
-        entry.note(outcome, now);
-        let is_blocked = entry.blocked.is_some();
-        let is_notified = entry.is_notified;
-        self.blocked = counted(self.blocked, was_blocked, is_blocked);
-        self.notified = counted(self.notified, was_notified, is_notified);
+        if let Some(entry) = self.by_token.get_mut(&token) {
+            entry.note(outcome, now);
+            self.waiting = self.waiting.and(entry);
+        }
     }
 
     /// All clients, by poll token: those that connected first come first.
@@ -268,24 +247,16 @@ impl ClientTable {
         ensures queue { self.new.queue ≡ self.old.queue }
     {
         let entry = self.by_token.remove(&token)?;
-        let was_blocked = if entry.blocked.is_some() { 1 } else { 0 };
-        self.blocked = self.blocked.saturating_sub(was_blocked);
-        let was_notified = if entry.is_notified { 1 } else { 0 };
-        self.notified = self.notified.saturating_sub(was_notified);
         self.discount(entry.address);
         Some(entry)
     }
 
-    /// Whether some client is blocked on writing.
-    pub(crate) fn has_blocked(&self) -> bool
-        ensures { IsTrue result ↔ (0 < self.now.blocked) }
+    /// What waits among the clients.
+    pub(crate) fn waiting(&self) -> Waiting
+        ensures is { result ≡ self.now.waiting }
+        ensures covers { (token : ℕ) (entry : ClientEntry) → known_at self.now token ≡ Some entry → Covers result entry }
     {
-        self.blocked > 0
-    }
-
-    /// Whether some client was notified, and has sent nothing since.
-    pub(crate) fn has_notified(&self) -> bool {
-        self.notified > 0
+        self.waiting
     }
 
     /// Notes of the client of a poll token what these lines of the system's tables show, at this time, if it was notified and has sent nothing
@@ -320,6 +291,16 @@ impl ClientTable {
         }
     }
 
+    /// Whether the client of a poll token has sent no whole query in time.
+    pub(crate) fn is_silent(&self, token: usize, now: u64) -> bool
+        ensures { result ≡ is_silent_client (known_at self.now token) now }
+    {
+        match self.by_token.get(&token) {
+            Some(entry) => entry.is_silent(now),
+            None => false,
+        }
+    }
+
     /// Whether an answer to the client of a poll token has been outstanding for this long.
     pub(crate) fn is_slow(&self, token: usize, now: u64, slow: u64) -> bool
         ensures { result ≡ is_slow_client (known_at self.now token) now slow }
@@ -328,14 +309,5 @@ impl ClientTable {
             Some(entry) => entry.is_slow(now, slow),
             None => false,
         }
-    }
-}
-
-/// A count, after one of those that it counts was or is one.
-fn counted(count: usize, was: bool, is: bool) -> usize {
-    match (was, is) {
-        (true, false) => count.saturating_sub(1),
-        (false, true) => count.saturating_add(1),
-        _ => count,
     }
 }

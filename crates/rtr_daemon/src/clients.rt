@@ -1,13 +1,15 @@
 //! Serving clients, and closing those that are stalled, slow or silent.
-ghost use Rattle.std.specs.Prelude.{◌≡◌, [], ◌∷◌, ◌||◌, IfSome, None, Some, false, is_some, true, ℕ};
+ghost use Rattle.std.specs.Prelude.{◌≡◌, [], ◌∷◌, ◌||◌, IfSome, None, Some, is_some, option_map, ℕ};
 ghost use Rattle.rtr_daemon.specs.Accepting.{noted};
 ghost use Rattle.rtr_daemon.specs.Due.{OnlyAdmitted, OnlyClients};
-ghost use Rattle.rtr_server.specs.Clients.{has_asked, slot_at};
+ghost use Rattle.rtr_server.specs.Clients.{slot_at};
 ghost use Rattle.rtr_daemon.specs.Parting.{agreed_version, has_agreed, is_served, refused_version};
-ghost use Rattle.rtr_daemon.specs.Queue.{IsQueued, OtherClients, QueuesBehind, ServesEach, ServesNext, TurnOf, client_at, known_at};
+ghost use Rattle.rtr_daemon.specs.Known.{OtherClients, known_at};
+ghost use Rattle.rtr_daemon.specs.Queue.{IsNotedAfter, IsQueued, QueuesBehind, ServesEach, ServesNext, TurnOf};
 ghost use Rattle.rtr_server.specs.declared.turn.Turn.TheVariants.{Busy};
 ghost use Rattle.rtr_daemon.specs.Serving.{Continues};
-ghost use Rattle.rtr_daemon.specs.Overdue.{AnswersNoted, ClosesOverdue, OutcomeOf, unless_overdue};
+ghost use Rattle.rtr_daemon.specs.Closing.{ClosesOverdue};
+ghost use Rattle.rtr_daemon.specs.Overdue.{outcome_of, unless_overdue};
 ghost use Rattle.rtr_daemon.specs.Readiness.{QueuesReady, TakesReady};
 
 use crate::client_entry::TurnOutcome;
@@ -28,9 +30,6 @@ const BUDGET: u32 = 8;
 
 /// How many readiness events are read in one turn.
 const READY: usize = 65_536;
-
-/// The timeout for the first query of a client, in milliseconds.
-pub(crate) const FIRST_QUERY: u64 = 60_000;
 
 /// The counters of a client: bytes and PDUs in each direction, and its protocol version.
 #[derive(Clone, Copy)]
@@ -71,7 +70,7 @@ impl<S: VersionStore, T: Stream + Drop> Daemon<S, T> {
 
     /// Serves each queued client once.
     pub(crate) fn serve_all<W: Time + EventLog>(&mut self, env: &mut W)
-        ensures turns { ServesEach S.holds T.remaining T.contents T.answers self.old.clients.queue.items self.old.clients self.old.service.server self.new.clients self.new.service.server }
+        ensures turns { ServesEach W.can_tick S.holds T.remaining T.contents T.answers self.old.clients.queue.items self.old self.new }
         ensures goes { Continues S.holds T.remaining T.contents self.old.service self.new.service }
         ensures rest { OnlyClients self.old self.new }
     {
@@ -82,7 +81,7 @@ impl<S: VersionStore, T: Stream + Drop> Daemon<S, T> {
 
     /// Serves the next client of the queue.
     fn serve_next<W: Time + EventLog>(&mut self, env: &mut W)
-        ensures turn { ServesNext S.holds T.remaining T.contents T.answers self.old.clients.queue.items self.old.clients self.old.service.server self.new.clients self.new.service.server }
+        ensures turn { ServesNext W.can_tick S.holds T.remaining T.contents T.answers self.old.clients.queue.items self.old self.new }
         ensures goes { Continues S.holds T.remaining T.contents self.old.service self.new.service }
         ensures rest { OnlyClients self.old self.new }
     {
@@ -128,8 +127,7 @@ impl<S: VersionStore, T: Stream + Drop> Daemon<S, T> {
         ensures rest { OnlyClients self.old self.new }
         ensures others { OtherClients token self.old.clients self.new.clients }
         ensures queue { QueuesBehind self.old.clients.queue.items self.new.clients }
-        ensures turn { TurnOf S.holds T.remaining T.contents T.answers (Some client) token self.old.clients self.old.service.server self.new.clients self.new.service.server }
-        ensures notes { AnswersNoted W.can_tick (known_at self.old.clients token) (slot_at self.new.service.server.slots.items client.0.0) (known_at self.new.clients token) }
+        ensures turn { TurnOf W.can_tick S.holds T.remaining T.contents T.answers (Some client) token self.old self.new }
     {
         match self.service.serve(client, BUDGET) {
             None => {}
@@ -142,13 +140,13 @@ impl<S: VersionStore, T: Stream + Drop> Daemon<S, T> {
 
     /// Notes a turn of a client that stays. It is queued again if it made all calls that it may.
     fn note_turn<W: Time>(&mut self, token: usize, client: Client, turn: Turn, env: &mut W)
-        ensures stays { client_at self.new.clients token ≡ client_at self.old.clients token }
+        ensures noted { IsNotedAfter W.can_tick turn (slot_at self.old.service.server.slots.items client.0.0) (known_at self.old.clients token) (known_at self.new.clients token) }
         ensures busy { turn ≡ Busy → IsQueued self.new.clients token }
+        ensures parted { self.new.has_parted ≡ self.old.has_parted }
         ensures service { self.new.service ≡ self.old.service }
         ensures rest { OnlyClients self.old self.new }
         ensures others { OtherClients token self.old.clients self.new.clients }
         ensures queue { QueuesBehind self.old.clients.queue.items self.new.clients }
-        ensures notes { AnswersNoted W.can_tick (known_at self.old.clients token) (slot_at self.old.service.server.slots.items client.0.0) (known_at self.new.clients token) }
     {
         if let Some(outcome) = self.outcome(client, turn) {
             self.clients.note(token, outcome, env.millis());
@@ -160,7 +158,7 @@ impl<S: VersionStore, T: Stream + Drop> Daemon<S, T> {
 
     /// What a turn of a client came to, if there is such a client.
     fn outcome(&self, client: Client, turn: Turn) -> Option<TurnOutcome>
-        ensures { OutcomeOf (slot_at self.now.service.server.slots.items client.0.0) result }
+        ensures { result ≡ option_map (outcome_of turn) (slot_at self.now.service.server.slots.items client.0.0) }
     {
         let server = self.service.server();
         Some(TurnOutcome {
@@ -169,6 +167,7 @@ impl<S: VersionStore, T: Stream + Drop> Daemon<S, T> {
             queries: queries_in(server.received(client)?),
             answers: answers_in(server.sent(client)?),
             notifies: server.sent(client)?.of(Kind::SerialNotify),
+            has_asked: server.has_asked(client),
         })
     }
 
@@ -237,34 +236,8 @@ impl<S: VersionStore, T: Stream + Drop> Daemon<S, T> {
         }
     }
 
-    /// Closes the clients that sent no whole query within the timeout.
-    pub(crate) fn drop_silent<W: Time + EventLog>(&mut self, now: u64, env: &mut W)
-        ensures goes { Continues S.holds T.remaining T.contents self.old.service self.new.service }
-        ensures rest { OnlyClients self.old self.new }
-    {
-        for _client in 0..u64::MAX {
-            match self.clients.next_overdue(now, FIRST_QUERY) {
-                None => return,
-                Some(token) => self.drop_if_silent(token, env),
-            }
-        }
-    }
-
-    fn drop_if_silent<W: Time + EventLog>(&mut self, token: usize, env: &mut W)
-        ensures goes { Continues S.holds T.remaining T.contents self.old.service self.new.service }
-        ensures rest { OnlyClients self.old self.new }
-        ensures others { OtherClients token self.old.clients self.new.clients }
-        ensures asked { IfSome (client_at self.old.clients token) (λ client. has_asked (slot_at self.old.service.server.slots.items client.0.0) ≡ true → self.new.clients ≡ self.old.clients) }
-        ensures silent { IfSome (client_at self.old.clients token) (λ client. has_asked (slot_at self.old.service.server.slots.items client.0.0) ≡ false → known_at self.new.clients token ≡ None) }
-    {
-        if let Some((client, _address)) = self.clients.at(token) {
-            if !self.service.server().has_asked(client) {
-                self.drop_connection(token, "no-query", env);
-            }
-        }
-    }
-
-    /// Closes the clients that have been blocked on writing for too long, and those whose answer has lasted too long.
+    /// Closes the clients that have been blocked on writing for too long, those whose answer has lasted too long, and those that sent no whole query
+    /// in time.
     pub(crate) fn drop_overdue<W: Time + EventLog>(&mut self, env: &mut W)
         ensures goes { Continues S.holds T.remaining T.contents self.old.service self.new.service }
         ensures rest { OnlyClients self.old self.new }
@@ -279,7 +252,8 @@ impl<S: VersionStore, T: Stream + Drop> Daemon<S, T> {
         }
     }
 
-    /// Closes the client of a poll token if it has been blocked on writing for too long, or its answer has lasted too long.
+    /// Closes the client of a poll token if it is overdue: blocked on writing for too long, with an answer that has lasted too long, or without a
+    /// whole query.
     fn drop_if_overdue<W: Time + EventLog>(&mut self, token: usize, now: u64, env: &mut W)
         ensures goes { Continues S.holds T.remaining T.contents self.old.service self.new.service }
         ensures rest { OnlyClients self.old self.new }
@@ -291,6 +265,8 @@ impl<S: VersionStore, T: Stream + Drop> Daemon<S, T> {
             self.drop_stalled_client(token, env);
         } else if self.clients.is_slow(token, now, self.plan.slow) {
             self.drop_connection(token, "slow", env);
+        } else if self.clients.is_silent(token, now) {
+            self.drop_connection(token, "no-query", env);
         }
     }
 

@@ -1,17 +1,21 @@
 //! The daemon: a loop that serves what is ready, and does what is due by the clock.
-ghost use Rattle.std.specs.Prelude.{◌≡◌, ◌≤◌, ◌<◌, ℕ, IfErr, IfOk, unwrap_or};
+ghost use Rattle.std.specs.Prelude.{◌≡◌, ◌≤◌, ◌<◌, ℕ, IfErr, IfOk, Some, true, unwrap_or};
 ghost use Rattle.rtr_daemon.specs.declared.daemon.StopReason.TheVariants.{Checked};
-ghost use Rattle.rtr_daemon.specs.Due.{DoesWhatIsDue, IsChecked, IsInTime, IsWait, KeepsFiles, NextPoll, OnlyPolled, PollsAll, PublishesIfDue, SamePaths, TakesTurn, WakesIfPublished, end_of};
+ghost use Rattle.rtr_daemon.specs.Accepting.{AreTriedBy};
+ghost use Rattle.rtr_daemon.specs.Due.{DoesWhatIsDue, IsChecked, KeepsFiles, NextPoll, OnlyPolled, PollsAll, PublishesIfDue, SamePaths, TakesTurn, WakesIfPublished};
+ghost use Rattle.rtr_daemon.specs.Due.{IsInTime, IsWait, drop_time, end_of};
 ghost use Rattle.rtr_daemon.specs.Times.{later_by};
 ghost use Rattle.rtr_daemon.specs.Queue.{QueuesBehind};
 ghost use Rattle.rtr_daemon.specs.SocketCalls.{WaitFails};
 ghost use Rattle.rtr_daemon.specs.Origins.{SourcesComeFrom};
-ghost use Rattle.rtr_daemon.specs.Serving.{Advances, Continues, GoesOn, IsFresh};
-ghost use Rattle.rtr_daemon.specs.Overdue.{ClosesOverdue, LeavesNoneOverdue};
+ghost use Rattle.rtr_daemon.specs.Checking.{IsCheckReport, source_count};
+ghost use Rattle.rtr_daemon.specs.Serving.{Advances, Continues, GoesOn, IsFresh, IsReason};
+ghost use Rattle.rtr_daemon.specs.Closing.{ClosesClients, TriesBlocked, WakesFor};
+ghost use Rattle.rtr_daemon.specs.Known.{known_at};
+ghost use Rattle.rtr_daemon.specs.declared.client_entry.ClientEntry.{ClientEntry};
 
 use crate::accepting::Listeners;
 use crate::client_table::ClientTable;
-use crate::clients::FIRST_QUERY;
 use crate::environment::{Disk, EventLog, Sockets, Time};
 use crate::families::Families;
 use crate::losing::Readings;
@@ -173,34 +177,72 @@ impl<S: StepStore + Drop, T: Stream + Drop> Daemon<S, T> {
     fn next_moment(&self, millis: u64) -> u64
         ensures { IsInTime self.now millis result }
     {
-        let mut next = self.next_check;
-        if self.clients.has_blocked() || (self.service.is_pending() && self.held_until <= millis) {
-            next = next.min(self.next_round);
+        self.next_check
+            .min(self.next_of_clients())
+            .min(self.next_of_pending(millis))
+            .min(self.next_of_failure())
+            .min(self.next_of_listeners())
+    }
+
+    /// When a pending version is published next, if one is pending and not held back: in the next round. Otherwise the end of time.
+    fn next_of_pending(&self, millis: u64) -> u64
+        ensures { self.now.service.is_pending ≡ true → self.now.held_until ≤ millis → result ≤ self.now.next_round }
+    {
+        if self.service.is_pending() && self.held_until <= millis {
+            self.next_round
+        } else {
+            u64::MAX
         }
-        if let Some(since) = self.failing {
-            next = next.min(self.drop_time(since));
+    }
+
+    /// When versions are dropped, if publication fails. Otherwise the end of time.
+    fn next_of_failure(&self) -> u64
+        ensures { (since : ℕ) → self.now.failing ≡ Some since → result ≤ drop_time since self.now }
+    {
+        match self.failing {
+            Some(since) => self.drop_time(since),
+            None => u64::MAX,
         }
-        if let Some(deadline) = self.clients.first_deadline(FIRST_QUERY) {
-            next = next.min(deadline);
+    }
+
+    /// When a listener with a pending connection can be tried, if there is one. Otherwise the end of time.
+    fn next_of_listeners(&self) -> u64
+        ensures { self.now.is_ready ≡ true → AreTriedBy (Some result) self.now.listeners.listeners.items }
+    {
+        self.next_accept().unwrap_or(u64::MAX)
+    }
+
+    /// When something is due next for a client, in milliseconds of the monotonic clock: in a round.
+    fn next_of_clients(&self) -> u64
+        ensures { (token : ℕ) (entry : ClientEntry) → known_at self.now.clients token ≡ Some entry → WakesFor self.now.next_round self.now.readings result entry }
+    {
+        let waiting = self.clients.waiting();
+        if waiting.blocked {
+            return self.next_round;
         }
-        if let Some(reading) = self.next_reading() {
-            next = next.min(reading);
-        }
-        match self.next_accept() {
-            Some(next_try) => next.min(next_try),
-            None => next,
+        let silent = waiting.silent_at.unwrap_or(u64::MAX);
+        let next = self.next_reading(waiting.notified).min(silent);
+        next.max(self.next_round)
+    }
+
+    /// When the system's tables of connections are read next, in milliseconds of the monotonic clock, if a client was notified.
+    fn next_reading(&self, is_notified: bool) -> u64
+        ensures { is_notified ≡ true → result ≡ self.now.readings.next }
+    {
+        if is_notified {
+            self.readings.next
+        } else {
+            u64::MAX
         }
     }
 
     /// Does what is due by the clock.
     fn do_what_is_due<W: Sockets<T> + Disk + Time + EventLog>(&mut self, env: &mut W)
         ensures goes { GoesOn W.can_be S.holds T.remaining T.contents self.old.service self.new.service }
-        ensures due { DoesWhatIsDue W.answers W.can_be W.can_tick self.old self.new }
+        ensures due { DoesWhatIsDue W.answers W.calls W.can_be W.can_tick self.old self.new }
     {
         let now = env.millis();
         self.check(now, env);
-        self.drop_silent(now, env);
-        self.drop_lost(now, env);
         self.go_round(now, env);
     }
 
@@ -236,19 +278,19 @@ impl<S: StepStore + Drop, T: Stream + Drop> Daemon<S, T> {
         self.judge_ages(env);
     }
 
-    /// Closes overdue clients and publishes a pending version, if that is due. After a new version the files are polled one interval later.
-    fn go_round<W: Time + EventLog>(&mut self, now: u64, env: &mut W)
+    /// Closes overdue and lost clients, tries blocked ones, and publishes a pending version, once a second at most. After a new version the files are
+    /// polled one interval later.
+    fn go_round<W: Sockets<T> + Time + EventLog>(&mut self, now: u64, env: &mut W)
         ensures goes { GoesOn W.can_be S.holds T.remaining T.contents self.old.service self.new.service }
         ensures wakes { WakesIfPublished self.old self.new }
         ensures fresh { IsFresh W.can_be self.old.service → IsFresh W.can_be self.new.service }
         ensures due { self.old.next_round ≤ now → PublishesIfDue W.can_be W.can_tick self.old.held_until self.old self.new }
         ensures round { self.old.next_round ≤ now → self.new.next_round ≡ later_by 1000 now }
-        ensures early { now < self.old.next_round → self.new.next_round ≡ self.old.next_round }
         ensures idle { now < self.old.next_round → self.new ≡ self.old }
         ensures kept { KeepsFiles self.old self.new }
         ensures next { NextPoll W.can_tick self.old.next_check self.old self.new }
-        ensures closed { self.old.next_round ≤ now → (at : ℕ) × W.can_tick at × ClosesOverdue at self.old.plan self.old.clients self.new.clients }
-        ensures overdue { self.old.next_round ≤ now → LeavesNoneOverdue W.can_tick self.old.plan self.new.clients }
+        ensures closes { self.old.next_round ≤ now → ClosesClients W.calls W.can_tick now self.old self.new }
+        ensures tries { self.old.next_round ≤ now → TriesBlocked self.new.clients }
         ensures queue { QueuesBehind self.old.clients.queue.items self.new.clients }
     {
         if now < self.next_round {
@@ -256,13 +298,17 @@ impl<S: StepStore + Drop, T: Stream + Drop> Daemon<S, T> {
         }
         self.next_round = now.saturating_add(SOON);
         self.drop_overdue(env);
+        self.drop_lost(now, env);
         self.clients.wake_blocked();
         self.publish_and_judge(env);
     }
 
     /// Returns the counts of what would be published at `now`, in seconds since 1970. Nothing is published. `Err`: why nothing would be
     /// published. It is `Clock` if `now` is not within the years 1970 to 9999, and otherwise `Set`: too many records, or out of memory.
-    pub fn check_report(&self, now: u64) -> Result<CheckReport, Refusal> {
+    pub fn check_report(&self, now: u64) -> Result<CheckReport, Refusal>
+        ensures report { IfOk result (λ report. IsCheckReport now self.now report) }
+        ensures refused { IfErr result (λ refusal. IsReason now self.now.service.sources refusal) }
+    {
         let ServedSet { set, left_out, .. } = self.service.served(now)?;
         let Families { ipv4, ipv6 } = Families::of(&set);
         Ok(CheckReport {
@@ -274,7 +320,9 @@ impl<S: StepStore + Drop, T: Stream + Drop> Daemon<S, T> {
     }
 
     /// How many files and publication points are watched.
-    fn source_count(&self) -> u64 {
+    fn source_count(&self) -> u64
+        ensures { result ≡ source_count self.now }
+    {
         let files = self.exports.len().saturating_add(self.slurms.len());
         files.saturating_add(self.points.len()) as u64
     }

@@ -1,7 +1,7 @@
 //! Dropping versions that could not be replaced in time.
 ghost use Rattle.std.specs.Prelude.{◌≡◌, ◌⊎◌};
 ghost use Rattle.rtr_daemon.specs.Due.{DropsIfLate, OnlyClients, OnlyServed, drop_time};
-ghost use Rattle.rtr_daemon.specs.Queue.{NoClients};
+ghost use Rattle.rtr_daemon.specs.Known.{NoClients};
 ghost use Rattle.rtr_daemon.specs.Serving.{Continues, Drops};
 
 use crate::daemon::Daemon;

@@ -41,13 +41,10 @@ pub enum AcceptResult<L> {
 
 /// The listeners and connections of a daemon. `L` is the type of a connection's stream.
 pub trait Sockets<L> {
-    ghost use Rattle.std.specs.Prelude.{IfErr, IfOk, List, ℕ};
-    ghost use Rattle.rtr_daemon.specs.SocketCalls.{SocketCalls, accepted_as, any_calls};
+    ghost use Rattle.std.specs.Prelude.{IfErr, IfOk};
+    ghost use Rattle.rtr_daemon.specs.SocketCalls.{SocketCalls, accepted_as, any_calls, shown_by};
 
-    /// The contents that [`Sockets::connections`] may return, for use in contracts. An implementation chooses it. The default allows all.
-    ghost can_have: { List ℕ → Type 0 } = { λ table. Unit {0} };
-
-    /// The ways in which [`Sockets::wait`], [`Sockets::next`] and [`Sockets::accept`] may return, for use in contracts. An implementation chooses it.
+    /// The ways in which the calls of this trait may return, for use in contracts. An implementation chooses it. The default allows all.
     ghost calls: { SocketCalls Self } = { any_calls };
 
     /// Waits until a listener or connection is ready, for at most `millis` milliseconds. Then [`Sockets::next`] returns what is ready.
@@ -67,7 +64,7 @@ pub trait Sockets<L> {
     /// Returns the system's tables of TCP connections in one text: `/proc/self/net/tcp`, then `/proc/self/net/tcp6` (proc(5)). A system without
     /// IPv6 has only the first. `Err`: they cannot be read, or memory ran out.
     fn connections(&mut self) -> io::Result<Vec<u8>>
-        ensures { IfOk result (λ table. can_have table.items) };
+        ensures { calls.shows self.old (shown_by result) self.new };
 }
 
 /// The size, inode number and times of a file. If they differ from earlier ones, the file counts as changed.

@@ -73,6 +73,7 @@ mod statistics;
 mod status;
 mod unwell;
 mod versions;
+mod waiting;
 mod watched_file;
 
 pub use cache_settings::CacheSettings;

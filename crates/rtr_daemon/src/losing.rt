@@ -1,8 +1,9 @@
 //! Clients whose hosts have vanished: the bytes of a notify are sent to them again and again.
-ghost use Rattle.std.specs.Prelude.{◌≡◌};
+ghost use Rattle.std.specs.Prelude.{◌≡◌, Some, true};
 ghost use Rattle.rtr_daemon.specs.Due.{OnlyClients};
-ghost use Rattle.rtr_daemon.specs.Losing.{ClosesLost, LooksOrNot, unless_lost};
-ghost use Rattle.rtr_daemon.specs.Queue.{OtherClients, known_at};
+ghost use Rattle.rtr_daemon.specs.Losing.{ClosesLost, unless_lost};
+ghost use Rattle.rtr_daemon.specs.Closing.{ClosesBy, LooksIfDue};
+ghost use Rattle.rtr_daemon.specs.Known.{OtherClients, known_at};
 ghost use Rattle.rtr_daemon.specs.Serving.{Continues};
 
 use crate::daemon::Daemon;
@@ -19,7 +20,7 @@ const PAUSE: u64 = 10_000;
 #[derive(Debug, Drop)]
 pub(crate) struct Readings {
     /// The earliest time of the next one.
-    next: u64,
+    pub(crate) next: u64,
     /// Whether it was reported that they cannot be read.
     is_reported: bool,
 }
@@ -34,7 +35,9 @@ impl Readings {
     }
 
     /// Marks as reported that the tables cannot be read. Returns true if that was not reported before.
-    fn mark_reported(&mut self) -> bool {
+    fn mark_reported(&mut self) -> bool
+        ensures { self.new ≡ record self.old { is_reported = true } }
+    {
         let is_news = !self.is_reported;
         self.is_reported = true;
         is_news
@@ -42,30 +45,38 @@ impl Readings {
 }
 
 impl<S: VersionStore, T: Stream + Drop> Daemon<S, T> {
-    /// When the system's tables are read next, if some client was notified and has sent nothing since.
-    pub(crate) fn next_reading(&self) -> Option<u64> {
-        if self.clients.has_notified() {
-            Some(self.readings.next)
-        } else {
-            None
-        }
-    }
-
-    /// Closes the clients that are lost by the system's tables of connections, if a reading is due: at most every ten seconds, and only while some client
-    /// was notified and has sent nothing since.
+    /// Closes the clients that are lost by the system's tables of connections, if a reading is due. That is at most every ten seconds, and only while some
+    /// client was notified and has sent nothing since.
     pub(crate) fn drop_lost<W: Sockets<T> + Time + EventLog>(&mut self, now: u64, env: &mut W)
         ensures goes { Continues S.holds T.remaining T.contents self.old.service self.new.service }
-        ensures rest { OnlyClients self.old self.new }
-        ensures looks { LooksOrNot W.can_have now self.old.plan.stall self.old.clients self.new.clients }
+        ensures rest { OnlyClients (record self.old { readings = self.new.readings }) self.new }
+        ensures queue { self.new.clients.queue ≡ self.old.clients.queue }
+        ensures looks { LooksIfDue W.calls now self.old.plan.stall self.old.readings self.old.clients self.new.readings self.new.clients }
     {
-        if !self.clients.has_notified() || now < self.readings.next {
+        if now < self.readings.next || !self.clients.waiting().notified {
             return;
         }
         self.readings.next = now.saturating_add(PAUSE);
-        let Ok(table) = env.connections() else {
-            return self.report_unreadable(env);
-        };
-        match unanswered(self.alloc, table.as_slice()) {
+        match env.connections() {
+            Ok(tables) => self.drop_lost_in(tables.as_slice(), now, env),
+            Err(_) => self.report_unreadable(env),
+        }
+    }
+
+    /// Closes the clients that are lost by the system's tables.
+    fn drop_lost_in<W: Sockets<T> + Time + EventLog>(
+        &mut self,
+        tables: &[u8],
+        now: u64,
+        env: &mut W,
+    )
+        ensures goes { Continues S.holds T.remaining T.contents self.old.service self.new.service }
+        ensures rest { OnlyClients (record self.old { readings = self.new.readings }) self.new }
+        ensures queue { self.new.clients.queue ≡ self.old.clients.queue }
+        ensures readings { self.new.readings.next ≡ self.old.readings.next }
+        ensures closed { ClosesBy (Some tables.now) now self.old.plan.stall self.old.clients self.new.clients }
+    {
+        match unanswered(self.alloc, tables) {
             Ok(lines) => self.drop_lost_by(lines.as_slice(), now, env),
             Err(_) => self.report_unreadable(env),
         }
@@ -73,7 +84,8 @@ impl<S: VersionStore, T: Stream + Drop> Daemon<S, T> {
 
     /// Reports that the system's tables of connections cannot be read, if that was not reported before.
     fn report_unreadable<W: Time + EventLog>(&mut self, env: &mut W)
-        ensures { self.new ≡ record self.old { readings = self.new.readings } }
+        ensures rest { self.new ≡ record self.old { readings = self.new.readings } }
+        ensures next { self.new.readings.next ≡ self.old.readings.next }
     {
         if self.readings.mark_reported() {
             let reason =
@@ -87,6 +99,7 @@ impl<S: VersionStore, T: Stream + Drop> Daemon<S, T> {
     fn drop_lost_by<W: Time + EventLog>(&mut self, lines: &[TcpLine], now: u64, env: &mut W)
         ensures goes { Continues S.holds T.remaining T.contents self.old.service self.new.service }
         ensures rest { OnlyClients self.old self.new }
+        ensures queue { self.new.clients.queue ≡ self.old.clients.queue }
         ensures closed { ClosesLost lines.now now self.old.plan.stall self.old.clients self.new.clients }
     {
         let mut at = self.clients.first();
@@ -107,6 +120,7 @@ impl<S: VersionStore, T: Stream + Drop> Daemon<S, T> {
         ensures goes { Continues S.holds T.remaining T.contents self.old.service self.new.service }
         ensures rest { OnlyClients self.old self.new }
         ensures others { OtherClients token self.old.clients self.new.clients }
+        ensures queue { self.new.clients.queue ≡ self.old.clients.queue }
         ensures closed { known_at self.new.clients token ≡ unless_lost lines.now now self.old.plan.stall (known_at self.old.clients token) }
     {
         self.clients.note_lines(token, lines, now);

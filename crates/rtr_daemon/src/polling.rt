@@ -1,6 +1,6 @@
 //! Polling the exports, and loading those that have changed.
 ghost use Rattle.std.specs.Prelude.{◌≡◌, ◌↔◌, IsTrue};
-ghost use Rattle.rtr_daemon.specs.Files.{Follows, FollowsEach, FollowsOne, RefusedAfter, loaded_after, mark_of, marks_of, names_of};
+ghost use Rattle.rtr_daemon.specs.Files.{Follows, FollowsEach, FollowsOne, RefusedAfter, loaded_after, loaded_at_after, mark_of, marks_of, names_of};
 ghost use Rattle.rtr_daemon.specs.Due.{OnlyFiles};
 ghost use Rattle.rtr_daemon.specs.Serving.{Continues, LoadsExport, OnlySources, TakesSo};
 
@@ -63,6 +63,7 @@ fn note(
     ensures short { export.new.short_since ≡ export.old.short_since }
     ensures loaded { export.new.file.loaded ≡ loaded_after taken stamp export.old.file.loaded }
     ensures refused { RefusedAfter taken stamp export.new.file.refusals.last }
+    ensures at { export.new.file.loaded_at ≡ loaded_at_after taken now export.old.file.loaded_at }
 {
     match taken {
         Ok(expired) => PollResult::Loaded {

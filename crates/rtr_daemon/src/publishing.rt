@@ -1,7 +1,8 @@
 //! Publishing a pending version, and what is noted of it.
 ghost use Rattle.std.specs.Prelude.{◌≡◌, IfErr, IfOk, None};
-ghost use Rattle.rtr_daemon.specs.Due.{FailureNoted, IsReadyAfter, KeepsFiles, NextAfter, NextPoll, OnlyNotes, PublishesIfDue, WakesIfPublished};
-ghost use Rattle.rtr_daemon.specs.Queue.{QueuesBehind, SameClients, WakesIfNew};
+ghost use Rattle.rtr_daemon.specs.Due.{FailureNoted, HasNoFailure, IsReadyAfter, KeepsFiles, NextAfter, NextPoll, OnlyNotes, PublishesIfDue, WakesIfPublished};
+ghost use Rattle.rtr_daemon.specs.Known.{SameClients};
+ghost use Rattle.rtr_daemon.specs.Queue.{QueuesBehind, WakesIfNew};
 ghost use Rattle.rtr_daemon.specs.Serving.{GoesOn, IsFresh};
 
 use crate::daemon::Daemon;
@@ -25,6 +26,7 @@ impl<S: StepStore + Drop, T: Stream + Drop> Daemon<S, T> {
         ensures kept { KeepsFiles self.old self.new }
         ensures next { NextPoll W.can_tick self.old.next_check self.old self.new }
         ensures clients { SameClients self.old.clients self.new.clients }
+        ensures readings { self.new.readings ≡ self.old.readings }
         ensures queue { QueuesBehind self.old.clients.queue.items self.new.clients }
     {
         self.publish_pending(env);
@@ -41,11 +43,12 @@ impl<S: StepStore + Drop, T: Stream + Drop> Daemon<S, T> {
         ensures kept { KeepsFiles self.old self.new }
         ensures next { NextPoll W.can_tick self.old.next_check self.old self.new }
         ensures clients { SameClients self.old.clients self.new.clients }
+        ensures readings { self.new.readings ≡ self.old.readings }
         ensures queue { QueuesBehind self.old.clients.queue.items self.new.clients }
     {
         let now = env.seconds();
         if !self.service.is_pending() {
-            self.failing = None;
+            self.end_failure();
             return;
         }
         let began = env.millis();
@@ -59,6 +62,14 @@ impl<S: StepStore + Drop, T: Stream + Drop> Daemon<S, T> {
         }
     }
 
+    /// Publication does not fail any longer.
+    fn end_failure(&mut self)
+        ensures { self.new ≡ record self.old { failing = None; statistics = record self.old.statistics { failure = None } } }
+    {
+        self.failing = None;
+        self.statistics.end_failure();
+    }
+
     /// Notes that a publication succeeded or failed.
     fn note_tried<W: Time + EventLog>(
         &mut self,
@@ -69,7 +80,7 @@ impl<S: StepStore + Drop, T: Stream + Drop> Daemon<S, T> {
     )
         ensures rest { OnlyNotes self.old self.new }
         ensures failed { IfErr tried (λ refusal. FailureNoted refusal began self.old self.new) }
-        ensures published { IfOk tried (λ _. self.new.failing ≡ None) }
+        ensures published { IfOk tried (λ _. HasNoFailure self.new) }
         ensures later { IfOk tried (λ report. NextAfter W.can_tick began report.published self.old self.new) }
         ensures same { IfErr tried (λ _. self.new.next_check ≡ self.old.next_check) }
         ensures ready { IfOk tried (λ report. IsReadyAfter report.published self.old.is_ready self.new.is_ready) }
@@ -94,15 +105,14 @@ impl<S: StepStore + Drop, T: Stream + Drop> Daemon<S, T> {
         env: &mut W,
     )
         ensures rest { OnlyNotes self.old self.new }
-        ensures done { self.new.failing ≡ None }
+        ensures done { HasNoFailure self.new }
         ensures ready { IsReadyAfter report.published self.old.is_ready self.new.is_ready }
         ensures later { NextAfter W.can_tick began report.published self.old self.new }
         ensures wakes { WakesIfNew report.published self.old.clients self.new.clients }
         ensures clients { SameClients self.old.clients self.new.clients }
         ensures queue { QueuesBehind self.old.clients.queue.items self.new.clients }
     {
-        self.failing = None;
-        self.statistics.end_failure();
+        self.end_failure();
         self.statistics.given = report.given;
         self.note_left_out(report.left_out, now, env);
         let Published::New(serial) = report.published else {
@@ -132,7 +142,7 @@ impl<S: StepStore + Drop, T: Stream + Drop> Daemon<S, T> {
 
     /// Reports how many records are left out, if the number has changed.
     fn note_left_out<W: EventLog>(&mut self, records: u64, now: u64, env: &mut W)
-        ensures { self.new ≡ record self.old { statistics = self.new.statistics } }
+        ensures { self.new ≡ record self.old { statistics = record self.old.statistics { left_out = records } } }
     {
         if self.statistics.set_left_out(records) {
             env.log(now, &LogEvent::LeftOut { records });
@@ -147,7 +157,8 @@ impl<S: StepStore + Drop, T: Stream + Drop> Daemon<S, T> {
         now: u64,
         env: &mut W,
     )
-        ensures { self.new ≡ record self.old { statistics = self.new.statistics } }
+        ensures rest { self.new ≡ record self.old { statistics = self.new.statistics } }
+        ensures failure { self.new.statistics.failure ≡ self.old.statistics.failure }
     {
         if self.statistics.add_version(serial.0, now, report).is_err() {
             let what = "the sizes of the last versions";

@@ -5,7 +5,7 @@ ghost use Rattle.rtr_daemon.specs.Files.{IsOfExport};
 use exports::ExportFault;
 use points::PointFault;
 use slurm::{Overlap, SlurmFault, UniteFault};
-use sources::TakeFault;
+use sources::{TakeCcrFault, TakeFault};
 use std::alloc::{AllocError, Global};
 use std::{fmt, io};
 use thiserror::Error;
@@ -35,7 +35,8 @@ pub enum Refusal {
     /// The file cannot be read: the error of the system.
     #[error("cannot be read: {0}")]
     Device(io::Error),
-    /// The export is refused: for example, the bytes are not an export, or it has far fewer VRPs than the last one. See [`TakeFault`].
+    /// The export is refused: for example, the bytes are neither JSON nor a canonical cache representation, or it has far fewer VRPs than the last
+    /// one. See [`TakeFault`].
     #[error("{0}")]
     Export(FileFault<TakeFault>),
     /// The bytes are not a file of local exceptions (RFC 8416), or memory ran out.
@@ -92,7 +93,7 @@ impl Refusal {
         let words = match fault {
             TakeFault::Export(of) => exports::fault_text(alloc, bytes, of).ok(),
             TakeFault::Shrank { .. } => format!(in alloc; "{fault} (--max-shrink)").ok(),
-            TakeFault::NoSuchFile => None,
+            TakeFault::NoSuchFile | TakeFault::Ccr(_) => None,
         };
         Refusal::Export(FileFault { fault, words })
     }
@@ -156,7 +157,8 @@ impl Refusal {
             Refusal::Device(_) | Refusal::Changing => 3,
             Refusal::Export(
                 FileFault {
-                    fault: TakeFault::Export(ExportFault::Memory),
+                    fault: TakeFault::Export(ExportFault::Memory)
+                    | TakeFault::Ccr(TakeCcrFault::Memory),
                     ..
                 },
             )
@@ -185,6 +187,7 @@ fn is_of_export(fault: &TakeFault) -> bool
 {
     match fault {
         TakeFault::Export(fault) => { !matches!(fault, ExportFault::Memory | ExportFault::TooMany) }
+        TakeFault::Ccr(fault) => !matches!(fault, TakeCcrFault::Memory),
         TakeFault::NoSuchFile | TakeFault::Shrank { .. } => false,
     }
 }

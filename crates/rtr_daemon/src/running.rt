@@ -1,8 +1,8 @@
 //! The run of the daemon's program, from the wait for the clock to its exit status.
-ghost use Rattle.std.specs.Prelude.{◌≡◌, ℕ, IfOk, OnOk, Ok, Some, min};
+ghost use Rattle.std.specs.Prelude.{◌≡◌, ℕ, IfOk, OnErr, OnOk, Ok, Some, min};
 ghost use Rattle.rtr_daemon.specs.Due.{end_of};
 ghost use Rattle.rtr_daemon.specs.Origins.{SourcesComeFrom};
-ghost use Rattle.rtr_daemon.specs.Running.{GoesThrough, IsClockSet, IsRun, clients_within, exit_status, exit_words, failure_status};
+ghost use Rattle.rtr_daemon.specs.Running.{GoesThrough, IsClockSet, IsClockUnset, IsRun, clients_within, exit_status, exit_words, failure_status};
 ghost use Rattle.rtr_daemon.specs.declared.daemon.StopReason.{StopReason};
 
 use crate::daemon::{CheckReport, Daemon, StopReason};
@@ -24,8 +24,15 @@ const CLOCK_WAIT: u64 = 1000;
 
 /// What the program does between the turns of its daemon, such as serving status pages. [`run`] calls it.
 pub trait AfterTurn<S, T, W> {
+    ghost use Rattle.rtr_daemon.specs.declared.daemon.Daemon.{Daemon};
+
+    /// The ways in which [`AfterTurn::after_turn`] may return: from a state, with a daemon, to the next state. For use in contracts. An
+    /// implementation chooses them. The default allows all.
+    ghost sees: { Self → Daemon S T → Self → Type 0 } = { λ before daemon after. Unit {0} };
+
     /// Called after each turn, unless the daemon stops. `daemon` is the daemon after the turn.
-    fn after_turn(&mut self, daemon: &Daemon<S, T>, env: &mut W);
+    fn after_turn(&mut self, daemon: &Daemon<S, T>, env: &mut W)
+        ensures { sees self.old daemon.now self.new };
 }
 
 /// The longest waits that the other parts of the program allow, in milliseconds.
@@ -52,7 +59,8 @@ impl WaitLimits {
 /// Serials and sessions come from the time of the start: with a wrong clock they would be earlier than those of the run before.
 /// `Err`: a wait failed.
 pub fn wait_for_clock<L, W: Time + EventLog + Sockets<L>>(env: &mut W) -> io::Result<()>
-    ensures { OnOk result (IsClockSet W.can_be) }
+    ensures set { OnOk result (IsClockSet W.can_be) }
+    ensures unset { OnErr result (IsClockUnset W.can_be) }
 {
     let mut is_logged = false;
     for _second in 0..u64::MAX {
@@ -100,7 +108,7 @@ pub fn run<
     A: AfterTurn<S, T, W>,
 >(daemon: &mut Daemon<S, T>, after: &mut A, env: &mut W) -> io::Result<StopReason>
     ensures goes { (turns : ℕ) × GoesThrough W.can_be S.holds T.remaining T.contents turns daemon.old.service daemon.new.service }
-    ensures turns { IsRun W.answers W.calls W.reads W.can_be W.can_tick S.holds T.remaining T.contents T.answers result daemon.old daemon.new }
+    ensures turns { IsRun W.answers W.calls W.reads W.can_be W.can_tick S.holds T.remaining T.contents T.answers A.sees result daemon.old after.old daemon.new after.new }
     ensures comes { SourcesComeFrom W.answers W.can_be daemon.old → SourcesComeFrom W.answers W.can_be daemon.new }
     ensures ends { IfOk result (λ reason. end_of daemon.new ≡ Some reason) }
 {

@@ -47,7 +47,7 @@ impl<S: StepStore + Drop, T: Stream + Drop> Daemon<S, T> {
     ) -> Result<Daemon<S, T>, StartFault>
         ensures begins { IfOk result (λ daemon. Begins W.can_be W.can_tick plan daemon) }
         ensures watches { IfOk result (λ daemon. Watches sources daemon) }
-        ensures reads { IfOk result (λ daemon. ReadsAll W.answers plan.leaves_out_length_0 daemon) }
+        ensures reads { IfOk result (λ daemon. ReadsAll W.answers plan daemon) }
         ensures leads { IfOk result (λ daemon. (begun : ℕ → Begun) → LeadsToService W.can_be S.holds T.remaining T.contents (past_of settings session_ids begun) daemon.service) }
         ensures comes { IfOk result (λ daemon. SourcesComeFrom W.answers W.can_be daemon) }
         ensures closed { IfOk result (λ daemon. daemon.is_ready ≡ false) }
@@ -60,7 +60,7 @@ impl<S: StepStore + Drop, T: Stream + Drop> Daemon<S, T> {
             slurms,
             points,
         } = sources;
-        let held = sources_of(alloc, files.len(), plan.leaves_out_length_0)?;
+        let held = sources_of(alloc, files.len(), &plan)?;
         let mut service = Service::after(now, alloc, settings, session_ids, held)?;
         let mut exports = watched_exports(alloc, files)?;
         let mut slurms = watched_slurms(alloc, slurms)?;
@@ -101,12 +101,16 @@ impl<S: StepStore + Drop, T: Stream + Drop> Daemon<S, T> {
 }
 
 /// Sources of this many files, of which none is loaded.
-fn sources_of(alloc: Global, files: usize, leaves_out: bool) -> Result<Sources, AllocError>
-    ensures { IfOk result (λ s. (s.exceptions ≡ None) × (s.repository ≡ no_points) × NoneTaken files s.lists.items × (s.leaves_out ≡ leaves_out)) }
+fn sources_of(alloc: Global, files: usize, plan: &Plan) -> Result<Sources, AllocError>
+    ensures empty { IfOk result (λ s. (s.exceptions ≡ None) × (s.repository ≡ no_points) × NoneTaken files s.lists.items) }
+    ensures planned { IfOk result (λ s. (s.leaves_out ≡ plan.now.leaves_out_length_0) × (s.max_age ≡ plan.now.max_age)) }
 {
     let mut sources = Sources::new(alloc, files)?;
-    if leaves_out {
+    if plan.leaves_out_length_0 {
         sources.leave_out_length_0();
+    }
+    if let Some(age) = plan.max_age {
+        sources.set_max_age(age);
     }
     Ok(sources)
 }

@@ -1,5 +1,5 @@
 //! The statistics of a daemon since its start.
-ghost use Rattle.std.specs.Prelude.{◌≡◌, Some, option_map};
+ghost use Rattle.std.specs.Prelude.{◌≡◌, None, Some, option_map};
 ghost use Rattle.rtr_daemon.specs.Due.{IsKept};
 ghost use Rattle.rtr_daemon.specs.Parting.{and_report, and_reports};
 ghost use Rattle.rtr_daemon.specs.Peaks.{turned_away_at};
@@ -224,7 +224,9 @@ impl Statistics {
     }
 
     /// A publication succeeded.
-    pub(crate) fn end_failure(&mut self) {
+    pub(crate) fn end_failure(&mut self)
+        ensures { self.new ≡ record self.old { failure = None } }
+    {
         self.failure = None;
     }
 
@@ -234,7 +236,9 @@ impl Statistics {
     }
 
     /// Notes how many records are left out. Returns whether the number has changed.
-    pub(crate) fn set_left_out(&mut self, records: u64) -> bool {
+    pub(crate) fn set_left_out(&mut self, records: u64) -> bool
+        ensures { self.new ≡ record self.old { left_out = records } }
+    {
         let is_news = self.left_out != records;
         self.left_out = records;
         is_news
@@ -276,7 +280,9 @@ impl Statistics {
         serial: u32,
         at: u64,
         report: PublishReport,
-    ) -> Result<(), AllocError> {
+    ) -> Result<(), AllocError>
+        ensures { self.new ≡ record self.old { changes = self.new.changes; size = self.new.size; peaks = self.new.peaks } }
+    {
         let ended = self.end_version(at);
         self.size = report.records;
         if self.changes.len() >= CHANGES {

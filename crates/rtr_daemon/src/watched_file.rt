@@ -327,6 +327,7 @@ impl WatchedExport {
     /// It is as it was loaded. Returns whether a refusal was reported before.
     pub(crate) fn set_unchanged(&mut self) -> bool
         ensures loaded { self.new.file.loaded ≡ self.old.file.loaded }
+        ensures at { self.new.file.loaded_at ≡ self.old.file.loaded_at }
         ensures refused { self.new.file.refusals.last ≡ None }
         ensures path { self.new.file.path ≡ self.old.file.path }
         ensures number { self.new.number ≡ self.old.number }

@@ -2,9 +2,9 @@
 
 use crate::anchor_metrics::write_source_vrps;
 use crate::ignored::write_ignored;
-use crate::metrics::{write_head, write_one, write_value};
+use crate::metrics::{write_head, write_one};
+use crate::pieces::{Piece, write_pieces};
 use crate::status::{FileStatus, Status};
-use crate::text::{write_label, write_texts};
 use std::io::{self, Write};
 
 /// The metrics of a file.
@@ -31,11 +31,21 @@ fn file_metric(file: &FileStatus, now: u64, what: FileMetric) -> Option<u64> {
 }
 
 /// Writes the value of a metric for a file.
-fn write_of_file<W: Write>(out: &mut W, name: &str, path: &str, value: u64) -> io::Result<()> {
-    write_texts(out, &[name, "{file=\""])?;
-    write_label(out, path)?;
-    out.write_all(b"\"} ")?;
-    write_value(out, value)
+fn write_of_file<'a, W: Write>(
+    out: &mut W,
+    name: &'a str,
+    path: &'a str,
+    value: u64,
+) -> io::Result<()> {
+    let pieces = [
+        Piece::Raw(name),
+        Piece::Raw("{file=\""),
+        Piece::Label(path),
+        Piece::Raw("\"} "),
+        Piece::Decimal(value),
+        Piece::Raw("\n"),
+    ];
+    write_pieces(out, &pieces)
 }
 
 /// Writes a metric with a value for each file that has one.

@@ -1,9 +1,10 @@
 //! The form that asks about a route, and its page.
 
 use crate::meant::meant_route;
-use crate::page_style::STYLE;
+use crate::page_style::{HEAD, HEAD_END, HEADER, STYLE, TITLE_END};
+use crate::pieces::{Piece, write_pieces};
 use crate::query_fault::QueryFault;
-use crate::text::{write_html, write_texts, write_time};
+use crate::text::write_texts;
 use form_urlencoded::{decode, raw_pairs};
 use prefixes::Route;
 use std::alloc::{AllocError, Global};
@@ -60,9 +61,10 @@ fn write_typed_value<W: Write>(out: &mut W, text: &str) -> io::Result<()> {
     if text.is_empty() {
         return Ok(());
     }
-    out.write_all(b" value=\"")?;
-    write_html(out, text)?;
-    out.write_all(b"\"")
+    write_pieces(
+        out,
+        &[Piece::Raw(" value=\""), Piece::Html(text), Piece::Raw("\"")],
+    )
 }
 
 /// Writes the form with what was typed in it.
@@ -88,20 +90,18 @@ fn write_meant<W: Write>(out: &mut W, typed: &Typed<'_>) -> io::Result<()> {
 
 /// Writes the head of the document and its header.
 fn write_head<W: Write>(out: &mut W, title: &str, now: u64) -> io::Result<()> {
-    out.write_all(b"<!doctype html>\n<html lang=\"en\">\n<head>\n<meta charset=\"utf-8\">\n")?;
-    out.write_all(b"<meta name=\"viewport\" content=\"width=device-width, initial-scale=1\">\n")?;
-    write_texts(
-        out,
-        &[
-            "<title>",
-            title,
-            "</title>\n<style>\n",
-            STYLE,
-            "</style>\n</head>\n<body>\n<header><div class=\"top\">\n<h1><a href=\"/\">rpkirtrd</a></h1>\n<p class=\"dim\">",
-        ],
-    )?;
-    write_time(out, now)?;
-    out.write_all(b" UTC</p>\n</div>\n")
+    let pieces = [
+        Piece::Raw(HEAD),
+        Piece::Raw("<title>"),
+        Piece::Raw(title),
+        Piece::Raw(TITLE_END),
+        Piece::Raw(STYLE),
+        Piece::Raw(HEAD_END),
+        Piece::Raw(HEADER),
+        Piece::Time(now),
+        Piece::Raw(" UTC</p>\n</div>\n"),
+    ];
+    write_pieces(out, &pieces)
 }
 
 /// Writes why a query names no route, as a banner.
@@ -109,9 +109,39 @@ fn write_fault<W: Write>(out: &mut W, alloc: Global, fault: QueryFault) -> io::R
     let Ok(text) = fault.to_string(alloc) else {
         return Err(io::Error::from(ErrorKind::OutOfMemory));
     };
-    out.write_all(b"<p class=\"state bad\">")?;
-    write_html(out, text.as_str())?;
-    out.write_all(b".</p>\n")
+    let pieces = [
+        Piece::Raw("<p class=\"state bad\">"),
+        Piece::Html(text.as_str()),
+        Piece::Raw(".</p>\n"),
+    ];
+    write_pieces(out, &pieces)
+}
+
+/// Writes what follows the header: the form with what was typed, and a link to what was probably meant.
+fn write_main<W: Write>(out: &mut W, typed: &Typed<'_>) -> io::Result<()> {
+    out.write_all(b"</header>\n<main>\n<h2>Route</h2>\n")?;
+    write_form(out, typed)?;
+    write_meant(out, typed)?;
+    out.write_all(b"</main>\n</body>\n</html>\n")
+}
+
+/// Writes the page with an empty form.
+fn write_empty<W: Write>(out: &mut W, typed: &Typed<'_>, now: u64) -> io::Result<()> {
+    write_head(out, "A route: rpkirtrd", now)?;
+    write_main(out, typed)
+}
+
+/// Writes the page that says why what was typed is not a route.
+fn write_typed<W: Write>(
+    out: &mut W,
+    alloc: Global,
+    typed: &Typed<'_>,
+    fault: QueryFault,
+    now: u64,
+) -> io::Result<()> {
+    write_head(out, "Not a route: rpkirtrd", now)?;
+    write_fault(out, alloc, fault)?;
+    write_main(out, typed)
 }
 
 /// Writes the HTML page with the form that asks for a route. `query` is the part of the URL after `?`. `now` is the time on the page, in seconds
@@ -134,13 +164,7 @@ pub fn write_form_page<W: Write>(
         return Err(io::Error::from(ErrorKind::OutOfMemory));
     };
     if query.is_empty() {
-        write_head(out, "A route: rpkirtrd", now)?;
-    } else {
-        write_head(out, "Not a route: rpkirtrd", now)?;
-        write_fault(out, alloc, fault)?;
+        return write_empty(out, &typed, now);
     }
-    out.write_all(b"</header>\n<main>\n<h2>Route</h2>\n")?;
-    write_form(out, &typed)?;
-    write_meant(out, &typed)?;
-    out.write_all(b"</main>\n</body>\n</html>\n")
+    write_typed(out, alloc, &typed, fault, now)
 }

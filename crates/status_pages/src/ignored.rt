@@ -4,8 +4,9 @@ ghost use Rattle.std.specs.Io.KnownBytes.{Appends};
 ghost use Rattle.std.specs.List.{flat_map};
 ghost use Rattle.status_pages.specs.Ignored.{ignored_line, ignored_lines, kind_counted, kinds_of};
 
+use crate::pieces::{Piece, write_pieces};
 use crate::status::{FileStatus, IgnoredEntries};
-use crate::text::{write_grouped, write_label};
+use crate::text::write_label;
 use std::io::{self, Write};
 
 /// A kind of entries, as a label of the metric, and how many there are.
@@ -107,10 +108,13 @@ fn write_words<W: Write>(out: &mut W, head: &str, entries: &KindCount) -> io::Re
         return Ok(());
     }
     let (one, several) = words_of(entries.kind);
-    out.write_all(head.as_bytes())?;
-    write_grouped(out, entries.count)?;
     let words = if entries.count == 1 { one } else { several };
-    out.write_all(words.as_bytes())
+    let pieces = [
+        Piece::Raw(head),
+        Piece::Grouped(entries.count),
+        Piece::Raw(words),
+    ];
+    write_pieces(out, &pieces)
 }
 
 /// Writes in words how much of a file is not served, if there is any.

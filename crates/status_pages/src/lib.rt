@@ -37,6 +37,7 @@ mod page_state;
 mod page_style;
 mod page_tables;
 mod picture;
+mod pieces;
 mod query;
 mod query_fault;
 mod reasons;

@@ -1,11 +1,12 @@
 //! The status of a cache, in the text format of Prometheus.
 
 use crate::file_metrics::{write_files, write_given};
+use crate::pieces::{Piece, write_pieces};
 use crate::reasons::{REASONS, has_reason};
 use crate::report_metrics::write_reports;
 use crate::router_metrics::write_router_metrics;
 use crate::status::{PdusByType, Status, TotalTraffic};
-use crate::text::{write_decimal, write_label, write_texts};
+use crate::text::write_texts;
 use std::io::{self, Write};
 
 /// Writes the help and the type of a metric.
@@ -29,12 +30,6 @@ pub(crate) fn write_head<W: Write>(
     write_texts(out, &texts)
 }
 
-/// Writes a value and the end of its line.
-pub(crate) fn write_value<W: Write>(out: &mut W, value: u64) -> io::Result<()> {
-    write_decimal(out, value)?;
-    out.write_all(b"\n")
-}
-
 /// Writes a metric of one value.
 pub(crate) fn write_one<W: Write>(
     out: &mut W,
@@ -44,8 +39,25 @@ pub(crate) fn write_one<W: Write>(
     value: u64,
 ) -> io::Result<()> {
     write_head(out, name, kind, help)?;
-    write_texts(out, &[name, " "])?;
-    write_value(out, value)
+    let pieces = [
+        Piece::Raw(name),
+        Piece::Raw(" "),
+        Piece::Decimal(value),
+        Piece::Raw("\n"),
+    ];
+    write_pieces(out, &pieces)
+}
+
+/// A metric of one value: its name, its type, its help and its value.
+#[derive(Clone, Copy)]
+struct Single<'a>(&'a str, &'a str, &'a str, u64);
+
+/// Writes metrics of one value.
+fn write_singles<W: Write>(out: &mut W, singles: &[Single<'_>]) -> io::Result<()> {
+    for Single(name, kind, help, value) in singles {
+        write_one(out, name, kind, help, *value)?;
+    }
+    Ok(())
 }
 
 /// Writes a metric of one value, if there is a value.
@@ -57,15 +69,24 @@ fn write_any<W: Write>(out: &mut W, name: &str, help: &str, value: Option<u64>) 
 }
 
 /// Writes a value of a metric under a label.
-fn write_labelled<W: Write>(
+fn write_labelled<'a, W: Write>(
     out: &mut W,
-    name: &str,
-    label: &str,
-    word: &str,
+    name: &'a str,
+    label: &'a str,
+    word: &'a str,
     value: u64,
 ) -> io::Result<()> {
-    write_texts(out, &[name, "{", label, "=\"", word, "\"} "])?;
-    write_value(out, value)
+    let pieces = [
+        Piece::Raw(name),
+        Piece::Raw("{"),
+        Piece::Raw(label),
+        Piece::Raw("=\""),
+        Piece::Raw(word),
+        Piece::Raw("\"} "),
+        Piece::Decimal(value),
+        Piece::Raw("\n"),
+    ];
+    write_pieces(out, &pieces)
 }
 
 /// Writes a metric of two values of one label.
@@ -88,23 +109,27 @@ fn write_program<W: Write>(out: &mut W, status: &Status) -> io::Result<()> {
         "gauge",
         "Version of the program, as a label; the value is 1.",
     )?;
-    out.write_all(b"rpkirtrd_build_info{version=\"")?;
-    write_label(out, status.version)?;
-    out.write_all(b"\"} 1\n")?;
-    write_one(
-        out,
-        "rpkirtrd_start_time_seconds",
-        "gauge",
-        "Start time of the program, in seconds since 1970.",
-        status.started,
-    )?;
-    write_one(
-        out,
-        "rpkirtrd_clock_behind_seconds",
-        "gauge",
-        "Seconds by which the clock was set back since the start.",
-        status.clock_behind,
-    )
+    let version = [
+        Piece::Raw("rpkirtrd_build_info{version=\""),
+        Piece::Label(status.version),
+        Piece::Raw("\"} 1\n"),
+    ];
+    write_pieces(out, &version)?;
+    let singles = [
+        Single(
+            "rpkirtrd_start_time_seconds",
+            "gauge",
+            "Start time of the program, in seconds since 1970.",
+            status.started,
+        ),
+        Single(
+            "rpkirtrd_clock_behind_seconds",
+            "gauge",
+            "Seconds by which the clock was set back since the start.",
+            status.clock_behind,
+        ),
+    ];
+    write_singles(out, &singles)
 }
 
 /// How many records are served, after the first version.
@@ -213,22 +238,61 @@ fn write_unwell<W: Write>(out: &mut W, status: &Status) -> io::Result<()> {
     Ok(())
 }
 
-/// The publications that failed.
-fn write_failures<W: Write>(out: &mut W, status: &Status) -> io::Result<()> {
-    write_one(
-        out,
-        "rpkirtrd_publications_failed_total",
-        "counter",
-        "Failed publications of a version since the start.",
-        status.publications_failed,
-    )?;
-    write_one(
-        out,
-        "rpkirtrd_publication_failing",
-        "gauge",
-        "1 if the last publication failed, otherwise 0.",
-        u64::from(status.publication_failure.is_some()),
-    )
+/// The publications that failed, how many clients there are, and how many were disconnected by the cache.
+fn write_counts<W: Write>(out: &mut W, status: &Status) -> io::Result<()> {
+    let singles = [
+        Single(
+            "rpkirtrd_publications_failed_total",
+            "counter",
+            "Failed publications of a version since the start.",
+            status.publications_failed,
+        ),
+        Single(
+            "rpkirtrd_publication_failing",
+            "gauge",
+            "1 if the last publication failed, otherwise 0.",
+            u64::from(status.publication_failure.is_some()),
+        ),
+        Single(
+            "rpkirtrd_clients",
+            "gauge",
+            "Connected routers.",
+            status.clients.len() as u64,
+        ),
+        Single(
+            "rpkirtrd_clients_max",
+            "gauge",
+            "Maximum number of connected routers.",
+            status.client_limit,
+        ),
+        Single(
+            "rpkirtrd_connections_total",
+            "counter",
+            "Connections accepted since the start.",
+            status.clients_ever,
+        ),
+    ];
+    write_singles(out, &singles)?;
+    write_disconnected(out, status.clients_refused, status.clients_stalled)
+}
+
+/// How many clients were disconnected by the cache: on arrival, and because they accepted no byte.
+fn write_disconnected<W: Write>(out: &mut W, refused: u64, stalled: u64) -> io::Result<()> {
+    let singles = [
+        Single(
+            "rpkirtrd_connections_refused_total",
+            "counter",
+            "Connections closed on arrival since the start, by --clients or --clients-per-address.",
+            refused,
+        ),
+        Single(
+            "rpkirtrd_connections_stalled_total",
+            "counter",
+            "Connections closed since the start because the router accepted no byte for --stall seconds.",
+            stalled,
+        ),
+    ];
+    write_singles(out, &singles)
 }
 
 /// The log lines that are missing.
@@ -245,49 +309,6 @@ fn write_log<W: Write>(out: &mut W, status: &Status) -> io::Result<()> {
         "reason",
         ("dropped", status.log_lines_lost.dropped),
         ("suppressed", status.log_lines_lost.suppressed),
-    )
-}
-
-/// How many clients were disconnected by the cache.
-fn write_disconnected<W: Write>(out: &mut W, status: &Status) -> io::Result<()> {
-    write_one(
-        out,
-        "rpkirtrd_connections_refused_total",
-        "counter",
-        "Connections closed on arrival since the start, by --clients or --clients-per-address.",
-        status.clients_refused,
-    )?;
-    write_one(
-        out,
-        "rpkirtrd_connections_stalled_total",
-        "counter",
-        "Connections closed since the start because the router accepted no byte for --stall seconds.",
-        status.clients_stalled,
-    )
-}
-
-/// How many clients there are.
-fn write_clients<W: Write>(out: &mut W, status: &Status) -> io::Result<()> {
-    write_one(
-        out,
-        "rpkirtrd_clients",
-        "gauge",
-        "Connected routers.",
-        status.clients.len() as u64,
-    )?;
-    write_one(
-        out,
-        "rpkirtrd_clients_max",
-        "gauge",
-        "Maximum number of connected routers.",
-        status.client_limit,
-    )?;
-    write_one(
-        out,
-        "rpkirtrd_connections_total",
-        "counter",
-        "Connections accepted since the start.",
-        status.clients_ever,
     )
 }
 
@@ -308,21 +329,22 @@ fn listed(pdus: &PdusByType) -> [(&'static str, u64); 10] {
 }
 
 /// Writes the PDUs of one type in one direction.
-fn write_pdu_count<W: Write>(
+fn write_pdu_count<'a, W: Write>(
     out: &mut W,
-    direction: &str,
-    kind: &str,
+    direction: &'a str,
+    kind: &'a str,
     count: u64,
 ) -> io::Result<()> {
-    let texts = [
-        "rpkirtrd_pdus_total{type=\"",
-        kind,
-        "\",direction=\"",
-        direction,
-        "\"} ",
+    let pieces = [
+        Piece::Raw("rpkirtrd_pdus_total{type=\""),
+        Piece::Raw(kind),
+        Piece::Raw("\",direction=\""),
+        Piece::Raw(direction),
+        Piece::Raw("\"} "),
+        Piece::Decimal(count),
+        Piece::Raw("\n"),
     ];
-    write_texts(out, &texts)?;
-    write_value(out, count)
+    write_pieces(out, &pieces)
 }
 
 /// Writes the PDUs of one direction.
@@ -366,9 +388,7 @@ pub fn write_metrics<W: Write>(out: &mut W, status: &Status) -> io::Result<()> {
     write_files(out, status)?;
     write_given(out, status)?;
     write_reloads(out, status)?;
-    write_failures(out, status)?;
-    write_clients(out, status)?;
-    write_disconnected(out, status)?;
+    write_counts(out, status)?;
     write_router_metrics(out, status)?;
     write_traffic(out, status)?;
     write_reports(out, &status.error_reports)?;

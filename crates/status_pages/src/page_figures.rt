@@ -3,101 +3,139 @@
 use crate::made::oldest_built;
 use crate::page_routers::behind_count;
 use crate::page_state::{old_count, refused_count};
-use crate::status::Status;
-use crate::text::{write_decimal, write_grouped, write_since, write_span, write_texts};
+use crate::pieces::{Piece, write_pieces};
+use crate::status::{ChangeStatus, Status};
+use crate::text::write_texts;
 use std::io::{self, Write};
 
-/// Writes the start of a figure.
-fn write_figure<W: Write>(out: &mut W, name: &str) -> io::Result<()> {
-    write_texts(out, &["<div><dt>", name, "</dt><dd>"])
-}
+/// The end of a figure.
+const FIGURE_END: &str = "</small></dd></div>\n";
 
-/// Writes the end of a figure.
-fn write_figure_end<W: Write>(out: &mut W) -> io::Result<()> {
-    out.write_all(b"</small></dd></div>\n")
+/// Writes how many records are left out, if some are.
+fn write_left_out<W: Write>(out: &mut W, left_out: u64) -> io::Result<()> {
+    if left_out == 0 {
+        return Ok(());
+    }
+    let pieces = [
+        Piece::Raw(", "),
+        Piece::Grouped(left_out),
+        Piece::Raw(" of length 0 left out"),
+    ];
+    write_pieces(out, &pieces)
 }
 
 /// Writes how many records are served, by family, and how many are left out.
 fn write_vrps<W: Write>(out: &mut W, status: &Status) -> io::Result<()> {
-    write_figure(out, "VRPs")?;
     if status.serial.is_none() {
-        out.write_all("\u{2013} <small>none are served yet".as_bytes())?;
-        return write_figure_end(out);
+        let none = "<div><dt>VRPs</dt><dd>\u{2013} <small>none are served yet";
+        return write_texts(out, &[none, FIGURE_END]);
     }
-    write_grouped(out, status.ipv4.saturating_add(status.ipv6))?;
-    out.write_all(b" <small>")?;
-    write_grouped(out, status.ipv4)?;
-    out.write_all(b" IPv4, ")?;
-    write_grouped(out, status.ipv6)?;
-    out.write_all(b" IPv6")?;
-    if status.left_out > 0 {
-        out.write_all(b", ")?;
-        write_grouped(out, status.left_out)?;
-        out.write_all(b" of length 0 left out")?;
+    let pieces = [
+        Piece::Raw("<div><dt>VRPs</dt><dd>"),
+        Piece::Grouped(status.ipv4.saturating_add(status.ipv6)),
+        Piece::Raw(" <small>"),
+        Piece::Grouped(status.ipv4),
+        Piece::Raw(" IPv4, "),
+        Piece::Grouped(status.ipv6),
+        Piece::Raw(" IPv6"),
+    ];
+    write_pieces(out, &pieces)?;
+    write_left_out(out, status.left_out)?;
+    write_texts(out, &[FIGURE_END])
+}
+
+/// The served serial, or a dash.
+fn serial_piece(serial: Option<u32>) -> Piece<'static> {
+    match serial {
+        Some(serial) => Piece::Decimal(u64::from(serial)),
+        None => Piece::Raw("\u{2013}"),
     }
-    write_figure_end(out)
+}
+
+/// Writes when the last version was published, if one was.
+fn write_published<W: Write>(
+    out: &mut W,
+    now: u64,
+    change: Option<&ChangeStatus>,
+) -> io::Result<()> {
+    match change {
+        None => Ok(()),
+        Some(change) => write_pieces(
+            out,
+            &[Piece::Raw("<br>published "), Piece::Since(now, change.at)],
+        ),
+    }
 }
 
 /// Writes the serial, the sessions, and when the version was published.
 fn write_serial<W: Write>(out: &mut W, status: &Status) -> io::Result<()> {
-    write_figure(out, "Serial")?;
-    match status.serial {
-        Some(serial) => write_decimal(out, u64::from(serial))?,
-        None => out.write_all("\u{2013}".as_bytes())?,
-    }
-    out.write_all(b" <small>session ")?;
-    write_decimal(out, u64::from(status.session))?;
-    out.write_all(b" (version 0: ")?;
-    write_decimal(out, u64::from(status.session0))?;
-    out.write_all(b")")?;
-    if let Some(change) = status.changes.last() {
-        out.write_all(b"<br>published ")?;
-        write_since(out, status.now, change.at)?;
-    }
-    write_figure_end(out)
+    let pieces = [
+        Piece::Raw("<div><dt>Serial</dt><dd>"),
+        serial_piece(status.serial),
+        Piece::Raw(" <small>session "),
+        Piece::Decimal(u64::from(status.session)),
+        Piece::Raw(" (version 0: "),
+        Piece::Decimal(u64::from(status.session0)),
+        Piece::Raw(")"),
+    ];
+    write_pieces(out, &pieces)?;
+    write_published(out, status.now, status.changes.last())?;
+    write_texts(out, &[FIGURE_END])
 }
 
 /// Writes how many routers are connected, and how many of them are behind.
 fn write_clients<W: Write>(out: &mut W, status: &Status) -> io::Result<()> {
-    write_figure(out, "Routers")?;
-    write_grouped(out, status.clients.len() as u64)?;
-    out.write_all(b" of ")?;
-    write_grouped(out, status.client_limit)?;
-    out.write_all(b" <small>")?;
-    write_grouped(out, behind_count(status))?;
-    out.write_all(b" behind, ")?;
-    write_grouped(out, status.clients_ever)?;
-    out.write_all(if status.clients_ever == 1 {
-        b" connection since the start"
+    let connections = if status.clients_ever == 1 {
+        " connection since the start"
     } else {
-        b" connections since the start"
-    })?;
-    write_figure_end(out)
+        " connections since the start"
+    };
+    let pieces = [
+        Piece::Raw("<div><dt>Routers</dt><dd>"),
+        Piece::Grouped(status.clients.len() as u64),
+        Piece::Raw(" of "),
+        Piece::Grouped(status.client_limit),
+        Piece::Raw(" <small>"),
+        Piece::Grouped(behind_count(status)),
+        Piece::Raw(" behind, "),
+        Piece::Grouped(status.clients_ever),
+        Piece::Raw(connections),
+        Piece::Raw(FIGURE_END),
+    ];
+    write_pieces(out, &pieces)
 }
 
 /// Writes how many files there are, and how many of them are refused or too old.
 fn write_files<W: Write>(out: &mut W, status: &Status) -> io::Result<()> {
-    write_figure(out, "Files")?;
-    write_grouped(out, status.files.len() as u64)?;
-    out.write_all(b" <small>")?;
-    write_grouped(out, refused_count(status))?;
-    out.write_all(b" refused, ")?;
-    write_grouped(out, old_count(status))?;
-    out.write_all(b" too old")?;
-    write_figure_end(out)
+    let pieces = [
+        Piece::Raw("<div><dt>Files</dt><dd>"),
+        Piece::Grouped(status.files.len() as u64),
+        Piece::Raw(" <small>"),
+        Piece::Grouped(refused_count(status)),
+        Piece::Raw(" refused, "),
+        Piece::Grouped(old_count(status)),
+        Piece::Raw(" too old"),
+        Piece::Raw(FIGURE_END),
+    ];
+    write_pieces(out, &pieces)
 }
 
 /// Writes the age of the data: how long ago the oldest were made.
-fn write_age<W: Write>(out: &mut W, status: &Status) -> io::Result<()> {
-    write_figure(out, "Age")?;
-    match oldest_built(&status.files) {
-        Some(made) => {
-            write_span(out, status.now.saturating_sub(made))?;
-            out.write_all(b" <small>since the oldest export was made")?;
-        }
-        None => out.write_all("\u{2013} <small>no export has a time".as_bytes())?,
-    }
-    write_figure_end(out)
+fn write_age<W: Write>(out: &mut W, now: u64, made: Option<u64>) -> io::Result<()> {
+    let (age, words) = match made {
+        Some(made) => (
+            Piece::Span(now.saturating_sub(made)),
+            " <small>since the oldest export was made",
+        ),
+        None => (Piece::Raw("\u{2013}"), " <small>no export has a time"),
+    };
+    let pieces = [
+        Piece::Raw("<div><dt>Age</dt><dd>"),
+        age,
+        Piece::Raw(words),
+        Piece::Raw(FIGURE_END),
+    ];
+    write_pieces(out, &pieces)
 }
 
 /// Writes the five figures: VRPs, serial, routers, files, and age.
@@ -107,6 +145,6 @@ pub(crate) fn write_figures<W: Write>(out: &mut W, status: &Status) -> io::Resul
     write_serial(out, status)?;
     write_clients(out, status)?;
     write_files(out, status)?;
-    write_age(out, status)?;
+    write_age(out, status.now, oldest_built(&status.files))?;
     out.write_all(b"</dl>\n")
 }

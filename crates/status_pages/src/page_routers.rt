@@ -1,8 +1,8 @@
 //! The routers of the page: the state of each, and their table.
 
-use crate::page_tables::{write_ago_cell, write_heads, write_optional, write_table_end};
+use crate::page_tables::{write_heads, write_optional, write_table_end};
+use crate::pieces::{Piece, write_pieces};
 use crate::status::{ChangeStatus, ClientStatus, ClientTraffic, Status};
-use crate::text::{write_grouped, write_span};
 use std::io::{self, Write};
 
 /// For how long a router may lack a version before it counts as behind, in seconds.
@@ -81,57 +81,67 @@ pub(crate) fn behind_count(status: &Status) -> u64 {
     behind.count() as u64
 }
 
-/// Writes a count with the word `version`.
-fn write_versions<W: Write>(out: &mut W, versions: u32) -> io::Result<()> {
-    write_grouped(out, u64::from(versions))?;
-    out.write_all(if versions == 1 {
-        b" version"
+/// The word `version` after a count.
+fn versions_word(versions: u32) -> &'static str {
+    if versions == 1 {
+        " version"
     } else {
-        b" versions"
-    })
+        " versions"
+    }
 }
 
-/// Writes a cell with the state of a router.
+/// Writes the state of a router, with the start of its cell.
 fn write_state<W: Write>(out: &mut W, now: u64, state: RouterState) -> io::Result<()> {
     match state {
-        RouterState::Behind(versions, at) => {
-            out.write_all(b"<td class=\"warn\">")?;
-            write_versions(out, versions)?;
-            out.write_all(b" behind for ")?;
-            write_span(out, now.saturating_sub(at))?;
-        }
-        RouterState::Empty(since) => {
-            out.write_all(b"<td class=\"warn\">nothing sent for ")?;
-            write_span(out, now.saturating_sub(since))?;
-        }
-        RouterState::Updating(versions) => {
-            out.write_all(b"<td>")?;
-            write_versions(out, versions)?;
-            out.write_all(b" to send")?;
-        }
-        RouterState::New => out.write_all(b"<td class=\"dim\">nothing sent yet")?,
-        RouterState::Current => out.write_all(b"<td class=\"ok\">current")?,
+        RouterState::Behind(versions, at) => write_pieces(
+            out,
+            &[
+                Piece::Raw("<td class=\"warn\">"),
+                Piece::Grouped(u64::from(versions)),
+                Piece::Raw(versions_word(versions)),
+                Piece::Raw(" behind for "),
+                Piece::Span(now.saturating_sub(at)),
+            ],
+        ),
+        RouterState::Empty(since) => write_pieces(
+            out,
+            &[
+                Piece::Raw("<td class=\"warn\">nothing sent for "),
+                Piece::Span(now.saturating_sub(since)),
+            ],
+        ),
+        RouterState::Updating(versions) => write_pieces(
+            out,
+            &[
+                Piece::Raw("<td>"),
+                Piece::Grouped(u64::from(versions)),
+                Piece::Raw(versions_word(versions)),
+                Piece::Raw(" to send"),
+            ],
+        ),
+        RouterState::New => out.write_all(b"<td class=\"dim\">nothing sent yet"),
+        RouterState::Current => out.write_all(b"<td class=\"ok\">current"),
     }
-    out.write_all(b"</td>")
 }
 
-/// Writes two numbers: received and sent.
-fn write_both<W: Write>(out: &mut W, received: u64, sent: u64) -> io::Result<()> {
-    out.write_all(b"<td class=\"n wide\">")?;
-    write_grouped(out, received)?;
-    out.write_all(b" / ")?;
-    write_grouped(out, sent)?;
-    out.write_all(b"</td>")
-}
-
-/// Writes the cells with the traffic of a router.
+/// Writes the cells with the traffic of a router: received and sent.
 fn write_traffic<W: Write>(
     out: &mut W,
     received: &ClientTraffic,
     sent: &ClientTraffic,
 ) -> io::Result<()> {
-    write_both(out, received.pdus, sent.pdus)?;
-    write_both(out, received.bytes, sent.bytes)
+    let pieces = [
+        Piece::Raw("<td class=\"n wide\">"),
+        Piece::Grouped(received.pdus),
+        Piece::Raw(" / "),
+        Piece::Grouped(sent.pdus),
+        Piece::Raw("</td><td class=\"n wide\">"),
+        Piece::Grouped(received.bytes),
+        Piece::Raw(" / "),
+        Piece::Grouped(sent.bytes),
+        Piece::Raw("</td></tr>\n"),
+    ];
+    write_pieces(out, &pieces)
 }
 
 /// Writes the row of a router.
@@ -141,13 +151,22 @@ fn write_router<W: Write>(
     client: &ClientStatus,
     state: RouterState,
 ) -> io::Result<()> {
-    write!(out, "<tr><th scope=\"row\">{}</th>", client.address)?;
+    let address = [
+        Piece::Raw("<tr><th scope=\"row\">"),
+        Piece::Address(&client.address),
+        Piece::Raw("</th>"),
+    ];
+    write_pieces(out, &address)?;
     write_state(out, now, state)?;
-    write_ago_cell(out, now, Some(client.since))?;
+    let pieces = [
+        Piece::Raw("</td><td>"),
+        Piece::Since(now, client.since),
+        Piece::Raw("</td>"),
+    ];
+    write_pieces(out, &pieces)?;
     write_optional(out, client.version.map(u32::from))?;
     write_optional(out, client.serial)?;
-    write_traffic(out, &client.received, &client.sent)?;
-    out.write_all(b"</tr>\n")
+    write_traffic(out, &client.received, &client.sent)
 }
 
 /// Writes the rows of the routers whose state has this rank.

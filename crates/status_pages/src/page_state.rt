@@ -1,12 +1,15 @@
 //! The state of a cache in sentences: all is well, or each reason why not.
 
 use crate::page_routers::behind_count;
+use crate::pieces::{Piece, write_pieces};
 use crate::reasons::{
     REASONS, Reason, has_all_expired, has_reason, has_shrunk, holds_for_all, is_blamed, is_well,
     served_vrps,
 };
-use crate::status::{AnchorStatus, ClientLimit, FileStatus, Status};
-use crate::text::{write_grouped, write_html, write_span, write_texts, write_time};
+use crate::status::{
+    AnchorStatus, ClientLimit, FileStatus, PublicationFailure, SlowCall, Status, TurnedAway,
+    VrpPeak,
+};
 use std::io::{self, Write};
 
 /// How many sources are refused.
@@ -59,15 +62,20 @@ pub(crate) fn write_title<W: Write>(out: &mut W, status: &Status) -> io::Result<
 }
 
 /// Writes since when no version can be published, and why.
-fn write_failure<W: Write>(out: &mut W, status: &Status) -> io::Result<()> {
-    let Some(failure) = &status.publication_failure else {
-        return Ok(());
-    };
-    out.write_all(b"Publication fails since ")?;
-    write_time(out, failure.since)?;
-    out.write_all(b": ")?;
-    write_html(out, &failure.reason)?;
-    out.write_all(b". ")
+fn write_failure<W: Write>(out: &mut W, failure: &Option<PublicationFailure>) -> io::Result<()> {
+    match failure {
+        None => Ok(()),
+        Some(failure) => write_pieces(
+            out,
+            &[
+                Piece::Raw("Publication fails since "),
+                Piece::Time(failure.since),
+                Piece::Raw(": "),
+                Piece::Html(&failure.reason),
+                Piece::Raw(". "),
+            ],
+        ),
+    }
 }
 
 /// Writes that the data of a source are too old, if so.
@@ -75,12 +83,20 @@ fn write_old<W: Write>(out: &mut W, file: &FileStatus) -> io::Result<()> {
     if !file.is_old && !has_all_expired(file) {
         return Ok(());
     }
-    write_html(out, &file.path)?;
-    out.write_all(if file.is_old {
-        b": its data are older than the maximum age. "
+    let words = if file.is_old {
+        ": its data are older than the maximum age. "
     } else {
-        b": all its entries have expired. "
-    })
+        ": all its entries have expired. "
+    };
+    write_pieces(out, &[Piece::Html(&file.path), Piece::Raw(words)])
+}
+
+/// What is served of a source that is refused, and was loaded last at this time.
+fn still_served(loaded: Option<u64>) -> &'static str {
+    match loaded {
+        Some(_) => "; its previous data are served. ",
+        None => "; none of its data were loaded yet. ",
+    }
 }
 
 /// Writes that a source is refused, if so, and what is served of it. Its reason is in the table of the files.
@@ -88,17 +104,22 @@ fn write_refused<W: Write>(out: &mut W, file: &FileStatus) -> io::Result<()> {
     if file.refusal.is_none() {
         return Ok(());
     }
-    write_html(out, &file.path)?;
-    out.write_all(b" is refused")?;
-    if let Some(since) = file.refused_at {
-        out.write_all(b" since ")?;
-        write_time(out, since)?;
+    let (path, served) = (
+        Piece::Html(&file.path),
+        Piece::Raw(still_served(file.taken)),
+    );
+    match file.refused_at {
+        None => write_pieces(out, &[path, Piece::Raw(" is refused"), served]),
+        Some(since) => write_pieces(
+            out,
+            &[
+                path,
+                Piece::Raw(" is refused since "),
+                Piece::Time(since),
+                served,
+            ],
+        ),
     }
-    out.write_all(if file.taken.is_some() {
-        b"; its previous data are served. "
-    } else {
-        b"; none of its data were loaded yet. "
-    })
 }
 
 /// Writes which sources are old or refused.
@@ -110,35 +131,45 @@ fn write_sources<W: Write>(out: &mut W, status: &Status) -> io::Result<()> {
     Ok(())
 }
 
+/// Writes from how many VRPs to how many something shrank.
+fn write_shrunk_to<W: Write>(out: &mut W, peak: VrpPeak, vrps: u64) -> io::Result<()> {
+    let pieces = [
+        Piece::Raw(" shrank from "),
+        Piece::Grouped(peak.vrps),
+        Piece::Raw(" to "),
+        Piece::Grouped(vrps),
+        Piece::Raw(" VRPs at "),
+        Piece::Time(peak.until),
+        Piece::Raw(". "),
+    ];
+    write_pieces(out, &pieces)
+}
+
 /// Writes from how many VRPs the table shrank.
 fn write_peak<W: Write>(out: &mut W, status: &Status) -> io::Result<()> {
     let Some(peak) = status.peak else {
         return Ok(());
     };
-    out.write_all(b"The table shrank from ")?;
-    write_grouped(out, peak.vrps)?;
-    out.write_all(b" to ")?;
-    write_grouped(out, served_vrps(status))?;
-    out.write_all(b" VRPs at ")?;
-    write_time(out, peak.until)?;
-    out.write_all(b". ")
+    out.write_all(b"The table")?;
+    write_shrunk_to(out, peak, served_vrps(status))
 }
 
 /// Writes from how many VRPs a trust anchor of a source shrank.
-fn write_anchor<W: Write>(out: &mut W, path: &str, anchor: &AnchorStatus) -> io::Result<()> {
+fn write_anchor<'a, W: Write>(
+    out: &mut W,
+    path: &'a str,
+    anchor: &'a AnchorStatus,
+) -> io::Result<()> {
     let Some(peak) = anchor.peak else {
         return Ok(());
     };
-    write_html(out, path)?;
-    out.write_all(b": ")?;
-    write_html(out, &anchor.name)?;
-    out.write_all(b" shrank from ")?;
-    write_grouped(out, peak.vrps)?;
-    out.write_all(b" to ")?;
-    write_grouped(out, anchor.vrps)?;
-    out.write_all(b" VRPs at ")?;
-    write_time(out, peak.until)?;
-    out.write_all(b". ")
+    let pieces = [
+        Piece::Html(path),
+        Piece::Raw(": "),
+        Piece::Html(&anchor.name),
+    ];
+    write_pieces(out, &pieces)?;
+    write_shrunk_to(out, peak, anchor.vrps)
 }
 
 /// Writes which trust anchors of a source shrank.
@@ -162,61 +193,79 @@ fn write_shrunk<W: Write>(out: &mut W, status: &Status) -> io::Result<()> {
     Ok(())
 }
 
+/// The option that limits routers.
+fn limit_text(limit: ClientLimit) -> &'static str {
+    match limit {
+        ClientLimit::All => "--clients: ",
+        ClientLimit::OfAddress => "--clients-per-address: ",
+    }
+}
+
 /// Writes how many routers were turned away, and by which limit.
-fn write_away<W: Write>(out: &mut W, status: &Status) -> io::Result<()> {
-    let Some(away) = status.turned_away else {
-        return Ok(());
-    };
-    out.write_all(b"Routers were turned away by ")?;
-    out.write_all(match away.limit {
-        ClientLimit::All => b"--clients: ",
-        ClientLimit::OfAddress => b"--clients-per-address: ",
-    })?;
-    write_grouped(out, away.routers)?;
-    out.write_all(b", the last at ")?;
-    write_time(out, away.last)?;
-    out.write_all(b". ")
+fn write_away<W: Write>(out: &mut W, away: Option<TurnedAway>) -> io::Result<()> {
+    match away {
+        None => Ok(()),
+        Some(away) => write_pieces(
+            out,
+            &[
+                Piece::Raw("Routers were turned away by "),
+                Piece::Raw(limit_text(away.limit)),
+                Piece::Grouped(away.routers),
+                Piece::Raw(", the last at "),
+                Piece::Time(away.last),
+                Piece::Raw(". "),
+            ],
+        ),
+    }
 }
 
 /// Writes which calls on files were slow, and how long they lasted.
 fn write_slow<W: Write>(out: &mut W, status: &Status) -> io::Result<()> {
     for file in &status.files {
         if is_blamed(status.now, status.max_age, Reason::SlowPoll, file) {
-            write_slow_call(out, file)?;
+            write_slow_call(out, &file.path, file.slow)?;
         }
     }
     Ok(())
 }
 
 /// Writes how long the last slow call on a file lasted, if there was one.
-fn write_slow_call<W: Write>(out: &mut W, file: &FileStatus) -> io::Result<()> {
-    let Some(call) = file.slow else {
-        return Ok(());
-    };
-    out.write_all(b"A call on ")?;
-    write_html(out, &file.path)?;
-    out.write_all(b" took ")?;
-    write_span(out, call.milliseconds / 1000)?;
-    out.write_all(b" at ")?;
-    write_time(out, call.at)?;
-    out.write_all(b". ")
+fn write_slow_call<W: Write>(out: &mut W, path: &str, slow: Option<SlowCall>) -> io::Result<()> {
+    match slow {
+        None => Ok(()),
+        Some(call) => write_pieces(
+            out,
+            &[
+                Piece::Raw("A call on "),
+                Piece::Html(path),
+                Piece::Raw(" took "),
+                Piece::Span(call.milliseconds / 1000),
+                Piece::Raw(" at "),
+                Piece::Time(call.at),
+                Piece::Raw(". "),
+            ],
+        ),
+    }
 }
 
 /// Writes how far the clock was set back.
-fn write_clock<W: Write>(out: &mut W, status: &Status) -> io::Result<()> {
-    out.write_all(b"The clock was set back by ")?;
-    write_grouped(out, status.clock_behind)?;
-    out.write_all(b" s. ")
+fn write_clock<W: Write>(out: &mut W, clock_behind: u64) -> io::Result<()> {
+    let pieces = [
+        Piece::Raw("The clock was set back by "),
+        Piece::Grouped(clock_behind),
+        Piece::Raw(" s. "),
+    ];
+    write_pieces(out, &pieces)
 }
 
 /// Writes a reason that holds. That sources are old or refused is written together.
 fn write_reason<W: Write>(out: &mut W, status: &Status, reason: Reason) -> io::Result<()> {
     match reason {
-        Reason::Publication => write_failure(out, status),
+        Reason::Publication => write_failure(out, &status.publication_failure),
         Reason::Shrank => write_shrunk(out, status),
-        Reason::TurnedAway => write_away(out, status),
+        Reason::TurnedAway => write_away(out, status.turned_away),
         Reason::SlowPoll => write_slow(out, status),
-        Reason::Clock => write_clock(out, status),
+        Reason::Clock => write_clock(out, status.clock_behind),
         Reason::Old | Reason::RefusedLong | Reason::Refused => Ok(()),
         Reason::NoVrps | Reason::NoVersion => out.write_all(sentence(status, reason).as_bytes()),
     }
@@ -233,22 +282,25 @@ fn write_reasons<W: Write>(out: &mut W, status: &Status) -> io::Result<()> {
 }
 
 /// Writes how many routers are behind, if some are: a note, and no reason.
-fn write_behind<W: Write>(out: &mut W, status: &Status) -> io::Result<()> {
-    let behind = behind_count(status);
+fn write_behind<W: Write>(out: &mut W, behind: u64, routers: u64) -> io::Result<()> {
     if behind == 0 {
         return Ok(());
     }
-    write_grouped(out, behind)?;
-    out.write_all(b" of ")?;
-    let routers = status.clients.len() as u64;
-    write_grouped(out, routers)?;
     let noun = if routers == 1 {
         " router "
     } else {
         " routers "
     };
     let verb = if behind == 1 { "is" } else { "are" };
-    write_texts(out, &[noun, verb, " behind. "])
+    let pieces = [
+        Piece::Grouped(behind),
+        Piece::Raw(" of "),
+        Piece::Grouped(routers),
+        Piece::Raw(noun),
+        Piece::Raw(verb),
+        Piece::Raw(" behind. "),
+    ];
+    write_pieces(out, &pieces)
 }
 
 /// Writes the state in sentences, each with a space after it.
@@ -259,5 +311,5 @@ pub(crate) fn write_state<W: Write>(out: &mut W, status: &Status) -> io::Result<
         write_reasons(out, status)?;
         write_sources(out, status)?;
     }
-    write_behind(out, status)
+    write_behind(out, behind_count(status), status.clients.len() as u64)
 }

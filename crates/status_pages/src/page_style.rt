@@ -1,6 +1,20 @@
 //! The style of the pages: light and dark, narrow and wide. All texts have a contrast of at least 4.5 to 1 with their background,
 //! placeholders too, and the borders of inputs one of at least 3 to 1.
 
+/// What is before the style sheet of a page: the beginning of its head, and the end of its title.
+pub(crate) const HEAD: &str =
+    "<!doctype html>\n<html lang=\"en\">\n<head>\n<meta charset=\"utf-8\">\n\
+<meta name=\"viewport\" content=\"width=device-width, initial-scale=1\">\n";
+
+pub(crate) const TITLE_END: &str = "</title>\n<style>\n";
+
+/// What follows the style sheet of a page, up to its body.
+pub(crate) const HEAD_END: &str = "</style>\n</head>\n<body>\n";
+
+/// The beginning of the header of a page about a route, up to its time.
+pub(crate) const HEADER: &str =
+    "<header><div class=\"top\">\n<h1><a href=\"/\">rpkirtrd</a></h1>\n<p class=\"dim\">";
+
 /// The style sheet of the pages.
 pub(crate) const STYLE: &str = "\
 :root{color-scheme:light dark;--back:#fff;--text:#1b1f24;--dim:#57606a;--line:#d0d7de;--edge:#7d8590;\

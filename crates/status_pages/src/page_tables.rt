@@ -1,8 +1,9 @@
 //! The tables of the page.
 
 use crate::ignored::write_not_served;
+use crate::pieces::{Piece, write_pieces};
 use crate::status::{AnchorStatus, ChangeStatus, FileStatus, Status};
-use crate::text::{write_decimal, write_grouped, write_html, write_since, write_texts, write_time};
+use crate::text::write_texts;
 use std::io::{self, Write};
 
 /// Writes the start of a table that scrolls, with the headings of its columns.
@@ -35,25 +36,19 @@ pub(crate) fn write_table_end<W: Write>(out: &mut W) -> io::Result<()> {
     out.write_all(b"</tbody></table></div>\n")
 }
 
-/// Writes a cell with a number.
-fn write_number<W: Write>(out: &mut W, number: u64) -> io::Result<()> {
-    out.write_all(b"<td class=\"n\">")?;
-    write_grouped(out, number)?;
-    out.write_all(b"</td>")
-}
-
 /// Writes a cell with how long ago a time was, if there is one.
-pub(crate) fn write_ago_cell<W: Write>(
-    out: &mut W,
-    now: u64,
-    moment: Option<u64>,
-) -> io::Result<()> {
-    let Some(moment) = moment else {
-        return out.write_all("<td class=\"dim\">\u{2013}</td>".as_bytes());
-    };
-    out.write_all(b"<td>")?;
-    write_since(out, now, moment)?;
-    out.write_all(b"</td>")
+fn write_ago_cell<W: Write>(out: &mut W, now: u64, moment: Option<u64>) -> io::Result<()> {
+    match moment {
+        None => out.write_all("<td class=\"dim\">\u{2013}</td>".as_bytes()),
+        Some(moment) => write_pieces(
+            out,
+            &[
+                Piece::Raw("<td>"),
+                Piece::Since(now, moment),
+                Piece::Raw("</td>"),
+            ],
+        ),
+    }
 }
 
 /// Writes a cell with a number without digit groups, as serials are. On a narrow screen it is left out.
@@ -66,13 +61,20 @@ pub(crate) fn write_optional<W: Write>(out: &mut W, number: Option<u32>) -> io::
 
 /// Writes since when and why a file is refused.
 fn write_refusal<W: Write>(out: &mut W, since: Option<u64>, reason: &str) -> io::Result<()> {
-    out.write_all(b"<span class=\"warn\">refused</span>")?;
-    if let Some(since) = since {
-        out.write_all(b" since ")?;
-        write_time(out, since)?;
+    let refused = Piece::Raw("<span class=\"warn\">refused</span>");
+    match since {
+        None => write_pieces(out, &[refused, Piece::Raw(": "), Piece::Html(reason)]),
+        Some(since) => write_pieces(
+            out,
+            &[
+                refused,
+                Piece::Raw(" since "),
+                Piece::Time(since),
+                Piece::Raw(": "),
+                Piece::Html(reason),
+            ],
+        ),
     }
-    out.write_all(b": ")?;
-    write_html(out, reason)
 }
 
 /// Writes the state of a file: refused and why, too old, or loaded.
@@ -91,45 +93,65 @@ fn write_how<W: Write>(out: &mut W, file: &FileStatus) -> io::Result<()> {
 
 /// Writes the size of a file, if it is near the maximum.
 fn write_size<W: Write>(out: &mut W, near_limit: Option<u64>) -> io::Result<()> {
-    let Some(size) = near_limit else {
-        return Ok(());
-    };
-    out.write_all(b", <span class=\"warn\">")?;
-    write_grouped(out, size)?;
-    out.write_all(b" bytes, near --max-size</span>")
+    match near_limit {
+        None => Ok(()),
+        Some(size) => write_pieces(
+            out,
+            &[
+                Piece::Raw(", <span class=\"warn\">"),
+                Piece::Grouped(size),
+                Piece::Raw(" bytes, near --max-size</span>"),
+            ],
+        ),
+    }
 }
 
-/// Writes how many VRPs of a file have a trust anchor.
-fn write_anchor<W: Write>(out: &mut W, anchor: &AnchorStatus) -> io::Result<()> {
-    write_html(out, &anchor.name)?;
-    out.write_all(b" ")?;
-    write_grouped(out, anchor.vrps)
+/// Writes how many VRPs of a file have a trust anchor, after those before it.
+fn write_anchor<W: Write>(out: &mut W, index: usize, anchor: &AnchorStatus) -> io::Result<()> {
+    let before = if index == 0 { "<br>" } else { ", " };
+    let pieces = [
+        Piece::Raw(before),
+        Piece::Html(&anchor.name),
+        Piece::Raw(" "),
+        Piece::Grouped(anchor.vrps),
+    ];
+    write_pieces(out, &pieces)
 }
 
 /// Writes the trust anchors of a file, if it has any.
 fn write_anchors<W: Write>(out: &mut W, anchors: &[AnchorStatus]) -> io::Result<()> {
     for (index, anchor) in anchors.iter().enumerate() {
-        let before = if index == 0 { "<br>" } else { ", " };
-        out.write_all(before.as_bytes())?;
-        write_anchor(out, anchor)?;
+        write_anchor(out, index, anchor)?;
     }
     Ok(())
 }
 
-/// Writes the row of a file.
-fn write_file<W: Write>(out: &mut W, now: u64, file: &FileStatus) -> io::Result<()> {
-    out.write_all(b"<tr><th scope=\"row\" class=\"name\">")?;
-    write_html(out, &file.path)?;
-    out.write_all(b"</th><td class=\"long\">")?;
+/// Writes the content of the cell of the state of a file.
+fn write_file_state<W: Write>(out: &mut W, file: &FileStatus) -> io::Result<()> {
     write_how(out, file)?;
     write_not_served(out, file)?;
     write_size(out, file.near_limit)?;
-    write_anchors(out, &file.anchors)?;
+    write_anchors(out, &file.anchors)
+}
+
+/// Writes the row of a file.
+fn write_file<W: Write>(out: &mut W, now: u64, file: &FileStatus) -> io::Result<()> {
+    let pieces = [
+        Piece::Raw("<tr><th scope=\"row\" class=\"name\">"),
+        Piece::Html(&file.path),
+        Piece::Raw("</th><td class=\"long\">"),
+    ];
+    write_pieces(out, &pieces)?;
+    write_file_state(out, file)?;
     out.write_all(b"</td>")?;
     write_ago_cell(out, now, file.built)?;
     write_ago_cell(out, now, file.taken)?;
-    write_number(out, file.expired)?;
-    out.write_all(b"</tr>\n")
+    let expired = [
+        Piece::Raw("<td class=\"n\">"),
+        Piece::Grouped(file.expired),
+        Piece::Raw("</td></tr>\n"),
+    ];
+    write_pieces(out, &expired)
 }
 
 /// Writes the table of the files.
@@ -143,21 +165,25 @@ pub(crate) fn write_files<W: Write>(out: &mut W, status: &Status) -> io::Result<
     for file in &status.files {
         write_file(out, status.now, file)?;
     }
-    write_table_end(out)?;
-    out.write_all(b"</div>\n")
+    out.write_all(b"</tbody></table></div>\n</div>\n")
 }
 
 /// Writes the row of a version.
 fn write_change<W: Write>(out: &mut W, now: u64, change: &ChangeStatus) -> io::Result<()> {
-    out.write_all(b"<tr><th scope=\"row\">")?;
-    write_since(out, now, change.at)?;
-    out.write_all(b"</th>")?;
-    write_number(out, change.announced)?;
-    write_number(out, change.withdrawn)?;
-    write_number(out, change.records)?;
-    out.write_all(b"<td class=\"n wide\">")?;
-    write_decimal(out, u64::from(change.serial))?;
-    out.write_all(b"</td></tr>\n")
+    let pieces = [
+        Piece::Raw("<tr><th scope=\"row\">"),
+        Piece::Since(now, change.at),
+        Piece::Raw("</th><td class=\"n\">"),
+        Piece::Grouped(change.announced),
+        Piece::Raw("</td><td class=\"n\">"),
+        Piece::Grouped(change.withdrawn),
+        Piece::Raw("</td><td class=\"n\">"),
+        Piece::Grouped(change.records),
+        Piece::Raw("</td><td class=\"n wide\">"),
+        Piece::Decimal(u64::from(change.serial)),
+        Piece::Raw("</td></tr>\n"),
+    ];
+    write_pieces(out, &pieces)
 }
 
 /// Writes the table of the last versions, the newest first.

@@ -1,8 +1,9 @@
 //! The sizes of the last versions over time, as a chart.
 ghost use Rattle.std.specs.Prelude.{◌≤◌};
 
+use crate::pieces::{Piece, write_pieces};
 use crate::status::ChangeStatus;
-use crate::text::{write_clock_time, write_grouped};
+use crate::text::write_clock_time;
 use std::io::{self, Write};
 
 /// The width and the height of the chart, in its own units.
@@ -117,16 +118,17 @@ fn write_steps<W: Write>(
 
 /// Writes the labels of the vertical axis: its top, its middle and its bottom.
 fn write_labels<W: Write>(out: &mut W, axis: Axis) -> io::Result<()> {
-    let middle = axis
-        .bottom
-        .saturating_add(axis.top.saturating_sub(axis.bottom) / 2);
-    out.write_all(b"<div class=\"y\"><span>")?;
-    write_grouped(out, axis.top)?;
-    out.write_all(b"</span><span>")?;
-    write_grouped(out, middle)?;
-    out.write_all(b"</span><span>")?;
-    write_grouped(out, axis.bottom)?;
-    out.write_all(b"</span></div>\n")
+    let half = axis.top.saturating_sub(axis.bottom) / 2;
+    let pieces = [
+        Piece::Raw("<div class=\"y\"><span>"),
+        Piece::Grouped(axis.top),
+        Piece::Raw("</span><span>"),
+        Piece::Grouped(axis.bottom.saturating_add(half)),
+        Piece::Raw("</span><span>"),
+        Piece::Grouped(axis.bottom),
+        Piece::Raw("</span></div>\n"),
+    ];
+    write_pieces(out, &pieces)
 }
 
 /// Writes the labels of the horizontal axis: the time of the first version, the middle, and now.
@@ -141,52 +143,84 @@ fn write_times<W: Write>(out: &mut W, first: u64, now: u64) -> io::Result<()> {
     out.write_all(b"</span></div>\n")
 }
 
-/// Writes the lines of the chart.
-fn write_plot<W: Write>(
+/// Writes the lines of the chart, and the area below.
+fn write_lines<W: Write>(
     out: &mut W,
     axis: Axis,
     changes: &[ChangeStatus],
     first: u64,
     now: u64,
 ) -> io::Result<()> {
-    let class = if axis.bottom == 0 {
-        ""
-    } else {
-        " class=\"broken\""
-    };
-    write!(
-        out,
-        "<svg{class} role=\"img\" aria-labelledby=\"sizes\" viewBox=\"0 0 {WIDTH} {HEIGHT}\" preserveAspectRatio=\"none\"><path class=\"grid\" d=\"M0 0H{WIDTH}M0 {}H{WIDTH}\"/><path class=\"area\" d=\"",
-        HEIGHT / 2
-    )?;
+    out.write_all(b"<path class=\"area\" d=\"")?;
     write_steps(out, axis, changes, first, now)?;
-    write!(out, "V{HEIGHT}H0Z\"/><path class=\"line\" d=\"")?;
+    let pieces = [
+        Piece::Raw("V"),
+        Piece::Decimal(HEIGHT),
+        Piece::Raw("H0Z\"/><path class=\"line\" d=\""),
+    ];
+    write_pieces(out, &pieces)?;
     write_steps(out, axis, changes, first, now)?;
     out.write_all(b"\"/></svg>\n")
 }
 
-/// Writes the description of the chart, and where its axis begins if not at 0.
-fn write_words<W: Write>(out: &mut W, axis: Axis, range: Axis, versions: u64) -> io::Result<()> {
-    out.write_all(b"The last ")?;
-    write_grouped(out, versions)?;
-    out.write_all(b" versions: ")?;
-    write_grouped(out, range.bottom)?;
-    out.write_all(b" to ")?;
-    write_grouped(out, range.top)?;
-    out.write_all(b" VRPs.")?;
-    if axis.bottom > 0 {
-        out.write_all(b" The axis begins at ")?;
-        write_grouped(out, axis.bottom)?;
-        out.write_all(b", not at 0.")?;
+/// Writes the start of the chart, with its grid. Its axis begins at `bottom`.
+fn write_grid<W: Write>(out: &mut W, bottom: u64) -> io::Result<()> {
+    let class = if bottom == 0 { "" } else { " class=\"broken\"" };
+    let pieces = [
+        Piece::Raw("<svg"),
+        Piece::Raw(class),
+        Piece::Raw(" role=\"img\" aria-labelledby=\"sizes\" viewBox=\"0 0 "),
+        Piece::Decimal(WIDTH),
+        Piece::Raw(" "),
+        Piece::Decimal(HEIGHT),
+        Piece::Raw("\" preserveAspectRatio=\"none\"><path class=\"grid\" d=\"M0 0H"),
+        Piece::Decimal(WIDTH),
+        Piece::Raw("M0 "),
+        Piece::Decimal(HEIGHT / 2),
+        Piece::Raw("H"),
+        Piece::Decimal(WIDTH),
+        Piece::Raw("\"/>"),
+    ];
+    write_pieces(out, &pieces)
+}
+
+/// Writes the beginning of the axis, if that is not 0.
+fn write_bottom<W: Write>(out: &mut W, bottom: u64) -> io::Result<()> {
+    if bottom == 0 {
+        return Ok(());
     }
-    Ok(())
+    let pieces = [
+        Piece::Raw(" The axis begins at "),
+        Piece::Grouped(bottom),
+        Piece::Raw(", not at 0."),
+    ];
+    write_pieces(out, &pieces)
+}
+
+/// Writes the description of the chart, and the beginning of its axis if that is not 0.
+fn write_words<W: Write>(out: &mut W, bottom: u64, range: Axis, versions: u64) -> io::Result<()> {
+    let pieces = [
+        Piece::Raw("</div><figcaption id=\"sizes\" class=\"dim\">The last "),
+        Piece::Grouped(versions),
+        Piece::Raw(" versions: "),
+        Piece::Grouped(range.bottom),
+        Piece::Raw(" to "),
+        Piece::Grouped(range.top),
+        Piece::Raw(" VRPs."),
+    ];
+    write_pieces(out, &pieces)?;
+    write_bottom(out, bottom)?;
+    out.write_all(b"</figcaption></figure>\n")
 }
 
 /// Writes how many records the only version has. It has no chart.
 fn write_only<W: Write>(out: &mut W, records: u64) -> io::Result<()> {
-    out.write_all(b"<p>One version was published: ")?;
-    write_grouped(out, records)?;
-    out.write_all(b" VRPs.</p>\n")
+    let pieces = [
+        Piece::Raw("<p>One version was published: "),
+        Piece::Grouped(records),
+        Piece::Raw(" VRPs.</p>\n"),
+    ];
+    write_pieces(out, &pieces)
 }
 
 /// Writes the chart of two versions or more, its labels and its description.
@@ -205,9 +239,8 @@ pub(crate) fn write_picture<W: Write>(
     let axis = axis_of(range);
     out.write_all(b"<figure><div class=\"plot\">")?;
     write_labels(out, axis)?;
-    write_plot(out, axis, changes, first.at, now)?;
+    write_grid(out, axis.bottom)?;
+    write_lines(out, axis, changes, first.at, now)?;
     write_times(out, first.at, now)?;
-    out.write_all(b"</div><figcaption id=\"sizes\" class=\"dim\">")?;
-    write_words(out, axis, range, changes.len() as u64)?;
-    out.write_all(b"</figcaption></figure>\n")
+    write_words(out, axis.bottom, range, changes.len() as u64)
 }

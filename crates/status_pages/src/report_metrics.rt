@@ -1,24 +1,30 @@
 //! The metrics of Error Reports.
 
-use crate::metrics::{write_head, write_value};
+use crate::metrics::write_head;
+use crate::pieces::{Piece, write_pieces};
 use crate::status::{ErrorReports, ReportsByCode};
-use crate::text::write_texts;
 use std::io::{self, Write};
 
 /// The codes from 0 to 8, as labels.
 const CODES: [&str; 9] = ["0", "1", "2", "3", "4", "5", "6", "7", "8"];
 
 /// Writes the Error Reports of one code in one direction.
-fn write_of_code<W: Write>(out: &mut W, direction: &str, code: &str, count: u64) -> io::Result<()> {
-    let texts = [
-        "rpkirtrd_error_reports_total{direction=\"",
-        direction,
-        "\",code=\"",
-        code,
-        "\"} ",
+fn write_of_code<'a, W: Write>(
+    out: &mut W,
+    direction: &'a str,
+    code: &'a str,
+    count: u64,
+) -> io::Result<()> {
+    let pieces = [
+        Piece::Raw("rpkirtrd_error_reports_total{direction=\""),
+        Piece::Raw(direction),
+        Piece::Raw("\",code=\""),
+        Piece::Raw(code),
+        Piece::Raw("\"} "),
+        Piece::Decimal(count),
+        Piece::Raw("\n"),
     ];
-    write_texts(out, &texts)?;
-    write_value(out, count)
+    write_pieces(out, &pieces)
 }
 
 /// Writes the Error Reports of one direction.

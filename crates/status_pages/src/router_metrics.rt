@@ -1,7 +1,8 @@
 //! The metrics of each router.
 
-use crate::metrics::{write_head, write_one, write_value};
+use crate::metrics::{write_head, write_one};
 use crate::page_routers::lacking_since;
+use crate::pieces::{Piece, write_pieces};
 use crate::status::{ClientStatus, Status};
 use std::io::{self, Write};
 
@@ -29,18 +30,27 @@ fn router_metric(status: &Status, client: &ClientStatus, what: RouterMetric) -> 
 }
 
 /// Writes the value of a metric for a router: its address and its protocol version, which is empty before its first PDU.
-fn write_of_router<W: Write>(
+fn write_of_router<'a, W: Write>(
     out: &mut W,
-    name: &str,
-    client: &ClientStatus,
+    name: &'a str,
+    client: &'a ClientStatus,
     value: u64,
 ) -> io::Result<()> {
-    write!(out, "{name}{{router=\"{}\",version=\"", client.address)?;
-    if let Some(version) = client.version {
-        write!(out, "{version}")?;
-    }
-    out.write_all(b"\"} ")?;
-    write_value(out, value)
+    let version = match client.version {
+        Some(version) => Piece::Decimal(u64::from(version)),
+        None => Piece::Raw(""),
+    };
+    let pieces = [
+        Piece::Raw(name),
+        Piece::Raw("{router=\""),
+        Piece::Address(&client.address),
+        Piece::Raw("\",version=\""),
+        version,
+        Piece::Raw("\"} "),
+        Piece::Decimal(value),
+        Piece::Raw("\n"),
+    ];
+    write_pieces(out, &pieces)
 }
 
 /// Writes a metric with a value for each router that has one, up to the limit.

@@ -1,18 +1,19 @@
 //! The validity of a route as a page of HTML.
 
 use crate::form::write_form_of;
-use crate::page_style::STYLE;
-use crate::text::{write_texts, write_time};
+use crate::page_style::{HEAD, HEAD_END, HEADER, STYLE, TITLE_END};
+use crate::pieces::{Piece, write_pieces};
+use crate::text::write_texts;
 use crate::validity::Validity;
 use prefixes::{Route, Vrp};
 use std::io::{self, Write};
 use vrps::OriginState;
 
-/// Writes the origin of a route.
-fn write_origin<W: Write>(out: &mut W, route: &Route) -> io::Result<()> {
+/// Writes a route.
+fn write_route<W: Write>(out: &mut W, route: &Route) -> io::Result<()> {
     match route.origin {
-        None => out.write_all(b"no AS"),
-        Some(asn) => write!(out, "AS{asn}"),
+        None => write!(out, "{} of no AS", route.prefix),
+        Some(asn) => write!(out, "{} of AS{asn}", route.prefix),
     }
 }
 
@@ -25,25 +26,29 @@ fn words_of(state: OriginState) -> (&'static str, &'static str) {
     }
 }
 
-/// Writes the head of the document.
-fn write_head<W: Write>(out: &mut W, route: &Route, state: &str) -> io::Result<()> {
-    out.write_all(b"<!doctype html>\n<html lang=\"en\">\n<head>\n<meta charset=\"utf-8\">\n")?;
-    out.write_all(b"<meta name=\"viewport\" content=\"width=device-width, initial-scale=1\">\n")?;
-    write!(out, "<title>{state}: {} of ", route.prefix)?;
-    write_origin(out, route)?;
-    write_texts(
-        out,
-        &["</title>\n<style>\n", STYLE, "</style>\n</head>\n<body>\n"],
-    )
+/// Writes the head of the document, and its header up to the banner.
+fn write_head<W: Write>(out: &mut W, route: &Route, state: &str, now: u64) -> io::Result<()> {
+    write_texts(out, &[HEAD, "<title>", state, ": "])?;
+    write_route(out, route)?;
+    let pieces = [
+        Piece::Raw(TITLE_END),
+        Piece::Raw(STYLE),
+        Piece::Raw(HEAD_END),
+        Piece::Raw(HEADER),
+        Piece::Time(now),
+        Piece::Raw(" UTC</p>\n</div>\n<p class=\"state "),
+    ];
+    write_pieces(out, &pieces)
 }
 
-/// Writes the state of the route as a banner.
-fn write_banner<W: Write>(out: &mut W, route: &Route, state: OriginState) -> io::Result<()> {
-    let (word, class) = words_of(state);
-    write_texts(out, &["<p class=\"state ", class, "\">"])?;
-    write!(out, "{} of ", route.prefix)?;
-    write_origin(out, route)?;
-    write_texts(out, &[" is ", word, ".</p>\n"])
+/// Writes the state of the route as a banner, from its class on.
+fn write_banner<W: Write>(out: &mut W, route: &Route, word: &str, class: &str) -> io::Result<()> {
+    write_texts(out, &[class, "\">"])?;
+    write_route(out, route)?;
+    write_texts(
+        out,
+        &[" is ", word, ".</p>\n</header>\n<main>\n<h2>Route</h2>\n"],
+    )
 }
 
 /// Writes the row of a record.
@@ -99,14 +104,9 @@ pub fn write_validity_page<W: Write>(
     validity: &Validity,
     now: u64,
 ) -> io::Result<()> {
-    write_head(out, route, words_of(validity.state).0)?;
-    out.write_all(
-        b"<header><div class=\"top\">\n<h1><a href=\"/\">rpkirtrd</a></h1>\n<p class=\"dim\">",
-    )?;
-    write_time(out, now)?;
-    out.write_all(b" UTC</p>\n</div>\n")?;
-    write_banner(out, route, validity.state)?;
-    out.write_all(b"</header>\n<main>\n<h2>Route</h2>\n")?;
+    let (word, class) = words_of(validity.state);
+    write_head(out, route, word, now)?;
+    write_banner(out, route, word, class)?;
     write_form_of(out, route)?;
     write_lists(out, validity)?;
     out.write_all(b"</main>\n</body>\n</html>\n")

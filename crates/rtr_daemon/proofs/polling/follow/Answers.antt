@@ -1,7 +1,7 @@
 use Rattle.std.proofs.Common.{inl, inr, refl, subst, sym, ap, ◌∙◌}
 use Rattle.std.specs.Prelude.{None}
 use Rattle.rtr_daemon.specs.DiskAnswers.{ReadsWhole}
-use Rattle.rtr_daemon.specs.Files.{loaded_after, path_of}
+use Rattle.rtr_daemon.specs.Files.{loaded_after, loaded_at_after, path_of}
 use Rattle.rtr_daemon.proofs.ContentLaws.{mark_is}
 use Rattle.rtr_daemon.proofs.polling.follow.Goals as goal
 
@@ -18,6 +18,7 @@ returns-in-Read-clause-follows g c =
         short = c.note.ensures.short ∙ ap (λ e. e.short_since) c.note_short.ensures;
         loaded = c.note.ensures.loaded ∙ ap (λ e. loaded_after result stamp e.file.loaded) c.note_short.ensures;
         refused = c.note.ensures.refused;
+        at = c.note.ensures.at ∙ ap (λ e. loaded_at_after result c.args.at.seconds e.file.loaded_at) c.note_short.ensures;
       },
     )
 
@@ -29,7 +30,7 @@ returns-in-Unchanged-clause-follows g c =
     inr (
       inl (
         (h.0, h.1, h.2),
-        mark_is after.short_since None after.file.loaded c.args.export.now.file.loaded after.file.refusals.last None now.short now.loaded now.refused,
+        mark_is after.short_since None after.file.loaded c.args.export.now.file.loaded after.file.refusals.last None after.file.loaded_at c.args.export.now.file.loaded_at now.short now.loaded now.refused now.at,
         c.is_loaded_after-anew.ensures h.3,
       ),
       refl,

@@ -17,6 +17,6 @@ returns-clause-follows g c =
       c.seconds-now.ensures,
       c.millis-millis.ensures.ticks,
       subst (λ mark. Follows g.W.Disk.answers (percent_at c.args.plan.shrink before.short_since millis) before seconds millis mark old new)
-          (sym (ap mark_of c.note_anchors.ensures ∙ mark_is polled.short_since polled.short_since c.note_slow.new.self.loaded polled.file.loaded c.note_slow.new.self.refusals.last polled.file.refusals.last refl (ap (λ f. f.loaded) c.note_slow.ensures) (ap (λ f. f.refusals.last) c.note_slow.ensures)))
+          (sym (ap mark_of c.note_anchors.ensures ∙ mark_is polled.short_since polled.short_since c.note_slow.new.self.loaded polled.file.loaded c.note_slow.new.self.refusals.last polled.file.refusals.last c.note_slow.new.self.loaded_at polled.file.loaded_at refl (ap (λ f. f.loaded) c.note_slow.ensures) (ap (λ f. f.refusals.last) c.note_slow.ensures) (ap (λ f. f.loaded_at) c.note_slow.ensures)))
           (subst (λ percent. Follows g.W.Disk.answers percent before seconds millis (mark_of c.follow-polled.new.export) old new) c.percent_at-percent.ensures c.follow-polled.ensures.follows),
     )

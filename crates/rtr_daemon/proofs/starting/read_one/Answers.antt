@@ -19,6 +19,7 @@ returns-in-Read-clause-loads g c =
       ),
       c.set_loaded.ensures.loaded,
       c.set_loaded.ensures.refused,
+      c.set_loaded.ensures.at,
     )
 
 pub returns-in-Read-clause-goes : goal.returns-in-Read-clause-goes

@@ -1,6 +1,7 @@
 -- So far the clients of the tokens before the next one are queued.
 use Rattle.std.proofs.Common.{ℕ}
-use Rattle.rtr_daemon.specs.Queue.{IsQueued, QueuesBehind, SameClients}
+use Rattle.rtr_daemon.specs.Known.{SameClients}
+use Rattle.rtr_daemon.specs.Queue.{IsQueued, QueuesBehind}
 use Rattle.rtr_daemon.proofs.WakeLaws.{IsBefore, left_from}
 use Rattle.rtr_daemon.proofs.client_table.ClientTable.wake_all.Given as goal
 

@@ -37,6 +37,7 @@ returns-clause-times g c =
       failing = ap (λ d. d.failing) rest ∙ ap (λ d. d.failing) only;
       ready = ap (λ d. d.is_ready) rest ∙ ap (λ d. d.is_ready) only;
       listeners = ap (λ d. d.listeners) rest ∙ ap (λ d. d.listeners) only;
+      clients = (ap (λ d. d.clients) rest ∙ ap (λ d. d.clients) only, ap (λ d. d.readings) rest ∙ ap (λ d. d.readings) only);
       rest = (ap (λ d. d.plan) rest ∙ ap (λ d. d.plan) only, ap (λ d. d.started) rest ∙ ap (λ d. d.started) only, ap (λ d. d.opened) rest ∙ ap (λ d. d.opened) only);
       between = λ early. absurd (omega (arith, early, c.if-now-self.false));
     }

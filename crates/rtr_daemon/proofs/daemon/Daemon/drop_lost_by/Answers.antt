@@ -1,6 +1,6 @@
-use Rattle.std.proofs.Common.{◌≡◌, ap, refl, subst}
+use Rattle.std.proofs.Common.{◌≡◌, ◌∙◌, ap, refl, subst}
 use Rattle.rtr_daemon.specs.Losing.{unless_lost}
-use Rattle.rtr_daemon.specs.Queue.{known_at}
+use Rattle.rtr_daemon.specs.Known.{known_at}
 use Rattle.rtr_daemon.proofs.DueLaws.{only_on}
 use Rattle.rtr_daemon.proofs.OverdueLaws.{ChangesBefore, all_changed, changed_on, none_changed}
 use Rattle.rtr_daemon.proofs.ServiceLaws.{stays, then_on}
@@ -17,6 +17,7 @@ pub loop-at-init : goal.loop-at-init
 loop-at-init g c = record {
   goes = stays g.S.VersionStore.holds g.T.Stream.remaining g.T.Stream.contents c.args.self.now.service;
   rest = refl;
+  queue = refl;
   closed = none_changed (unless_lost c.args.lines.now c.args.now c.args.self.now.plan.stall) c.args.self.now.clients c.first-at.result refl c.first-at.ensures;
 }
 
@@ -32,6 +33,7 @@ loop-at-preserved g c =
     record {
       goes = then_on g.S.VersionStore.holds g.T.Stream.remaining g.T.Stream.contents old.service table.service mid.service c.loop-at.invariant.goes one.goes;
       rest = only_on old table mid c.loop-at.invariant.rest one.rest;
+      queue = one.queue ∙ c.loop-at.invariant.queue;
       closed =
           changed_on to old.clients table.clients mid.clients token c.first_after-at.result refl (subst (ChangesBefore to old.clients table.clients) c.in-Some.is c.loop-at.invariant.closed) one.others
           (subst (λ span. known_at mid.clients token ≡ unless_lost c.args.lines.now c.args.now span (known_at table.clients token)) stall one.closed) c.first_after-at.ensures;

@@ -1,6 +1,6 @@
 use Rattle.std.proofs.Common.{◌≡◌, ◌∙◌, ap, refl, subst}
 use Rattle.rtr_daemon.specs.Overdue.{unless_overdue}
-use Rattle.rtr_daemon.specs.Queue.{known_at}
+use Rattle.rtr_daemon.specs.Known.{known_at}
 use Rattle.rtr_daemon.proofs.DueLaws.{only_on}
 use Rattle.rtr_daemon.proofs.OverdueLaws.{ChangesBefore, all_changed, changed_on, none_changed}
 use Rattle.rtr_daemon.proofs.ServiceLaws.{stays, then_on}

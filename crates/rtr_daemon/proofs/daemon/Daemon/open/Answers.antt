@@ -8,7 +8,7 @@ use Rattle.rtr_daemon.specs.Times.{later_by}
 use Rattle.rtr_daemon.specs.Files.{AreContents, LoadsEach, loads_of, marks_of, names_of, paths_of}
 use Rattle.rtr_daemon.specs.PointOffers.{OffersEach, points_of}
 use Rattle.rtr_daemon.specs.Serving.{LeadsToService, past_of}
-use Rattle.rtr_daemon.specs.Starting.{numbered_from, texts}
+use Rattle.rtr_daemon.specs.Starting.{ReadsAll, numbered_from, texts}
 use Rattle.rtr_daemon.proofs.ContentLaws.{same_many, written_back}
 use Rattle.rtr_daemon.proofs.OriginLaws.{opened_comes}
 use Rattle.rtr_daemon.proofs.SlurmRefusalLaws.{no_bytes_follow, none_slurms_refused, slurms_refused}
@@ -22,7 +22,7 @@ returns-clause-leads g c begun =
     let p = past_of c.args.settings c.args.session_ids begun in
     let read = then_on g.S.VersionStore.holds g.T.Stream.remaining g.T.Stream.contents c.in_ok-service.service c.read_all.new.service c.read_slurms.new.service c.read_all.ensures.goes c.read_slurms.ensures.goes in
     subst (λ s. LeadsToService g.W.Time.can_be g.S.VersionStore.holds g.T.Stream.remaining g.T.Stream.contents p s) (sym (ap (λ d. d.service) c.judge_ages.ensures.rest))
-    (leads_on g.W.Time.can_be g.S.VersionStore.holds g.T.Stream.remaining g.T.Stream.contents c.in_ok-service.service c.read_points.new.service p c.seconds-now.result c.seconds-now.ensures c.in_ok-service.ensures.pace (c.in_ok-service.ensures.shows c.in_ok-held.ensures.1 begun)
+    (leads_on g.W.Time.can_be g.S.VersionStore.holds g.T.Stream.remaining g.T.Stream.contents c.in_ok-service.service c.read_points.new.service p c.seconds-now.result c.seconds-now.ensures c.in_ok-service.ensures.pace (c.in_ok-service.ensures.shows c.in_ok-held.ensures.empty.1 begun)
     (then_on g.S.VersionStore.holds g.T.Stream.remaining g.T.Stream.contents c.in_ok-service.service c.read_slurms.new.service c.read_points.new.service read c.read_points.ensures.goes))
 
 pub returns-clause-begins : goal.returns-clause-begins
@@ -32,7 +32,7 @@ returns-clause-begins g c =
     let p = past_of c.args.settings c.args.session_ids begun in
     let read = then_on g.S.VersionStore.holds g.T.Stream.remaining g.T.Stream.contents c.in_ok-service.service c.read_all.new.service c.read_slurms.new.service c.read_all.ensures.goes c.read_slurms.ensures.goes in
     let all = then_on g.S.VersionStore.holds g.T.Stream.remaining g.T.Stream.contents c.in_ok-service.service c.read_slurms.new.service c.read_points.new.service read c.read_points.ensures.goes in
-    let paced : c.read_points.new.service.pace ≡ Some c.seconds-now.result = (all p (c.in_ok-service.ensures.shows c.in_ok-held.ensures.1 begun)).4 ∙ c.in_ok-service.ensures.pace in
+    let paced : c.read_points.new.service.pace ≡ Some c.seconds-now.result = (all p (c.in_ok-service.ensures.shows c.in_ok-held.ensures.empty.1 begun)).4 ∙ c.in_ok-service.ensures.pace in
     record {
       second = subst g.W.Time.can_be (sym (ap (λ d. d.started) only)) c.seconds-now.ensures;
       millis = subst g.W.Time.can_tick (sym (ap (λ d. d.opened) only)) c.millis-millis.ensures.ticks;
@@ -68,7 +68,7 @@ pub returns-clause-reads : goal.returns-clause-reads
 returns-clause-reads g c =
     let d = c.judge_ages.new.self in
     let only = c.judge_ages.ensures.rest in
-    let held = c.in_ok-held.ensures in
+    let held = c.in_ok-held.ensures.empty in
     let sources = c.in_ok-service.ensures.sources in
     let now = c.seconds-now.result in
     let started : now ≡ d.started = sym (ap (λ d. d.started) only) in
@@ -97,7 +97,8 @@ returns-clause-reads g c =
       );
       no_exceptions = ap (λ s. s.exceptions) sources ∙ held.0;
       no_points = ap (λ s. s.repository) sources ∙ held.1;
-      leaves = ap (λ s. s.leaves_out) sources ∙ held.3;
+      leaves = ap (λ s. s.leaves_out) sources ∙ c.in_ok-held.ensures.planned.0;
+      aged = ap (λ s. s.max_age) sources ∙ c.in_ok-held.ensures.planned.1;
       loaded = c.read_all.new.service.sources;
       excepted = c.read_slurms.new.service.sources;
       exports =
@@ -125,7 +126,9 @@ returns-clause-reads g c =
 pub returns-clause-comes : goal.returns-clause-comes
 returns-clause-comes g c =
     let d = c.judge_ages.new.self in
-    opened_comes g.W.Disk.answers g.W.Time.can_be c.args.plan.leaves_out_length_0 d (returns-clause-begins g c).second (numbered_at d.exports.items (texts c.args.sources.files.items) (returns-clause-watches g c).exports) (returns-clause-reads g c)
+    let plan : c.args.plan ≡ d.plan = sym (ap (λ d. d.plan) c.judge_ages.ensures.rest) in
+    let numbers = numbered_at d.exports.items (texts c.args.sources.files.items) (returns-clause-watches g c).exports in
+    opened_comes g.W.Disk.answers g.W.Time.can_be d (returns-clause-begins g c).second numbers (subst (λ plan. ReadsAll g.W.Disk.answers plan d) plan (returns-clause-reads g c))
 
 pub returns-clause-planned : goal.returns-clause-planned
 returns-clause-planned g c =

@@ -1,5 +1,6 @@
-use Rattle.std.proofs.Common.{ap, subst, sym}
-use Rattle.rtr_daemon.specs.Queue.{QueuesBehind, SameClients}
+use Rattle.std.proofs.Common.{◌∙◌, ap, subst, sym}
+use Rattle.rtr_daemon.specs.Known.{SameClients}
+use Rattle.rtr_daemon.specs.Queue.{QueuesBehind}
 use Rattle.rtr_daemon.specs.Serving.{GoesOn, IsFresh}
 use Rattle.rtr_daemon.proofs.StateLaws.{judged_due, judged_kept, judged_next, judged_wakes}
 use Rattle.rtr_daemon.proofs.daemon.Daemon.publish_and_judge.Goals as goal
@@ -32,3 +33,6 @@ returns-clause-queue g c = subst (λ t. QueuesBehind c.args.self.now.clients.que
 pub returns-clause-next : goal.returns-clause-next
 returns-clause-next g c =
     judged_next g.W.Time.can_tick c.args.self.now.next_check c.args.self.now c.publish_pending.new.self c.judge_state.new.self c.judge_state.ensures c.publish_pending.ensures.next
+
+pub returns-clause-readings : goal.returns-clause-readings
+returns-clause-readings g c = ap (λ d. d.readings) c.judge_state.ensures ∙ c.publish_pending.ensures.readings

@@ -9,6 +9,6 @@ abbrev pub invariant-loop-client : goal.invariant-loop-client
 invariant-loop-client g l = record {
   goes : Continues g.S.VersionStore.holds g.T.Stream.remaining g.T.Stream.contents l.initial.self.service l.self.service;
   rest : OnlyClients l.initial.self l.self;
-  turns : ServesEach g.S.VersionStore.holds g.T.Stream.remaining g.T.Stream.contents g.T.Stream.answers (take l._client l.initial.self.clients.queue.items) l.initial.self.clients l.initial.self.service.server l.self.clients l.self.service.server;
+  turns : ServesEach g.W.Time.can_tick g.S.VersionStore.holds g.T.Stream.remaining g.T.Stream.contents g.T.Stream.answers (take l._client l.initial.self.clients.queue.items) l.initial.self l.self;
   queue : QueuesBehind (drop l._client l.initial.self.clients.queue.items) l.self.clients;
 }

@@ -35,14 +35,14 @@ returns-clause-turn g c = record {
     only = c.take_ready.ensures.rest;
   };
   drops = c.drop_if_failing.ensures;
-  accepts = record { asks = c.accept_pending.ensures.asks; queue = c.accept_pending.ensures.queue; closed = c.accept_pending.ensures.before; only = c.accept_pending.ensures.rest };
+  accepts = record { asks = c.accept_pending.ensures.asks; queue = c.accept_pending.ensures.queue; clients = c.accept_pending.ensures.clients; closed = c.accept_pending.ensures.before; only = c.accept_pending.ensures.rest };
   serves = record { turns = c.serve_all.ensures.turns; only = c.serve_all.ensures.rest };
   due = c.do_what_is_due.ensures.due;
 }
 
 pub returns-clause-comes : goal.returns-clause-comes
 returns-clause-comes g c = λ before.
-    turn_comes g.W.Disk.answers g.W.Time.can_be g.W.Time.can_tick c.serve_all.new.self c.do_what_is_due.new.self c.do_what_is_due.ensures.due
+    turn_comes g.W.Disk.answers g.W.Sockets.calls g.W.Time.can_be g.W.Time.can_tick c.serve_all.new.self c.do_what_is_due.new.self c.do_what_is_due.ensures.due
     (clients_come g.W.Disk.answers g.W.Time.can_be c.accept_pending.new.self c.serve_all.new.self c.serve_all.ensures.rest
     (admitted_comes g.W.Disk.answers g.W.Time.can_be c.drop_if_failing.new.self c.accept_pending.new.self c.accept_pending.ensures.rest
     (served_comes g.W.Disk.answers g.W.Time.can_be c.take_ready.new.self c.drop_if_failing.new.self c.drop_if_failing.ensures.rest

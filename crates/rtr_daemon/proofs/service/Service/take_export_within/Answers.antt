@@ -5,7 +5,7 @@ use Rattle.rtr_daemon.proofs.service.Service.take_export_within.Goals as goal
 pub returns-in_err-expired-clause-goes : goal.returns-in_err-expired-clause-goes
 returns-in_err-expired-clause-goes g c =
     same_on g.S.VersionStore.holds g.T.Stream.remaining g.T.Stream.contents c.args.self.now c.take_export_within.new.self
-    (record { lists = c.in_err-expired.ensures.lists.1; exceptions = c.in_err-expired.ensures.rest.0; repository = c.in_err-expired.ensures.rest.1; leaves_out = c.in_err-expired.ensures.rest.2 })
+    (record { lists = c.in_err-expired.ensures.lists.1; exceptions = c.in_err-expired.ensures.rest.0; repository = c.in_err-expired.ensures.rest.1; settings = c.in_err-expired.ensures.rest.2 })
 
 pub returns-clause-goes : goal.returns-clause-goes
 returns-clause-goes g c =

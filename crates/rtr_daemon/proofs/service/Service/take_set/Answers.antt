@@ -6,7 +6,7 @@ use Rattle.rtr_daemon.proofs.service.Service.take_set.Goals as goal
 pub returns-in_err-take_set-clause-goes : goal.returns-in_err-take_set-clause-goes
 returns-in_err-take_set-clause-goes g c =
     same_on g.S.VersionStore.holds g.T.Stream.remaining g.T.Stream.contents c.args.self.now c.take_set.new.self
-    (record { lists = set_refused c.args.set.now c.args.until c.args.list c.in_err-take_set.field-0.0 c.args.self.now.sources.lists.items c.take_set.new.self.lists.items c.in_err-take_set.ensures.lists; exceptions = c.in_err-take_set.ensures.rest.0; repository = c.in_err-take_set.ensures.rest.1; leaves_out = c.in_err-take_set.ensures.rest.2 })
+    (record { lists = set_refused c.args.set.now c.args.until c.args.list c.in_err-take_set.field-0.0 c.args.self.now.sources.lists.items c.take_set.new.self.lists.items c.in_err-take_set.ensures.lists; exceptions = c.in_err-take_set.ensures.rest.0; repository = c.in_err-take_set.ensures.rest.1; settings = c.in_err-take_set.ensures.rest.2 })
 
 pub returns-clause-goes : goal.returns-clause-goes
 returns-clause-goes g c =
