@@ -39,8 +39,9 @@ static SERVED: OptionGroup = OptionGroup {
             value: "FILE",
             help: &[
                 "FILE is the output of a validator: the JSON of rpki-client, Routinator,",
-                "FORT, StayRTR or rtrdump, or a payload list. The option may be given",
-                "several times.",
+                "FORT, StayRTR or rtrdump, or a payload list. It may also be rpki-client's",
+                "rpki.ccr (a draft: draft-ietf-sidrops-rpki-ccr). That needs --max-age. The",
+                "option may be given several times.",
             ],
         },
         OptionSpec {
@@ -88,8 +89,9 @@ static SERVED: OptionGroup = OptionGroup {
                 "A file of --vrps whose data are older is reported as old. Its data are",
                 "still served. If a file does not say when it was made, or says a time more",
                 "than an hour ahead, its modification time counts. DIR of --points and the",
-                "files of --slurm have no age. The number is from 1 to 4294967295; by",
-                "default no file is old.",
+                "files of --slurm have no age. The records of an rpki.ccr have no expiry of",
+                "their own: they are dropped at that age. The number is from 1 to",
+                "4294967295; by default no file is old.",
             ],
         },
         OptionSpec {

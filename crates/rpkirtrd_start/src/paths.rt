@@ -1,9 +1,14 @@
 //! The paths of the sources, each of which is read once.
+ghost use Rattle.std.specs.Prelude.{◌≡◌, IfOk, bytes_eq};
+ghost use Rattle.std.specs.List.{list_any};
+ghost use Rattle.std.specs.String.{string_bytes};
+ghost use Rattle.rtr_daemon.specs.Starting.{texts};
+ghost use Rattle.rpkirtrd_start.specs.Plans.{AreSources, each_once};
+
 use event_log::LogEvent;
 use rpkirtrd_cli::Settings;
 use rtr_daemon::{EventLog, Paths};
 use std::alloc::{AllocError, Global};
-use std::collections::BTreeSet;
 
 /// The paths of the sources. Of a path that is given twice the second one is left out, with a warning.
 pub(crate) fn paths_of<J: EventLog>(
@@ -11,7 +16,9 @@ pub(crate) fn paths_of<J: EventLog>(
     settings: Settings,
     now: u64,
     events: &mut J,
-) -> Result<Paths, AllocError> {
+) -> Result<Paths, AllocError>
+    ensures { IfOk result (AreSources settings) }
+{
     let Settings {
         vrps,
         points,
@@ -32,25 +39,25 @@ fn each_once<J: EventLog>(
     paths: Vec<String>,
     now: u64,
     events: &mut J,
-) -> Result<Vec<String>, AllocError> {
-    let mut seen = BTreeSet::new(alloc);
+) -> Result<Vec<String>, AllocError>
+    ensures { IfOk result (λ kept. texts kept.items ≡ each_once (texts paths.items)) }
+{
     let mut kept = Vec::new(alloc);
     for path in paths {
-        if is_added(&mut seen, path.clone()?)? {
-            kept.push(path)?;
-        } else {
+        if has_path(kept.as_slice(), path.as_str()) {
             warn_of_second(alloc, option, path.as_str(), now, events)?;
+        } else {
+            kept.push(path)?;
         }
     }
     Ok(kept)
 }
 
-/// Adds a path to those that were seen, and answers whether it is the first one.
-fn is_added(seen: &mut BTreeSet<String>, path: String) -> Result<bool, AllocError> {
-    match seen.insert(path) {
-        Ok(is_new) => Ok(is_new),
-        Err(_) => Err(AllocError),
-    }
+/// Whether a path is among others.
+fn has_path(paths: &[String], path: &str) -> bool
+    ensures { result ≡ list_any (λ other. bytes_eq (string_bytes other) path.now) paths.now }
+{
+    paths.iter().any(|other| other.as_str() == path)
 }
 
 /// Reports that a path is given twice.

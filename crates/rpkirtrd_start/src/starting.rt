@@ -1,11 +1,10 @@
 //! From settings to a daemon, and to the exit status of its run.
-ghost use Rattle.std.specs.Prelude.{◌≡◌, false, IfOk, Ok, Result};
-ghost use Rattle.std.specs.declared.io.Error.{Error};
-ghost use Rattle.rtr_daemon.specs.Origins.{SourcesComeFrom};
+ghost use Rattle.std.specs.Prelude.{◌≡◌, IfOk, Ok, flat_map};
+ghost use Rattle.rpkirtrd_cli.specs.Derived.{address_line, sources_text};
+ghost use Rattle.session_names.specs.Choices.{IsChosen};
 ghost use Rattle.rtr_daemon.specs.Running.{clients_within, exit_status};
-ghost use Rattle.rtr_daemon.specs.Starting.{Begins, ReadsAll};
 ghost use Rattle.rtr_daemon.specs.declared.daemon.StopReason.{StopReason};
-ghost use Rattle.rpkirtrd_start.specs.Plans.{IsMadeAs, cache_of, plan_of, shrink_of};
+ghost use Rattle.rpkirtrd_start.specs.Plans.{HasBegun, IsMadeAs, Serves, cache_of, given_of, plan_of, shrink_of};
 
 use crate::paths::paths_of;
 use event_log::LogEvent;
@@ -37,11 +36,7 @@ pub fn start<T: Stream + Drop, H: HostFacts, W: Disk + Time + EventLog + Address
     host: &mut H,
     env: &mut W,
 ) -> Result<Daemon<VersionLog, T>, StartFault>
-    ensures begins { IfOk result (λ daemon. Begins W.can_be W.can_tick (plan_of settings) daemon) }
-    ensures reads { IfOk result (λ daemon. ReadsAll W.answers settings.leave_out_length_0 daemon) }
-    ensures comes { IfOk result (λ daemon. SourcesComeFrom W.answers W.can_be daemon) }
-    ensures closed { IfOk result (λ daemon. daemon.is_ready ≡ false) }
-    ensures planned { IfOk result (λ daemon. daemon.plan ≡ plan_of settings) }
+    ensures begun { IfOk result (λ daemon. HasBegun W.answers H.answers W.can_be W.can_tick T.remaining T.contents settings (clients_within settings.clients descriptors http) daemon) }
     ensures cache { IfOk result (λ daemon. IsMadeAs daemon.service.settings (cache_of settings (clients_within settings.clients descriptors http))) }
 {
     let begun = env.seconds();
@@ -70,7 +65,9 @@ fn choice<H: HostFacts>(
     settings: &Settings,
     begun: u64,
     host: &mut H,
-) -> io::Result<SessionChoice> {
+) -> io::Result<SessionChoice>
+    ensures { IfOk result (λ choice. IsChosen H.answers (given_of settings.now) (flat_map address_line settings.now.listen.items) (sources_text settings.now) begun choice) }
+{
     let given = GivenIds {
         session: settings.session,
         session0: settings.session0,
@@ -164,7 +161,7 @@ pub fn serve<
     after: &mut A,
     env: &mut W,
 ) -> Result<u8, StartFault>
-    ensures { IfOk result (λ status. (end : Result StopReason Error) × (status ≡ exit_status end)) }
+    ensures { IfOk result (Serves W.answers W.calls H.answers W.reads W.can_be W.can_tick T.remaining T.contents T.answers A.sees settings descriptors http after.old after.new) }
 {
     if let Err(error) = wait_for_clock::<T, W>(env) {
         return Ok(report_end(&Err(error), env));
