@@ -6,8 +6,11 @@
  *
  * What the caller must keep, which no proof covers:
  * - A handle begins as RPKIRTR_EMPTY_INIT and is changed by these functions alone. It is never copied: only its address is passed.
- * - One call at a time is made on a handle. Calls on different handles may run at once. A handle may be used by one thread after
- *   another, except that of a cache, which stays on the thread that made it. No call is made in a signal handler.
+ * - One call at a time is made on a handle. Calls on different handles may run at once, also on handles of one index that
+ *   rpkirtr_index_share made. A handle may be used by one thread after another, except that of a cache, which stays on the thread that made
+ *   it. No call is made in a signal handler.
+ * - A call of a `const` handle does not write the handle. Such calls on one handle of a router, index, ROA or manifest may also run at
+ *   once, while no other call is made on it: this is tested. What is proved is one call at a time, so one handle for each thread.
  * - Pointers are not NULL, and point to as many valid elements as the length beside them says. They are aligned as their types want. A
  *   pointer may be NULL if its length is 0. An output overlaps neither another argument nor the records of a list.
  * - malloc, realloc and free are of one allocator, and align as C wants.
@@ -34,7 +37,7 @@ typedef int32_t rpkirtr_status;
 #define RPKIRTR_BAD_RECORD 4   /* a malformed record */
 #define RPKIRTR_BAD_ROUTE 5    /* a malformed route */
 #define RPKIRTR_BAD_VERSION 6  /* not a version of the protocol */
-#define RPKIRTR_RANGE 7        /* an index at or past the end, or more than 16777215 different records, or too many connections */
+#define RPKIRTR_RANGE 7        /* an index at or past the end, too many records or connections, or a router that may hold none */
 #define RPKIRTR_NOT_LINKED 8   /* there is no connection, or it has ended */
 #define RPKIRTR_BUSY 9         /* a query is outstanding */
 #define RPKIRTR_BAD_PAYLOAD 10 /* a malformed payload: `fault` says why */
@@ -70,7 +73,7 @@ typedef struct rpkirtr_record {
     uint8_t zero_;
 } rpkirtr_record;
 
-/* A route, with the origin NONE if `has_origin` is 0. The prefix is as that of a record. */
+/* A route, with the origin NONE if `has_origin` is 0. The prefix is as that of a record, and `zero_` is 0. */
 typedef struct rpkirtr_route {
     uint8_t addr[16];
     uint32_t origin;
@@ -102,7 +105,7 @@ typedef struct rpkirtr_link {
 /* What a caller configures of a router: intervals of its own, in seconds, whether it keeps each of them, and the most records that it may
  * hold. An interval that is kept holds whatever the cache says. Any other holds if the cache says none: in version 0 of the protocol, and
  * for retry before the first commit. `refresh` is from 1 to 86400, `retry` from 1 to 7200, `expire` from 600 to 172800 and larger than both
- * others. A `most` above 16777215 counts as that. `size_` is the size of the structure, `zero_` is 0, and `keeps_` is 0 for no. */
+ * others. A `most` above 16777215 counts as that, and 0 is refused. `size_` is the size of the structure, `zero_` is 0, and `keeps_` is 0 for no. */
 typedef struct rpkirtr_config {
     uint32_t size_;
     uint32_t refresh;
@@ -239,11 +242,12 @@ rpkirtr_status rpkirtr_router_free(rpkirtr_router *h);
 rpkirtr_status rpkirtr_router_speak(rpkirtr_router *h, uint8_t version);
 
 /* Configures the router, from now on: what is committed keeps its intervals. If the intervals are not valid, `fault` is RPKIRTR_TIMING_RANGE or
- * RPKIRTR_TIMING_EXPIRE, otherwise 0. OK, EMPTY, BAD_STRUCTURE, BAD_TIMING */
+ * RPKIRTR_TIMING_EXPIRE, otherwise 0. OK, EMPTY, BAD_STRUCTURE, RANGE if `most` is 0, BAD_TIMING */
 rpkirtr_status rpkirtr_router_configure(rpkirtr_router *h, const rpkirtr_config *config, uint32_t *fault);
 
-/* Gets the configuration that was set last, or RPKIRTR_CONFIG_INIT if none was set. OK, EMPTY */
-rpkirtr_status rpkirtr_router_config(rpkirtr_router *h, rpkirtr_config *config);
+/* Gets the configuration that was set last, or RPKIRTR_CONFIG_INIT if none was set. If `size_` is not the size of the structure, nothing is
+ * written: the caller sets it before the call. OK, EMPTY, BAD_STRUCTURE */
+rpkirtr_status rpkirtr_router_config(const rpkirtr_router *h, rpkirtr_config *config);
 
 /* A connection is made, and a query is ready to be pulled. An older connection is closed. OK, EMPTY */
 rpkirtr_status rpkirtr_router_connect(rpkirtr_router *h, uint64_t now);
@@ -259,6 +263,10 @@ rpkirtr_status rpkirtr_router_pull(rpkirtr_router *h, uint8_t *room, size_t room
 /* The transport closed the connection. OK, EMPTY */
 rpkirtr_status rpkirtr_router_connection_closed(rpkirtr_router *h, uint64_t now);
 
+/* An attempt to connect failed. Gets the time of the next attempt: `now` and the retry interval, which is that of the committed version, or the
+ * configured one if nothing is committed. The router stays as it is. OK, EMPTY */
+rpkirtr_status rpkirtr_router_connect_failed(const rpkirtr_router *h, uint64_t now, uint64_t *at);
+
 /* Advances the clock. If the records have expired, they are dropped, and a link with an outstanding Serial Query ends. If the query of an
  * idle link is due, it is ready to be pulled. OK, EMPTY */
 rpkirtr_status rpkirtr_router_tick(rpkirtr_router *h, uint64_t now);
@@ -267,44 +275,45 @@ rpkirtr_status rpkirtr_router_tick(rpkirtr_router *h, uint64_t now);
 rpkirtr_status rpkirtr_router_ask(rpkirtr_router *h);
 
 /* Gets the time of the next query on an idle link, or of the next connection attempt on a closed one (RFC 8210 section 6). While a query is
- * outstanding, it may be in the past. It is RPKIRTR_NEVER at first. OK, EMPTY */
-rpkirtr_status rpkirtr_router_next_query_at(rpkirtr_router *h, uint64_t *at);
+ * outstanding, it may be in the past. It is RPKIRTR_NEVER at first. An attempt to connect that fails does not move it: see
+ * rpkirtr_router_connect_failed. OK, EMPTY */
+rpkirtr_status rpkirtr_router_next_query_at(const rpkirtr_router *h, uint64_t *at);
 
 /* Gets the earliest time at which a tick has an effect: the next query on an idle link is due, or the committed records expire. Before that, a
  * tick only advances the clock. RPKIRTR_NEVER if there is no such time. An event loop calls rpkirtr_router_tick then, with its current time,
  * and at once if the time has passed. It calls this function again after each call on the router. The next connection attempt does not count:
  * see rpkirtr_router_next_query_at. OK, EMPTY */
-rpkirtr_status rpkirtr_router_wake_at(rpkirtr_router *h, uint64_t *at);
+rpkirtr_status rpkirtr_router_wake_at(const rpkirtr_router *h, uint64_t *at);
 
 /* Gets the link. OK, EMPTY */
-rpkirtr_status rpkirtr_router_link(rpkirtr_router *h, rpkirtr_link *link);
+rpkirtr_status rpkirtr_router_link(const rpkirtr_router *h, rpkirtr_link *link);
 
 /* Gets the committed version. OK, EMPTY */
-rpkirtr_status rpkirtr_router_committed(rpkirtr_router *h, rpkirtr_committed *committed);
+rpkirtr_status rpkirtr_router_committed(const rpkirtr_router *h, rpkirtr_committed *committed);
 
 /* Gets what the latest connection carried: all is 0 before the first one. A new connection begins at 0. When it is closed, nothing changes.
  * If `size_` is not the size of the structure, nothing is written. OK, EMPTY, BAD_STRUCTURE */
-rpkirtr_status rpkirtr_router_traffic(rpkirtr_router *h, rpkirtr_traffic *traffic);
+rpkirtr_status rpkirtr_router_traffic(const rpkirtr_router *h, rpkirtr_traffic *traffic);
 
 /* Gets the number of committed records. OK, EMPTY */
-rpkirtr_status rpkirtr_router_count(rpkirtr_router *h, size_t *count);
+rpkirtr_status rpkirtr_router_count(const rpkirtr_router *h, size_t *count);
 
 /* Gets the state of a route over the committed records. Records that have expired count until the next call with a time.
  * OK, EMPTY, BAD_ROUTE */
-rpkirtr_status rpkirtr_router_state(rpkirtr_router *h, const rpkirtr_route *route, rpkirtr_state *state);
+rpkirtr_status rpkirtr_router_state(const rpkirtr_router *h, const rpkirtr_route *route, rpkirtr_state *state);
 
 /* Gets the record at an index of the committed records, in ascending order: family, address, length, maximum, AS. OK, EMPTY, RANGE */
-rpkirtr_status rpkirtr_router_record(rpkirtr_router *h, size_t index, rpkirtr_record *out);
+rpkirtr_status rpkirtr_router_record(const rpkirtr_router *h, size_t index, rpkirtr_record *out);
 
 /* Copies committed records in that order from index `first`, as many as fit, and writes their number to `copied`. OK, EMPTY */
-rpkirtr_status rpkirtr_router_records(rpkirtr_router *h, size_t first, rpkirtr_record *room, size_t room_len, size_t *copied);
+rpkirtr_status rpkirtr_router_records(const rpkirtr_router *h, size_t first, rpkirtr_record *room, size_t room_len, size_t *copied);
 
 /* Copies the committed records that cover a route, as many as fit, and writes how many there are to `count`. OK, EMPTY, BAD_ROUTE, NO_MEMORY */
-rpkirtr_status rpkirtr_router_covering(rpkirtr_router *h, const rpkirtr_route *route, rpkirtr_record *room, size_t room_len, size_t *count);
+rpkirtr_status rpkirtr_router_covering(const rpkirtr_router *h, const rpkirtr_route *route, rpkirtr_record *room, size_t room_len, size_t *count);
 
 /* Makes an index over the committed records in an empty handle of an index. It does not change if the router changes or is freed, nor if the
  * records expire: free it then. OK, EMPTY if there is no router, LIVE if there is an index, NO_MEMORY */
-rpkirtr_status rpkirtr_router_index(rpkirtr_router *h, rpkirtr_index *index);
+rpkirtr_status rpkirtr_router_index(const rpkirtr_router *h, rpkirtr_index *index);
 
 /* ---- changes of the committed records */
 
@@ -314,10 +323,10 @@ rpkirtr_status rpkirtr_router_changes_begin(rpkirtr_router *h, size_t *withdraws
 
 /* Copies the withdrawn records of the change in ascending order from index `first`, as many as fit, and writes their number to `copied`.
  * OK, EMPTY */
-rpkirtr_status rpkirtr_router_withdrawn(rpkirtr_router *h, size_t first, rpkirtr_record *room, size_t room_len, size_t *copied);
+rpkirtr_status rpkirtr_router_withdrawn(const rpkirtr_router *h, size_t first, rpkirtr_record *room, size_t room_len, size_t *copied);
 
 /* Copies the announced records of the change, in the same way. OK, EMPTY */
-rpkirtr_status rpkirtr_router_announced(rpkirtr_router *h, size_t first, rpkirtr_record *room, size_t room_len, size_t *copied);
+rpkirtr_status rpkirtr_router_announced(const rpkirtr_router *h, size_t first, rpkirtr_record *room, size_t room_len, size_t *copied);
 
 /* Acknowledges the change: the next one begins at the records that it led to. If none has begun, nothing changes. OK, EMPTY */
 rpkirtr_status rpkirtr_router_changes_taken(rpkirtr_router *h);
@@ -332,18 +341,23 @@ rpkirtr_status rpkirtr_index_new(rpkirtr_index *h, const rpkirtr_record *records
  * `list` is the list of the first one, and `bad` its index there. OK, LIVE, NO_MEMORY, BAD_RECORD, RANGE */
 rpkirtr_status rpkirtr_index_new_of(rpkirtr_index *h, const rpkirtr_list *lists, size_t lists_len, size_t *list, size_t *bad);
 
+/* Makes a further handle of the index of `from` in the empty handle `to`. No record is copied. Each handle is freed on its own, and the index with
+ * the last of them. A thread that looks up while others do has a handle of its own. OK, EMPTY if there is no index, LIVE if `to` is not empty,
+ * NO_MEMORY */
+rpkirtr_status rpkirtr_index_share(const rpkirtr_index *from, rpkirtr_index *to);
+
 /* Frees the index, and empties the handle. OK, EMPTY */
 rpkirtr_status rpkirtr_index_free(rpkirtr_index *h);
 
 /* Gets the number of different records in the index. OK, EMPTY */
-rpkirtr_status rpkirtr_index_count(rpkirtr_index *h, size_t *count);
+rpkirtr_status rpkirtr_index_count(const rpkirtr_index *h, size_t *count);
 
 /* Gets the state of a route. OK, EMPTY, BAD_ROUTE */
-rpkirtr_status rpkirtr_index_state(rpkirtr_index *h, const rpkirtr_route *route, rpkirtr_state *state);
+rpkirtr_status rpkirtr_index_state(const rpkirtr_index *h, const rpkirtr_route *route, rpkirtr_state *state);
 
 /* Copies the records that cover a route in ascending order, as many as fit, and writes how many there are to `count`.
  * OK, EMPTY, BAD_ROUTE, NO_MEMORY */
-rpkirtr_status rpkirtr_index_covering(rpkirtr_index *h, const rpkirtr_route *route, rpkirtr_record *room, size_t room_len, size_t *count);
+rpkirtr_status rpkirtr_index_covering(const rpkirtr_index *h, const rpkirtr_route *route, rpkirtr_record *room, size_t room_len, size_t *count);
 
 /* ---- payloads of ROAs */
 
@@ -355,13 +369,13 @@ rpkirtr_status rpkirtr_roa_new(rpkirtr_roa *h, const uint8_t *bytes, size_t byte
 rpkirtr_status rpkirtr_roa_free(rpkirtr_roa *h);
 
 /* Gets the AS that may originate the prefixes. OK, EMPTY */
-rpkirtr_status rpkirtr_roa_asn(rpkirtr_roa *h, uint32_t *asn);
+rpkirtr_status rpkirtr_roa_asn(const rpkirtr_roa *h, uint32_t *asn);
 
 /* Gets the number of prefixes that the ROA lists. OK, EMPTY */
-rpkirtr_status rpkirtr_roa_count(rpkirtr_roa *h, size_t *count);
+rpkirtr_status rpkirtr_roa_count(const rpkirtr_roa *h, size_t *count);
 
 /* Copies the records that the ROA authorizes in its order from index `first`, as many as fit, and writes their number to `copied`. OK, EMPTY */
-rpkirtr_status rpkirtr_roa_records(rpkirtr_roa *h, size_t first, rpkirtr_record *room, size_t room_len, size_t *copied);
+rpkirtr_status rpkirtr_roa_records(const rpkirtr_roa *h, size_t first, rpkirtr_record *room, size_t room_len, size_t *copied);
 
 /* ---- payloads of manifests */
 
@@ -375,17 +389,17 @@ rpkirtr_status rpkirtr_manifest_free(rpkirtr_manifest *h);
 
 /* Copies the octets of the manifest number, the highest first, as many as fit, and writes how many there are to `len`: from 1 to 20. The number
  * may begin with a zero octet. OK, EMPTY */
-rpkirtr_status rpkirtr_manifest_number(rpkirtr_manifest *h, uint8_t *room, size_t room_len, size_t *len);
+rpkirtr_status rpkirtr_manifest_number(const rpkirtr_manifest *h, uint8_t *room, size_t room_len, size_t *len);
 
 /* Gets thisUpdate and nextUpdate, in seconds since the beginning of 1970 in UTC. OK, EMPTY */
-rpkirtr_status rpkirtr_manifest_times(rpkirtr_manifest *h, uint64_t *this_update, uint64_t *next_update);
+rpkirtr_status rpkirtr_manifest_times(const rpkirtr_manifest *h, uint64_t *this_update, uint64_t *next_update);
 
 /* Gets the number of files that the manifest lists. OK, EMPTY */
-rpkirtr_status rpkirtr_manifest_count(rpkirtr_manifest *h, size_t *count);
+rpkirtr_status rpkirtr_manifest_count(const rpkirtr_manifest *h, size_t *count);
 
 /* Copies the name of the file at an index, as much as fits, without a zero octet after it. Writes the length of the name, at most 255 octets,
  * to `len`, and the digest of the file to `digest`. OK, EMPTY, RANGE */
-rpkirtr_status rpkirtr_manifest_file(rpkirtr_manifest *h, size_t index, uint8_t *room, size_t room_len, size_t *len, rpkirtr_digest *digest);
+rpkirtr_status rpkirtr_manifest_file(const rpkirtr_manifest *h, size_t index, uint8_t *room, size_t room_len, size_t *len, rpkirtr_digest *digest);
 
 /* ---- a cache */
 
@@ -408,7 +422,7 @@ rpkirtr_status rpkirtr_cache_free(rpkirtr_cache *h);
 rpkirtr_status rpkirtr_cache_publish(rpkirtr_cache *h, const rpkirtr_record *records, size_t records_len, size_t *bad, uint8_t *unchanged);
 
 /* Gets the serial of the current version, and the number of its records. OK, EMPTY, NO_DATA */
-rpkirtr_status rpkirtr_cache_current(rpkirtr_cache *h, uint32_t *serial, size_t *count);
+rpkirtr_status rpkirtr_cache_current(const rpkirtr_cache *h, uint32_t *serial, size_t *count);
 
 /* Opens a connection to a router, and writes its number, the least that is free. It is free again after rpkirtr_cache_close. RANGE if each
  * number of 32 bits has a connection. OK, EMPTY, NO_MEMORY, RANGE */
@@ -430,11 +444,11 @@ rpkirtr_status rpkirtr_cache_pull(rpkirtr_cache *h, uint32_t conn, uint8_t *room
 rpkirtr_status rpkirtr_cache_notify(rpkirtr_cache *h, uint32_t conn, uint8_t *sent);
 
 /* Gets whether there are bytes to pull on a connection: 1 or 0. OK, EMPTY, NO_CONNECTION */
-rpkirtr_status rpkirtr_cache_has_bytes(rpkirtr_cache *h, uint32_t conn, uint8_t *has);
+rpkirtr_status rpkirtr_cache_has_bytes(const rpkirtr_cache *h, uint32_t conn, uint8_t *has);
 
 /* Gets whether a connection continues: 1 or 0. If it has ended, pull and send the remaining bytes, close the socket, and call
  * rpkirtr_cache_close. OK, EMPTY, NO_CONNECTION */
-rpkirtr_status rpkirtr_cache_is_open(rpkirtr_cache *h, uint32_t conn, uint8_t *continues);
+rpkirtr_status rpkirtr_cache_is_open(const rpkirtr_cache *h, uint32_t conn, uint8_t *continues);
 
 #ifdef __cplusplus
 }

@@ -23,16 +23,27 @@ C_TYPES = {
 ALIASES = {'rpkirtr_status': 'int32_t', 'rpkirtr_state': 'int32_t'}
 
 
+def is_read(handle, code):
+    """Whether an export only looks at a handle: it lends the value, and neither takes it out, assigns the handle, nor hands it on."""
+    if f'{handle}.value()' not in code:
+        return False
+    code = code.partition('\n{\n')[2]
+    return not re.search(rf'\b{handle}\.take\(|\*{handle} =|[(,] ?{handle}[,)]', code)
+
+
 def exports():
     """Each export of the crate: its name, its parameters as pairs of a name and a C type, and its result."""
     found = {}
     for source in sorted((TOP / 'crates/rpkirtr_c/src').glob('*.rt')):
-        for name, inside, result in re.findall(r'pub extern "C" fn (\w+)\((.*?)\) -> (\w+)', source.read_text(), re.S):
+        for name, inside, result, rest in re.findall(r'pub extern "C" fn (\w+)\((.*?)\) -> (\w+)(.*?)\n}\n', source.read_text(), re.S):
             parameters = []
             for part in filter(None, (part.strip() for part in inside.split(','))):
                 parameter, kind = part.split(': ', 1)
                 names = [parameter, parameter + '_len']
-                parameters += list(zip(names, C_TYPES[kind]))
+                types = C_TYPES[kind]
+                if kind.endswith('Handle') and is_read(parameter, rest):
+                    types = ['const ' + types[0]]
+                parameters += list(zip(names, types))
             found[name] = (parameters, C_TYPES[result][0])
     return found
 

@@ -1,7 +1,8 @@
 #!/usr/bin/env bash
 # The library for C: its header against the exports, its layout in C and C++, its symbols, each call and misuse under valgrind and
-# AddressSanitizer, and the bindings for Python and Rust. The library is the one that is built here, or else the delivered one. It is proved
-# and built here first, with the Rattle kit, if none is delivered of these sources, and in ./test --all.
+# AddressSanitizer, look-ups by several threads under helgrind and ThreadSanitizer, and the bindings for Python and Rust. The library is the
+# one that is built here, or else the delivered one. It is proved and built here first, with the Rattle kit, if none is delivered of these
+# sources, and in ./test --all.
 set -u
 top=$(cd "$(dirname "${BASH_SOURCE[0]}")/.." && pwd) || exit 1
 . "$top/tests/lib/library.bash" || exit 1
@@ -60,6 +61,11 @@ try "calls.c under AddressSanitizer" "$out/calls_asan"
 try "random_calls.c" gcc "${strict[@]}" -std=c99 -g -O1 -fsanitize=address,undefined -o "$out/random_calls" "$top/tests/c_library/random_calls.c" "$out/lib/librpkirtr.a"
 try "1000000 random calls" "$out/random_calls" "${SEED:-1}" 1000000
 
+try "threads.c" gcc "${strict[@]}" -std=c99 -g -O1 -pthread -o "$out/threads" "$top/tests/c_library/threads.c" "$out/lib/librpkirtr.a"
+try "look-ups by four threads" "$out/threads" 200
+try "threads.c with ThreadSanitizer" gcc "${strict[@]}" -std=c99 -g -O1 -pthread -fsanitize=thread -o "$out/threads_tsan" "$top/tests/c_library/threads.c" "$out/lib/librpkirtr.a"
+try "look-ups by four threads under ThreadSanitizer" setarch -R "$out/threads_tsan" 50
+
 try "memory.c" gcc "${strict[@]}" -std=c99 -g -Wl,--wrap=malloc,--wrap=realloc -o "$out/memory" "$top/tests/c_library/memory.c" "$out/lib/librpkirtr.a"
 try "memory.c, with each request for memory refused in turn" "$out/memory"
 
@@ -89,6 +95,7 @@ else
 fi
 if command -v valgrind >/dev/null 2>&1; then
     try "calls.c under valgrind" valgrind -q --error-exitcode=9 --leak-check=full "$out/calls_gcc"
+    try "threads.c under helgrind" valgrind -q --tool=helgrind --error-exitcode=9 "$out/threads" 2
     try "memory.c under valgrind" valgrind -q --error-exitcode=9 --leak-check=full "$out/memory"
 else
     echo "valgrind is not installed: it is left out"

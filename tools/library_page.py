@@ -39,6 +39,9 @@ once.
 .It
 When the socket is connected to the cache, call
 .Fn rpkirtr_router_connect .
+If it cannot be connected, call
+.Fn rpkirtr_router_connect_failed ,
+and try again at the time that it gives.
 .It
 Call
 .Fn rpkirtr_router_pull

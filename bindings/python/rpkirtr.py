@@ -15,7 +15,8 @@ import ipaddress
 from typing import Iterable, List, NamedTuple, Optional, Tuple, Union
 
 Network = Union[ipaddress.IPv4Network, ipaddress.IPv6Network]
-_library = ctypes.CDLL("librpkirtr.so.0")
+# One call at a time is made on a handle: a call keeps the interpreter's lock.
+_library = ctypes.PyDLL("librpkirtr.so.0")
 NEVER = 2**64 - 1
 ABI_VERSION = 0
 if _library.rpkirtr_abi_version() != ABI_VERSION:
@@ -371,6 +372,12 @@ class Index(_Judge):
             raise Error(status, bad.value, of.value if len(rooms) > 1 else None)
         _check(status)
 
+    def share(self) -> Index:
+        """A further handle of the same index. No record is copied."""
+        further = Index._empty()
+        _check(self._call("share", ctypes.byref(further._handle)))
+        return further
+
 
 class Router(_Judge):
     """A router: what it has committed, and at most one connection."""
@@ -398,7 +405,7 @@ class Router(_Judge):
 
     def config(self) -> Config:
         """The configuration that was set last, the default one if none was set."""
-        told = _Config()
+        told = _Config(ctypes.sizeof(_Config))
         _check(self._call("config", ctypes.byref(told)))
         return Config(told.refresh, told.retry, told.expire, bool(told.keeps_refresh), bool(told.keeps_retry), bool(told.keeps_expire), told.most)
 
@@ -409,6 +416,12 @@ class Router(_Judge):
     def connection_closed(self, now: int) -> None:
         """The transport closed the connection."""
         _check(self._call("connection_closed", _moment(now)))
+
+    def connect_failed(self, now: int) -> int:
+        """An attempt to connect failed. The time of the next one: one retry interval later. The router stays as it is."""
+        at = ctypes.c_uint64()
+        _check(self._call("connect_failed", _moment(now), ctypes.byref(at)))
+        return at.value
 
     def tick(self, now: int) -> None:
         """Advances the clock."""

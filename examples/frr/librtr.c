@@ -145,7 +145,7 @@ static rpkirtr_route to_route(uint32_t origin, const struct lrtr_ip_addr *ip, ui
 
 /* ---- what bgpd is told; the lock is held */
 
-typedef rpkirtr_status copy_call(rpkirtr_router *h, size_t first, rpkirtr_record *room, size_t room_len, size_t *copied);
+typedef rpkirtr_status copy_call(const rpkirtr_router *h, size_t first, rpkirtr_record *room, size_t room_len, size_t *copied);
 
 static void tell_one(struct manager *m, struct cache *cache, const rpkirtr_record *record, int is_added)
 {

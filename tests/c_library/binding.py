@@ -1,5 +1,6 @@
 """bindings/python over librpkirtr.so.0: an index, and a router that is told two records by a cache."""
 import ipaddress
+import threading
 
 import rpkirtr
 
@@ -88,6 +89,39 @@ with rpkirtr.Index([TEN], [], [DB8, TEN]) as index:
     assert len(index) == 2
 with rpkirtr.Index() as index:
     assert len(index) == 0
+index = rpkirtr.Index([TEN])
+further = index.share()
+index.free()
+assert (len(further), further.state("10.1.0.0/16", 64496)) == (1, rpkirtr.State.VALID)
+try:
+    index.share()
+    raise AssertionError("a further handle of no index")
+except rpkirtr.Error as error:
+    assert error.status == rpkirtr.Status.EMPTY
+
+
+def look_up(found):
+    """Looks a route up, over one handle of several threads."""
+    found.append(sum(further.state("10.1.0.0/16", 64496) == rpkirtr.State.VALID and len(further) == 1 for _ in range(2000)))
+
+
+counts = []
+threads = [threading.Thread(target=look_up, args=(counts,)) for _ in range(4)]
+for thread in threads:
+    thread.start()
+for thread in threads:
+    thread.join()
+assert counts == [2000] * 4
+further.free()
+with rpkirtr.Router() as router:
+    assert (router.next_query_at(), router.connect_failed(100), router.connect_failed(700)) == (rpkirtr.NEVER, 700, 1300)
+    router.configure(rpkirtr.Config(retry=30))
+    assert router.connect_failed(700) == 730
+    try:
+        router.configure(rpkirtr.Config(most=0))
+        raise AssertionError("a router of no record")
+    except rpkirtr.Error as error:
+        assert error.status == rpkirtr.Status.RANGE
 try:
     rpkirtr.Index([TEN], [DB8, rpkirtr.Record("10.0.0.0/8", 33, 1)])
     raise AssertionError("a bad record")

@@ -202,10 +202,10 @@ static void empty_handles(void)
     EXPECT(rpkirtr_index_covering(&i, &r, &out, 1, &n) == RPKIRTR_EMPTY && n == 0);
 }
 
-/* What is no route, and what state it has: a prefix longer than its family, host bits, no family, bytes behind an IPv4 address */
+/* What is no route, and what state it has: a prefix longer than its family, host bits, no family, bytes behind an IPv4 address, padding */
 static void bad_routes(rpkirtr_router *h)
 {
-    rpkirtr_route bad[5];
+    rpkirtr_route bad[6];
     size_t k, n;
     bad[0] = V4(NET_10, 33, 1);
     bad[1] = V4("\x0a\0\0\1", 8, 1);
@@ -213,7 +213,9 @@ static void bad_routes(rpkirtr_router *h)
     bad[3] = V4(NET_10, 8, 1);
     bad[3].addr[15] = 1;
     bad[4] = route(6, DB8, 4, 129, 1);
-    for (k = 0; k < 5; k++) {
+    bad[5] = V4(NET_10, 8, 1);
+    bad[5].zero_ = 1;
+    for (k = 0; k < 6; k++) {
         rpkirtr_state state = RPKIRTR_VALID;
         EXPECT(rpkirtr_router_state(h, &bad[k], &state) == RPKIRTR_BAD_ROUTE && state == RPKIRTR_NOT_FOUND);
         EXPECT(rpkirtr_router_covering(h, &bad[k], NULL, 0, &n) == RPKIRTR_BAD_ROUTE && n == 0);
@@ -348,6 +350,28 @@ static void an_index(void)
     EXPECT(rpkirtr_index_new(&h, NULL, 0, &n) == RPKIRTR_OK);
     EXPECT(rpkirtr_index_state(&h, &r, &state) == RPKIRTR_OK && state == RPKIRTR_NOT_FOUND);
     EXPECT(rpkirtr_index_free(&h) == RPKIRTR_OK);
+}
+
+/* Two handles of one index: each answers, and is freed, on its own. */
+static void a_shared_index(void)
+{
+    rpkirtr_index h = RPKIRTR_EMPTY_INIT, further = RPKIRTR_EMPTY_INIT, third = RPKIRTR_EMPTY_INIT;
+    rpkirtr_record ten = record(4, NET_10, 4, 8, 16, 64496), out;
+    rpkirtr_route r = V4(NET_10, 16, 64496);
+    rpkirtr_state state;
+    size_t n;
+    EXPECT(rpkirtr_index_share(&h, &further) == RPKIRTR_EMPTY && further.opaque_ == NULL);
+    EXPECT(rpkirtr_index_new(&h, &ten, 1, &n) == RPKIRTR_OK);
+    EXPECT(rpkirtr_index_share(&h, &further) == RPKIRTR_OK && further.opaque_ != NULL && further.opaque_ != h.opaque_);
+    EXPECT(rpkirtr_index_share(&h, &further) == RPKIRTR_LIVE);
+    EXPECT(rpkirtr_index_share(&third, &further) == RPKIRTR_EMPTY);
+    EXPECT(rpkirtr_index_share(&further, &third) == RPKIRTR_OK);
+    EXPECT(rpkirtr_index_free(&h) == RPKIRTR_OK);
+    EXPECT(rpkirtr_index_count(&further, &n) == RPKIRTR_OK && n == 1);
+    EXPECT(rpkirtr_index_state(&further, &r, &state) == RPKIRTR_OK && state == RPKIRTR_VALID);
+    EXPECT(rpkirtr_index_free(&further) == RPKIRTR_OK && further.opaque_ == NULL);
+    EXPECT(rpkirtr_index_covering(&third, &r, &out, 1, &n) == RPKIRTR_OK && n == 1 && memcmp(&out, &ten, sizeof out) == 0);
+    EXPECT(rpkirtr_index_free(&third) == RPKIRTR_OK && rpkirtr_index_free(&third) == RPKIRTR_EMPTY);
 }
 
 static void an_index_of_lists(void)
@@ -651,7 +675,7 @@ static void answered(rpkirtr_router *h)
 static void a_configured_router(void)
 {
     rpkirtr_router h = RPKIRTR_EMPTY_INIT;
-    rpkirtr_config config = RPKIRTR_CONFIG_INIT, told;
+    rpkirtr_config config = RPKIRTR_CONFIG_INIT, told = RPKIRTR_CONFIG_INIT;
     rpkirtr_committed committed;
     uint64_t at;
     uint32_t fault = 9;
@@ -672,7 +696,14 @@ static void a_configured_router(void)
     EXPECT(rpkirtr_router_configure(&h, &config, &fault) == RPKIRTR_BAD_TIMING && fault == RPKIRTR_TIMING_RANGE);
     config.retry = 7200;
     EXPECT(rpkirtr_router_configure(&h, &config, &fault) == RPKIRTR_BAD_TIMING && fault == RPKIRTR_TIMING_EXPIRE);
+    config.most = 0;
+    EXPECT(rpkirtr_router_configure(&h, &config, &fault) == RPKIRTR_RANGE && fault == 0);
+    config.most = 16777215;
     EXPECT(rpkirtr_router_config(&h, &told) == RPKIRTR_OK && told.refresh == 3600 && told.keeps_refresh == 0);
+    told.size_ = 8;
+    told.refresh = 7;
+    EXPECT(rpkirtr_router_config(&h, &told) == RPKIRTR_BAD_STRUCTURE && told.size_ == 8 && told.refresh == 7);
+    told.size_ = sizeof told;
     config.expire = 7201;
     EXPECT(rpkirtr_router_configure(&h, &config, &fault) == RPKIRTR_OK && fault == 0);
     EXPECT(rpkirtr_router_config(&h, &told) == RPKIRTR_OK && memcmp(&told, &config, sizeof told) == 0);
@@ -682,6 +713,33 @@ static void a_configured_router(void)
     EXPECT(rpkirtr_router_committed(&h, &committed) == RPKIRTR_OK && committed.is_committed == 1);
     EXPECT(committed.refresh == 60 && committed.retry == 600 && committed.expire == 7201);
     EXPECT(rpkirtr_router_wake_at(&h, &at) == RPKIRTR_OK && at == 101 + 60);
+    EXPECT(rpkirtr_router_free(&h) == RPKIRTR_OK);
+}
+
+/* The loop of a caller whose connections fail: the next attempt is one retry interval later, before a first connection and after one. */
+static void a_router_that_fails_to_connect(void)
+{
+    rpkirtr_router h = RPKIRTR_EMPTY_INIT;
+    rpkirtr_config config = RPKIRTR_CONFIG_INIT;
+    rpkirtr_link link;
+    uint64_t at = 9, next;
+    uint32_t fault;
+    EXPECT(rpkirtr_router_connect_failed(&h, 100, &at) == RPKIRTR_EMPTY && at == RPKIRTR_NEVER);
+    EXPECT(rpkirtr_router_new(&h) == RPKIRTR_OK);
+    EXPECT(rpkirtr_router_connect_failed(&h, 100, &at) == RPKIRTR_OK && at == 700);
+    EXPECT(rpkirtr_router_next_query_at(&h, &next) == RPKIRTR_OK && next == RPKIRTR_NEVER);
+    EXPECT(rpkirtr_router_connect_failed(&h, at, &at) == RPKIRTR_OK && at == 1300);
+    EXPECT(rpkirtr_router_connect(&h, at) == RPKIRTR_OK && rpkirtr_router_connection_closed(&h, at) == RPKIRTR_OK);
+    EXPECT(rpkirtr_router_next_query_at(&h, &at) == RPKIRTR_OK && at == 1900);
+    EXPECT(rpkirtr_router_connect_failed(&h, at, &at) == RPKIRTR_OK && at == 2500);
+    config.retry = 30;
+    EXPECT(rpkirtr_router_configure(&h, &config, &fault) == RPKIRTR_OK);
+    EXPECT(rpkirtr_router_connect_failed(&h, at, &at) == RPKIRTR_OK && at == 2530);
+    answered(&h);
+    EXPECT(rpkirtr_router_connection_closed(&h, 3000) == RPKIRTR_OK);
+    EXPECT(rpkirtr_router_connect_failed(&h, 3000, &at) == RPKIRTR_OK && at == 3600);
+    EXPECT(rpkirtr_router_connect_failed(&h, RPKIRTR_NEVER - 1, &at) == RPKIRTR_OK && at == RPKIRTR_NEVER);
+    EXPECT(rpkirtr_router_link(&h, &link) == RPKIRTR_OK && link.state == RPKIRTR_CLOSED);
     EXPECT(rpkirtr_router_free(&h) == RPKIRTR_OK);
 }
 
@@ -836,10 +894,12 @@ int main(void)
     empty_handles();
     a_router();
     a_configured_router();
+    a_router_that_fails_to_connect();
     a_router_of_one_record();
     a_router_tells_its_traffic();
     a_router_tells_reports();
     an_index();
+    a_shared_index();
     an_index_of_lists();
     a_roa();
     a_manifest();

@@ -1,4 +1,4 @@
-/* Each request for memory of a cache's calls is refused in turn. The call says so and changes nothing, so that the same call succeeds after it.
+/* Each request for memory of the calls of a cache and an index is refused in turn. The call says so and changes nothing, so that the same call succeeds after it.
  * Linked with --wrap=malloc and --wrap=realloc. */
 #include "rpkirtr.h"
 
@@ -53,6 +53,7 @@ static void a_run(void)
 {
     static const uint8_t reset_query[] = {1, 2, 0, 0, 0, 0, 0, 8}, serial_query[] = {1, 1, 1, 2, 0, 0, 0, 12, 0, 0, 0, 7};
     rpkirtr_cache h = RPKIRTR_EMPTY_INIT;
+    rpkirtr_index index = RPKIRTR_EMPTY_INIT, further = RPKIRTR_EMPTY_INIT;
     rpkirtr_record records[40];
     rpkirtr_status status;
     uint8_t unchanged, room[1024];
@@ -84,6 +85,11 @@ static void a_run(void)
     EXPECT(rpkirtr_cache_pull(&h, 1, room, sizeof room, &n) == RPKIRTR_OK && n > 8);
     without_memory += room[1] == 10 && room[3] == 1;
     EXPECT(rpkirtr_cache_free(&h) == RPKIRTR_OK);
+    CALL(rpkirtr_index_new(&index, records, 20, &bad));
+    CALL(rpkirtr_index_share(&index, &further));
+    EXPECT(rpkirtr_index_free(&index) == RPKIRTR_OK);
+    EXPECT(rpkirtr_index_count(&further, &n) == RPKIRTR_OK && n == 20);
+    EXPECT(rpkirtr_index_free(&further) == RPKIRTR_OK);
 }
 
 int main(void)

@@ -115,7 +115,7 @@ static void a_router_call(rpkirtr_router *h, uint64_t now)
         if (n > len)
             abort();
         break;
-    case 11: judge(rpkirtr_router_connection_closed(h, now), RPKIRTR_EMPTY); break;
+    case 11: judge(rpkirtr_router_connection_closed(h, now), RPKIRTR_EMPTY); judge(rpkirtr_router_connect_failed(h, now, &at), RPKIRTR_EMPTY); break;
     case 12: judge(rpkirtr_router_tick(h, now), RPKIRTR_EMPTY); break;
     case 13: judge(rpkirtr_router_ask(h), RPKIRTR_BUSY); break;
     case 14: judge(rpkirtr_router_next_query_at(h, &at), RPKIRTR_EMPTY); judge(rpkirtr_router_wake_at(h, &at), RPKIRTR_EMPTY); judge(rpkirtr_router_link(h, &link), RPKIRTR_EMPTY); break;
@@ -127,12 +127,14 @@ static void a_router_call(rpkirtr_router *h, uint64_t now)
     case 17: judge(rpkirtr_router_record(h, below(6), room), RPKIRTR_RANGE); judge(rpkirtr_router_records(h, below(6), room, below(5), &n), RPKIRTR_EMPTY); break;
     case 18: judge(rpkirtr_router_covering(h, &route, room, below(5), &n), RPKIRTR_BAD_ROUTE); break;
     case 19:
-        config.most = (uint32_t)below(4) + 1;
+        config.most = (uint32_t)below(5);
         config.keeps_expire = (uint8_t)below(2);
         config.expire = (uint32_t)below(8000);
         config.zero_ = below(10) == 0;
         judge(rpkirtr_router_configure(h, &config, &fault), RPKIRTR_BAD_STRUCTURE);
-        judge(rpkirtr_router_config(h, &config), RPKIRTR_EMPTY);
+        if (below(10) == 0)
+            config.size_ = (uint32_t)below(30);
+        judge(rpkirtr_router_config(h, &config), RPKIRTR_BAD_STRUCTURE);
         break;
     case 20:
         if (below(10) == 0)
@@ -150,7 +152,7 @@ static void a_router_call(rpkirtr_router *h, uint64_t now)
     }
 }
 
-static void an_index_call(rpkirtr_index *h, rpkirtr_router *from)
+static void an_index_call(rpkirtr_index *h, rpkirtr_index *other, rpkirtr_router *from)
 {
     rpkirtr_record records[6];
     rpkirtr_list lists[3];
@@ -164,7 +166,8 @@ static void an_index_call(rpkirtr_index *h, rpkirtr_router *from)
         lists[k].records = records + count / 3 * k;
         lists[k].records_len = count / 3;
     }
-    switch (below(8)) {
+    switch (below(9)) {
+    case 8: judge(rpkirtr_index_share(other, h), RPKIRTR_NO_MEMORY); break;
     case 5: judge(rpkirtr_index_new_of(h, lists, below(4), &m, &n), RPKIRTR_RANGE); break;
     case 6: judge(rpkirtr_router_index(from, h), RPKIRTR_NO_MEMORY); break;
     case 7:
@@ -314,9 +317,10 @@ int main(int argc, char **argv)
             a_manifest_call(&manifest);
         else if (below(4) == 0)
             a_cache_call(&caches[below(2)]);
-        else if (below(4) == 0)
-            an_index_call(&indexes[below(2)], &routers[below(3)]);
-        else
+        else if (below(4) == 0) {
+            uint32_t at = below(2);
+            an_index_call(&indexes[at], &indexes[1 - at], &routers[below(3)]);
+        } else
             a_router_call(&routers[below(3)], now);
     }
     for (k = 0; k < 3; k++)

@@ -23,6 +23,8 @@ pub enum Error {
     BadVersion,
     /// More than 16,777,215 different records.
     TooMany,
+    /// A router that may hold no record.
+    NoRoom,
     /// There is no connection, or it has ended.
     NotLinked,
     /// A query is outstanding.
@@ -55,6 +57,7 @@ impl fmt::Display for Error {
             Error::BadRoute => f.write_str("the route's prefix has host bits, or its length is out of range"),
             Error::BadVersion => f.write_str("no version of the protocol"),
             Error::TooMany => f.write_str("more than 16777215 different records"),
+            Error::NoRoom => f.write_str("a router that may hold no record"),
             Error::NotLinked => f.write_str("there is no connection, or it has ended"),
             Error::Busy => f.write_str("a query is outstanding"),
             Error::BadPayload { number, offset } => {

@@ -147,41 +147,43 @@ extern "C" {
     pub fn rpkirtr_router_free(h: *mut handle) -> rpkirtr_status;
     pub fn rpkirtr_router_speak(h: *mut handle, version: u8) -> rpkirtr_status;
     pub fn rpkirtr_router_configure(h: *mut handle, config: *const rpkirtr_config, fault: *mut u32) -> rpkirtr_status;
-    pub fn rpkirtr_router_config(h: *mut handle, config: *mut rpkirtr_config) -> rpkirtr_status;
+    pub fn rpkirtr_router_config(h: *const handle, config: *mut rpkirtr_config) -> rpkirtr_status;
     pub fn rpkirtr_router_connect(h: *mut handle, now: u64) -> rpkirtr_status;
     pub fn rpkirtr_router_receive(h: *mut handle, bytes: *const u8, bytes_len: usize, now: u64, taken: *mut usize) -> rpkirtr_status;
     pub fn rpkirtr_router_pull(h: *mut handle, room: *mut u8, room_len: usize, pulled: *mut usize) -> rpkirtr_status;
     pub fn rpkirtr_router_connection_closed(h: *mut handle, now: u64) -> rpkirtr_status;
+    pub fn rpkirtr_router_connect_failed(h: *const handle, now: u64, at: *mut u64) -> rpkirtr_status;
     pub fn rpkirtr_router_tick(h: *mut handle, now: u64) -> rpkirtr_status;
     pub fn rpkirtr_router_ask(h: *mut handle) -> rpkirtr_status;
-    pub fn rpkirtr_router_next_query_at(h: *mut handle, at: *mut u64) -> rpkirtr_status;
-    pub fn rpkirtr_router_wake_at(h: *mut handle, at: *mut u64) -> rpkirtr_status;
-    pub fn rpkirtr_router_link(h: *mut handle, link: *mut rpkirtr_link) -> rpkirtr_status;
-    pub fn rpkirtr_router_committed(h: *mut handle, committed: *mut rpkirtr_committed) -> rpkirtr_status;
-    pub fn rpkirtr_router_traffic(h: *mut handle, traffic: *mut rpkirtr_traffic) -> rpkirtr_status;
-    pub fn rpkirtr_router_count(h: *mut handle, count: *mut usize) -> rpkirtr_status;
-    pub fn rpkirtr_router_state(h: *mut handle, route: *const rpkirtr_route, state: *mut rpkirtr_state) -> rpkirtr_status;
-    pub fn rpkirtr_router_records(h: *mut handle, first: usize, room: *mut rpkirtr_record, room_len: usize, copied: *mut usize) -> rpkirtr_status;
+    pub fn rpkirtr_router_next_query_at(h: *const handle, at: *mut u64) -> rpkirtr_status;
+    pub fn rpkirtr_router_wake_at(h: *const handle, at: *mut u64) -> rpkirtr_status;
+    pub fn rpkirtr_router_link(h: *const handle, link: *mut rpkirtr_link) -> rpkirtr_status;
+    pub fn rpkirtr_router_committed(h: *const handle, committed: *mut rpkirtr_committed) -> rpkirtr_status;
+    pub fn rpkirtr_router_traffic(h: *const handle, traffic: *mut rpkirtr_traffic) -> rpkirtr_status;
+    pub fn rpkirtr_router_count(h: *const handle, count: *mut usize) -> rpkirtr_status;
+    pub fn rpkirtr_router_state(h: *const handle, route: *const rpkirtr_route, state: *mut rpkirtr_state) -> rpkirtr_status;
+    pub fn rpkirtr_router_records(h: *const handle, first: usize, room: *mut rpkirtr_record, room_len: usize, copied: *mut usize) -> rpkirtr_status;
     pub fn rpkirtr_router_covering(
-        h: *mut handle,
+        h: *const handle,
         route: *const rpkirtr_route,
         room: *mut rpkirtr_record,
         room_len: usize,
         count: *mut usize,
     ) -> rpkirtr_status;
-    pub fn rpkirtr_router_index(h: *mut handle, index: *mut handle) -> rpkirtr_status;
+    pub fn rpkirtr_router_index(h: *const handle, index: *mut handle) -> rpkirtr_status;
     pub fn rpkirtr_router_changes_begin(h: *mut handle, withdraws: *mut usize, announces: *mut usize) -> rpkirtr_status;
-    pub fn rpkirtr_router_withdrawn(h: *mut handle, first: usize, room: *mut rpkirtr_record, room_len: usize, copied: *mut usize) -> rpkirtr_status;
-    pub fn rpkirtr_router_announced(h: *mut handle, first: usize, room: *mut rpkirtr_record, room_len: usize, copied: *mut usize) -> rpkirtr_status;
+    pub fn rpkirtr_router_withdrawn(h: *const handle, first: usize, room: *mut rpkirtr_record, room_len: usize, copied: *mut usize) -> rpkirtr_status;
+    pub fn rpkirtr_router_announced(h: *const handle, first: usize, room: *mut rpkirtr_record, room_len: usize, copied: *mut usize) -> rpkirtr_status;
     pub fn rpkirtr_router_changes_taken(h: *mut handle) -> rpkirtr_status;
 
     pub fn rpkirtr_index_new(h: *mut handle, records: *const rpkirtr_record, records_len: usize, bad: *mut usize) -> rpkirtr_status;
     pub fn rpkirtr_index_new_of(h: *mut handle, lists: *const rpkirtr_list, lists_len: usize, list: *mut usize, bad: *mut usize) -> rpkirtr_status;
+    pub fn rpkirtr_index_share(from: *const handle, to: *mut handle) -> rpkirtr_status;
     pub fn rpkirtr_index_free(h: *mut handle) -> rpkirtr_status;
-    pub fn rpkirtr_index_count(h: *mut handle, count: *mut usize) -> rpkirtr_status;
-    pub fn rpkirtr_index_state(h: *mut handle, route: *const rpkirtr_route, state: *mut rpkirtr_state) -> rpkirtr_status;
+    pub fn rpkirtr_index_count(h: *const handle, count: *mut usize) -> rpkirtr_status;
+    pub fn rpkirtr_index_state(h: *const handle, route: *const rpkirtr_route, state: *mut rpkirtr_state) -> rpkirtr_status;
     pub fn rpkirtr_index_covering(
-        h: *mut handle,
+        h: *const handle,
         route: *const rpkirtr_route,
         room: *mut rpkirtr_record,
         room_len: usize,
@@ -190,17 +192,17 @@ extern "C" {
 
     pub fn rpkirtr_roa_new(h: *mut handle, bytes: *const u8, bytes_len: usize, fault: *mut rpkirtr_fault) -> rpkirtr_status;
     pub fn rpkirtr_roa_free(h: *mut handle) -> rpkirtr_status;
-    pub fn rpkirtr_roa_asn(h: *mut handle, asn: *mut u32) -> rpkirtr_status;
-    pub fn rpkirtr_roa_count(h: *mut handle, count: *mut usize) -> rpkirtr_status;
-    pub fn rpkirtr_roa_records(h: *mut handle, first: usize, room: *mut rpkirtr_record, room_len: usize, copied: *mut usize) -> rpkirtr_status;
+    pub fn rpkirtr_roa_asn(h: *const handle, asn: *mut u32) -> rpkirtr_status;
+    pub fn rpkirtr_roa_count(h: *const handle, count: *mut usize) -> rpkirtr_status;
+    pub fn rpkirtr_roa_records(h: *const handle, first: usize, room: *mut rpkirtr_record, room_len: usize, copied: *mut usize) -> rpkirtr_status;
 
     pub fn rpkirtr_manifest_new(h: *mut handle, bytes: *const u8, bytes_len: usize, fault: *mut rpkirtr_fault) -> rpkirtr_status;
     pub fn rpkirtr_manifest_free(h: *mut handle) -> rpkirtr_status;
-    pub fn rpkirtr_manifest_number(h: *mut handle, room: *mut u8, room_len: usize, len: *mut usize) -> rpkirtr_status;
-    pub fn rpkirtr_manifest_times(h: *mut handle, this_update: *mut u64, next_update: *mut u64) -> rpkirtr_status;
-    pub fn rpkirtr_manifest_count(h: *mut handle, count: *mut usize) -> rpkirtr_status;
+    pub fn rpkirtr_manifest_number(h: *const handle, room: *mut u8, room_len: usize, len: *mut usize) -> rpkirtr_status;
+    pub fn rpkirtr_manifest_times(h: *const handle, this_update: *mut u64, next_update: *mut u64) -> rpkirtr_status;
+    pub fn rpkirtr_manifest_count(h: *const handle, count: *mut usize) -> rpkirtr_status;
     pub fn rpkirtr_manifest_file(
-        h: *mut handle,
+        h: *const handle,
         index: usize,
         room: *mut u8,
         room_len: usize,
@@ -221,12 +223,12 @@ extern "C" {
     ) -> rpkirtr_status;
     pub fn rpkirtr_cache_free(h: *mut handle) -> rpkirtr_status;
     pub fn rpkirtr_cache_publish(h: *mut handle, records: *const rpkirtr_record, records_len: usize, bad: *mut usize, unchanged: *mut u8) -> rpkirtr_status;
-    pub fn rpkirtr_cache_current(h: *mut handle, serial: *mut u32, count: *mut usize) -> rpkirtr_status;
+    pub fn rpkirtr_cache_current(h: *const handle, serial: *mut u32, count: *mut usize) -> rpkirtr_status;
     pub fn rpkirtr_cache_open(h: *mut handle, conn: *mut u32) -> rpkirtr_status;
     pub fn rpkirtr_cache_close(h: *mut handle, conn: u32) -> rpkirtr_status;
     pub fn rpkirtr_cache_receive(h: *mut handle, conn: u32, bytes: *const u8, bytes_len: usize, taken: *mut usize) -> rpkirtr_status;
     pub fn rpkirtr_cache_pull(h: *mut handle, conn: u32, room: *mut u8, room_len: usize, pulled: *mut usize) -> rpkirtr_status;
     pub fn rpkirtr_cache_notify(h: *mut handle, conn: u32, sent: *mut u8) -> rpkirtr_status;
-    pub fn rpkirtr_cache_has_bytes(h: *mut handle, conn: u32, has: *mut u8) -> rpkirtr_status;
-    pub fn rpkirtr_cache_is_open(h: *mut handle, conn: u32, continues: *mut u8) -> rpkirtr_status;
+    pub fn rpkirtr_cache_has_bytes(h: *const handle, conn: u32, has: *mut u8) -> rpkirtr_status;
+    pub fn rpkirtr_cache_is_open(h: *const handle, conn: u32, continues: *mut u8) -> rpkirtr_status;
 }

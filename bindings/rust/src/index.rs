@@ -12,7 +12,7 @@ pub struct Index {
     handle: UnsafeCell<handle>,
 }
 
-// SAFETY: an index may be used by one thread after another. It is not `Sync`, as each call takes the handle for itself.
+// SAFETY: an index may be used by one thread after another. It is not `Sync`, as one call at a time is proved: see `share`.
 unsafe impl Send for Index {}
 
 impl Index {
@@ -39,6 +39,13 @@ impl Index {
             ffi::BAD_RECORD => Err(Error::BadRecordOf { list, record }),
             status => check(status).map(|()| index),
         }
+    }
+
+    /// A further handle of the same index, for another thread. No record is copied.
+    pub fn share(&self) -> Result<Index, Error> {
+        let index = Index::empty();
+        // SAFETY: the first handle is of an index, and the second is empty.
+        check(unsafe { ffi::rpkirtr_index_share(self.at(), index.at()) }).map(|()| index)
     }
 
     /// An empty handle. It must not be used before a call has made an index in it.

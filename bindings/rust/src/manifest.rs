@@ -26,7 +26,7 @@ pub struct Manifest {
     handle: UnsafeCell<handle>,
 }
 
-// SAFETY: a manifest may be used by one thread after another. It is not `Sync`, as each call takes the handle for itself.
+// SAFETY: a manifest may be used by one thread after another. It is not `Sync`, as one call at a time is proved.
 unsafe impl Send for Manifest {}
 
 impl Manifest {

@@ -12,7 +12,7 @@ pub struct Roa {
     handle: UnsafeCell<handle>,
 }
 
-// SAFETY: a ROA may be used by one thread after another. It is not `Sync`, as each call takes the handle for itself.
+// SAFETY: a ROA may be used by one thread after another. It is not `Sync`, as one call at a time is proved.
 unsafe impl Send for Roa {}
 
 impl Roa {

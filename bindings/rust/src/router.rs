@@ -115,7 +115,7 @@ pub struct Router {
     handle: UnsafeCell<handle>,
 }
 
-// SAFETY: a router may be used by one thread after another. It is not `Sync`, as each call takes the handle for itself.
+// SAFETY: a router may be used by one thread after another. It is not `Sync`, as one call at a time is proved.
 unsafe impl Send for Router {}
 
 /// The configuration of a router: intervals of its own, in seconds, which of them it keeps, and the most records that it may hold. An interval
@@ -197,13 +197,14 @@ impl Router {
         let mut fault = 0;
         match unsafe { ffi::rpkirtr_router_configure(self.at(), &config.to_c(), &mut fault) } {
             ffi::BAD_TIMING => Err(Error::BadTiming(fault)),
+            ffi::RANGE => Err(Error::NoRoom),
             status => check(status),
         }
     }
 
     /// The configuration that was set last, the default one if none was set.
     pub fn config(&self) -> Config {
-        let mut config = rpkirtr_config::default();
+        let mut config = Config::default().to_c();
         done(unsafe { ffi::rpkirtr_router_config(self.at(), &mut config) });
         Config::of_c(&config)
     }
@@ -216,6 +217,13 @@ impl Router {
     /// The transport closed the connection.
     pub fn connection_closed(&mut self, now: u64) {
         done(unsafe { ffi::rpkirtr_router_connection_closed(self.at(), now) });
+    }
+
+    /// An attempt to connect failed at second `now`: when to try again, one retry interval later. The router stays as it is.
+    pub fn connect_failed(&self, now: u64) -> u64 {
+        let mut at = 0;
+        done(unsafe { ffi::rpkirtr_router_connect_failed(self.at(), now, &mut at) });
+        at
     }
 
     /// Advances the clock. A query is sent if it is due, and the records are dropped if they have expired.
@@ -386,7 +394,7 @@ impl Changes<'_> {
     }
 }
 
-type Copy = unsafe extern "C" fn(*mut handle, usize, *mut ffi::rpkirtr_record, usize, *mut usize) -> ffi::rpkirtr_status;
+type Copy = unsafe extern "C" fn(*const handle, usize, *mut ffi::rpkirtr_record, usize, *mut usize) -> ffi::rpkirtr_status;
 
 /// How many records are copied at once.
 const ROOM: usize = 1024;

@@ -225,3 +225,25 @@ fn handles_go_to_other_threads() {
     let index = Index::new(&[]).unwrap();
     std::thread::spawn(move || assert!(index.is_empty())).join().unwrap();
 }
+
+#[test]
+fn handles_of_one_index_are_used_in_threads_of_their_own() {
+    let index = Index::new(&[vrp("10.0.0.0/8", 16, 64496)]).unwrap();
+    let threads: Vec<_> = (0..4)
+        .map(|_| {
+            let own = index.share().unwrap();
+            std::thread::spawn(move || (0..500).filter(|_| own.state(&route("10.1.0.0/16", Some(64496))) == Ok(OriginState::Valid)).count())
+        })
+        .collect();
+    drop(index);
+    assert!(threads.into_iter().all(|thread| thread.join().unwrap() == 500));
+}
+
+#[test]
+fn a_failed_attempt_is_made_again_after_the_retry_interval() {
+    let mut router = Router::new().unwrap();
+    assert_eq!((router.next_query_at(), router.connect_failed(100)), (None, 700));
+    router.configure(&Config { retry: 30, ..Config::default() }).unwrap();
+    assert_eq!(router.connect_failed(100), 130);
+    assert_eq!(router.configure(&Config { most: 0, ..Config::default() }), Err(Error::NoRoom));
+}

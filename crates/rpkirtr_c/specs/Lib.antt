@@ -5,6 +5,7 @@ pub mod Changes
 pub mod Configurations
 pub mod Held
 pub mod Indexes
+pub mod Lent
 pub mod Links
 pub mod Live
 pub mod Manifests

@@ -42,6 +42,7 @@ origin_of has origin = if has == 0 then None else Some origin
 
 -- This is a route in C.
 pub record SpellsRoute (q : CRoute) (r : Route) : Type 0 where
+  pub padding : q.zero_ ≡ 0
   pub prefix : SpellsPrefix q.family q.addr q.len r.prefix
   pub origin : r.origin ≡ origin_of q.has_origin q.origin
 

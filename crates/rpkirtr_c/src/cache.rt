@@ -46,6 +46,25 @@ impl Debug for CacheHandle {
 }
 
 impl CacheHandle {
+    ghost use Rattle.std.specs.Borrow.{sem};
+    ghost use Rattle.rpkirtr_c.specs.Lent.{LendsServedCache};
+
+    /// Whether there is no value. The handle stays as it is.
+    pub(crate) fn is_empty(&mut self) -> bool
+        ensures { (result ≡ is_none self.old.value) × (self.new ≡ self.old) }
+    {
+        self.at.is_null()
+    }
+
+    /// The value, which stays in its handle.
+    pub(crate) fn value(&mut self) -> &mut ServedCache
+        requires { is_none self.old.value ≡ false }
+        ensures* lends { sem 𝓛 (LendsServedCache self.entry result) }
+        ensures value { Some result.now ≡ self.old.value }
+    {
+        unsafe { &mut *(self.at as *mut ServedCache) }
+    }
+
     fn of(l: Loose<ServedCache, Global>) -> CacheHandle
         ensures { result.value ≡ Some l.value }
     {
@@ -341,21 +360,16 @@ pub extern "C" fn rpkirtr_cache_notify(
 /// Returns the number of a `CallStatus`: `Done`, `Empty` if `h` holds no cache, or `NoConnection` if no connection has the number `conn`. On a
 /// refusal `has` is 0.
 #[unsafe(no_mangle)]
-pub extern "C" fn rpkirtr_cache_has_bytes(
-    alloc: Global,
-    h: &mut CacheHandle,
-    conn: u32,
-    has: &mut u8,
-) -> i32
+pub extern "C" fn rpkirtr_cache_has_bytes(h: &mut CacheHandle, conn: u32, has: &mut u8) -> i32
     ensures call { On h.old.value h.new.value result (λ s t. (t ≡ s) × Serves s (λ m. AtConn (m.at conn) result (has.new ≡ from_bool (has_bytes_at (m.at conn))) (has.new ≡ 0))) }
     ensures empty { h.old.value ≡ None → has.new ≡ 0 }
 {
     *has = 0;
-    let Some(served) = h.take(alloc) else {
+    if h.is_empty() {
         return CallStatus::Empty.number();
-    };
+    }
+    let served = h.value();
     let answer = served.has_bytes(conn, has);
-    *h = shut_cache(served);
     answer.number()
 }
 
@@ -363,21 +377,16 @@ pub extern "C" fn rpkirtr_cache_has_bytes(
 /// Returns the number of a `CallStatus`: `Done`, `Empty` if `h` holds no cache, or `NoConnection` if no connection has the number `conn`. On a
 /// refusal `continues` is 0.
 #[unsafe(no_mangle)]
-pub extern "C" fn rpkirtr_cache_is_open(
-    alloc: Global,
-    h: &mut CacheHandle,
-    conn: u32,
-    continues: &mut u8,
-) -> i32
+pub extern "C" fn rpkirtr_cache_is_open(h: &mut CacheHandle, conn: u32, continues: &mut u8) -> i32
     ensures call { On h.old.value h.new.value result (λ s t. (t ≡ s) × Serves s (λ m. AtConn (m.at conn) result (continues.new ≡ from_bool (is_open_at (m.at conn))) (continues.new ≡ 0))) }
     ensures empty { h.old.value ≡ None → continues.new ≡ 0 }
 {
     *continues = 0;
-    let Some(served) = h.take(alloc) else {
+    if h.is_empty() {
         return CallStatus::Empty.number();
-    };
+    }
+    let served = h.value();
     let answer = served.is_open(conn, continues);
-    *h = shut_cache(served);
     answer.number()
 }
 
@@ -385,7 +394,6 @@ pub extern "C" fn rpkirtr_cache_is_open(
 /// Returns the number of a `CallStatus`: `Done`, `Empty` if `h` holds no cache, or `NoData` if nothing is published. On a refusal both are 0.
 #[unsafe(no_mangle)]
 pub extern "C" fn rpkirtr_cache_current(
-    alloc: Global,
     h: &mut CacheHandle,
     serial: &mut u32,
     count: &mut usize,
@@ -395,10 +403,10 @@ pub extern "C" fn rpkirtr_cache_current(
 {
     *serial = 0;
     *count = 0;
-    let Some(served) = h.take(alloc) else {
+    if h.is_empty() {
         return CallStatus::Empty.number();
-    };
+    }
+    let served = h.value();
     let answer = served.current(serial, count);
-    *h = shut_cache(served);
     answer.number()
 }

@@ -15,11 +15,11 @@ pub enum CallStatus {
     NoMemory,
     /// A record whose prefix, maximum length or padding is not valid.
     BadRecord,
-    /// A route whose prefix is not valid, or whose IPv4 address is not followed by zeros.
+    /// A route whose prefix or padding is not valid, or whose IPv4 address is not followed by zeros.
     BadRoute,
     /// No version of the protocol.
     BadVersion,
-    /// An index at or past the end, or more records than a set may have, or more connections than there are numbers.
+    /// An index at or past the end, or more records than a set may have, or more connections than there are numbers, or a router that may hold none.
     OutOfRange,
     /// There is no connection, or it has ended.
     NotLinked,

@@ -96,7 +96,6 @@ pub extern "C" fn rpkirtr_router_changes_begin(
 /// Returns the number of a `CallStatus`: `Done`, or `Empty` if `h` holds no router, and then `copied` is 0.
 #[unsafe(no_mangle)]
 pub extern "C" fn rpkirtr_router_withdrawn(
-    alloc: Global,
     h: &mut RouterHandle,
     first: usize,
     room: &mut [CRecord],
@@ -106,11 +105,11 @@ pub extern "C" fn rpkirtr_router_withdrawn(
     ensures empty { h.old.value ≡ None → (room.new ≡ room.old) × (copied.new ≡ 0) }
 {
     *copied = 0;
-    let Some(session) = h.take(alloc) else {
+    if h.is_empty() {
         return CallStatus::Empty.number();
-    };
+    }
+    let session = h.value();
     *copied = copy_records(from_index(withdrawn(&session.pending), first), room);
-    *h = shut(session);
     CallStatus::Done.number()
 }
 
@@ -119,7 +118,6 @@ pub extern "C" fn rpkirtr_router_withdrawn(
 /// Returns the number of a `CallStatus`: `Done`, or `Empty` if `h` holds no router, and then `copied` is 0.
 #[unsafe(no_mangle)]
 pub extern "C" fn rpkirtr_router_announced(
-    alloc: Global,
     h: &mut RouterHandle,
     first: usize,
     room: &mut [CRecord],
@@ -129,11 +127,11 @@ pub extern "C" fn rpkirtr_router_announced(
     ensures empty { h.old.value ≡ None → (room.new ≡ room.old) × (copied.new ≡ 0) }
 {
     *copied = 0;
-    let Some(session) = h.take(alloc) else {
+    if h.is_empty() {
         return CallStatus::Empty.number();
-    };
+    }
+    let session = h.value();
     *copied = copy_records(from_index(announced(&session.pending), first), room);
-    *h = shut(session);
     CallStatus::Done.number()
 }
 

@@ -1,6 +1,7 @@
 //! The configuration of a router as C has it.
 ghost use Rattle.std.specs.Prelude.{◌≡◌, IfOk, IfErr};
-ghost use Rattle.rpkirtr_c.specs.Configurations.{IsConfigFault, IsValid, config_number, config_of, config_status, told_config};
+ghost use Rattle.rpkirtr_c.specs.Answers.{number};
+ghost use Rattle.rpkirtr_c.specs.Configurations.{IsConfigFault, IsConfigTold, IsValid, config_number, config_of, config_status, told_config};
 
 use crate::call_status::CallStatus;
 use rtr_ends::{RouterConfig, Timing, TimingFault};
@@ -29,6 +30,8 @@ pub struct CConfig {
 pub(crate) enum ConfigFault {
     /// The structure has another size, or padding that is not zero.
     Structure,
+    /// The router may hold no record.
+    NoRoom,
     /// The intervals are not valid.
     Intervals(TimingFault),
 }
@@ -40,6 +43,7 @@ impl ConfigFault {
     {
         match self {
             ConfigFault::Structure => CallStatus::BadStructure,
+            ConfigFault::NoRoom => CallStatus::OutOfRange,
             ConfigFault::Intervals(_) => CallStatus::BadTiming,
         }
     }
@@ -50,18 +54,22 @@ impl ConfigFault {
     {
         match self {
             ConfigFault::Structure => 0,
+            ConfigFault::NoRoom => 0,
             ConfigFault::Intervals(fault) => u32::from(fault.number()),
         }
     }
 }
 
-/// The configuration of a router, or why there is none. The structure is judged first.
+/// The configuration of a router, or why there is none. The structure is judged first, then how many records the router may hold.
 pub(crate) fn config_of(config: &CConfig) -> Result<RouterConfig, ConfigFault>
     ensures ok { IfOk result (λ own. IsValid config.now × (own ≡ config_of config.now)) }
     ensures err { IfErr result (IsConfigFault config.now) }
 {
     if config.size_ != CONFIG_SIZE || config.zero_ != 0 {
         return Err(ConfigFault::Structure);
+    }
+    if config.most == 0 {
+        return Err(ConfigFault::NoRoom);
     }
     match Timing::new(config.refresh, config.retry, config.expire) {
         Err(fault) => Err(ConfigFault::Intervals(fault)),
@@ -90,4 +98,15 @@ pub(crate) fn told_config(config: &RouterConfig) -> CConfig
         keeps_expire: u8::from(config.keeps_expire),
         zero_: 0,
     }
+}
+
+/// Writes a configuration, if the structure has the size of this header.
+pub(crate) fn tell_config(config: &RouterConfig, out: &mut CConfig) -> CallStatus
+    ensures { IsConfigTold config.now (number result) out.old out.new }
+{
+    if out.size_ != CONFIG_SIZE {
+        return CallStatus::BadStructure;
+    }
+    *out = told_config(config);
+    CallStatus::Done
 }

@@ -15,7 +15,7 @@ ghost use Rattle.vrps.specs.VrpSet.{set_of, size};
 ghost use Rattle.vrps.specs.declared.origin.OriginState.TheVariants.{NotFound};
 
 use crate::call_status::CallStatus;
-use crate::judge::Judge;
+use crate::judge::{Judge, SharedJudge};
 use crate::loose::Loose;
 use crate::values::{CRecord, CRoute, copy_records, route_of, state_number, vrp_of};
 use prefixes::Vrp;
@@ -35,7 +35,7 @@ pub struct IndexHandle {
 
 impl Model for IndexHandle {
     ghost use Rattle.rpkirtr_c.specs.Held.{held};
-    ghost use Rattle.rpkirtr_c.specs.contracts.judge.Judge.{the_row};
+    ghost use Rattle.rpkirtr_c.specs.contracts.judge.SharedJudge.{the_row};
     ghost use Rattle.std.specs.Box.Ownership.{box_owns};
     ghost use Rattle.std.specs.contracts.impls.GlobalAllocator.TheImpl as heap_impl;
 
@@ -52,7 +52,26 @@ impl Debug for IndexHandle {
 }
 
 impl IndexHandle {
-    fn of(l: Loose<Judge, Global>) -> IndexHandle
+    ghost use Rattle.std.specs.Borrow.{sem};
+    ghost use Rattle.rpkirtr_c.specs.Lent.{LendsJudge};
+
+    /// Whether there is no value. The handle stays as it is.
+    pub(crate) fn is_empty(&mut self) -> bool
+        ensures { (result ≡ is_none self.old.value) × (self.new ≡ self.old) }
+    {
+        self.at.is_null()
+    }
+
+    /// The value, which stays in its handle.
+    pub(crate) fn value(&mut self) -> &mut SharedJudge
+        requires { is_none self.old.value ≡ false }
+        ensures* lends { sem 𝓛 (LendsJudge self.entry result) }
+        ensures value { Some result.now ≡ self.old.value }
+    {
+        unsafe { &mut *(self.at as *mut SharedJudge) }
+    }
+
+    fn of(l: Loose<SharedJudge, Global>) -> IndexHandle
         ensures { result.value ≡ Some l.value }
     {
         let Loose { at, alloc } = l;
@@ -62,13 +81,13 @@ impl IndexHandle {
         }
     }
 
-    fn into_loose(self) -> Loose<Judge, Global>
+    fn into_loose(self) -> Loose<SharedJudge, Global>
         requires { is_none self.value ≡ false }
         ensures { Some result.value ≡ self.value }
     {
         let IndexHandle { at, alloc } = self;
         Loose {
-            at: at as *mut Judge,
+            at: at as *mut SharedJudge,
             alloc,
         }
     }
@@ -91,7 +110,7 @@ impl IndexHandle {
     }
 
     /// Moves the index out, if there is one. The handle is empty then.
-    pub(crate) fn take(&mut self, alloc: Global) -> Option<Box<Judge>>
+    pub(crate) fn take(&mut self, alloc: Global) -> Option<Box<SharedJudge>>
         ensures taken { option_map (λ s. s.value) result ≡ self.old.value }
         ensures empty { self.new.value ≡ None }
     {
@@ -105,7 +124,7 @@ impl IndexHandle {
 }
 
 /// The handle of an index.
-pub(crate) fn shut_index(judge: Box<Judge>) -> IndexHandle
+pub(crate) fn shut_index(judge: Box<SharedJudge>) -> IndexHandle
     ensures { result.value ≡ Some judge.value }
 {
     IndexHandle::of(Loose::of(judge))
@@ -219,16 +238,24 @@ impl IndexFault {
     }
 }
 
+/// A block with the first owner of an index.
+pub(crate) fn boxed(alloc: Global, judge: Judge) -> Result<Box<SharedJudge>, AllocError>
+    ensures { IfOk result (λ b. b.value ≡ judge) }
+{
+    let shared = SharedJudge::over(alloc, judge)?;
+    match Box::new(alloc, shared) {
+        Err(_) => Err(AllocError),
+        Ok(shared) => Ok(shared),
+    }
+}
+
 /// A block of an index over records, or why there is none.
-fn boxed_over(alloc: Global, records: &[CRecord]) -> Result<Box<Judge>, IndexFault>
+fn boxed_over(alloc: Global, records: &[CRecord]) -> Result<Box<SharedJudge>, IndexFault>
     ensures ok { IfOk result (λ b. IsOver records.now b.value) }
     ensures err { IfErr result (IsFaultOf records.now) }
 {
     let judge = index_over(alloc, records)?;
-    match Box::new(alloc, judge) {
-        Err(_) => Err(IndexFault::Memory),
-        Ok(judge) => Ok(judge),
-    }
+    Ok(boxed(alloc, judge)?)
 }
 
 /// Makes an index over records in the empty handle `h`. A record that is listed twice counts once.
@@ -261,14 +288,11 @@ pub extern "C" fn rpkirtr_index_new(
 }
 
 /// A block of an index over a set.
-fn boxed_set(alloc: Global, set: &VrpSet) -> Result<Box<Judge>, IndexFault>
+fn boxed_set(alloc: Global, set: &VrpSet) -> Result<Box<SharedJudge>, IndexFault>
     ensures { IfOk result (λ b. b.value.index ≡ set.now) }
 {
     let index = OriginIndex::over(alloc, set)?;
-    match Box::new(alloc, Judge::over(index, set.len())) {
-        Err(_) => Err(IndexFault::Memory),
-        Ok(judge) => Ok(judge),
-    }
+    Ok(boxed(alloc, Judge::over(index, set.len()))?)
 }
 
 /// Makes an index over a set in an empty handle.
@@ -303,16 +327,16 @@ pub extern "C" fn rpkirtr_index_free(alloc: Global, h: &mut IndexHandle) -> i32
 /// Writes how many different records the index is over.
 /// Returns the number of a `CallStatus`: `Done`, or `Empty` if `h` holds no index, and then 0 is written.
 #[unsafe(no_mangle)]
-pub extern "C" fn rpkirtr_index_count(alloc: Global, h: &mut IndexHandle, count: &mut usize) -> i32
+pub extern "C" fn rpkirtr_index_count(h: &mut IndexHandle, count: &mut usize) -> i32
     ensures call { On h.old.value h.new.value result (λ s t. (result ≡ number Done) × (t ≡ s) × (count.new ≡ size s.index)) }
     ensures empty { h.old.value ≡ None → count.new ≡ 0 }
 {
     *count = 0;
-    let Some(judge) = h.take(alloc) else {
+    if h.is_empty() {
         return CallStatus::Empty.number();
-    };
+    }
+    let judge = h.value().judge();
     *count = judge.count;
-    *h = shut_index(judge);
     CallStatus::Done.number()
 }
 
@@ -320,19 +344,15 @@ pub extern "C" fn rpkirtr_index_count(alloc: Global, h: &mut IndexHandle, count:
 /// Returns the number of a `CallStatus`: `Done`, `Empty` if `h` holds no index, or `BadRoute` if the route has no valid prefix. On a refusal 0 is
 /// written.
 #[unsafe(no_mangle)]
-pub extern "C" fn rpkirtr_index_state(
-    alloc: Global,
-    h: &mut IndexHandle,
-    route: &CRoute,
-    state: &mut i32,
-) -> i32
+pub extern "C" fn rpkirtr_index_state(h: &mut IndexHandle, route: &CRoute, state: &mut i32) -> i32
     ensures call { On h.old.value h.new.value result (λ s t. (t ≡ s) × IsJudged route.now s.index result state.new) }
     ensures empty { h.old.value ≡ None → state.new ≡ state_number NotFound }
 {
     *state = state_number(OriginState::NotFound);
-    let Some(judge) = h.take(alloc) else {
+    if h.is_empty() {
         return CallStatus::Empty.number();
-    };
+    }
+    let judge = h.value().judge();
     let answer = match route_of(route) {
         None => CallStatus::BadRoute,
         Some(route) => {
@@ -340,7 +360,6 @@ pub extern "C" fn rpkirtr_index_state(
             CallStatus::Done
         }
     };
-    *h = shut_index(judge);
     answer.number()
 }
 
@@ -360,9 +379,10 @@ pub extern "C" fn rpkirtr_index_covering(
     ensures empty { h.old.value ≡ None → (room.new ≡ room.old) × (count.new ≡ 0) }
 {
     *count = 0;
-    let Some(judge) = h.take(alloc) else {
+    if h.is_empty() {
         return CallStatus::Empty.number();
-    };
+    }
+    let judge = h.value().judge();
     let answer = match route_of(route) {
         None => CallStatus::BadRoute,
         Some(route) => match judge.index.covering(alloc, &route) {
@@ -374,6 +394,5 @@ pub extern "C" fn rpkirtr_index_covering(
             }
         },
     };
-    *h = shut_index(judge);
     answer.number()
 }

@@ -26,6 +26,7 @@ mod roa;
 mod router;
 mod served_cache;
 mod session;
+mod share;
 mod texts;
 mod traffic;
 mod values;

@@ -3,8 +3,8 @@ ghost use Rattle.std.specs.Prelude.{◌≡◌, IfOk, IfErr};
 ghost use Rattle.rpkirtr_c.specs.Indexes.{AreRecords, IsFaultIn, IsOver, NewIndexOf, list_of, records_in};
 
 use crate::call_status::CallStatus;
-use crate::index::{IndexFault, IndexHandle, add_vrps, judge_over, shut_index};
-use crate::judge::Judge;
+use crate::index::{IndexFault, IndexHandle, add_vrps, boxed, judge_over, shut_index};
+use crate::judge::{Judge, SharedJudge};
 use crate::values::CRecord;
 use prefixes::Vrp;
 use std::alloc::Global;
@@ -63,12 +63,12 @@ fn index_in(alloc: Global, lists: &[CList]) -> Result<Judge, ListFault>
 }
 
 /// A block of an index over the records of lists, or why there is none.
-fn boxed_in(alloc: Global, lists: &[CList]) -> Result<Box<Judge>, ListFault>
+fn boxed_in(alloc: Global, lists: &[CList]) -> Result<Box<SharedJudge>, ListFault>
     ensures ok { IfOk result (λ b. IsOver (records_in lists.now) b.value) }
     ensures err { IfErr result (λ f. IsFaultIn lists.now f.at f.fault) }
 {
     let judge = index_in(alloc, lists)?;
-    match Box::new(alloc, judge) {
+    match boxed(alloc, judge) {
         Err(_) => Err(ListFault {
             at: 0,
             fault: IndexFault::Memory,

@@ -47,6 +47,25 @@ impl Debug for ManifestHandle {
 }
 
 impl ManifestHandle {
+    ghost use Rattle.std.specs.Borrow.{sem};
+    ghost use Rattle.rpkirtr_c.specs.Lent.{LendsContents};
+
+    /// Whether there is no value. The handle stays as it is.
+    pub(crate) fn is_empty(&mut self) -> bool
+        ensures { (result ≡ is_none self.old.value) × (self.new ≡ self.old) }
+    {
+        self.at.is_null()
+    }
+
+    /// The value, which stays in its handle.
+    pub(crate) fn value(&mut self) -> &mut Contents
+        requires { is_none self.old.value ≡ false }
+        ensures* lends { sem 𝓛 (LendsContents self.entry result) }
+        ensures value { Some result.now ≡ self.old.value }
+    {
+        unsafe { &mut *(self.at as *mut Contents) }
+    }
+
     fn of(l: Loose<Contents, Global>) -> ManifestHandle
         ensures { result.value ≡ Some l.value }
     {
@@ -166,7 +185,6 @@ pub extern "C" fn rpkirtr_manifest_free(alloc: Global, h: &mut ManifestHandle) -
 /// Returns the number of a `CallStatus`: `Done`, or `Empty` if `h` holds no manifest, and then `len` is 0.
 #[unsafe(no_mangle)]
 pub extern "C" fn rpkirtr_manifest_number(
-    alloc: Global,
     h: &mut ManifestHandle,
     room: &mut [u8],
     len: &mut usize,
@@ -175,11 +193,11 @@ pub extern "C" fn rpkirtr_manifest_number(
     ensures empty { h.old.value ≡ None → (room.new ≡ room.old) × (len.new ≡ 0) }
 {
     *len = 0;
-    let Some(contents) = h.take(alloc) else {
+    if h.is_empty() {
         return CallStatus::Empty.number();
-    };
+    }
+    let contents = h.value();
     *len = copy_octets(contents.manifest.number(), room);
-    *h = shut_manifest(contents);
     CallStatus::Done.number()
 }
 
@@ -187,7 +205,6 @@ pub extern "C" fn rpkirtr_manifest_number(
 /// Returns the number of a `CallStatus`: `Done`, or `Empty` if `h` holds no manifest, and then both are 0.
 #[unsafe(no_mangle)]
 pub extern "C" fn rpkirtr_manifest_times(
-    alloc: Global,
     h: &mut ManifestHandle,
     this_update: &mut u64,
     next_update: &mut u64,
@@ -197,32 +214,28 @@ pub extern "C" fn rpkirtr_manifest_times(
 {
     *this_update = 0;
     *next_update = 0;
-    let Some(contents) = h.take(alloc) else {
+    if h.is_empty() {
         return CallStatus::Empty.number();
-    };
+    }
+    let contents = h.value();
     *this_update = contents.manifest.this_update().seconds();
     *next_update = contents.manifest.next_update().seconds();
-    *h = shut_manifest(contents);
     CallStatus::Done.number()
 }
 
 /// Writes how many files the manifest lists.
 /// Returns the number of a `CallStatus`: `Done`, or `Empty` if `h` holds no manifest, and then 0 is written.
 #[unsafe(no_mangle)]
-pub extern "C" fn rpkirtr_manifest_count(
-    alloc: Global,
-    h: &mut ManifestHandle,
-    count: &mut usize,
-) -> i32
+pub extern "C" fn rpkirtr_manifest_count(h: &mut ManifestHandle, count: &mut usize) -> i32
     ensures call { On h.old.value h.new.value result (λ s t. (result ≡ number Done) × (t ≡ s) × (count.new ≡ length s.manifest.files)) }
     ensures empty { h.old.value ≡ None → count.new ≡ 0 }
 {
     *count = 0;
-    let Some(contents) = h.take(alloc) else {
+    if h.is_empty() {
         return CallStatus::Empty.number();
-    };
+    }
+    let contents = h.value();
     *count = contents.manifest.files().len();
-    *h = shut_manifest(contents);
     CallStatus::Done.number()
 }
 
@@ -258,7 +271,6 @@ fn write_file(
 /// refusal `len` and `digest` are 0, and `room` stays.
 #[unsafe(no_mangle)]
 pub extern "C" fn rpkirtr_manifest_file(
-    alloc: Global,
     h: &mut ManifestHandle,
     index: usize,
     room: &mut [u8],
@@ -270,10 +282,10 @@ pub extern "C" fn rpkirtr_manifest_file(
 {
     *len = 0;
     *digest = no_digest();
-    let Some(contents) = h.take(alloc) else {
+    if h.is_empty() {
         return CallStatus::Empty.number();
-    };
+    }
+    let contents = h.value();
     let answer = write_file(contents.manifest.files(), index, room, len, digest);
-    *h = shut_manifest(contents);
     answer.number()
 }

@@ -21,20 +21,16 @@ use vrps::OriginState;
 /// Writes how many records are committed.
 /// Returns the number of a `CallStatus`: `Done`, or `Empty` if `h` holds no router, and then 0 is written.
 #[unsafe(no_mangle)]
-pub extern "C" fn rpkirtr_router_count(
-    alloc: Global,
-    h: &mut RouterHandle,
-    count: &mut usize,
-) -> i32
+pub extern "C" fn rpkirtr_router_count(h: &mut RouterHandle, count: &mut usize) -> i32
     ensures call { On h.old.value h.new.value result (λ s t. (result ≡ number Done) × (t ≡ s) × Shows s (λ r. count.new ≡ size r.table)) }
     ensures empty { h.old.value ≡ None → count.new ≡ 0 }
 {
     *count = 0;
-    let Some(session) = h.take(alloc) else {
+    if h.is_empty() {
         return CallStatus::Empty.number();
-    };
+    }
+    let session = h.value();
     *count = session.router.table().len();
-    *h = shut(session);
     CallStatus::Done.number()
 }
 
@@ -43,19 +39,15 @@ pub extern "C" fn rpkirtr_router_count(
 /// Returns the number of a `CallStatus`: `Done`, `Empty` if `h` holds no router, or `BadRoute` if the route has no valid prefix. On a refusal 0 is
 /// written.
 #[unsafe(no_mangle)]
-pub extern "C" fn rpkirtr_router_state(
-    alloc: Global,
-    h: &mut RouterHandle,
-    route: &CRoute,
-    state: &mut i32,
-) -> i32
+pub extern "C" fn rpkirtr_router_state(h: &mut RouterHandle, route: &CRoute, state: &mut i32) -> i32
     ensures call { On h.old.value h.new.value result (λ s t. (t ≡ s) × Shows s (λ r. IsJudged route.now r.table result state.new)) }
     ensures empty { h.old.value ≡ None → state.new ≡ state_number NotFound }
 {
     *state = state_number(OriginState::NotFound);
-    let Some(session) = h.take(alloc) else {
+    if h.is_empty() {
         return CallStatus::Empty.number();
-    };
+    }
+    let session = h.value();
     let answer = match route_of(route) {
         None => CallStatus::BadRoute,
         Some(route) => {
@@ -63,7 +55,6 @@ pub extern "C" fn rpkirtr_router_state(
             CallStatus::Done
         }
     };
-    *h = shut(session);
     answer.number()
 }
 
@@ -72,7 +63,6 @@ pub extern "C" fn rpkirtr_router_state(
 /// fields of `out` are 0.
 #[unsafe(no_mangle)]
 pub extern "C" fn rpkirtr_router_record(
-    alloc: Global,
     h: &mut RouterHandle,
     index: usize,
     out: &mut CRecord,
@@ -81,11 +71,11 @@ pub extern "C" fn rpkirtr_router_record(
     ensures empty { h.old.value ≡ None → out.new ≡ no_record }
 {
     *out = no_record();
-    let Some(session) = h.take(alloc) else {
+    if h.is_empty() {
         return CallStatus::Empty.number();
-    };
+    }
+    let session = h.value();
     let answer = record_at(session.router.table().as_slice(), index, out);
-    *h = shut(session);
     answer.number()
 }
 
@@ -94,7 +84,6 @@ pub extern "C" fn rpkirtr_router_record(
 /// Returns the number of a `CallStatus`: `Done`, or `Empty` if `h` holds no router, and then `copied` is 0.
 #[unsafe(no_mangle)]
 pub extern "C" fn rpkirtr_router_records(
-    alloc: Global,
     h: &mut RouterHandle,
     first: usize,
     room: &mut [CRecord],
@@ -104,11 +93,11 @@ pub extern "C" fn rpkirtr_router_records(
     ensures empty { h.old.value ≡ None → (room.new ≡ room.old) × (copied.new ≡ 0) }
 {
     *copied = 0;
-    let Some(session) = h.take(alloc) else {
+    if h.is_empty() {
         return CallStatus::Empty.number();
-    };
+    }
+    let session = h.value();
     *copied = copy_records(from_index(session.router.table().as_slice(), first), room);
-    *h = shut(session);
     CallStatus::Done.number()
 }
 
@@ -118,7 +107,6 @@ pub extern "C" fn rpkirtr_router_records(
 /// refusal `count` is 0, and `room` stays.
 #[unsafe(no_mangle)]
 pub extern "C" fn rpkirtr_router_covering(
-    alloc: Global,
     h: &mut RouterHandle,
     route: &CRoute,
     room: &mut [CRecord],
@@ -128,9 +116,10 @@ pub extern "C" fn rpkirtr_router_covering(
     ensures empty { h.old.value ≡ None → (room.new ≡ room.old) × (count.new ≡ 0) }
 {
     *count = 0;
-    let Some(session) = h.take(alloc) else {
+    if h.is_empty() {
         return CallStatus::Empty.number();
-    };
+    }
+    let session = h.value();
     let answer = match route_of(route) {
         None => CallStatus::BadRoute,
         Some(route) => match session.router.covering(&route) {
@@ -142,7 +131,6 @@ pub extern "C" fn rpkirtr_router_covering(
             }
         },
     };
-    *h = shut(session);
     answer.number()
 }
 
@@ -160,10 +148,10 @@ pub extern "C" fn rpkirtr_router_index(
     ensures call { On h.old.value h.new.value result (λ s t. (t ≡ s) × Shows s (λ r. New index.old.value index.new.value result (λ j. j.index ≡ r.table))) }
     ensures empty { h.old.value ≡ None → index.new.value ≡ index.old.value }
 {
-    let Some(session) = h.take(alloc) else {
+    if h.is_empty() {
         return CallStatus::Empty.number();
-    };
+    }
+    let session = h.value();
     let answer = fill_index(alloc, session.router.table(), index);
-    *h = shut(session);
     answer.number()
 }

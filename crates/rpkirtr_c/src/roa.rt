@@ -47,6 +47,25 @@ impl Debug for RoaHandle {
 }
 
 impl RoaHandle {
+    ghost use Rattle.std.specs.Borrow.{sem};
+    ghost use Rattle.rpkirtr_c.specs.Lent.{LendsAuthorization};
+
+    /// Whether there is no value. The handle stays as it is.
+    pub(crate) fn is_empty(&mut self) -> bool
+        ensures { (result ≡ is_none self.old.value) × (self.new ≡ self.old) }
+    {
+        self.at.is_null()
+    }
+
+    /// The value, which stays in its handle.
+    pub(crate) fn value(&mut self) -> &mut Authorization
+        requires { is_none self.old.value ≡ false }
+        ensures* lends { sem 𝓛 (LendsAuthorization self.entry result) }
+        ensures value { Some result.now ≡ self.old.value }
+    {
+        unsafe { &mut *(self.at as *mut Authorization) }
+    }
+
     fn of(l: Loose<Authorization, Global>) -> RoaHandle
         ensures { result.value ≡ Some l.value }
     {
@@ -176,32 +195,32 @@ pub extern "C" fn rpkirtr_roa_free(alloc: Global, h: &mut RoaHandle) -> i32
 /// Writes the AS that may originate the prefixes.
 /// Returns the number of a `CallStatus`: `Done`, or `Empty` if `h` holds no ROA, and then 0 is written.
 #[unsafe(no_mangle)]
-pub extern "C" fn rpkirtr_roa_asn(alloc: Global, h: &mut RoaHandle, asn: &mut u32) -> i32
+pub extern "C" fn rpkirtr_roa_asn(h: &mut RoaHandle, asn: &mut u32) -> i32
     ensures call { On h.old.value h.new.value result (λ s t. (result ≡ number Done) × (t ≡ s) × (asn.new ≡ s.asn.0)) }
     ensures empty { h.old.value ≡ None → asn.new ≡ 0 }
 {
     *asn = 0;
-    let Some(value) = h.take(alloc) else {
+    if h.is_empty() {
         return CallStatus::Empty.number();
-    };
+    }
+    let value = h.value();
     *asn = value.asn.0;
-    *h = shut_roa(value);
     CallStatus::Done.number()
 }
 
 /// Writes how many prefixes the ROA lists.
 /// Returns the number of a `CallStatus`: `Done`, or `Empty` if `h` holds no ROA, and then 0 is written.
 #[unsafe(no_mangle)]
-pub extern "C" fn rpkirtr_roa_count(alloc: Global, h: &mut RoaHandle, count: &mut usize) -> i32
+pub extern "C" fn rpkirtr_roa_count(h: &mut RoaHandle, count: &mut usize) -> i32
     ensures call { On h.old.value h.new.value result (λ s t. (result ≡ number Done) × (t ≡ s) × (count.new ≡ length s.vrps.items)) }
     ensures empty { h.old.value ≡ None → count.new ≡ 0 }
 {
     *count = 0;
-    let Some(value) = h.take(alloc) else {
+    if h.is_empty() {
         return CallStatus::Empty.number();
-    };
+    }
+    let value = h.value();
     *count = value.vrps.len();
-    *h = shut_roa(value);
     CallStatus::Done.number()
 }
 
@@ -210,7 +229,6 @@ pub extern "C" fn rpkirtr_roa_count(alloc: Global, h: &mut RoaHandle, count: &mu
 /// Returns the number of a `CallStatus`: `Done`, or `Empty` if `h` holds no ROA, and then `copied` is 0.
 #[unsafe(no_mangle)]
 pub extern "C" fn rpkirtr_roa_records(
-    alloc: Global,
     h: &mut RoaHandle,
     first: usize,
     room: &mut [CRecord],
@@ -220,10 +238,10 @@ pub extern "C" fn rpkirtr_roa_records(
     ensures empty { h.old.value ≡ None → (room.new ≡ room.old) × (copied.new ≡ 0) }
 {
     *copied = 0;
-    let Some(value) = h.take(alloc) else {
+    if h.is_empty() {
         return CallStatus::Empty.number();
-    };
+    }
+    let value = h.value();
     *copied = copy_records(from_index(value.vrps.as_slice(), first), room);
-    *h = shut_roa(value);
     CallStatus::Done.number()
 }

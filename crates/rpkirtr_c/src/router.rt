@@ -7,7 +7,8 @@ ghost use Rattle.rpkirtr_c.specs.Answers.{number};
 ghost use Rattle.rpkirtr_c.specs.Live.{Freed, New, On};
 ghost use Rattle.rpkirtr_c.specs.Sessions.{Carries, IsPulled, IsSpoken, Makes, Receives, Shows, Wakes, ask_answer};
 ghost use Rattle.rpkirtr_c.specs.Carried.{IsTold, and_sent};
-ghost use Rattle.rpkirtr_c.specs.Configurations.{IsConfigured, told_config};
+ghost use Rattle.rpkirtr_c.specs.Configurations.{IsConfigTold, IsConfigured};
+ghost use Rattle.rtr_ends.specs.Transcript.{retry_of, sum_of};
 ghost use Rattle.rtr_ends.specs.Configuration.{default_config};
 ghost use Rattle.rpkirtr_c.specs.Links.{committed_of, link_of, moment_of, never};
 ghost use Rattle.rtr_ends.specs.RouterLink.{asked_on, told_link};
@@ -20,7 +21,7 @@ ghost use Rattle.rtr_server.specs.Turns.{no_traffic};
 ghost use Rattle.vrps.specs.VrpSet.{empty};
 
 use crate::call_status::CallStatus;
-use crate::configuration::{CConfig, config_of, told_config};
+use crate::configuration::{CConfig, config_of, tell_config};
 use crate::links::{CCommitted, CLink, NEVER, committed_of, link_of, version_of};
 use crate::loose::Loose;
 use crate::session::Session;
@@ -60,6 +61,25 @@ impl Debug for RouterHandle {
 }
 
 impl RouterHandle {
+    ghost use Rattle.std.specs.Borrow.{sem};
+    ghost use Rattle.rpkirtr_c.specs.Lent.{LendsSession};
+
+    /// Whether there is no value. The handle stays as it is.
+    pub(crate) fn is_empty(&mut self) -> bool
+        ensures { (result ≡ is_none self.old.value) × (self.new ≡ self.old) }
+    {
+        self.at.is_null()
+    }
+
+    /// The value, which stays in its handle.
+    pub(crate) fn value(&mut self) -> &mut Session
+        requires { is_none self.old.value ≡ false }
+        ensures* lends { sem 𝓛 (LendsSession self.entry result) }
+        ensures value { Some result.now ≡ self.old.value }
+    {
+        unsafe { &mut *(self.at as *mut Session) }
+    }
+
     fn of(l: Loose<Session, Global>) -> RouterHandle
         ensures { result.value ≡ Some l.value }
     {
@@ -210,23 +230,19 @@ pub extern "C" fn rpkirtr_router_configure(
 }
 
 /// Writes the configuration that was set last, or the default one if none was set.
-/// Returns the number of a `CallStatus`: `Done`, or `Empty` if `h` holds no router, and then the default one is written.
+/// Returns the number of a `CallStatus`: `Done`, `BadStructure`, or `Empty` if `h` holds no router, and then the default one is written. If `size_`
+/// is not the size of the structure, nothing is written.
+#[tactic(auto, using(crate::proofs::Calls::tells))]
 #[unsafe(no_mangle)]
-pub extern "C" fn rpkirtr_router_config(
-    alloc: Global,
-    h: &mut RouterHandle,
-    config: &mut CConfig,
-) -> i32
-    ensures call { On h.old.value h.new.value result (λ s t. (result ≡ number Done) × (t ≡ s) × Shows s (λ r. config.new ≡ told_config r.config)) }
-    ensures empty { h.old.value ≡ None → config.new ≡ told_config default_config }
+pub extern "C" fn rpkirtr_router_config(h: &mut RouterHandle, config: &mut CConfig) -> i32
+    ensures call { On h.old.value h.new.value result (λ s t. (t ≡ s) × Shows s (λ r. IsConfigTold r.config result config.old config.new)) }
+    ensures empty { h.old.value ≡ None → (answer : ℤ) × IsConfigTold default_config answer config.old config.new }
 {
-    *config = told_config(&RouterConfig::default());
-    let Some(session) = h.take(alloc) else {
+    if h.is_empty() {
+        tell_config(&RouterConfig::default(), config);
         return CallStatus::Empty.number();
-    };
-    *config = told_config(session.router.config());
-    *h = shut(session);
-    CallStatus::Done.number()
+    }
+    tell_config(h.value().router.config(), config).number()
 }
 
 /// Starts a connection at second `now` of the caller's clock. Its first query is then ready to be pulled. An older connection is closed, and its
@@ -260,6 +276,32 @@ pub extern "C" fn rpkirtr_router_connection_closed(
     };
     session.router.closed(now);
     *h = shut(session);
+    CallStatus::Done.number()
+}
+
+/// The retry interval in force, in seconds (RFC 8210 section 6).
+fn retry_of(router: &Router) -> u32
+    ensures { (r : rules.Router) → IsShown r router.now → result ≡ retry_of r.config r.version }
+{
+    match router.committed_version() {
+        None => router.config().intervals.retry(),
+        Some(version) => version.retry,
+    }
+}
+
+/// Notes that an attempt to connect failed at second `now` of the caller's clock, and writes when to try again: one retry interval later. The
+/// interval is that of the committed version, or the configured one if nothing is committed. The router stays as it is.
+/// Returns the number of a `CallStatus`: `Done`, or `Empty` if `h` holds no router, and then `NEVER` is written.
+#[unsafe(no_mangle)]
+pub extern "C" fn rpkirtr_router_connect_failed(h: &mut RouterHandle, now: u64, at: &mut u64) -> i32
+    ensures call { On h.old.value h.new.value result (λ s t. (result ≡ number Done) × (t ≡ s) × Shows s (λ r. at.new ≡ sum_of now (retry_of r.config r.version))) }
+    ensures empty { h.old.value ≡ None → at.new ≡ never }
+{
+    *at = NEVER;
+    if h.is_empty() {
+        return CallStatus::Empty.number();
+    }
+    *at = now.saturating_add(u64::from(retry_of(&h.value().router)));
     CallStatus::Done.number()
 }
 
@@ -349,20 +391,16 @@ pub extern "C" fn rpkirtr_router_ask(alloc: Global, h: &mut RouterHandle) -> i32
 /// caller's clock. It is `NEVER` before the first commit, No Data or close. While a query is outstanding, it may be in the past.
 /// Returns the number of a `CallStatus`: `Done`, or `Empty` if `h` holds no router, and then `NEVER` is written.
 #[unsafe(no_mangle)]
-pub extern "C" fn rpkirtr_router_next_query_at(
-    alloc: Global,
-    h: &mut RouterHandle,
-    at: &mut u64,
-) -> i32
+pub extern "C" fn rpkirtr_router_next_query_at(h: &mut RouterHandle, at: &mut u64) -> i32
     ensures call { On h.old.value h.new.value result (λ s t. (result ≡ number Done) × (t ≡ s) × Shows s (λ r. at.new ≡ moment_of r.due)) }
     ensures empty { h.old.value ≡ None → at.new ≡ never }
 {
     *at = NEVER;
-    let Some(session) = h.take(alloc) else {
+    if h.is_empty() {
         return CallStatus::Empty.number();
-    };
+    }
+    let session = h.value();
     *at = session.router.due().unwrap_or(NEVER);
-    *h = shut(session);
     CallStatus::Done.number()
 }
 
@@ -370,32 +408,32 @@ pub extern "C" fn rpkirtr_router_next_query_at(
 /// of an idle link, or that of the expiry of what is committed. An attempt to connect does not count.
 /// Returns the number of a `CallStatus`: `Done`, or `Empty` if `h` holds no router, and then `NEVER` is written.
 #[unsafe(no_mangle)]
-pub extern "C" fn rpkirtr_router_wake_at(alloc: Global, h: &mut RouterHandle, at: &mut u64) -> i32
+pub extern "C" fn rpkirtr_router_wake_at(h: &mut RouterHandle, at: &mut u64) -> i32
     ensures call { On h.old.value h.new.value result (λ s t. (result ≡ number Done) × (t ≡ s) × Wakes at.new s) }
     ensures empty { h.old.value ≡ None → at.new ≡ never }
 {
     *at = NEVER;
-    let Some(session) = h.take(alloc) else {
+    if h.is_empty() {
         return CallStatus::Empty.number();
-    };
+    }
+    let session = h.value();
     *at = session.router.wake_at().unwrap_or(NEVER);
-    *h = shut(session);
     CallStatus::Done.number()
 }
 
 /// Writes all fields of `link`. `end` is 0 unless the link has ended. `code` is 0 unless the end has the code of an Error Report.
 /// Returns the number of a `CallStatus`: `Done`, or `Empty` if `h` holds no router, and then all fields are 0, as for a closed link.
 #[unsafe(no_mangle)]
-pub extern "C" fn rpkirtr_router_link(alloc: Global, h: &mut RouterHandle, link: &mut CLink) -> i32
+pub extern "C" fn rpkirtr_router_link(h: &mut RouterHandle, link: &mut CLink) -> i32
     ensures call { On h.old.value h.new.value result (λ s t. (result ≡ number Done) × (t ≡ s) × Shows s (λ r. link.new ≡ link_of (told_link r.link))) }
     ensures empty { h.old.value ≡ None → link.new ≡ link_of links.Closed }
 {
     *link = link_of(Link::Closed);
-    let Some(session) = h.take(alloc) else {
+    if h.is_empty() {
         return CallStatus::Empty.number();
-    };
+    }
+    let session = h.value();
     *link = link_of(session.router.link());
-    *h = shut(session);
     CallStatus::Done.number()
 }
 
@@ -403,20 +441,16 @@ pub extern "C" fn rpkirtr_router_link(alloc: Global, h: &mut RouterHandle, link:
 /// has expired.
 /// Returns the number of a `CallStatus`: `Done`, or `Empty` if `h` holds no router, and then all fields are 0.
 #[unsafe(no_mangle)]
-pub extern "C" fn rpkirtr_router_committed(
-    alloc: Global,
-    h: &mut RouterHandle,
-    committed: &mut CCommitted,
-) -> i32
+pub extern "C" fn rpkirtr_router_committed(h: &mut RouterHandle, committed: &mut CCommitted) -> i32
     ensures call { On h.old.value h.new.value result (λ s t. (result ≡ number Done) × (t ≡ s) × Shows s (λ r. committed.new ≡ committed_of r.version)) }
     ensures empty { h.old.value ≡ None → committed.new ≡ committed_of None }
 {
     *committed = committed_of(None);
-    let Some(session) = h.take(alloc) else {
+    if h.is_empty() {
         return CallStatus::Empty.number();
-    };
+    }
+    let session = h.value();
     *committed = committed_of(session.router.committed_version());
-    *h = shut(session);
     CallStatus::Done.number()
 }
 
@@ -425,19 +459,15 @@ pub extern "C" fn rpkirtr_router_committed(
 /// Returns the number of a `CallStatus`: `Done`, `BadStructure`, or `Empty` if `h` holds no router, and then all is 0. If `size_` is not the size of
 /// the structure, nothing is written.
 #[unsafe(no_mangle)]
-pub extern "C" fn rpkirtr_router_traffic(
-    alloc: Global,
-    h: &mut RouterHandle,
-    traffic: &mut CTraffic,
-) -> i32
+pub extern "C" fn rpkirtr_router_traffic(h: &mut RouterHandle, traffic: &mut CTraffic) -> i32
     ensures call { On h.old.value h.new.value result (λ s t. (t ≡ s) × IsTold s.traffic result traffic.old traffic.new) }
     ensures empty { h.old.value ≡ None → (answer : ℤ) × IsTold no_traffic answer traffic.old traffic.new }
 {
-    let Some(session) = h.take(alloc) else {
+    if h.is_empty() {
         tell(&Traffic::new(), traffic);
         return CallStatus::Empty.number();
-    };
+    }
+    let session = h.value();
     let answer = tell(&session.traffic, traffic);
-    *h = shut(session);
     answer.number()
 }

@@ -90,11 +90,14 @@ fn prefix_of(family: u8, addr: &[u8; 16], len: u8) -> Option<IpPrefix>
     }
 }
 
-/// Converts a route of the C interface. `None`: its family, address or length does not give a prefix. `zero_` is not checked.
+/// Converts a route of the C interface. `None`: its family, address or length does not give a prefix, or `zero_` is not 0.
 pub fn route_of(route: &CRoute) -> Option<Route>
     ensures some { IfSome result (λ r. SpellsRoute route.now r) }
     ensures none { IfNone result ((r : Route) → ¬ (SpellsRoute route.now r)) }
 {
+    if route.zero_ != 0 {
+        return None;
+    }
     let prefix = prefix_of(route.family, &route.addr, route.len)?;
     let origin = if route.has_origin == 0 {
         None

@@ -13,8 +13,8 @@ use Rattle.std_alloc.proofs.SendSync.{quiet, lies}
 use Rattle.std.proofs.alloc.Global.TheSendSync as heap
 use Rattle.std.below.std_heap.proofs.GlobalAllocator.TheSendSync as heap_impl
 use Rattle.rpkirtr_c.specs.Held.{held}
-use Rattle.rpkirtr_c.specs.contracts.judge.Judge as value
-use Rattle.rpkirtr_c.proofs.judge.Judge.TheSendSync as value_send
+use Rattle.rpkirtr_c.specs.contracts.judge.SharedJudge as value
+use Rattle.rpkirtr_c.proofs.judge.SharedJudge.TheSendSync as value_send
 use Rattle.rpkirtr_c.specs.contracts.index.IndexHandle.{the_row, the_type}
 
 held_keyless : {X : Type 0} (p : Ptr) (v : Option X) (owned : X → Fml) → ((x : X) → Keyless (owned x)) → Keyless (held p v owned)

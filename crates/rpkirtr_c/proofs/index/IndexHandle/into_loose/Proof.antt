@@ -25,8 +25,8 @@ use Rattle.std.proofs.raw_atomic.Walks.{proved_at, leaves}
 use Rattle.std.specs.contracts.alloc.Global as heap
 use Rattle.std.proofs.alloc.Global.TheLaws as heap_laws
 use Rattle.std.specs.contracts.impls.GlobalAllocator.TheImpl as heap_impl
-use Rattle.rpkirtr_c.specs.contracts.judge.Judge as held
-use Rattle.rpkirtr_c.proofs.judge.Judge.TheLaws as held_laws
+use Rattle.rpkirtr_c.specs.contracts.judge.SharedJudge as held
+use Rattle.rpkirtr_c.proofs.judge.SharedJudge.TheLaws as held_laws
 use Rattle.rpkirtr_c.proofs.Handles.{live_owns, the, the_is}
 use Rattle.rpkirtr_c.specs.contracts.loose.Loose as loose
 use Rattle.rpkirtr_c.specs.contracts.index.IndexHandle as handle
