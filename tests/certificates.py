@@ -21,17 +21,9 @@ import certificate_rows as rows
 import fort
 import repository
 from certificate_rows import Bench
+from common import asked
 from der import element, integer
 from repository import bits, sequence, tagged
-
-
-def asked(program, questions):
-    """What the program answers to each question."""
-    done = subprocess.run([program], input="".join(f"{it}\n" for it in questions), capture_output=True, text=True, check=True, timeout=600)
-    answers = done.stdout.splitlines()
-    if len(answers) != len(questions):
-        raise SystemExit(f"{len(questions)} questions, {len(answers)} answers")
-    return answers
 
 
 # ---- who accepts what

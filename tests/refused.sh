@@ -50,7 +50,7 @@ changed() { # changed FILE SED CRATES
 }
 
 : >tests/gate/refused.txt
-expect 'nothing was refused yet' 'ccr command_parts constraints der_lite event_log example_frames exports feed file_kinds issuing json_texts log_output payload_commands payload_lists payloads points prefix_texts prefixes resource_certificates resources rpkiobject rpkirtr rpkirtr_c rpkirtrd_cli rpkirtrd_start rsa_sha256 rtr_commands rtr_daemon rtr_ends rtr_pdu rtr_server rtr_world sd_notify session_names signed_objects slurm sources status_pages status_server tcp_table trust_anchors upstreams vrps world_scripts '
+expect 'nothing was refused yet' 'authority_walk ccr command_parts constraints der_lite event_log example_frames exports feed file_kinds issuing json_texts log_output payload_commands payload_lists payloads point_validation points prefix_texts prefixes resource_certificates resources rpkiobject rpkirtr rpkirtr_c rpkirtrd_cli rpkirtrd_start rsa_sha256 rtr_commands rtr_daemon rtr_ends rtr_pdu rtr_server rtr_world sd_notify session_names signed_objects slurm sources status_pages status_server tcp_table trust_anchors upstreams vrps world_scripts '
 listed --all >tests/gate/refused.txt
 expect 'all was refused' ''
 

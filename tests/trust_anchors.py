@@ -12,7 +12,11 @@ import glob
 import os
 import shutil
 import subprocess
+import sys
 import tempfile
+
+sys.path.insert(0, f"{os.path.dirname(os.path.abspath(__file__))}/lib")
+from common import asked
 
 RSYNC = b"rsync://rpki.example.net/ta/ta.cer"
 HTTPS = b"https://rpki.example.net/ta/ta.cer"
@@ -117,16 +121,6 @@ def rows(keys):
     ]
 
 
-def asked(program, locators):
-    """What the program answers to each locator."""
-    given = "".join(f"{it.hex()}\n" for it in locators)
-    done = subprocess.run([program], input=given, capture_output=True, text=True, check=True, timeout=60)
-    answers = done.stdout.splitlines()
-    if len(answers) != len(locators):
-        raise SystemExit(f"{len(locators)} locators, {len(answers)} answers")
-    return answers
-
-
 def wanted(keys, expected):
     """The answer that a row has to have."""
     if isinstance(expected, tuple):
@@ -194,7 +188,7 @@ def main():
     keys = Keys()
     named = rows(keys)
     wrong = 0
-    for (name, _, expected), answer in zip(named, asked(options.program, [it[1] for it in named])):
+    for (name, _, expected), answer in zip(named, asked(options.program, [it[1].hex() for it in named])):
         if answer != wanted(keys, expected):
             wrong += 1
             print(f"{name}: {answer}\n    wanted: {wanted(keys, expected)}")
@@ -203,7 +197,7 @@ def main():
     for path in real:
         with open(path, "rb") as file:
             contents.append(file.read())
-    for path, locator, answer in zip(real, contents, asked(options.program, contents)):
+    for path, locator, answer in zip(real, contents, asked(options.program, [it.hex() for it in contents])):
         if answer != read_plainly(locator):
             wrong += 1
             print(f"{path}: {answer}\n    wanted: {read_plainly(locator)}")

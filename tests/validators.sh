@@ -1,6 +1,7 @@
 #!/usr/bin/env bash
 # What validators and caches of Debian's packages write of a small signed repository (tests/lib/signed.py), compared with the samples of the same
-# names; and rpkirtrd serves the samples' list of each. A program that is not installed is left out, and said so; without any this is skipped.
+# names; and rpkirtrd serves the samples' list of each. If rpki-client writes rpki.ccr too, its hash is compared, and it is served. A program that is
+# not installed is left out, and said so; without any this is skipped.
 #
 #   tests/validators.sh             compares
 #   tests/validators.sh --write     writes the samples anew
@@ -39,6 +40,8 @@ if command -v rpki-client >/dev/null; then
         "${run[@]}"
     fi >client.log 2>&1 || { cat client.log >&2; exit 1; }
     cp client/json written/rpki-client.json || exit 1
+    # (9.9 writes it, 8.2 does not)
+    [ ! -f client/rpki.ccr ] || cp client/rpki.ccr written/rpki-client.ccr || exit 1
 else
     missing rpki-client
 fi
@@ -76,7 +79,8 @@ if [ "${1:-}" = --write ]; then
     exit
 fi
 
-# Times, numbers of the run and paths differ; names, their order and the forms of values do not.
+# Times, numbers of the run and paths differ; names, their order and the forms of values do not. Of an rpki-client that writes rpki.ccr the records
+# alone are compared, as it has other members than the one of the sample.
 python3 - "$top/samples" written <<'END' || exit 1
 import json, os, sys
 
@@ -95,20 +99,41 @@ def form(value, name=""):
 
 samples, written = sys.argv[1:]
 failed = 0
-for name in sorted(os.listdir(written)):
+for name in sorted(it for it in os.listdir(written) if it.endswith(".json")):
     with open(f"{samples}/{name}") as sample, open(f"{written}/{name}") as found:
-        one, other = form(json.load(sample)), form(json.load(found))
+        one, other = json.load(sample), json.load(found)
+    if "ccr_vrps_hash" in other.get("metadata", {}):
+        one, other = one["roas"], other["roas"]
+    one, other = form(one), form(other)
     if one != other:
         failed += 1
         print(f"validators: samples/{name} is {one}\n  and what is written is {other}", file=sys.stderr)
 sys.exit(failed)
 END
 
+# The hash of the ROA payloads in a canonical cache representation is that in the metadata of the JSON.
+if [ -f written/rpki-client.ccr ]; then
+    python3 - "$top/tests/lib" written/rpki-client.ccr written/rpki-client.json <<'END' || exit 1
+import base64, json, sys
+sys.path.insert(0, sys.argv[1])
+import ccr_model
+
+with open(sys.argv[2], "rb") as it:
+    found = ccr_model.answer(it.read()).split()[2]
+with open(sys.argv[3]) as it:
+    told = json.load(it)["metadata"].get("ccr_vrps_hash", "")
+if found != base64.b64decode(told).hex():
+    sys.exit(f"validators: the hash of rpki.ccr is {found}, and ccr_vrps_hash is {told}")
+END
+fi
+
 rpkirtrd=$(bash "$top/tools/start.sh" --path rpkirtrd) || exit 1
-for file in written/*.json; do
+for file in written/*; do
+    age=()
+    [ "${file##*.}" != ccr ] || age=(--max-age 86400)
     pages=$(free_port)
     : >daemon.log # (the lines of the daemon before would count)
-    timeout 60 "$rpkirtrd" --vrps "$file" --listen 127.0.0.1:0 --status "127.0.0.1:$pages" 2>daemon.log &
+    timeout 60 "$rpkirtrd" --vrps "$file" "${age[@]}" --listen 127.0.0.1:0 --status "127.0.0.1:$pages" 2>daemon.log &
     daemon=$!
     for _ in $(seq 100); do
         grep -q ' ready' daemon.log && break

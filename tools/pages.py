@@ -44,12 +44,13 @@ PROMISES = [
     ("Signatures", ["rsa_sha256::PublicKey::new", "rsa_sha256::PublicKey::verify"]),
     ("Signed objects", ["signed_objects::read_signed_object", "signed_objects::read_der_object", "signed_objects::laws::one_fault", "signed_objects::laws::one_object"]),
     ("Kinds of files", ["file_kinds::FileKind::of_file", "file_kinds::FileKind::of_content_type", "file_kinds::laws::one_kind"]),
-    ("Canonical cache representations", ["ccr::read_ccr", "ccr::encode_vrps", "ccr::vrps_digest", "ccr::laws::same_vrps", "ccr::laws::one_representation"]),
+    ("Canonical cache representations", ["ccr::read_ccr", "ccr::encode_vrps", "ccr::vrps_digest", "ccr::laws::same_vrps", "ccr::laws::one_representation", "ccr::laws::sets_are_roas", "ccr::laws::hash_is_digest"]),
     ("Resource certificates and revocation lists", ["resource_certificates::read_certificate", "resource_certificates::read_crl", "resource_certificates::laws::one_certificate", "ee_keys::same_key"]),
     ("Who issued a certificate", ["issuing::judge_certificate", "issuing::judge_crl"]),
     ("Resources of certificates", ["resources::read_ip_blocks", "resources::read_as_ids", "resources::ResourceChoice::held", "resources::laws::one_ip_value"]),
     ("Trust anchors", ["trust_anchors::read_tal", "trust_anchors::laws::one_locator", "trust_anchors::judge_anchor", "trust_anchors::choose", "trust_anchors::laws::one_is_better"]),
     ("Constraints of a trust anchor", ["constraints::read_constraints", "constraints::Constraints::judge", "constraints::Constraints::judge_as", "constraints::laws::one_reading", "constraints::laws::one_verdict"]),
+    ("From trust anchors to VRPs", ["authority_walk::validate", "authority_walk::Validation::step", "authority_walk::Validation::vrps", "authority_walk::Validation::has_deeper", "authority_walk::laws::one_answer"]),
     ("A router of another cache, and chains of caches", ["upstreams::Upstream::poll", "upstreams::laws::each_holds", "relays::laws::chain"]),
     ("The library for C", ["rpkirtr_c::rpkirtr_router_receive", "rpkirtr_c::rpkirtr_router_state", "rpkirtr_c::rpkirtr_index_new", "rpkirtr_c::rpkirtr_cache_receive", "rpkirtr_c::rpkirtr_cache_publish", "rpkirtr_c::rpkirtr_roa_new", "rpkirtr_c::rpkirtr_manifest_new"]),
     ("What the commands print", ["payload_commands::print_roa", "payload_commands::print_manifest", "payload_commands::print_state", "rtr_commands::print_units", "rtr_commands::answer_lines"]),
@@ -303,7 +304,7 @@ def believe_page(house):
             sys.exit(f"pages: no such call: {', '.join(missing)}")
         rest = house.closure(set().union(*(named[it].roots for it in calls)))
         fresh = [it for it in rest if it not in seen]
-        beside = f"; {len(fresh)} of them, {lines_of(fresh)} lines, are not among those above" if seen else ""
+        beside = f"; {len(fresh)} are new, of {lines_of(fresh)} lines" if seen else ""
         out += [f"## {promise}", "", f"By {', '.join(f'`{it}`' for it in calls)}: {len(rest)} definitions, {lines_of(rest)} lines{beside}.", ""]
         out += [f"- {link(file.path)}: {said_of(file, set(fresh), seen)}" for file in dict.fromkeys(it.file for it in fresh)] + [""]
         seen.update(fresh)
@@ -333,9 +334,11 @@ TESTS = {
     "ee_keys": "`certificate_tests`",
     "issuing": "`certificate_tests`: `issued.rt`",
     "trust_anchors": "`certificate_tests`: `locators.rt`, `anchors.rt`, `validities.rt`; `tests/trust_anchors.sh`",
+    "authority_walk": "`authority_tests`: `walks.rt`",
     "payloads": "`payload_tests`: `roas.rt`, `manifests.rt`; `tests/cases/roa.py`, `tests/cases/manifest.py`, `tests/payloads.sh`",
-    "ccr": "`payload_tests`: `canonical.rt`, `ccrs.rt`",
+    "ccr": "`payload_tests`: `canonical.rt`, `ccrs.rt`; `tests/ccrs.sh`",
     "points": "`payload_tests`: `offers.rt`; `tests/cases/payloads.py`, `tests/objects.sh`",
+    "point_validation": "`point_validation_tests`: `children.rt`",
     "prefix_texts": "`export_tests`; `tests/file_rows.py` by `tests/exports.sh`",
     "json_texts": "`export_tests`; `tests/file_rows.py` by `tests/exports.sh`",
     "payload_lists": "`export_tests`: `list_parts.rt`; `tests/cases/shared.py`",

@@ -3,6 +3,7 @@ import importlib
 import os
 import pkgutil
 import socket
+import subprocess
 import time
 
 # How long anything that must come may take, in seconds.
@@ -45,6 +46,15 @@ def write(path, content):
 def put(path, content):
     """Replaces a file in one step, as validators do."""
     os.replace(write(f"{path}.new", content), path)
+
+
+def asked(program, questions, timeout=600):
+    """What a program answers to each line of its input, in a line of its own."""
+    done = subprocess.run([program], input="".join(f"{it}\n" for it in questions), capture_output=True, text=True, check=True, timeout=timeout)
+    answers = done.stdout.splitlines()
+    if len(answers) != len(questions):
+        raise SystemExit(f"{program}: {len(questions)} questions, {len(answers)} answers")
+    return answers
 
 
 def load_modules(package):
