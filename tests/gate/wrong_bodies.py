@@ -317,13 +317,15 @@ def library_stands(crate, after_gate):
 
 
 def tasks_of(edits, known, end):
-    """What is to be tried until an end, crate by crate, as tasks that run side by side."""
+    """What is to be tried until an end, crate by crate, as tasks that run side by side: first what was never refused."""
     tasks = {}
     for crate, some in edits.items():
-        for number, part in enumerate(in_parts(crate, some)):
-            work = crate.count(rb"\n") * (2 + len(part)) * (8 if crate.is_program else 1)
-            # (a task of this second word gets one job)
-            tasks[f"{crate.name} {number}", "edits"] = ([], work, RT.need(crate), lambda given, jobs, of=crate, it=part: tried(of, it, known, end))
+        news = [it for it in some if it.label not in known.kept]
+        for kind, first, of_kind in [("new", 2**40, news), ("known", 0, [it for it in some if it not in news])]:
+            for number, part in enumerate(in_parts(crate, of_kind)):
+                work = first + crate.count(rb"\n") * (2 + len(part)) * (8 if crate.is_program else 1)
+                # (a task of this second word gets one job)
+                tasks[f"{crate.name} {kind} {number}", "edits"] = ([], work, RT.need(crate), lambda given, jobs, of=crate, it=part: tried(of, it, known, end))
     return tasks
 
 
