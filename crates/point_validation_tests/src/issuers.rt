@@ -5,7 +5,7 @@ use resources::{IpResources, ResourceChoice, ResourceSet};
 use std::alloc::Global;
 
 /// The bytes of files.
-#[derive(Drop)]
+#[derive(Debug, Drop)]
 pub struct Bytes {
     pub anchor: Vec<u8>,
     pub crl: Vec<u8>,
